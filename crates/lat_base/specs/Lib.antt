@@ -1,0 +1,5 @@
+pub mod Names
+pub mod NamePlace
+pub mod NameEq
+pub mod FieldWords
+pub mod Causes

@@ -1,0 +1,8 @@
+//! Station addresses.
+
+/// The address of a station: six bytes, in the order in which they are written.
+#[derive(Clone, Copy, Debug, PartialEq, Eq)]
+pub struct Addr(pub [u8; 6]);
+
+/// The address that every station hears: 09-00-2B-00-00-0F.
+pub const EVERYONE: Addr = Addr([0x09, 0x00, 0x2b, 0x00, 0x00, 0x0f]);
