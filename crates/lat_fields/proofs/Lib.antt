@@ -1,0 +1,6 @@
+pub mod ParamsLoop
+pub mod Room
+pub mod Steps
+pub mod Taken
+pub mod Found
+pub mod Payloads

@@ -1,0 +1,19 @@
+use Rattle.std.proofs.Common.{length, take, ap, arith, length-append, ◌∷◌, []}
+use Rattle.std.specs.List.{flat_map}
+use Rattle.lat_fields.specs.Params.{entry_text}
+use Rattle.lat_fields.proofs.Room.{room_at}
+use Rattle.lat_fields.proofs.params_write.write_params.Goals as goal
+
+pub write_entry-requires-clause-room : goal.write_entry-requires-clause-room
+write_entry-requires-clause-room c =
+    let ps = c.as_slice-entry-items.result.now in
+    let i = c.loop-entry.entry-index in
+    omega (
+      arith,
+      room_at ps i c.entry-item.result c.loop-entry-test.true c.entry-item.is,
+      ap length c.loop-entry.invariant,
+      length-append c.args.out.now (flat_map entry_text (take i ps)),
+      length-append (flat_map entry_text c.args.params.now) (0 ∷ []),
+      ap (λ es. length (flat_map entry_text es)) c.as_slice-entry-items.ensures,
+      c.requires.room,
+    )

@@ -1,0 +1,17 @@
+//! What all layouts are made of: bytes, numbers of two bytes, counted texts, counted names and parameters, read from
+//! left to right with the first bad field, and written; and the rule on the bytes behind a message.
+#![tactic(auto)]
+
+mod fault;
+mod params;
+mod params_read;
+mod params_write;
+mod read;
+mod write;
+
+pub use fault::LayoutFault;
+pub use params::{Param, Params};
+pub use params_read::params_of;
+pub use params_write::{params_ok, write_params};
+pub use read::{byte_of, counted_of, name_of, number_of, wanted};
+pub use write::{LEAST_PAYLOAD, write_counted, write_number, write_padding};

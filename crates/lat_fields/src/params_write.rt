@@ -1,0 +1,43 @@
+//! Writing parameters.
+
+ghost use Rattle.std.specs.Prelude.{◌≡◌, ◌+◌, ◌<◌, ◌≤◌, ◌++◌, ◌↔◌, length, IsTrue};
+ghost use Rattle.std.specs.List.{AllByRecursion, list_all};
+ghost use Rattle.lat_fields.specs.Params.{IsEntry, is_entry, entry_text, params_text};
+
+use crate::params::{Param, Params};
+use crate::write::write_counted;
+use lat_base::Payload;
+
+fn entry_ok(entry: &Param) -> bool
+    ensures { result ≡ is_entry entry.now }
+{
+    entry.code > 0 && entry.bytes.as_slice().len() < 256
+}
+
+/// Whether each parameter has a code above 0 and at most 255 bytes.
+pub fn params_ok(params: &Params) -> bool
+    ensures { result ≡ list_all is_entry params.now }
+{
+    params.as_slice().iter().all(|entry| entry_ok(entry))
+}
+
+fn write_entry(out: &mut Payload, entry: &Param)
+    requires short { IsEntry entry.now }
+    requires room { length out.old + length (entry_text entry.now) ≤ 1500 }
+    ensures { out.new ≡ out.old ++ entry_text entry.now }
+{
+    out.push(entry.code);
+    write_counted(out, entry.bytes.as_slice());
+}
+
+/// Writes parameters, with the 0 that ends them.
+pub fn write_params(out: &mut Payload, params: &Params)
+    requires short { AllByRecursion IsEntry params.now }
+    requires room { length out.old + length (params_text params.now) ≤ 1500 }
+    ensures { out.new ≡ out.old ++ params_text params.now }
+{
+    for entry in params.as_slice() {
+        write_entry(out, entry);
+    }
+    out.push(0);
+}

@@ -1,0 +1,90 @@
+//! Notices.
+
+use crate::services::Services;
+use lat_base::{Bytes, Kept, Name};
+
+/// A node tells everyone its services.
+#[derive(Debug, Drop)]
+pub struct Announcement {
+    /// After how many seconds the next one is due, 1 to 255.
+    pub timer: u8,
+    /// Which run of the node it is.
+    pub incarnation: u16,
+    /// The mask of the groups that may use the services: at most 32 bytes, bit g of which is bit g mod 8 of byte
+    /// g / 8. An empty mask is for every server.
+    pub groups: Bytes,
+    pub node: Name,
+    pub description: Bytes,
+    pub services: Services,
+}
+
+/// What a node wants of its request.
+#[derive(Clone, Copy, Debug, PartialEq, Eq)]
+pub enum Action {
+    Ask,
+    Cancel,
+}
+
+/// A node asks a server for a session with a service of the server's, or withdraws the request.
+#[derive(Clone, Copy, Debug)]
+pub struct Command {
+    /// Which run of the node it is.
+    pub incarnation: u16,
+    /// The node's number for the request.
+    pub request: u16,
+    pub action: Action,
+    pub node: Name,
+    pub service: Name,
+}
+
+/// What a server answers to a command.
+#[derive(Clone, Copy, Debug, PartialEq, Eq)]
+pub enum Outcome {
+    /// What it keeps of the request.
+    Kept(Kept),
+    /// It has no record of it.
+    Unknown,
+}
+
+/// A server tells a node what became of its request.
+#[derive(Clone, Copy, Debug)]
+pub struct Status {
+    /// Which run of the node it was.
+    pub incarnation: u16,
+    /// The node's number for the request.
+    pub request: u16,
+    pub outcome: Outcome,
+    pub node: Name,
+}
+
+/// A server asks who offers a service.
+#[derive(Clone, Copy, Debug)]
+pub struct Solicit {
+    /// The server's number for the question.
+    pub id: u16,
+    pub asker: Name,
+    pub service: Name,
+}
+
+/// A node answers who asked for a service.
+#[derive(Clone, Copy, Debug)]
+pub struct Response {
+    /// The number of the question.
+    pub id: u16,
+    pub node: Name,
+    pub service: Name,
+    /// How well the node can take a session, 0 for not at all.
+    pub rating: u8,
+    /// For how many seconds it stands, 1 to 255.
+    pub timer: u8,
+}
+
+/// A notice.
+#[derive(Debug, Drop)]
+pub enum Notice {
+    Announcement(Announcement),
+    Command(Command),
+    Status(Status),
+    Solicit(Solicit),
+    Response(Response),
+}
