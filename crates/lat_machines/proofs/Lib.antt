@@ -1,0 +1,4 @@
+pub mod events
+pub mod queue
+pub mod frames
+pub mod runs

@@ -1,0 +1,4 @@
+-- Frames: none breaks a circuit, bytes tell their numbers, other addresses are left alone.
+pub mod Whole
+pub mod Bytes
+pub mod Homes

@@ -1,0 +1,5 @@
+pub mod values
+pub mod cores
+pub mod server
+pub mod node
+pub mod world

@@ -1,0 +1,3 @@
+-- The node, and what each event makes of it.
+
+pub mod Node

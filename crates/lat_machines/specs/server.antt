@@ -1,0 +1,6 @@
+-- The server: directory, queue, and what each event makes of them.
+
+pub mod Directory
+pub mod Queue
+pub mod Records
+pub mod Server

@@ -1,0 +1,9 @@
+-- One server, one node and all frames between them, and what holds of every run.
+
+pub mod Machines
+pub mod Young
+pub mod Reports
+pub mod Histories
+pub mod Ties
+pub mod Safe
+pub mod Home

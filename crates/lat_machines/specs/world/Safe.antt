@@ -1,0 +1,73 @@
+-- What holds of every run of the two machines.
+use Rattle.std.specs.Prelude.{◌≡◌, ◌≢◌, ℕ, ◌≤◌, ◌<◌, Bool, true, false, not, List, [], Some, None, slice_get}
+use Rattle.lat_model.specs.ends.End.{Half}
+use Rattle.lat_model.specs.circuits.World.{World}
+use Rattle.lat_model.specs.circuits.Events.{WorldEvent, go_on, open_world}
+use Rattle.lat_model.specs.circuits.Agree.{Agree}
+use Rattle.lat_machines.specs.values.Addresses.{everyone}
+use Rattle.lat_machines.specs.values.Frames.{Whole}
+use Rattle.lat_machines.specs.server.Queue.{LegalQueue}
+use Rattle.lat_machines.specs.values.Events.{Event, Hears}
+use Rattle.lat_machines.specs.values.Answers.{Answer, Circuit, Broke}
+use Rattle.lat_machines.specs.cores.Cores.{setup_of}
+use Rattle.lat_machines.specs.server.Server.{ServerConfig, Server, server_step, offer_on, grantable}
+use Rattle.lat_machines.specs.node.Node.{node_step}
+use Rattle.lat_machines.specs.world.Machines.{Setups, Posted, Machines, core_of, own_of, tell, is_for_other, heard_as}
+use Rattle.lat_machines.specs.world.Young.{IsYoung}
+use Rattle.lat_machines.specs.world.Ties.{Ties}
+
+-- what the theorems ask of two configurations
+pub record Fit (u : Setups) : Type 0 where
+  pub apart : u.server.own ≢ u.node.own
+  pub server_own : u.server.own ≢ everyone
+  pub node_own : u.node.own ≢ everyone
+  pub server_ceiling : u.server.timing.ceiling ≤ 255
+  pub node_ceiling : u.node.timing.ceiling ≤ 255
+  pub sessions : 0 < u.server.timing.sessions
+
+abbrev pub circuits_open : Setups → World
+circuits_open u = open_world u.server.own u.node.own (setup_of u.server.timing) (setup_of u.node.timing)
+
+-- a run of the machines is a run of the world of circuits
+pub record IsCircuits (u : Setups) (m : Machines) : Type 0 where
+  pub events : List WorldEvent
+  pub ties : Ties u m (go_on events (circuits_open u))
+
+abbrev pub half_of : Machines → Bool → ℕ → Half
+half_of m b x = ((core_of m b).circuits.circuit_at x).end.half
+
+-- the circuit q of the node is that of a circuit of the server, which heard its reply
+pub record Shared (u : Setups) (m : Machines) (p : ℕ) (q : ℕ) : Type 0 where
+  pub names : (m.node.core.circuits.circuit_at q).end.peer ≡ p
+  pub address : (m.server.core.circuits.circuit_at p).address ≡ u.node.own
+  pub running : (m.server.core.circuits.circuit_at p).end.running ≡ true
+  pub peer : (m.server.core.circuits.circuit_at p).end.peer ≡ q
+
+-- streams in order both ways, sessions matched by their generations, each credited slot with its credit
+abbrev pub EndsAgree : Setups → Machines → Type 0
+EndsAgree u m = (p q : ℕ) → Shared u m p q → Agree (half_of m true p) (half_of m false q)
+
+-- what an end would answer
+abbrev pub answer_by : Setups → Machines → Bool → Event → Answer
+answer_by u m true e = (server_step u.server m.server e).answer
+answer_by u m false e = (node_step u.node [] m.node e).answer
+
+-- no frame that one end sent breaks a circuit of the other, at any moment and any number of times
+abbrev pub NeverBreaks : Setups → Machines → Type 0
+NeverBreaks u m = (i now r : ℕ) (p : Posted) → slice_get m.posts i ≡ Some p → is_for_other u p ≡ true → answer_by u m (not p.by_server) (heard_as u p now) ≢ Circuit (Broke r)
+
+-- A young frame of one end is heard by the other as its bytes tell, whenever it comes
+abbrev pub HeardByBytes : Setups → Machines → Type 0
+HeardByBytes u m = (i now : ℕ) (rates : List ℕ) (p : Posted) → slice_get m.posts i ≡ Some p → is_for_other u p ≡ true → IsYoung u m p → tell u m (not p.by_server) (Hears (own_of u p.by_server) (Whole p.frame.value) None now) rates ≡ tell u m (not p.by_server) (heard_as u p now) rates
+
+-- no line could grant a request
+abbrev pub NoGrant : ServerConfig → Server → Type 0
+NoGrant config state = (line : ℕ) → 0 < line → line ≤ config.lines → grantable state line (offer_on line config.offers) ≡ None
+
+pub record Safe (u : Setups) (m : Machines) : Type 0 where
+  pub circuits : IsCircuits u m
+  pub agree : EndsAgree u m
+  pub queue : LegalQueue m.server.queue
+  pub whole : NeverBreaks u m
+  pub bytes : HeardByBytes u m
+  pub grants : NoGrant u.server m.server

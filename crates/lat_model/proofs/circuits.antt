@@ -1,0 +1,11 @@
+-- Ends, pairs of ends, and all circuits of a server and a node.
+pub mod Logs
+pub mod Halves
+pub mod Pairs
+pub mod Streams
+pub mod Kin
+pub mod Worlds
+pub mod Begins
+pub mod Arrives
+pub mod Follows
+pub mod Examples

@@ -1,0 +1,3 @@
+-- Numbers, and two ends that know nothing of slots.
+pub mod Nears
+pub mod Net

@@ -1,0 +1,5 @@
+pub mod Lists
+pub mod numbers
+pub mod sessions
+pub mod ends
+pub mod circuits

@@ -1,0 +1,63 @@
+-- The first slot that a session may form now.
+use Rattle.std.specs.Prelude.{ℕ, zero, suc, ◌-◌, ◌%◌, Bool, true, false, not, cond, ◌&&◌, ◌||◌, List, [], ◌∷◌, take, min, Option, Some, None, nat_lt, nat_le}
+use Rattle.lat_model.specs.sessions.Slots.{Item, Byte, Setting, Slot, Start, DataA, DataB, Attention, Reject, Stop, credits, costs, has_stop, first_size, slot_len}
+use Rattle.lat_model.specs.sessions.Session.{Session, answered, peer, unframed, due}
+use Rattle.lat_model.specs.Lists.{is_empty}
+
+pub data Offer : Type 0 where
+  Nothing : Offer
+  Unfit : Offer
+  Offers : Slot → Offer
+
+abbrev pub fit : ℕ → Slot → Offer
+fit room x = cond (nat_le (slot_len x) room) (Offers x) Unfit
+
+abbrev pub start_of : Bool → ℕ → Session → Slot
+start_of true ceiling s = Start 0 s.id (due ceiling s) 255 s.service s.request
+start_of false ceiling s = Start (peer s) s.id (due ceiling s) 255 s.service None
+
+-- the bytes that stand first
+abbrev pub leading : List Item → List ℕ
+leading [] = []
+leading (Byte b ∷ xs) = b ∷ leading xs
+leading (Setting t ∷ xs) = []
+
+-- the most bytes that fit into a data_a of this room, with its pad
+abbrev pub byte_room : ℕ → ℕ
+byte_room room = (room - 4) - (room - 4) % 2
+
+abbrev pub bytes_offer : ℕ → Session → List ℕ → Offer
+bytes_offer c s [] = Unfit
+bytes_offer c s (b ∷ bs) = Offers (DataA (peer s) s.id c (b ∷ bs))
+
+abbrev pub credit_offer : ℕ → ℕ → Session → Offer
+credit_offer room zero s = Nothing
+credit_offer room (suc c) s = fit room (DataA (peer s) s.id (suc c) [])
+
+abbrev pub data_offer : ℕ → ℕ → Session → List Item → Offer
+data_offer ceiling room s [] = credit_offer room (due ceiling s) s
+data_offer ceiling room s (Byte b ∷ xs) =
+    cond (nat_lt (costs s.out) (credits s.came))
+    (bytes_offer (due ceiling s) s (take (min (min 255 (first_size s.came)) (byte_room room)) (leading (Byte b ∷ xs))))
+    (credit_offer room (due ceiling s) s)
+data_offer ceiling room s (Setting t ∷ xs) =
+    cond (nat_lt (costs s.out) (credits s.came))
+    (fit room (DataB (peer s) s.id (due ceiling s) t))
+    (credit_offer room (due ceiling s) s)
+
+-- its stop is due
+abbrev pub stop_due : Session → Bool
+stop_due s = has_stop s.came || (s.closed && is_empty (unframed s))
+
+abbrev pub live_offer : ℕ → ℕ → Session → Option ℕ → Offer
+live_offer ceiling room s (Some flag) = fit room (Attention (peer s) s.id flag)
+live_offer ceiling room s None =
+    cond (stop_due s) (fit room (Stop (peer s) s.id 1)) (data_offer ceiling room s (unframed s))
+
+abbrev pub offer : Bool → ℕ → ℕ → Session → Offer
+offer master ceiling room s =
+    cond s.refused
+    (cond (is_empty s.out) (cond (is_empty s.came) Nothing (fit room (Reject (peer s) 0 s.reason))) Nothing)
+    (cond (is_empty s.out)
+    (cond s.accepted (fit room (start_of master ceiling s)) Nothing)
+    (cond (answered s && not (has_stop s.out)) (live_offer ceiling room s s.attention) Nothing))

@@ -1,0 +1,94 @@
+//! The laws of circuits. Each holds for every run, however frames are lost, repeated or brought out of order.
+
+ghost use Rattle.std.specs.Prelude.{◌≡◌, ℕ, ◌+◌, ◌*◌, ◌%◌, ◌<◌, ◌≤◌, slice_get, ◌≢◌, Some, Bool, true, false, List, not, length, ◌-◌};
+ghost use Rattle.lat_model.specs.numbers.Near.{near, ahead};
+ghost use Rattle.lat_model.specs.sessions.Packing.{TaggedSlot};
+ghost use Rattle.lat_model.specs.sessions.Session.{Session};
+ghost use Rattle.lat_model.specs.sessions.Slots.{Slot, items};
+ghost use Rattle.lat_model.specs.sessions.EndOk.{Accounts, Small};
+ghost use Rattle.lat_model.specs.numbers.Link.{Frame};
+ghost use Rattle.lat_model.specs.ends.End.{Mark, Run};
+ghost use Rattle.lat_model.specs.ends.Run.{RunBroke, run_end};
+ghost use Rattle.lat_model.specs.circuits.World.{Wired, table};
+ghost use Rattle.lat_model.specs.circuits.Events.{WorldEvent, go_on, open_world};
+ghost use Rattle.lat_model.specs.circuits.WorldOk.{Joint};
+ghost use Rattle.lat_model.specs.circuits.Agree.{Agree, the_half};
+ghost use Rattle.lat_model.specs.circuits.Comes.{Comes};
+ghost use Rattle.lat_model.specs.circuits.Pair.{Event, run, open_pair};
+ghost use Rattle.lat_model.specs.ends.Starting.{Setup};
+ghost use Rattle.lat_model.specs.circuits.InOrder.{InOrder};
+ghost use Rattle.lat_model.specs.circuits.Matched.{Matched};
+ghost use Rattle.lat_model.specs.circuits.Heard.{IsYoung, hearer, heard_frame};
+ghost use Rattle.lat_model.specs.numbers.Net.{Net, Move, run_net, start_net, side};
+ghost use Rattle.lat_model.specs.numbers.NetOk.{NetOk, Young, FrameOf, as_bytes};
+
+/// A number that lies within half a range of the known one is found again from its field: below the known number by
+/// less than `r + 1`, or above it by less than `r`, where the field counts modulo `2 * r`.
+pub fn near_is_found()
+    ensures { (n x r : ℕ) → 0 < r → x < n + r + 1 → n < x + r → near (n % (2 * r)) x r ≡ n }
+{}
+
+/// The tests that a program makes. A field that lies ahead of the known number by less than half a range is that many
+/// above it (`ahead`), any other is at most the known one (`behind`), and the field of the next number is the only one that
+/// is heard as the next number (`next`).
+pub fn near_by_distance()
+    ensures ahead { (b x r : ℕ) → 0 < r → ahead b x r < r → near b x r ≡ x + ahead b x r }
+    ensures behind { (b x r : ℕ) → 0 < r → r ≤ ahead b x r → near b x r ≤ x }
+    ensures next { (n x r : ℕ) → 1 < r → n < 2 * r → near n x r ≡ x + 1 → n ≡ (x + 1) % (2 * r) }
+{}
+
+/// Whatever is lost, repeated or brought out of order, two ends keep what is known of their messages and frames: what one
+/// end took is the first so many of the messages that the other formed, at most eight are unacknowledged, and no frame
+/// acknowledges what was not taken.
+pub fn two_ends_agree()
+    ensures { (moves : List (Move (List TaggedSlot))) → NetOk (List TaggedSlot) (run_net moves start_net) }
+{}
+
+/// In every such run a young frame, less than half a range behind in both numbers, is heard by its number fields as by its
+/// unbounded numbers (`bytes`), and any frame acknowledges only what was sent (`sent`).
+pub fn young_frames_are_heard_whole()
+    ensures bytes { (r : ℕ) (w : Net (List TaggedSlot)) (b : Bool) (f : Frame (List TaggedSlot)) → 8 < r → NetOk (List TaggedSlot) w → FrameOf (List TaggedSlot) (side w b) f → Young (List TaggedSlot) r (side w b) f → as_bytes r (side w (not b)) f ≡ f }
+    ensures sent { (w : Net (List TaggedSlot)) (b : Bool) (f : Frame (List TaggedSlot)) → NetOk (List TaggedSlot) w → FrameOf (List TaggedSlot) (side w b) f → f.acknowledgement ≤ length (side w (not b)).sent }
+{}
+
+/// Of each session of a pair of circuits, under every list of events: what one end took is a prefix of what it heard, that
+/// of what the other end framed, and that of what was put there.
+pub fn pair_is_in_order()
+    ensures { (u : Setup) (events : List Event) → u.ceiling ≤ 255 → InOrder (run events (open_pair u)) }
+{}
+
+/// No RUN that one end of a pair sent breaks the circuit of the other, whenever and how often it comes.
+pub fn pair_never_breaks()
+    ensures { (u : Setup) (events : List Event) (i now : ℕ) (b ask : Bool) (m : Mark) (f : Frame (List Slot)) → u.ceiling ≤ 255 → slice_get (run events (open_pair u)).posts i ≡ Some (record { by_master = b; sent = Run m ask f }) → (run_end now ask f (hearer (run events (open_pair u)) b)).answer ≢ RunBroke }
+{}
+
+/// A young RUN of a pair is heard by its number fields as by its numbers.
+pub fn pair_hears_bytes()
+    ensures { (u : Setup) (events : List Event) (i r : ℕ) (b ask : Bool) (m : Mark) (f : Frame (List Slot)) → u.ceiling ≤ 255 → slice_get (run events (open_pair u)).posts i ≡ Some (record { by_master = b; sent = Run m ask f }) → IsYoung r (run events (open_pair u)) b f → heard_frame r (run events (open_pair u)) b f ≡ f }
+{}
+
+/// The sessions of a pair are matched by their generations, and no credit is lost, doubled or spent before it came.
+pub fn pair_is_matched()
+    ensures { (u : Setup) (events : List Event) → u.ceiling ≤ 255 → Matched (run events (open_pair u)) }
+{}
+
+/// On every circuit of a server and a node whose reply was heard, whatever frames come, foreign ones too: streams are in
+/// order, sessions are matched, and each credited slot had its credit.
+pub fn world_agrees()
+    ensures { (s n : ℕ) (u v : Setup) (events : List WorldEvent) (q : ℕ) → s ≢ n → u.ceiling ≤ 255 → v.ceiling ≤ 255 → Joint (go_on events (open_world s n u v)) q → Agree (the_half (go_on events (open_world s n u v)) true ((go_on events (open_world s n u v)).node.circuit_at q).end.peer) (the_half (go_on events (open_world s n u v)) false q) }
+{}
+
+/// No RUN that one end of a world sent breaks the circuit of the other that it names, whenever and how often it comes.
+pub fn world_never_breaks()
+    ensures { (s n : ℕ) (u v : Setup) (events : List WorldEvent) (i now : ℕ) (p : Wired) (ask : Bool) (f : Frame (List Slot)) → s ≢ n → u.ceiling ≤ 255 → v.ceiling ≤ 255 → slice_get (go_on events (open_world s n u v)).frames i ≡ Some p → Comes (go_on events (open_world s n u v)) p ask f → (run_end now ask f ((table (go_on events (open_world s n u v)) (not p.by_server)).circuit_at p.destination).end).answer ≢ RunBroke }
+{}
+
+/// A RUN of one end that names a circuit of the other and is young is heard there by its number fields as by its numbers.
+pub fn world_hears_bytes()
+    ensures { (s n : ℕ) (u v : Setup) (events : List WorldEvent) (i r : ℕ) (p : Wired) (ask : Bool) (f : Frame (List Slot)) → s ≢ n → u.ceiling ≤ 255 → v.ceiling ≤ 255 → slice_get (go_on events (open_world s n u v)).frames i ≡ Some p → Comes (go_on events (open_world s n u v)) p ask f → 8 < r → Young (List Slot) r (the_half (go_on events (open_world s n u v)) p.by_server p.source).link f → as_bytes r (the_half (go_on events (open_world s n u v)) (not p.by_server) p.destination).link f ≡ f }
+{}
+
+/// The heard items of a session that wait to be taken are at most 15 slots of 255 items.
+pub fn heard_items_fit()
+    ensures { (ceiling : ℕ) (s : Session) → ceiling ≤ 15 → Accounts ceiling s → Small s.came → s.closed ≡ false → length (items s.came) - s.taken ≤ 3825 }
+{}
