@@ -47,8 +47,16 @@ pub fn two_ends_agree()
 /// In every such run a young frame, less than half a range behind in both numbers, is heard by its number fields as by its
 /// unbounded numbers (`bytes`), and any frame acknowledges only what was sent (`sent`).
 pub fn young_frames_are_heard_whole()
-    ensures bytes { (r : ℕ) (w : Net (List TaggedSlot)) (b : Bool) (f : Frame (List TaggedSlot)) → 8 < r → NetOk (List TaggedSlot) w → FrameOf (List TaggedSlot) (side w b) f → Young (List TaggedSlot) r (side w b) f → as_bytes r (side w (not b)) f ≡ f }
-    ensures sent { (w : Net (List TaggedSlot)) (b : Bool) (f : Frame (List TaggedSlot)) → NetOk (List TaggedSlot) w → FrameOf (List TaggedSlot) (side w b) f → f.acknowledgement ≤ length (side w (not b)).sent }
+    ensures bytes { (r : ℕ) (w : Net (List TaggedSlot)) (b : Bool) (f : Frame (List TaggedSlot)) →
+        8 < r →
+        NetOk (List TaggedSlot) w →
+        FrameOf (List TaggedSlot) (side w b) f →
+        Young (List TaggedSlot) r (side w b) f →
+        as_bytes r (side w (not b)) f ≡ f }
+    ensures sent { (w : Net (List TaggedSlot)) (b : Bool) (f : Frame (List TaggedSlot)) →
+        NetOk (List TaggedSlot) w →
+        FrameOf (List TaggedSlot) (side w b) f →
+        f.acknowledgement ≤ length (side w (not b)).sent }
 {}
 
 /// Of each session of a pair of circuits, under every list of events: what one end took is a prefix of what it heard, that
@@ -59,12 +67,19 @@ pub fn pair_is_in_order()
 
 /// No RUN that one end of a pair sent breaks the circuit of the other, whenever and how often it comes.
 pub fn pair_never_breaks()
-    ensures { (u : Setup) (events : List Event) (i now : ℕ) (b ask : Bool) (m : Mark) (f : Frame (List Slot)) → u.ceiling ≤ 255 → slice_get (run events (open_pair u)).posts i ≡ Some (record { by_master = b; sent = Run m ask f }) → (run_end now ask f (hearer (run events (open_pair u)) b)).answer ≢ RunBroke }
+    ensures { (u : Setup) (events : List Event) (i now : ℕ) (b ask : Bool) (m : Mark) (f : Frame (List Slot)) →
+        u.ceiling ≤ 255 →
+        slice_get (run events (open_pair u)).posts i ≡ Some (record { by_master = b; sent = Run m ask f }) →
+        (run_end now ask f (hearer (run events (open_pair u)) b)).answer ≢ RunBroke }
 {}
 
 /// A young RUN of a pair is heard by its number fields as by its numbers.
 pub fn pair_hears_bytes()
-    ensures { (u : Setup) (events : List Event) (i r : ℕ) (b ask : Bool) (m : Mark) (f : Frame (List Slot)) → u.ceiling ≤ 255 → slice_get (run events (open_pair u)).posts i ≡ Some (record { by_master = b; sent = Run m ask f }) → IsYoung r (run events (open_pair u)) b f → heard_frame r (run events (open_pair u)) b f ≡ f }
+    ensures { (u : Setup) (events : List Event) (i r : ℕ) (b ask : Bool) (m : Mark) (f : Frame (List Slot)) →
+        u.ceiling ≤ 255 →
+        slice_get (run events (open_pair u)).posts i ≡ Some (record { by_master = b; sent = Run m ask f }) →
+        IsYoung r (run events (open_pair u)) b f →
+        heard_frame r (run events (open_pair u)) b f ≡ f }
 {}
 
 /// The sessions of a pair are matched by their generations, and no credit is lost, doubled or spent before it came.
@@ -75,20 +90,44 @@ pub fn pair_is_matched()
 /// On every circuit of a server and a node whose reply was heard, whatever frames come, foreign ones too: streams are in
 /// order, sessions are matched, and each credited slot had its credit.
 pub fn world_agrees()
-    ensures { (s n : ℕ) (u v : Setup) (events : List WorldEvent) (q : ℕ) → s ≢ n → u.ceiling ≤ 255 → v.ceiling ≤ 255 → Joint (go_on events (open_world s n u v)) q → Agree (the_half (go_on events (open_world s n u v)) true ((go_on events (open_world s n u v)).node.circuit_at q).end.peer) (the_half (go_on events (open_world s n u v)) false q) }
+    ensures { (s n : ℕ) (u v : Setup) (events : List WorldEvent) (q : ℕ) →
+        s ≢ n →
+        u.ceiling ≤ 255 →
+        v.ceiling ≤ 255 →
+        Joint (go_on events (open_world s n u v)) q →
+        Agree (the_half (go_on events (open_world s n u v)) true ((go_on events (open_world s n u v)).node.circuit_at q).end.peer) (the_half (go_on events (open_world s n u v)) false q) }
 {}
 
 /// No RUN that one end of a world sent breaks the circuit of the other that it names, whenever and how often it comes.
 pub fn world_never_breaks()
-    ensures { (s n : ℕ) (u v : Setup) (events : List WorldEvent) (i now : ℕ) (p : Wired) (ask : Bool) (f : Frame (List Slot)) → s ≢ n → u.ceiling ≤ 255 → v.ceiling ≤ 255 → slice_get (go_on events (open_world s n u v)).frames i ≡ Some p → Comes (go_on events (open_world s n u v)) p ask f → (run_end now ask f ((table (go_on events (open_world s n u v)) (not p.by_server)).circuit_at p.destination).end).answer ≢ RunBroke }
+    ensures { (s n : ℕ) (u v : Setup) (events : List WorldEvent) (i now : ℕ) (p : Wired) (ask : Bool) (f : Frame (List Slot)) →
+        s ≢ n →
+        u.ceiling ≤ 255 →
+        v.ceiling ≤ 255 →
+        slice_get (go_on events (open_world s n u v)).frames i ≡ Some p →
+        Comes (go_on events (open_world s n u v)) p ask f →
+        (run_end now ask f ((table (go_on events (open_world s n u v)) (not p.by_server)).circuit_at p.destination).end).answer ≢ RunBroke }
 {}
 
 /// A RUN of one end that names a circuit of the other and is young is heard there by its number fields as by its numbers.
 pub fn world_hears_bytes()
-    ensures { (s n : ℕ) (u v : Setup) (events : List WorldEvent) (i r : ℕ) (p : Wired) (ask : Bool) (f : Frame (List Slot)) → s ≢ n → u.ceiling ≤ 255 → v.ceiling ≤ 255 → slice_get (go_on events (open_world s n u v)).frames i ≡ Some p → Comes (go_on events (open_world s n u v)) p ask f → 8 < r → Young (List Slot) r (the_half (go_on events (open_world s n u v)) p.by_server p.source).link f → as_bytes r (the_half (go_on events (open_world s n u v)) (not p.by_server) p.destination).link f ≡ f }
+    ensures { (s n : ℕ) (u v : Setup) (events : List WorldEvent) (i r : ℕ) (p : Wired) (ask : Bool) (f : Frame (List Slot)) →
+        s ≢ n →
+        u.ceiling ≤ 255 →
+        v.ceiling ≤ 255 →
+        slice_get (go_on events (open_world s n u v)).frames i ≡ Some p →
+        Comes (go_on events (open_world s n u v)) p ask f →
+        8 < r →
+        Young (List Slot) r (the_half (go_on events (open_world s n u v)) p.by_server p.source).link f →
+        as_bytes r (the_half (go_on events (open_world s n u v)) (not p.by_server) p.destination).link f ≡ f }
 {}
 
 /// The heard items of a session that wait to be taken are at most 15 slots of 255 items.
 pub fn heard_items_fit()
-    ensures { (ceiling : ℕ) (s : Session) → ceiling ≤ 15 → Accounts ceiling s → Small s.came → s.closed ≡ false → length (items s.came) - s.taken ≤ 3825 }
+    ensures { (ceiling : ℕ) (s : Session) →
+        ceiling ≤ 15 →
+        Accounts ceiling s →
+        Small s.came →
+        s.closed ≡ false →
+        length (items s.came) - s.taken ≤ 3825 }
 {}

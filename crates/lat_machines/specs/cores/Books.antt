@@ -41,12 +41,23 @@ pub record LineSession : Type 0 where
   pub end : Option SessionEnd
 
 abbrev pub line_session : Core → ℕ → Seat → LineSession
-line_session c number s = record { number = number; peer_address = (c.circuits.circuit_at s.circuit).address; circuit = s.circuit; session = s.id; peer_circuit = (end_of c s).peer; peer_session = peer (session_of c s); given = credits (session_of c s).out; used_up = costs (session_of c s).out; end = seat_end c s }
+line_session c number s = record {
+  number = number;
+  peer_address = (c.circuits.circuit_at s.circuit).address;
+  circuit = s.circuit;
+  session = s.id;
+  peer_circuit = (end_of c s).peer;
+  peer_session = peer (session_of c s);
+  given = credits (session_of c s).out;
+  used_up = costs (session_of c s).out;
+  end = seat_end c s;
+}
 
 -- the sessions of a line, the newest first
 abbrev pub line_history : Core → ℕ → ℕ → List Seat → List LineSession
 line_history c line n [] = []
-line_history c line n (s ∷ ss) = line_history c line (suc n) ss ++ cond (nat_eq s.line line) (line_session c (suc n) s ∷ []) []
+line_history c line n (s ∷ ss) =
+    line_history c line (suc n) ss ++ cond (nat_eq s.line line) (line_session c (suc n) s ∷ []) []
 
 pub record LineBook : Type 0 where
   pub present : Option LineSession

@@ -36,10 +36,21 @@ pub record Side : Type 0 where
   pub name : Name
 
 abbrev pub setup_of : Timing → Setup
-setup_of t = record { timer = t.timer; keepalive = t.keepalive; sessions = t.sessions; extra = t.extra; ceiling = t.ceiling }
+setup_of t = record {
+  timer = t.timer;
+  keepalive = t.keepalive;
+  sessions = t.sessions;
+  extra = t.extra;
+  ceiling = t.ceiling;
+}
 
 abbrev pub open_core : Side → ℕ → Core
-open_core k own = record { moment = 0; circuits = record { own = own; drawn = 0; circuit_at = λ i. no_circuit k.server (setup_of k.timing) }; names = λ i. []; seats = [] }
+open_core k own = record {
+  moment = 0;
+  circuits = record { own = own; drawn = 0; circuit_at = λ i. no_circuit k.server (setup_of k.timing) };
+  names = λ i. [];
+  seats = [];
+}
 
 abbrev pub sent_frame : Side → Core → Wired → OutFrame
 sent_frame k c w = go w.sent
@@ -81,4 +92,5 @@ passes_time k c = time_each k (upwards 0 c.circuits.drawn) (rests c)
 
 -- the circuit to an address: there is at most one that lives; 0 where none does
 abbrev pub circuit_to : Core → ℕ → ℕ
-circuit_to c address = least (λ i. nat_eq (c.circuits.circuit_at i).address address && lives (c.circuits.circuit_at i).end) (upwards 0 c.circuits.drawn)
+circuit_to c address =
+    least (λ i. nat_eq (c.circuits.circuit_at i).address address && lives (c.circuits.circuit_at i).end) (upwards 0 c.circuits.drawn)

@@ -31,7 +31,8 @@ answer_of RunForeign = Foreign
 
 -- a living circuit whose reply was heard, with this address and these ids
 abbrev pub names : Table → ℕ → ℕ → ℕ → Bool
-names t from to source = is_of (t.circuit_at to) from source && lives (t.circuit_at to).end && (t.circuit_at to).end.running
+names t from to source =
+    is_of (t.circuit_at to) from source && lives (t.circuit_at to).end && (t.circuit_at to).end.running
 
 -- the master bit is the peer's, and the kind of RUN is the circuit's
 abbrev pub fits_kind : End → Bool → Bool → Bool
@@ -39,14 +40,21 @@ fits_kind e bit wide = cond bit (not e.master) e.master && cond wide e.wide (not
 
 -- the numbers of a RUN: its own, or what its fields say to this end
 abbrev pub numbers_at : End → Head → Option Numbers → Numbers
-numbers_at e h None = record { number = near h.seq (length_came e) (half_range e.wide); acknowledgement = near h.ack e.half.link.known (half_range e.wide) }
+numbers_at e h None = record {
+  number = near h.seq (length_came e) (half_range e.wide);
+  acknowledgement = near h.ack e.half.link.known (half_range e.wide);
+}
   where
     length_came : End → ℕ
     length_came e = length e.half.link.came
 numbers_at e h (Some k) = k
 
 abbrev pub run_frame : Numbers → List Slot → Frame (List Slot)
-run_frame k slots = record { number = k.number; acknowledgement = k.acknowledgement; body = cond (is_empty slots) None (Some slots) }
+run_frame k slots = record {
+  number = k.number;
+  acknowledgement = k.acknowledgement;
+  body = cond (is_empty slots) None (Some slots);
+}
 
 abbrev pub run_at : Bool → Table → ℕ → Bool → ℕ → Bool → Frame (List Slot) → HeardAct
 run_at b t x fits now ask f =
@@ -90,4 +98,7 @@ start_fact t from source =
 abbrev pub start_at : Setup → Table → ℕ → ℕ → ℕ → Agreed → StartFact → Acted
 start_at u t from source now g (Repeats k) = steps_at false t k (again_start now (t.circuit_at k).end)
 start_at u t from source now g (Makes k) = put_at false t k k from (make_slave now source g (first_end false false u))
-start_at u t from source now g Refuses = record { table = t; sent = record { by_server = false; circuit = 0; to = from; destination = source; source = 0; sent = Stopped 7 } ∷ [] }
+start_at u t from source now g Refuses = record {
+  table = t;
+  sent = record { by_server = false; circuit = 0; to = from; destination = source; source = 0; sent = Stopped 7 } ∷ [];
+}

@@ -18,7 +18,10 @@ abbrev pub calls_on : Side → Core → Seat → Call → Core
 calls_on k c s x = (acts k c (local_at k.server c.circuits s.circuit x)).core
 
 abbrev pub put_on : Side → Core → Seat → List ℕ → Said
-put_on k c s bytes = cond (put_open (session_of c s)) (says (calls_on k c s (Put s.id bytes)) (Accepted (put_count (session_of c s) (length bytes)))) (says c Closed)
+put_on k c s bytes =
+    cond (put_open (session_of c s))
+    (says (calls_on k c s (Put s.id bytes)) (Accepted (put_count (session_of c s) (length bytes))))
+    (says c Closed)
 
 abbrev pub set_on : Side → Core → Seat → List ℕ → Said
 set_on k c s setting =
@@ -30,10 +33,16 @@ abbrev pub attend_on : Side → Core → Seat → ℕ → Said
 attend_on k c s flag = cond (put_open (session_of c s)) (says (calls_on k c s (Attend s.id flag)) Done) (says c Closed)
 
 abbrev pub take_on : Side → Core → Seat → ℕ → Said
-take_on k c s n = cond (take_open (session_of c s)) (says (calls_on k c s (Take s.id n)) (Took (took (sessions_of c s) s.id n))) (says c Closed)
+take_on k c s n =
+    cond (take_open (session_of c s))
+    (says (calls_on k c s (Take s.id n)) (Took (took (sessions_of c s) s.id n)))
+    (says c Closed)
 
 abbrev pub close_on : Side → Core → Seat → Said
 close_on k c s = cond (take_open (session_of c s)) (says (calls_on k c s (Close s.id)) Done) (says c Closed)
 
 abbrev pub on_line : ℕ → Core → ℕ → (Seat → Said) → Said
-on_line lines c line f = cond (line_exists lines line) (cond (holds c line) (f (seat_at c line)) (says c Closed)) (says c NoLine)
+on_line lines c line f =
+    cond (line_exists lines line)
+    (cond (holds c line) (f (seat_at c line)) (says c Closed))
+    (says c NoLine)

@@ -91,9 +91,14 @@ abbrev pub is_offered : NodeConfig → Name → Bool
 is_offered config service = list_any (same service) config.services
 
 abbrev pub verdict : NodeConfig → Node → Name → Option ℕ → Verdict
-verdict config state service None = cond (is_offered config service) (on_free_line (free_line config state.core)) (Rejects 4)
+verdict config state service None =
+    cond (is_offered config service)
+    (on_free_line (free_line config state.core))
+    (Rejects 4)
 verdict config state service (Some id) =
-    cond (was_requested service (request_of id state) && not (list_any (nat_eq id) state.accepted)) (on_free_line (free_line config state.core)) (Rejects 5)
+    cond (was_requested service (request_of id state) && not (list_any (nat_eq id) state.accepted))
+    (on_free_line (free_line config state.core))
+    (Rejects 5)
 
 abbrev pub accepted_too : Option ℕ → List ℕ → List ℕ
 accepted_too None ids = ids
@@ -106,7 +111,10 @@ abbrev pub judged : NodeConfig → Node → ℕ → ℕ → Option ℕ → Verdi
 judged config state x id request (Rejects reason) = with_core state (local_call config x (Refuse id reason) state.core)
 judged config state x id request (Accepts line) =
     let c : Core = local_call config x (Calls.Answer id) state.core in
-    record state { core = record c { seats = c.seats ++ record { line = line; circuit = x; id = id; serial = (c.circuits.circuit_at x).end.half.sessions.at_id id; key = None } ∷ [] }; accepted = accepted_too request state.accepted }
+    record state {
+      core = record c { seats = c.seats ++ record { line = line; circuit = x; id = id; serial = (c.circuits.circuit_at x).end.half.sessions.at_id id; key = None } ∷ [] };
+      accepted = accepted_too request state.accepted;
+    }
 
 abbrev pub asked_at : Node → ℕ → ℕ → Session
 asked_at state x id = named (state.core.circuits.circuit_at x).end.half.sessions id
@@ -122,7 +130,10 @@ answers_in config x [] state = state
 answers_in config x (id ∷ ids) state = answers_in config x ids (answers_one config x state id)
 
 abbrev pub answers_asked : NodeConfig → ℕ → Node → Node
-answers_asked config x state = cond (lives (state.core.circuits.circuit_at x).end) (answers_in config x (upwards 0 64) state) state
+answers_asked config x state =
+    cond (lives (state.core.circuits.circuit_at x).end)
+    (answers_in config x (upwards 0 64) state)
+    state
 
 -- announcing
 
@@ -132,7 +143,8 @@ rated (s ∷ ss) [] = record { rating = 0; name = s; description = [] } ∷ rate
 rated (s ∷ ss) (r ∷ rs) = record { rating = r; name = s; description = [] } ∷ rated ss rs
 
 abbrev pub announcement : NodeConfig → List ℕ → OutFrame
-announcement config rates = plain everyone 0 (OfNotice (AnnouncementNotice (record { timer = config.timer; incarnation = config.incarnation; groups = config.groups; node = config.name; description = []; services = rated config.services rates })))
+announcement config rates =
+    plain everyone 0 (OfNotice (AnnouncementNotice (record { timer = config.timer; incarnation = config.incarnation; groups = config.groups; node = config.name; description = []; services = rated config.services rates })))
 
 abbrev pub first_rate : List ℕ → ℕ
 first_rate [] = 0
@@ -143,14 +155,19 @@ rest_rates [] = []
 rest_rates (r ∷ rs) = rs
 
 abbrev pub response : NodeConfig → ℕ → ℕ → Name → ℕ → OutFrame
-response config to id service rate = plain to 0 (OfNotice (ResponseNotice (record { id = id; node = config.name; service = service; rating = rate; timer = config.timer })))
+response config to id service rate =
+    plain to 0 (OfNotice (ResponseNotice (record { id = id; node = config.name; service = service; rating = rate; timer = config.timer })))
 
 abbrev pub heard_at : NodeConfig → Node → HeardAct → NodeStep
 heard_at config state h = does state (Circuit h.answer) (acts (node_side config) state.core h.act)
 
 -- the asked sessions of a circuit are answered behind all that its RUN did
 abbrev pub then_answers : NodeConfig → Bool → ℕ → NodeStep → NodeStep
-then_answers config named x s = record { state = cond named (answers_asked config x s.state) s.state; answer = s.answer; frames = s.frames }
+then_answers config named x s = record {
+  state = cond named (answers_asked config x s.state) s.state;
+  answer = s.answer;
+  frames = s.frames;
+}
 
 abbrev pub hears_run : NodeConfig → Node → ℕ → Bool → Head → List Slot → Option Numbers → NodeStep
 hears_run config state from wide h slots k =
@@ -175,16 +192,24 @@ abbrev pub hears_message : NodeConfig → Node → ℕ → Message → Option Nu
 hears_message config state from (RunMessage h slots) k = hears_run config state from false h slots k
 hears_message config state from (WideMessage h slots) k = hears_run config state from true h slots k
 hears_message config state from (StartMessage master ask to source info) k =
-    cond master (hears_start config state from source info (start_fact state.core.circuits from source)) (tells state (Circuit Foreign))
-hears_message config state from (StopMessage master ask to source reason text) k = heard_at config state (hear_stop_at false state.core.circuits from to source state.core.moment reason)
+    cond master
+    (hears_start config state from source info (start_fact state.core.circuits from source))
+    (tells state (Circuit Foreign))
+hears_message config state from (StopMessage master ask to source reason text) k =
+    heard_at config state (hear_stop_at false state.core.circuits from to source state.core.moment reason)
 
 abbrev pub solicited : NodeConfig → List ℕ → Node → ℕ → ℕ → Option Name → NodeStep
 solicited config rates state from id None = tells state Ignored
-solicited config rates state from id (Some service) = record { state = state; answer = Solicited; frames = response config from id service (first_rate rates) ∷ announcement config (rest_rates rates) ∷ [] }
+solicited config rates state from id (Some service) = record {
+  state = state;
+  answer = Solicited;
+  frames = response config from id service (first_rate rates) ∷ announcement config (rest_rates rates) ∷ [];
+}
 
 abbrev pub hears_notice : NodeConfig → List ℕ → Node → ℕ → Notice → NodeStep
 hears_notice config rates state from (StatusNotice s) = tells state Noted
-hears_notice config rates state from (SolicitNotice s) = solicited config rates state from s.id (find (same s.service) config.services)
+hears_notice config rates state from (SolicitNotice s) =
+    solicited config rates state from s.id (find (same s.service) config.services)
 hears_notice config rates state from (AnnouncementNotice a) = tells state Ignored
 hears_notice config rates state from (CommandNotice m) = tells state Ignored
 hears_notice config rates state from (ResponseNotice r) = tells state Ignored
@@ -195,36 +220,60 @@ hears_value config rates state from (OfNotice n) k = hears_notice config rates s
 
 abbrev pub hears : NodeConfig → List ℕ → Node → ℕ → Reading → Option Numbers → NodeStep
 hears config rates state from (Malformed field at) k = tells state (Bad field at)
-hears config rates state from (Whole v) k = cond (nat_eq from everyone) (tells state Ignored) (hears_value config rates state from v k)
+hears config rates state from (Whole v) k =
+    cond (nat_eq from everyone)
+    (tells state Ignored)
+    (hears_value config rates state from v k)
 
 -- requests
 
 abbrev pub command_frame : NodeConfig → ℕ → ℕ → Action → Name → OutFrame
-command_frame config to id action service = plain to 0 (OfNotice (CommandNotice (record { incarnation = config.incarnation; request = id; action = action; node = config.name; service = service })))
+command_frame config to id action service =
+    plain to 0 (OfNotice (CommandNotice (record { incarnation = config.incarnation; request = id; action = action; node = config.name; service = service })))
 
 abbrev pub requests_again : NodeConfig → Node → ℕ → ℕ → Name → Option Requested → NodeStep
-requests_again config state to id service None = record { state = record state { requests = state.requests ++ record { id = id; to = to; service = service } ∷ [] }; answer = Done; frames = command_frame config to id Ask service ∷ [] }
+requests_again config state to id service None = record {
+  state = record state { requests = state.requests ++ record { id = id; to = to; service = service } ∷ [] };
+  answer = Done;
+  frames = command_frame config to id Ask service ∷ [];
+}
 requests_again config state to id service (Some r) =
-    cond (nat_eq r.to to && same r.service service) (record { state = state; answer = Done; frames = command_frame config to id Ask service ∷ [] }) (tells state IdUsed)
+    cond (nat_eq r.to to && same r.service service)
+    (record { state = state; answer = Done; frames = command_frame config to id Ask service ∷ [] })
+    (tells state IdUsed)
 
 abbrev pub withdraws : NodeConfig → Node → Option Requested → NodeStep
 withdraws config state None = tells state Closed
-withdraws config state (Some r) = record { state = state; answer = Done; frames = command_frame config r.to r.id Cancel r.service ∷ [] }
+withdraws config state (Some r) = record {
+  state = state;
+  answer = Done;
+  frames = command_frame config r.to r.id Cancel r.service ∷ [];
+}
 
 -- one event of the node
 
 abbrev pub node_step : NodeConfig → List ℕ → Node → Event → NodeStep
-node_step config rates state (Hears from payload k now) = hears config rates (with_core state (at_moment now state.core)) from payload k
+node_step config rates state (Hears from payload k now) =
+    hears config rates (with_core state (at_moment now state.core)) from payload k
 node_step config rates state (Time now) = does state Done (passes_time (node_side config) (at_moment now state.core))
 node_step config rates state (Connects line service) = tells state NotHere
-node_step config rates state (Puts line bytes) = said state (on_line config.lines state.core line (λ s. put_on (node_side config) state.core s bytes))
-node_step config rates state (Sets line setting) = said state (on_line config.lines state.core line (λ s. set_on (node_side config) state.core s setting))
-node_step config rates state (Takes line n) = said state (on_line config.lines state.core line (λ s. take_on (node_side config) state.core s n))
-node_step config rates state (Attends line flag) = said state (on_line config.lines state.core line (λ s. attend_on (node_side config) state.core s flag))
-node_step config rates state (Closes line) = said state (on_line config.lines state.core line (λ s. close_on (node_side config) state.core s))
+node_step config rates state (Puts line bytes) =
+    said state (on_line config.lines state.core line (λ s. put_on (node_side config) state.core s bytes))
+node_step config rates state (Sets line setting) =
+    said state (on_line config.lines state.core line (λ s. set_on (node_side config) state.core s setting))
+node_step config rates state (Takes line n) =
+    said state (on_line config.lines state.core line (λ s. take_on (node_side config) state.core s n))
+node_step config rates state (Attends line flag) =
+    said state (on_line config.lines state.core line (λ s. attend_on (node_side config) state.core s flag))
+node_step config rates state (Closes line) =
+    said state (on_line config.lines state.core line (λ s. close_on (node_side config) state.core s))
 node_step config rates state (Requests to id service) = requests_again config state to id service (request_of id state)
 node_step config rates state (Withdraws id) = withdraws config state (request_of id state)
-node_step config rates state Announces = record { state = state; answer = Done; frames = announcement config rates ∷ [] }
+node_step config rates state Announces = record {
+  state = state;
+  answer = Done;
+  frames = announcement config rates ∷ [];
+}
 
 -- the ratings of one event: as many as it asks for, each one that the hook allows at the lines then held
 
@@ -239,4 +288,5 @@ pub record Allowed (allows : ℕ → ℕ → ℕ → Type 0) (config : NodeConfi
 
 -- the frames that may go out at an event
 abbrev pub NodeFrames : (ℕ → ℕ → ℕ → Type 0) → NodeConfig → Node → Event → List OutFrame → Type 0
-NodeFrames allows config state e frames = (rates : List ℕ) × Allowed allows config state e rates × (frames ≡ (node_step config rates state e).frames)
+NodeFrames allows config state e frames =
+    (rates : List ℕ) × Allowed allows config state e rates × (frames ≡ (node_step config rates state e).frames)

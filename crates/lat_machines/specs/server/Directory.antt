@@ -76,7 +76,10 @@ better x (Some y) = cond (beats y x) (Some y) (Some x)
 
 abbrev pub best_in : Name → List Hearing → Option Best
 best_in service [] = None
-best_in service (e ∷ es) = cond (nat_eq (rating_of service e.told.services) 0) (best_in service es) (better (offer_of service e) (best_in service es))
+best_in service (e ∷ es) =
+    cond (nat_eq (rating_of service e.told.services) 0)
+    (best_in service es)
+    (better (offer_of service e) (best_in service es))
 
 abbrev pub best : List ℕ → Name → ℕ → List Hearing → Option Best
 best groups service now h = best_in service (live groups now h)

@@ -69,4 +69,7 @@ next_request service h = first (waiting service h)
 
 -- Each grant goes to the first that waits for its service
 abbrev pub LegalQueue : List QueueEvent → Type 0
-LegalQueue h = (before after : List QueueEvent) (k : Key) (service : Name) → h ≡ before ++ Grants k service ∷ after → (r : Request) × (next_request service before ≡ Some r) × (r.key ≡ k)
+LegalQueue h =
+    (before after : List QueueEvent) (k : Key) (service : Name) →
+    h ≡ before ++ Grants k service ∷ after →
+    (r : Request) × (next_request service before ≡ Some r) × (r.key ≡ k)

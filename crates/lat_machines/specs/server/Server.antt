@@ -75,7 +75,8 @@ said state s = tells (with_core state s.core) s.answer
 
 -- whether one more session with this address can be had, calling a circuit where none lives
 abbrev pub has_room : Core → ℕ → Bool
-has_room c x = nat_lt (held (c.circuits.circuit_at x).end.half.sessions) (c.circuits.circuit_at x).end.half.sessions.agreed
+has_room c x =
+    nat_lt (held (c.circuits.circuit_at x).end.half.sessions) (c.circuits.circuit_at x).end.half.sessions.agreed
 
 abbrev pub may_call : Core → Bool
 may_call c = nat_lt (living c.circuits) 8 && nat_lt c.circuits.drawn 65535
@@ -87,7 +88,9 @@ can_open c address = cond (nat_eq (circuit_to c address) 0) (may_call c) (has_ro
 abbrev pub calls_to : ServerConfig → ℕ → Name → Core → Doing
 calls_to config address node c =
     let d : Core = record c { names = updated c.names (suc c.circuits.drawn) node } in
-    cond (nat_eq (circuit_to c address) 0) (acts (server_side config) d (call_at (setup_of config.timing) d.circuits address d.moment)) (rests c)
+    cond (nat_eq (circuit_to c address) 0)
+    (acts (server_side config) d (call_at (setup_of config.timing) d.circuits address d.moment))
+    (rests c)
 
 -- the circuit x connects a session for a line
 abbrev pub connects_on : ServerConfig → ℕ → ℕ → Name → Option Key → Option ℕ → Core → Doing
@@ -138,11 +141,16 @@ abbrev pub heard_at : ServerConfig → Server → HeardAct → ServerStep
 heard_at config state h = does state (Circuit h.answer) (acts (server_side config) state.core h.act)
 
 abbrev pub hears_message : ServerConfig → Server → ℕ → Message → Option Numbers → ServerStep
-hears_message config state from (RunMessage h slots) k = heard_at config state (hear_run true state.core.circuits from false h slots k state.core.moment)
-hears_message config state from (WideMessage h slots) k = heard_at config state (hear_run true state.core.circuits from true h slots k state.core.moment)
+hears_message config state from (RunMessage h slots) k =
+    heard_at config state (hear_run true state.core.circuits from false h slots k state.core.moment)
+hears_message config state from (WideMessage h slots) k =
+    heard_at config state (hear_run true state.core.circuits from true h slots k state.core.moment)
 hears_message config state from (StartMessage master ask to source info) k =
-    cond master (tells state (Circuit Foreign)) (heard_at config state (hear_reply_at state.core.circuits from to source state.core.moment (agreed_by config.timing info)))
-hears_message config state from (StopMessage master ask to source reason text) k = heard_at config state (hear_stop_at true state.core.circuits from to source state.core.moment reason)
+    cond master
+    (tells state (Circuit Foreign))
+    (heard_at config state (hear_reply_at state.core.circuits from to source state.core.moment (agreed_by config.timing info)))
+hears_message config state from (StopMessage master ask to source reason text) k =
+    heard_at config state (hear_stop_at true state.core.circuits from to source state.core.moment reason)
 
 abbrev pub hears_announcement : ServerConfig → Server → ℕ → Announcement → ServerStep
 hears_announcement config state from a =
@@ -150,7 +158,8 @@ hears_announcement config state from a =
     (cond (refuses config.groups state.core.moment a state.heard) DirectoryFull (cond (meets config.groups a) Announced Apart))
 
 abbrev pub status_frame : ℕ → Command → Outcome → OutFrame
-status_frame to m o = plain to 0 (OfNotice (StatusNotice (record { incarnation = m.incarnation; request = m.request; outcome = o; node = m.node })))
+status_frame to m o =
+    plain to 0 (OfNotice (StatusNotice (record { incarnation = m.incarnation; request = m.request; outcome = o; node = m.node })))
 
 abbrev pub key_of : Command → Key
 key_of m = record { node = m.node; incarnation = m.incarnation; request = m.request }
@@ -158,7 +167,11 @@ key_of m = record { node = m.node; incarnation = m.incarnation; request = m.requ
 abbrev pub asks_for : ServerConfig → Server → ℕ → Command → ServerStep
 asks_for config state from m =
     let k : Kept = ask_answer (offered config) (key_of m) m.service state.queue in
-    record { state = record state { queue = state.queue ++ Asks (key_of m) from m.service k ∷ [] }; answer = KeptIs k; frames = status_frame from m (KeptAs k) ∷ [] }
+    record {
+      state = record state { queue = state.queue ++ Asks (key_of m) from m.service k ∷ [] };
+      answer = KeptIs k;
+      frames = status_frame from m (KeptAs k) ∷ [];
+    }
 
 abbrev pub cancelled : Server → ℕ → Command → List QueueEvent → ServerStep
 cancelled state from m q = elim (kept_of (key_of m) q) [
@@ -183,19 +196,28 @@ hears_value config state from (OfNotice n) k = hears_notice config state from n
 
 abbrev pub hears : ServerConfig → Server → ℕ → Reading → Option Numbers → ServerStep
 hears config state from (Malformed field at) k = tells state (Bad field at)
-hears config state from (Whole v) k = cond (nat_eq from everyone) (tells state Ignored) (hears_value config state from v k)
+hears config state from (Whole v) k =
+    cond (nat_eq from everyone)
+    (tells state Ignored)
+    (hears_value config state from v k)
 
 -- an event, but for what follows every event
 
 abbrev pub server_event : ServerConfig → Server → Event → ServerStep
-server_event config state (Hears from payload k now) = hears config (with_core state (at_moment now state.core)) from payload k
+server_event config state (Hears from payload k now) =
+    hears config (with_core state (at_moment now state.core)) from payload k
 server_event config state (Time now) = does state Done (passes_time (server_side config) (at_moment now state.core))
 server_event config state (Connects line service) = connect_event config state line service
-server_event config state (Puts line bytes) = said state (on_line config.lines state.core line (λ s. put_on (server_side config) state.core s bytes))
-server_event config state (Sets line setting) = said state (on_line config.lines state.core line (λ s. set_on (server_side config) state.core s setting))
-server_event config state (Takes line n) = said state (on_line config.lines state.core line (λ s. take_on (server_side config) state.core s n))
-server_event config state (Attends line flag) = said state (on_line config.lines state.core line (λ s. attend_on (server_side config) state.core s flag))
-server_event config state (Closes line) = said state (on_line config.lines state.core line (λ s. close_on (server_side config) state.core s))
+server_event config state (Puts line bytes) =
+    said state (on_line config.lines state.core line (λ s. put_on (server_side config) state.core s bytes))
+server_event config state (Sets line setting) =
+    said state (on_line config.lines state.core line (λ s. set_on (server_side config) state.core s setting))
+server_event config state (Takes line n) =
+    said state (on_line config.lines state.core line (λ s. take_on (server_side config) state.core s n))
+server_event config state (Attends line flag) =
+    said state (on_line config.lines state.core line (λ s. attend_on (server_side config) state.core s flag))
+server_event config state (Closes line) =
+    said state (on_line config.lines state.core line (λ s. close_on (server_side config) state.core s))
 server_event config state (Requests to id service) = tells state NotHere
 server_event config state (Withdraws id) = tells state NotHere
 server_event config state Announces = tells state NotHere
@@ -218,7 +240,8 @@ pub record Passing : Type 0 where
   pub frames : List OutFrame
 
 abbrev pub grant_frame : Request → OutFrame
-grant_frame r = plain r.from 0 (OfNotice (StatusNotice (record { incarnation = r.key.incarnation; request = r.key.request; outcome = KeptAs Granted; node = r.key.node })))
+grant_frame r =
+    plain r.from 0 (OfNotice (StatusNotice (record { incarnation = r.key.incarnation; request = r.key.request; outcome = KeptAs Granted; node = r.key.node })))
 
 abbrev pub granting : ServerConfig → ℕ → Name → Passing → Request → Passing
 granting config line service p r =
@@ -235,7 +258,10 @@ fitting c (Some r) = cond (can_open c r.from) (Some r) None
 
 abbrev pub grantable : Server → ℕ → Option Name → Option Request
 grantable state line None = None
-grantable state line (Some service) = cond (holds state.core line) None (fitting state.core (next_request service state.queue))
+grantable state line (Some service) =
+    cond (holds state.core line)
+    None
+    (fitting state.core (next_request service state.queue))
 
 abbrev pub grants_by : ServerConfig → ℕ → Option Name → Option Request → Passing → Passing
 grants_by config line (Some service) (Some r) p = granting config line service p r
@@ -243,7 +269,8 @@ grants_by config line (Some service) None p = p
 grants_by config line None r p = p
 
 abbrev pub grant_line : ServerConfig → Passing → ℕ → Passing
-grant_line config p line = grants_by config line (offer_on line config.offers) (grantable p.state line (offer_on line config.offers)) p
+grant_line config p line =
+    grants_by config line (offer_on line config.offers) (grantable p.state line (offer_on line config.offers)) p
 
 abbrev pub grant_lines : ServerConfig → List ℕ → Passing → Passing
 grant_lines config [] p = p

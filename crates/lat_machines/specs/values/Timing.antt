@@ -33,11 +33,46 @@ pub record Timing : Type 0 where
 abbrev pub agreed_by : Timing → StartInfo → Agreed
 agreed_by t i =
     let wide : Bool = t.wide && is_wide i.params in
-    record { sessions = i.sessions; room = min 1500 i.size - cond wide 10 8; window = min 8 (1 + i.extra); timer = i.timer; keepalive = i.keepalive; wide = wide }
+    record {
+      sessions = i.sessions;
+      room = min 1500 i.size - cond wide 10 8;
+      window = min 8 (1 + i.extra);
+      timer = i.timer;
+      keepalive = i.keepalive;
+      wide = wide;
+    }
 
 -- the START of a master, and the reply
 abbrev pub call_info : Timing → Name → Name → StartInfo
-call_info t own other = record { size = 1500; eco = 1; sessions = t.sessions; extra = t.extra; timer = t.timer; keepalive = t.keepalive; facility = 0; product = 0; product_version = 0; slave = other; name = own; location = []; params = wide_params t.wide }
+call_info t own other = record {
+  size = 1500;
+  eco = 1;
+  sessions = t.sessions;
+  extra = t.extra;
+  timer = t.timer;
+  keepalive = t.keepalive;
+  facility = 0;
+  product = 0;
+  product_version = 0;
+  slave = other;
+  name = own;
+  location = [];
+  params = wide_params t.wide;
+}
 
 abbrev pub reply_info : Timing → Bool → Name → Name → StartInfo
-reply_info t wide own other = record { size = 1500; eco = 1; sessions = t.sessions; extra = t.extra; timer = 0; keepalive = 0; facility = 0; product = 0; product_version = 0; slave = own; name = other; location = []; params = wide_params wide }
+reply_info t wide own other = record {
+  size = 1500;
+  eco = 1;
+  sessions = t.sessions;
+  extra = t.extra;
+  timer = 0;
+  keepalive = 0;
+  facility = 0;
+  product = 0;
+  product_version = 0;
+  slave = own;
+  name = other;
+  location = [];
+  params = wide_params wide;
+}

@@ -15,11 +15,13 @@ server_run config (e ∷ es) state = server_run config es (server_step config st
 
 abbrev pub server_frames : ServerConfig → List Event → Server → List OutFrame
 server_frames config [] state = []
-server_frames config (e ∷ es) state = (server_step config state e).frames ++ server_frames config es (server_step config state e).state
+server_frames config (e ∷ es) state =
+    (server_step config state e).frames ++ server_frames config es (server_step config state e).state
 
 abbrev pub server_answers : ServerConfig → List Event → Server → List Answer
 server_answers config [] state = []
-server_answers config (e ∷ es) state = (server_step config state e).answer ∷ server_answers config es (server_step config state e).state
+server_answers config (e ∷ es) state =
+    (server_step config state e).answer ∷ server_answers config es (server_step config state e).state
 
 -- a node's event with the ratings that were asked for in it
 pub record RatedEvent : Type 0 where
@@ -32,7 +34,8 @@ node_run config (e ∷ es) state = node_run config es (node_step config e.rates 
 
 abbrev pub node_frames : NodeConfig → List RatedEvent → Node → List OutFrame
 node_frames config [] state = []
-node_frames config (e ∷ es) state = (node_step config e.rates state e.event).frames ++ node_frames config es (node_step config e.rates state e.event).state
+node_frames config (e ∷ es) state =
+    (node_step config e.rates state e.event).frames ++ node_frames config es (node_step config e.rates state e.event).state
 
 -- Both histories in some order. A frame that was heard from the other end's address names the frame that it is
 pub record Passed : Type 0 where
@@ -109,7 +112,8 @@ node_next u b e rates node = cond b node (node_step u.node rates node e).state
 
 abbrev pub posts_of : Setups → List Passed → Server → Node → List Posted
 posts_of u [] state node = []
-posts_of u (p ∷ ps) state node = posts_by u p.server p.event p.rates state node ++ posts_of u ps (server_next u p.server p.event state) (node_next u p.server p.event p.rates node)
+posts_of u (p ∷ ps) state node =
+    posts_by u p.server p.event p.rates state node ++ posts_of u ps (server_next u p.server p.event state) (node_next u p.server p.event p.rates node)
 
 -- The two machines of the world are then the runs of the two histories, its frames are theirs, and it is safe
 pub record IsWorld (u : Setups) (order : List Passed) (m : Machines) : Type 0 where
@@ -119,4 +123,8 @@ pub record IsWorld (u : Setups) (order : List Passed) (m : Machines) : Type 0 wh
   pub safe : Safe u m
 
 abbrev pub HistoriesAreAWorld : Type 0
-HistoriesAreAWorld = (u : Setups) (order : List Passed) → Fit u → Honest u order (open_machines u) → IsWorld u order (run u (moves_of order) (open_machines u))
+HistoriesAreAWorld =
+    (u : Setups) (order : List Passed) →
+    Fit u →
+    Honest u order (open_machines u) →
+    IsWorld u order (run u (moves_of order) (open_machines u))

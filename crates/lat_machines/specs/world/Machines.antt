@@ -69,10 +69,20 @@ abbrev pub noted_too : ℕ → Answer → List NotedEvent → List NotedEvent
 noted_too n a ns = cond (is_noted a) (ns ++ record { event = n; answer = a } ∷ []) ns
 
 abbrev pub server_did : Machines → ServerStep → Machines
-server_did w s = record w { server = s.state; posts = w.posts ++ post_all true s.frames; noted = noted_too (suc w.count) s.answer w.noted; count = suc w.count }
+server_did w s = record w {
+  server = s.state;
+  posts = w.posts ++ post_all true s.frames;
+  noted = noted_too (suc w.count) s.answer w.noted;
+  count = suc w.count;
+}
 
 abbrev pub node_did : Machines → NodeStep → Machines
-node_did w s = record w { node = s.state; posts = w.posts ++ post_all false s.frames; noted = noted_too (suc w.count) s.answer w.noted; count = suc w.count }
+node_did w s = record w {
+  node = s.state;
+  posts = w.posts ++ post_all false s.frames;
+  noted = noted_too (suc w.count) s.answer w.noted;
+  count = suc w.count;
+}
 
 abbrev pub tell : Setups → Machines → Bool → Event → List ℕ → Machines
 tell u w true e rates = server_did w (server_step u.server w.server e)
@@ -84,7 +94,8 @@ is_for_other u p = nat_eq p.frame.to (own_of u (not p.by_server)) || nat_eq p.fr
 
 -- a frame as the other end hears it: with its own numbers
 abbrev pub heard_as : Setups → Posted → ℕ → Event
-heard_as u p now = Hears (own_of u p.by_server) (Whole p.frame.value) (Some (record { number = p.frame.number; acknowledgement = p.frame.acknowledgement })) now
+heard_as u p now =
+    Hears (own_of u p.by_server) (Whole p.frame.value) (Some (record { number = p.frame.number; acknowledgement = p.frame.acknowledgement })) now
 
 abbrev pub counted : Machines → Machines
 counted w = record w { count = suc w.count }
@@ -95,7 +106,9 @@ marked_delivered i w = record w { delivered = w.delivered ++ i ∷ [] }
 abbrev pub comes : Setups → Machines → ℕ → ℕ → List ℕ → Option Posted → Machines
 comes u w i now rates None = w
 comes u w i now rates (Some p) =
-    cond (is_for_other u p) (tell u (marked_delivered i w) (not p.by_server) (heard_as u p now) rates) (counted (marked_delivered i w))
+    cond (is_for_other u p)
+    (tell u (marked_delivered i w) (not p.by_server) (heard_as u p now) rates)
+    (counted (marked_delivered i w))
 
 abbrev pub is_own : Setups → ℕ → Bool
 is_own u from = nat_eq from u.server.own || nat_eq from u.node.own
@@ -103,11 +116,21 @@ is_own u from = nat_eq from u.server.own || nat_eq from u.node.own
 abbrev pub happens : Setups → Machines → Move → Machines
 happens u w (Does b e rates) = cond (is_heard e) w (tell u w b e rates)
 happens u w (HearsFrame i now rates) = comes u w i now rates (slice_get w.posts i)
-happens u w (HearsForeign b from payload now rates) = cond (is_own u from) w (tell u w b (Hears from payload None now) rates)
+happens u w (HearsForeign b from payload now rates) =
+    cond (is_own u from)
+    w
+    (tell u w b (Hears from payload None now) rates)
 
 abbrev pub run : Setups → List Move → Machines → Machines
 run u [] w = w
 run u (e ∷ es) w = run u es (happens u w e)
 
 abbrev pub open_machines : Setups → Machines
-open_machines u = record { server = open_server u.server; node = open_node u.node; posts = []; delivered = []; noted = []; count = 0 }
+open_machines u = record {
+  server = open_server u.server;
+  node = open_node u.node;
+  posts = [];
+  delivered = [];
+  noted = [];
+  count = 0;
+}

@@ -56,14 +56,25 @@ abbrev pub line_number : Seat → Option ℕ
 line_number t = cond (nat_eq t.line 0) None (Some t.line)
 
 abbrev pub direction : Session → Session → Direction
-direction a b = record { put = a.put; taken = take b.taken (items b.came); given = credits b.out; used_up = costs a.out }
+direction a b = record {
+  put = a.put;
+  taken = take b.taken (items b.came);
+  given = credits b.out;
+  used_up = costs a.out;
+}
 
 abbrev pub row : Setups → Machines → Seat → Row
 row u w s =
     let t : Seat = partner u w s in
     let a : Session = session_of w.server.core s in
     let b : Session = session_of w.node.core t in
-    record { line = s.line; node_line = line_number t; ended = seat_end w.server.core s; up = direction a b; down = direction b a }
+    record {
+      line = s.line;
+      node_line = line_number t;
+      ended = seat_end w.server.core s;
+      up = direction a b;
+      down = direction b a;
+    }
 
 abbrev pub record_row : Machines → Request → RecordRow
 record_row w r = record { key = r.key; service = r.service; kept = kept_now w.server.queue r }

@@ -54,15 +54,28 @@ answer_by u m false e = (node_step u.node [] m.node e).answer
 
 -- no frame that one end sent breaks a circuit of the other, at any moment and any number of times
 abbrev pub NeverBreaks : Setups → Machines → Type 0
-NeverBreaks u m = (i now r : ℕ) (p : Posted) → slice_get m.posts i ≡ Some p → is_for_other u p ≡ true → answer_by u m (not p.by_server) (heard_as u p now) ≢ Circuit (Broke r)
+NeverBreaks u m =
+    (i now r : ℕ) (p : Posted) →
+    slice_get m.posts i ≡ Some p →
+    is_for_other u p ≡ true →
+    answer_by u m (not p.by_server) (heard_as u p now) ≢ Circuit (Broke r)
 
 -- A young frame of one end is heard by the other as its bytes tell, whenever it comes
 abbrev pub HeardByBytes : Setups → Machines → Type 0
-HeardByBytes u m = (i now : ℕ) (rates : List ℕ) (p : Posted) → slice_get m.posts i ≡ Some p → is_for_other u p ≡ true → IsYoung u m p → tell u m (not p.by_server) (Hears (own_of u p.by_server) (Whole p.frame.value) None now) rates ≡ tell u m (not p.by_server) (heard_as u p now) rates
+HeardByBytes u m =
+    (i now : ℕ) (rates : List ℕ) (p : Posted) →
+    slice_get m.posts i ≡ Some p →
+    is_for_other u p ≡ true →
+    IsYoung u m p →
+    tell u m (not p.by_server) (Hears (own_of u p.by_server) (Whole p.frame.value) None now) rates ≡ tell u m (not p.by_server) (heard_as u p now) rates
 
 -- no line could grant a request
 abbrev pub NoGrant : ServerConfig → Server → Type 0
-NoGrant config state = (line : ℕ) → 0 < line → line ≤ config.lines → grantable state line (offer_on line config.offers) ≡ None
+NoGrant config state =
+    (line : ℕ) →
+    0 < line →
+    line ≤ config.lines →
+    grantable state line (offer_on line config.offers) ≡ None
 
 pub record Safe (u : Setups) (m : Machines) : Type 0 where
   pub circuits : IsCircuits u m

@@ -20,7 +20,8 @@ IsNotice p = (n : Notice) × (p.frame.value ≡ OfNotice n)
 
 abbrev pub Shows : List Posted → List Wired → Type 0
 Shows [] ws = ws ≡ []
-Shows (p ∷ ps) ws = (IsNotice p × Shows ps ws) ⊎ ((v : Wired) × (rest : List Wired) × (ws ≡ v ∷ rest) × Shown p v × Shows ps rest)
+Shows (p ∷ ps) ws =
+    (IsNotice p × Shows ps ws) ⊎ ((v : Wired) × (rest : List Wired) × (ws ≡ v ∷ rest) × Shown p v × Shows ps rest)
 
 -- no circuit and no frame of a circuit is to everyone
 pub record Apart (w : World) : Type 0 where

@@ -14,23 +14,30 @@ is_of c from source = nat_eq c.address from && nat_eq c.end.peer source
 abbrev pub run_in : World → Bool → ℕ → Bool → ℕ → ℕ → ℕ → Bool → Frame (List Slot) → World
 run_in w b from bit destination source now ask f =
     let c : CircuitEntry = (table w b).circuit_at destination in
-    cond (is_of c from source && lives c.end && c.end.running && (cond bit (not c.end.master) c.end.master)) (at_end w b destination (run_end now ask f c.end).step) w
+    cond (is_of c from source && lives c.end && c.end.running && (cond bit (not c.end.master) c.end.master))
+    (at_end w b destination (run_end now ask f c.end).step)
+    w
 
 abbrev pub stop_in : World → Bool → ℕ → ℕ → ℕ → ℕ → ℕ → World
 stop_in w b from destination source now r =
     let c : CircuitEntry = (table w b).circuit_at destination in
-    cond (nat_eq c.address from && (nat_eq c.end.peer source || nat_eq source 0) && lives c.end) (at_end w b destination (hear_stop now r c.end)) w
+    cond (nat_eq c.address from && (nat_eq c.end.peer source || nat_eq source 0) && lives c.end)
+    (at_end w b destination (hear_stop now r c.end))
+    w
 
 abbrev pub reply_in : World → ℕ → ℕ → ℕ → ℕ → Agreed → World
 reply_in w from destination source now g =
     let c : CircuitEntry = w.server.circuit_at destination in
-    cond (nat_eq c.address from && lives c.end && (not c.end.running || nat_eq c.end.peer source)) (at_end w true destination (hear_reply now source g c.end)) w
+    cond (nat_eq c.address from && lives c.end && (not c.end.running || nat_eq c.end.peer source))
+    (at_end w true destination (hear_reply now source g c.end))
+    w
 
 abbrev pub living : Table → ℕ
 living t = length (keep (λ i. lives (t.circuit_at i).end) (upwards 0 t.drawn))
 
 abbrev pub slave_of : Table → ℕ → ℕ → ℕ
-slave_of t from source = least (λ i. is_of (t.circuit_at i) from source && lives (t.circuit_at i).end) (upwards 0 t.drawn)
+slave_of t from source =
+    least (λ i. is_of (t.circuit_at i) from source && lives (t.circuit_at i).end) (upwards 0 t.drawn)
 
 abbrev pub make_in : World → ℕ → ℕ → ℕ → Agreed → World
 make_in w from source now g =

@@ -17,19 +17,41 @@ pub data WorldEvent : Type 0 where
 
 abbrev pub deliver_in : World → ℕ → Agreed → Option Wired → World
 deliver_in w now g None = w
-deliver_in w now g (Some p) = cond (nat_eq p.to (table w (not p.by_server)).own) (arrive w (not p.by_server) (table w p.by_server).own p.by_server p.destination p.source now g p.sent) w
+deliver_in w now g (Some p) =
+    cond (nat_eq p.to (table w (not p.by_server)).own)
+    (arrive w (not p.by_server) (table w p.by_server).own p.by_server p.destination p.source now g p.sent)
+    w
 
 abbrev pub occurs : World → WorldEvent → World
-occurs w (Calls address now) = put_circuit w true (suc w.server.drawn) (suc w.server.drawn) address (record { end = record (first_end true true w.setup) { moment = now; due_at = now; sent_at = now; start_at = now }; sent = CallStart ∷ [] })
-occurs w (Locally b x c) = cond (lives ((table w b).circuit_at x).end) (at_end w b x (record { end = call_end c ((table w b).circuit_at x).end; sent = [] })) w
-occurs w (Times b x now) = cond (lives ((table w b).circuit_at x).end) (at_end w b x (time_step now ((table w b).circuit_at x).end)) w
-occurs w (Moves b x now) = cond (lives ((table w b).circuit_at x).end) (at_end w b x (record { end = record (((table w b).circuit_at x).end) { moment = now }; sent = [] })) w
+occurs w (Calls address now) =
+    put_circuit w true (suc w.server.drawn) (suc w.server.drawn) address (record { end = record (first_end true true w.setup) { moment = now; due_at = now; sent_at = now; start_at = now }; sent = CallStart ∷ [] })
+occurs w (Locally b x c) =
+    cond (lives ((table w b).circuit_at x).end)
+    (at_end w b x (record { end = call_end c ((table w b).circuit_at x).end; sent = [] }))
+    w
+occurs w (Times b x now) =
+    cond (lives ((table w b).circuit_at x).end)
+    (at_end w b x (time_step now ((table w b).circuit_at x).end))
+    w
+occurs w (Moves b x now) =
+    cond (lives ((table w b).circuit_at x).end)
+    (at_end w b x (record { end = record (((table w b).circuit_at x).end) { moment = now }; sent = [] }))
+    w
 occurs w (Delivers i now g) = deliver_in w now g (slice_get w.frames i)
-occurs w (Injects b from bit destination source now g s) = cond (nat_eq from w.server.own || nat_eq from w.node.own) w (arrive w b from bit destination source now g s)
+occurs w (Injects b from bit destination source now g s) =
+    cond (nat_eq from w.server.own || nat_eq from w.node.own)
+    w
+    (arrive w b from bit destination source now g s)
 
 abbrev pub go_on : List WorldEvent → World → World
 go_on [] w = w
 go_on (e ∷ es) w = go_on es (occurs w e)
 
 abbrev pub open_world : ℕ → ℕ → Setup → Setup → World
-open_world s n u v = record { server = record { own = s; drawn = 0; circuit_at = λ k. no_circuit true u }; node = record { own = n; drawn = 0; circuit_at = λ k. no_circuit false v }; frames = []; setup = u; other = v }
+open_world s n u v = record {
+  server = record { own = s; drawn = 0; circuit_at = λ k. no_circuit true u };
+  node = record { own = n; drawn = 0; circuit_at = λ k. no_circuit false v };
+  frames = [];
+  setup = u;
+  other = v;
+}

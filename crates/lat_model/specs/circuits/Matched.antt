@@ -11,7 +11,12 @@ use Rattle.lat_model.specs.circuits.Together.{flat, Logs}
 -- A session that isn't free, whose peer is known and whose stops weren't both formed and heard: the other end has
 -- a session of its generation under that id, or has formed its own stop and heard this end's
 abbrev pub Generations : Sessions → Sessions → Type 0
-Generations a b = (k : ℕ) → free (a.session k) ≡ false → starts (a.session k).came ≡ true → stopped (a.session k) ≡ false → ((named b (peer (a.session k))).generation ≡ (a.session k).generation) ⊎ (stopped (of_generation b (a.session k).generation) ≡ true)
+Generations a b =
+    (k : ℕ) →
+    free (a.session k) ≡ false →
+    starts (a.session k).came ≡ true →
+    stopped (a.session k) ≡ false →
+    ((named b (peer (a.session k))).generation ≡ (a.session k).generation) ⊎ (stopped (of_generation b (a.session k).generation) ≡ true)
 
 -- Credits: those heard and those on their way are those given; no more is out than the ceiling
 pub record CreditsOf (a : Sessions) (b : Sessions) (wire : List TaggedSlot) (g : ℕ) : Type 0 where

@@ -54,5 +54,12 @@ open_pair u = record {
   master = new_end true true u.timer u.keepalive u.sessions u.ceiling;
   slave = new_end false false u.timer u.keepalive u.sessions u.ceiling;
   posts = record { by_master = true; sent = CallStart } ∷ [];
-  agreed = record { sessions = u.sessions; room = 1492; window = min 8 (suc u.extra); timer = u.timer; keepalive = u.keepalive; wide = false };
+  agreed = record {
+    sessions = u.sessions;
+    room = 1492;
+    window = min 8 (suc u.extra);
+    timer = u.timer;
+    keepalive = u.keepalive;
+    wide = false;
+  };
 }

@@ -30,21 +30,41 @@ PostIs m s b (Stopped r) = Unit {0}
 pub record Credit (sent : List (List TaggedSlot)) (taken_then : List ℕ) (heard : List (List TaggedSlot)) : Type 0 where
   pub each : length taken_then ≡ length sent
   pub taken : (k : ℕ) → k < length sent → get_or taken_then k 0 ≤ length heard
-  pub spends : (k g : ℕ) → k < length sent → costs (slots_of g (flat (take (suc k) sent))) ≤ credits (slots_of g (flat (take (get_or taken_then k 0) heard)))
+  pub spends :
+      (k g : ℕ) →
+      k < length sent →
+      costs (slots_of g (flat (take (suc k) sent))) ≤ credits (slots_of g (flat (take (get_or taken_then k 0) heard)))
 
 -- When a message with a start was formed, each older session of that id was over: both stops were in the messages
 -- formed and taken before, or its reject was taken
 abbrev pub Over : ℕ → List (List TaggedSlot) → List (List TaggedSlot) → Type 0
-Over h sent heard = ((has_stop (slots_of h (flat sent)) ≡ true) × (has_stop (slots_of h (flat heard)) ≡ true)) ⊎ (turned (slots_of h (flat heard)) ≡ true)
+Over h sent heard =
+    ((has_stop (slots_of h (flat sent)) ≡ true) × (has_stop (slots_of h (flat heard)) ≡ true)) ⊎ (turned (slots_of h (flat heard)) ≡ true)
 
 pub record Renewed (a : Sessions) (sent : List (List TaggedSlot)) (taken_then : List ℕ) (heard : List (List TaggedSlot)) : Type 0 where
-  pub over : (k g h : ℕ) → k < length sent → has_start (slots_of g (get_or sent k [])) ≡ true → (h ≡ g → ⊥) → (of_generation a h).id ≡ (of_generation a g).id → starts (slots_of h (flat (take k sent))) ≡ true → Over h (take k sent) (take (get_or taken_then k 0) heard)
+  pub over :
+      (k g h : ℕ) →
+      k < length sent →
+      has_start (slots_of g (get_or sent k [])) ≡ true →
+      (h ≡ g → ⊥) →
+      (of_generation a h).id ≡ (of_generation a g).id →
+      starts (slots_of h (flat (take k sent))) ≡ true →
+      Over h (take k sent) (take (get_or taken_then k 0) heard)
   -- one message has at most one start under an id
-  pub single : (k g h : ℕ) → k < length sent → has_start (slots_of g (get_or sent k [])) ≡ true → has_start (slots_of h (get_or sent k [])) ≡ true → (of_generation a h).id ≡ (of_generation a g).id → h ≡ g
+  pub single :
+      (k g h : ℕ) →
+      k < length sent →
+      has_start (slots_of g (get_or sent k [])) ≡ true →
+      has_start (slots_of h (get_or sent k [])) ≡ true →
+      (of_generation a h).id ≡ (of_generation a g).id →
+      h ≡ g
 
 -- A slot behind a start stands in a message formed after the other end's start was taken
 pub record Answered (sent : List (List TaggedSlot)) (taken_then : List ℕ) (heard : List (List TaggedSlot)) : Type 0 where
-  pub each : (k : ℕ) → k < length sent → Each (λ o. is_behind o.slot ≡ true → starts (slots_of o.generation (flat (take (get_or taken_then k 0) heard))) ≡ true) (get_or sent k [])
+  pub each :
+      (k : ℕ) →
+      k < length sent →
+      Each (λ o. is_behind o.slot ≡ true → starts (slots_of o.generation (flat (take (get_or taken_then k 0) heard))) ≡ true) (get_or sent k [])
 
 -- All messages of both ends with the generations of their slots: those taken, those on their way
 pub record Logs (m : Half) (s : Half) (up_done : List (List TaggedSlot)) (up : List (List TaggedSlot)) (down_done : List (List TaggedSlot)) (down : List (List TaggedSlot)) : Type 0 where

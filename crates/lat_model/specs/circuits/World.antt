@@ -40,17 +40,27 @@ with_table w false t fs = record w { node = t; frames = w.frames ++ fs }
 
 abbrev pub wire_all : Bool → ℕ → ℕ → ℕ → List Sent → List Wired
 wire_all b x to destination [] = []
-wire_all b x to destination (s ∷ ss) = record { by_server = b; circuit = x; to = to; destination = destination; source = x; sent = s } ∷ wire_all b x to destination ss
+wire_all b x to destination (s ∷ ss) =
+    record { by_server = b; circuit = x; to = to; destination = destination; source = x; sent = s } ∷ wire_all b x to destination ss
 
 -- the circuit x of the side b after a step, and what it sent
 abbrev pub put_circuit : World → Bool → ℕ → ℕ → ℕ → Step → World
-put_circuit w b drawn x address s = with_table w b (record (table w b) { drawn = drawn; circuit_at = updated (table w b).circuit_at x (record { address = address; end = s.end }) }) (wire_all b x address s.end.peer s.sent)
+put_circuit w b drawn x address s =
+    with_table w b (record (table w b) { drawn = drawn; circuit_at = updated (table w b).circuit_at x (record { address = address; end = s.end }) }) (wire_all b x address s.end.peer s.sent)
 
 abbrev pub at_end : World → Bool → ℕ → Step → World
-at_end w b x s = put_circuit w b (table w b).drawn x ((table w b).circuit_at x).address (note_empty ((table w b).circuit_at x).end s)
+at_end w b x s =
+    put_circuit w b (table w b).drawn x ((table w b).circuit_at x).address (note_empty ((table w b).circuit_at x).end s)
 
 abbrev pub agreed_of : Setup → Agreed
-agreed_of u = record { sessions = u.sessions; room = 1492; window = min 8 (suc u.extra); timer = u.timer; keepalive = u.keepalive; wide = false }
+agreed_of u = record {
+  sessions = u.sessions;
+  room = 1492;
+  window = min 8 (suc u.extra);
+  timer = u.timer;
+  keepalive = u.keepalive;
+  wide = false;
+}
 
 abbrev pub first_end : Bool → Bool → Setup → End
 first_end m exists u = new_end m exists u.timer u.keepalive u.sessions u.ceiling

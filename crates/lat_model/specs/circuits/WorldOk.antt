@@ -14,7 +14,10 @@ void_half m = record { link = fresh; sessions = void_sessions m 0 0 }
 
 -- the node's half of a circuit that the server calls: none before the reply was heard
 abbrev pub mate : World → ℕ → Half
-mate w p = cond (w.server.circuit_at p).end.running (w.node.circuit_at (w.server.circuit_at p).end.peer).end.half (void_half false)
+mate w p =
+    cond (w.server.circuit_at p).end.running
+    (w.node.circuit_at (w.server.circuit_at p).end.peer).end.half
+    (void_half false)
 
 -- a slave that has formed and taken nothing
 pub record Idle (e : End) : Type 0 where
@@ -54,8 +57,12 @@ pub record ByNode (w : World) (x : ℕ) (to_id : ℕ) (from_id : ℕ) : Type 0 w
   pub destination : to_id ≡ (w.node.circuit_at x).end.peer
 
 abbrev pub Says : World → Bool → ℕ → ℕ → ℕ → ℕ → Sent → Type 0
-Says w true x to destination source (Run k ask f) = to ≡ w.node.own → ((w.server.circuit_at x).address ≡ w.node.own) × ByServer w x destination source f
-Says w false x to destination source (Run k ask f) = to ≡ w.server.own → ByNode w x destination source × FrameOf (List Slot) (w.node.circuit_at x).end.half.link f
+Says w true x to destination source (Run k ask f) =
+    to ≡ w.node.own →
+    ((w.server.circuit_at x).address ≡ w.node.own) × ByServer w x destination source f
+Says w false x to destination source (Run k ask f) =
+    to ≡ w.server.own →
+    ByNode w x destination source × FrameOf (List Slot) (w.node.circuit_at x).end.half.link f
 Says w true x to destination source ReplyStart = Unit {0}
 Says w false x to destination source ReplyStart = to ≡ w.server.own → ByNode w x destination source
 Says w b x to destination source CallStart = Unit {0}
@@ -65,8 +72,15 @@ pub record WorldOk (w : World) : Type 0 where
   pub apart : w.server.own ≢ w.node.own
   pub ceiling : w.setup.ceiling ≤ 255
   pub other_ceiling : w.other.ceiling ≤ 255
-  pub matched : (p : ℕ) → (w.server.circuit_at p).address ≡ w.node.own → Together (w.server.circuit_at p).end.half (mate w p) []
-  pub replied : (p : ℕ) → (w.server.circuit_at p).address ≡ w.node.own → (w.server.circuit_at p).end.running ≡ true → Replied w p
+  pub matched :
+      (p : ℕ) →
+      (w.server.circuit_at p).address ≡ w.node.own →
+      Together (w.server.circuit_at p).end.half (mate w p) []
+  pub replied :
+      (p : ℕ) →
+      (w.server.circuit_at p).address ≡ w.node.own →
+      (w.server.circuit_at p).end.running ≡ true →
+      Replied w p
   pub calling : (p : ℕ) → (w.server.circuit_at p).end.running ≡ false → (w.server.circuit_at p).end.peer ≡ 0
   pub idle : (q : ℕ) → (w.node.circuit_at q).address ≡ w.server.own → (Joint w q → ⊥) → Idle (w.node.circuit_at q).end
   pub says : Each (λ f. Says w f.by_server f.circuit f.to f.destination f.source f.sent) w.frames

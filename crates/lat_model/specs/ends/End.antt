@@ -84,7 +84,12 @@ all_known e = nat_le (length e.half.link.sent) e.half.link.known
 
 abbrev pub send_message : Packing → End → Step
 send_message p e = record {
-  end = record e { half = record { link = form_message e.half.link (wire_of p.slots); sessions = p.after }; owed = false; sent_at = e.moment; since = cond (all_known e) e.moment e.since };
+  end = record e {
+    half = record { link = form_message e.half.link (wire_of p.slots); sessions = p.after };
+    owed = false;
+    sent_at = e.moment;
+    since = cond (all_known e) e.moment e.since;
+  };
   sent = Run Fresh false (formed_frame e.half.link (wire_of p.slots)) ∷ [];
 }
 
@@ -105,12 +110,21 @@ marked (f ∷ fs) = Run (Again (length fs)) false f ∷ marked fs
 
 abbrev pub send_again : End → Step
 send_again e = record {
-  end = record e { half = record (e.half) { link = showing e.half.link }; owed = false; sent_at = e.moment; since = e.moment; rounds = suc e.rounds };
+  end = record e {
+    half = record (e.half) { link = showing e.half.link };
+    owed = false;
+    sent_at = e.moment;
+    since = e.moment;
+    rounds = suc e.rounds;
+  };
   sent = marked (again_frames e.half.link);
 }
 
 abbrev pub send_start : End → Step
-send_start e = record { end = record e { start_at = e.moment; sent_at = e.moment; rounds = suc e.rounds }; sent = CallStart ∷ [] }
+send_start e = record {
+  end = record e { start_at = e.moment; sent_at = e.moment; rounds = suc e.rounds };
+  sent = CallStart ∷ [];
+}
 
 -- a local call
 abbrev pub call_end : Call → End → End

@@ -33,7 +33,9 @@ abbrev pub body_end : ℕ → Bool → Option (List Slot) → End → RunStep
 body_end n ask None e = record { step = still (record e { owed = e.owed || ask }); answer = RunAckOnly }
 body_end n ask (Some []) e = record { step = still (record e { owed = e.owed || ask }); answer = RunAckOnly }
 body_end n ask (Some (x ∷ xs)) e =
-    cond (is_next e.half.link n) (take_end (x ∷ xs) e) (record { step = still (record e { owed = true }); answer = RunRepeated })
+    cond (is_next e.half.link n)
+    (take_end (x ∷ xs) e)
+    (record { step = still (record e { owed = true }); answer = RunRepeated })
 
 -- the slave forms at each RUN that it hears
 abbrev pub after_run : RunStep → RunStep

@@ -19,12 +19,40 @@ abbrev pub agree_half : Agreed → Half → Half
 agree_half g h = record h { sessions = record (h.sessions) { agreed = min g.sessions h.sessions.agreed } }
 
 abbrev pub reply_end : ℕ → ℕ → Agreed → End → End
-reply_end now peer g e = record e { half = agree_half g e.half; peer = peer; running = true; room = g.room; window = min g.window 8; wide = g.wide; rounds = 0; owed = true; moment = now; heard_at = now; empty_at = now }
+reply_end now peer g e = record e {
+  half = agree_half g e.half;
+  peer = peer;
+  running = true;
+  room = g.room;
+  window = min g.window 8;
+  wide = g.wide;
+  rounds = 0;
+  owed = true;
+  moment = now;
+  heard_at = now;
+  empty_at = now;
+}
 
 -- the slave is made by the first START, and repeats its reply until a RUN was heard
 abbrev pub make_slave : ℕ → ℕ → Agreed → End → Step
 make_slave now peer g e = record {
-  end = record e { half = agree_half g e.half; exists = true; running = true; peer = peer; room = g.room; window = min g.window 8; timer = g.timer; keepalive = g.keepalive; wide = g.wide; moment = now; due_at = now; heard_at = now; sent_at = now; since = now; empty_at = now };
+  end = record e {
+    half = agree_half g e.half;
+    exists = true;
+    running = true;
+    peer = peer;
+    room = g.room;
+    window = min g.window 8;
+    timer = g.timer;
+    keepalive = g.keepalive;
+    wide = g.wide;
+    moment = now;
+    due_at = now;
+    heard_at = now;
+    sent_at = now;
+    since = now;
+    empty_at = now;
+  };
   sent = ReplyStart ∷ [];
 }
 
@@ -45,7 +73,10 @@ hear_reply now peer g e =
     (record { end = e; sent = [] })
 
 abbrev pub hear_stop : ℕ → ℕ → End → Step
-hear_stop now r e = cond (lives e) (record { end = record e { ended = Some r; moment = now }; sent = [] }) (record { end = e; sent = [] })
+hear_stop now r e =
+    cond (lives e)
+    (record { end = record e { ended = Some r; moment = now }; sent = [] })
+    (record { end = e; sent = [] })
 
 -- what an end does at a frame of the other
 abbrev pub hear : ℕ → Agreed → Sent → End → Step
@@ -55,13 +86,45 @@ hear now g ReplyStart e = cond e.master (hear_reply now 1 g e) (record { end = e
 hear now g (Stopped r) e = hear_stop now r e
 
 abbrev pub void_sessions : Bool → ℕ → ℕ → Sessions
-void_sessions m agreed ceiling = record { master = m; ceiling = ceiling; agreed = agreed; served = 0; made = 0; session = λ k. blank; at_id = λ k. 0; generations = 0; serial_of = λ k. 0 }
+void_sessions m agreed ceiling = record {
+  master = m;
+  ceiling = ceiling;
+  agreed = agreed;
+  served = 0;
+  made = 0;
+  session = λ k. blank;
+  at_id = λ k. 0;
+  generations = 0;
+  serial_of = λ k. 0;
+}
 
 abbrev pub no_sessions : Bool → ℕ → ℕ → Sessions
 no_sessions m agreed ceiling = void_sessions m (min agreed 64) ceiling
 
 abbrev pub new_end : Bool → Bool → ℕ → ℕ → ℕ → ℕ → End
-new_end m exists timer keepalive sessions ceiling = record { master = m; half = record { link = fresh; sessions = no_sessions m sessions ceiling }; exists = exists; ended = None; peer = 0; running = false; heard_run = false; room = 0; window = 0; timer = timer; keepalive = keepalive; wide = false; owed = false; rounds = 0; moment = 0; due_at = 0; heard_at = 0; sent_at = 0; since = 0; start_at = 0; empty_at = 0 }
+new_end m exists timer keepalive sessions ceiling = record {
+  master = m;
+  half = record { link = fresh; sessions = no_sessions m sessions ceiling };
+  exists = exists;
+  ended = None;
+  peer = 0;
+  running = false;
+  heard_run = false;
+  room = 0;
+  window = 0;
+  timer = timer;
+  keepalive = keepalive;
+  wide = false;
+  owed = false;
+  rounds = 0;
+  moment = 0;
+  due_at = 0;
+  heard_at = 0;
+  sent_at = 0;
+  since = 0;
+  start_at = 0;
+  empty_at = 0;
+}
 
 pub record Setup : Type 0 where
   pub timer : ℕ

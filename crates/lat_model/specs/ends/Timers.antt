@@ -39,7 +39,9 @@ living f e = cond (lives e) (f e) (still e)
 -- where the last session became free in this event, the time without one begins
 abbrev pub note_empty : End → Step → Step
 note_empty e s = record {
-  end = record (s.end) { empty_at = cond (not (nat_eq (held e.half.sessions) 0) && nat_eq (held s.end.half.sessions) 0) s.end.moment s.end.empty_at };
+  end = record (s.end) {
+    empty_at = cond (not (nat_eq (held e.half.sessions) 0) && nat_eq (held s.end.half.sessions) 0) s.end.moment s.end.empty_at;
+  };
   sent = s.sent;
 }
 

@@ -22,7 +22,11 @@ abbrev pub showing : {M : Type 0} → Link M → Link M
 showing l = record l { shown = length l.came }
 
 abbrev pub form_message : {M : Type 0} → Link M → M → Link M
-form_message l m = record l { sent = l.sent ++ m ∷ []; taken_then = l.taken_then ++ length l.came ∷ []; shown = length l.came }
+form_message l m = record l {
+  sent = l.sent ++ m ∷ [];
+  taken_then = l.taken_then ++ length l.came ∷ [];
+  shown = length l.came;
+}
 
 abbrev pub formed_frame : {M : Type 0} → Link M → M → Frame M
 formed_frame l m = record { number = suc (length l.sent); acknowledgement = length l.came; body = Some m }

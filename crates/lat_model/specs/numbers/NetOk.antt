@@ -42,4 +42,8 @@ pub record Young (M : Type 0) (r : ℕ) (sender : Link M) (f : Frame M) : Type 0
 
 -- the frame as its two number fields tell it to the end l that hears it
 abbrev pub as_bytes : {M : Type 0} → ℕ → Link M → Frame M → Frame M
-as_bytes r l f = record { number = near (f.number % (2 * r)) (length l.came) r; acknowledgement = near (f.acknowledgement % (2 * r)) l.known r; body = f.body }
+as_bytes r l f = record {
+  number = near (f.number % (2 * r)) (length l.came) r;
+  acknowledgement = near (f.acknowledgement % (2 * r)) l.known r;
+  body = f.body;
+}

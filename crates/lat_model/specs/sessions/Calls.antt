@@ -14,7 +14,22 @@ abbrev pub touch : Sessions → ℕ → Session → Sessions
 touch e k s = record e { session = updated e.session k s }
 
 abbrev pub new_call : Sessions → List ℕ → Option ℕ → Session
-new_call e service request = record { id = least_free e; generation = 0; service = service; request = request; accepted = true; refused = false; reason = 0; closed = false; attention = None; mark = None; put = []; out = []; came = []; taken = 0 }
+new_call e service request = record {
+  id = least_free e;
+  generation = 0;
+  service = service;
+  request = request;
+  accepted = true;
+  refused = false;
+  reason = 0;
+  closed = false;
+  attention = None;
+  mark = None;
+  put = [];
+  out = [];
+  came = [];
+  taken = 0;
+}
 
 abbrev pub connect : Sessions → List ℕ → Option ℕ → Sessions
 connect e service request = record e {
@@ -35,11 +50,15 @@ put_count s n = min n (4096 - length (unframed s))
 
 abbrev pub put_bytes : Sessions → ℕ → List ℕ → Sessions
 put_bytes e id bs =
-    cond (put_open (named e id)) (touch e (e.at_id id) (put_items (named e id) (map Byte (take (put_count (named e id) (length bs)) bs)))) e
+    cond (put_open (named e id))
+    (touch e (e.at_id id) (put_items (named e id) (map Byte (take (put_count (named e id) (length bs)) bs))))
+    e
 
 abbrev pub set : Sessions → ℕ → List ℕ → Sessions
 set e id t =
-    cond (put_open (named e id) && nat_lt (length (unframed (named e id))) 4096) (touch e (e.at_id id) (put_items (named e id) (Setting t ∷ []))) e
+    cond (put_open (named e id) && nat_lt (length (unframed (named e id))) 4096)
+    (touch e (e.at_id id) (put_items (named e id) (Setting t ∷ [])))
+    e
 
 abbrev pub attend : Sessions → ℕ → ℕ → Sessions
 attend e id flag = cond (put_open (named e id)) (touch e (e.at_id id) (record (named e id) { attention = Some flag })) e
@@ -48,7 +67,10 @@ abbrev pub take_count : Session → ℕ → ℕ
 take_count s n = min n (length (items s.came) - s.taken)
 
 abbrev pub take_items : Sessions → ℕ → ℕ → Sessions
-take_items e id n = cond (take_open (named e id)) (touch e (e.at_id id) (record (named e id) { taken = (named e id).taken + take_count (named e id) n })) e
+take_items e id n =
+    cond (take_open (named e id))
+    (touch e (e.at_id id) (record (named e id) { taken = (named e id).taken + take_count (named e id) n }))
+    e
 
 abbrev pub took : Sessions → ℕ → ℕ → List Item
 took e id n = take (take_count (named e id) n) (drop (named e id).taken (items (named e id).came))

@@ -20,7 +20,22 @@ names_running from s = starts s.came && (nat_eq (peer s) from && not (gone s))
 
 -- the session that an ask makes. At the agreed number it has no id, and a reject with reason 7 waits
 abbrev pub asked_session : Sessions → Slot → List ℕ → Option ℕ → Session
-asked_session e x service request = record { id = least_free e; generation = suc e.generations; service = service; request = request; accepted = false; refused = nat_le e.agreed (held e); reason = 7; closed = false; attention = None; mark = None; put = []; out = []; came = x ∷ []; taken = 0 }
+asked_session e x service request = record {
+  id = least_free e;
+  generation = suc e.generations;
+  service = service;
+  request = request;
+  accepted = false;
+  refused = nat_le e.agreed (held e);
+  reason = 7;
+  closed = false;
+  attention = None;
+  mark = None;
+  put = [];
+  out = [];
+  came = x ∷ [];
+  taken = 0;
+}
 
 abbrev pub ask_in : Sessions → Slot → List ℕ → Option ℕ → Sessions
 ask_in e x service request = record e {
@@ -42,7 +57,9 @@ hear_behind e x = cond (behind_fits (named e (destination x)) x) (Some (hear_at 
 
 abbrev pub hear_slot : Sessions → Slot → Option Sessions
 hear_slot e (Start zero from c size service request) =
-    cond (e.master || any_up_to (λ k. names from (e.session k)) e.made) None (Some (ask_in e (Start 0 from c size service request) service request))
+    cond (e.master || any_up_to (λ k. names from (e.session k)) e.made)
+    None
+    (Some (ask_in e (Start 0 from c size service request) service request))
 hear_slot e (Start (suc to) from c size service request) =
     cond (e.master && waits (named e (suc to)) && not (any_up_to (λ k. names_running from (e.session k)) e.made))
     (Some (hear_at e (e.at_id (suc to)) (Start (suc to) from c size service request))) None

@@ -20,7 +20,13 @@ pub record Flows (a : Sessions) (b : Sessions) (wire : List TaggedSlot) : Type 0
 
 -- Behind a start on the wire no slot of an older session of that id follows
 pub record FreshHead (e : Sessions) (o : TaggedSlot) (wire : List TaggedSlot) : Type 0 where
-  pub none : is_start o.slot ≡ true → (g : ℕ) → g ≢ o.generation → (of_generation e g).id ≡ (of_generation e o.generation).id → starts (of_generation e g).out ≡ true → slots_of g wire ≡ []
+  pub none :
+      is_start o.slot ≡ true →
+      (g : ℕ) →
+      g ≢ o.generation →
+      (of_generation e g).id ≡ (of_generation e o.generation).id →
+      starts (of_generation e g).out ≡ true →
+      slots_of g wire ≡ []
 
 abbrev pub Fresh : Sessions → List TaggedSlot → Type 0
 Fresh e [] = Unit {0}

@@ -6,9 +6,29 @@ use Rattle.lat_model.specs.Lists.{IsPrefixOf}
 use Rattle.lat_model.specs.sessions.EndOk.{Behind}
 
 pub data MayForm (master : Bool) (s : Session) (x : Slot) : Type 0 where
-  Starts : s.out ≡ [] → s.accepted ≡ true → s.refused ≡ false → is_start x ≡ true → is_ask x ≡ master → source x ≡ s.id → (master ≡ false → destination x ≡ peer s) → MayForm master s x
-  Rejects : s.out ≡ [] → s.refused ≡ true → (s.came ≡ [] → ⊥) → is_reject x ≡ true → destination x ≡ peer s → MayForm master s x
-  Follows : s.refused ≡ false → (s.out ≡ [] → ⊥) → answered s ≡ true → has_stop s.out ≡ false → Behind (peer s) s.id x → MayForm master s x
+  Starts :
+      s.out ≡ [] →
+      s.accepted ≡ true →
+      s.refused ≡ false →
+      is_start x ≡ true →
+      is_ask x ≡ master →
+      source x ≡ s.id →
+      (master ≡ false → destination x ≡ peer s) →
+      MayForm master s x
+  Rejects :
+      s.out ≡ [] →
+      s.refused ≡ true →
+      (s.came ≡ [] → ⊥) →
+      is_reject x ≡ true →
+      destination x ≡ peer s →
+      MayForm master s x
+  Follows :
+      s.refused ≡ false →
+      (s.out ≡ [] → ⊥) →
+      answered s ≡ true →
+      has_stop s.out ≡ false →
+      Behind (peer s) s.id x →
+      MayForm master s x
 
 pub record Affords (ceiling : ℕ) (s : Session) (x : Slot) : Type 0 where
   pub cost : costs s.out + cost_of x ≤ credits s.came

@@ -22,7 +22,7 @@ leading [] = []
 leading (Byte b ∷ xs) = b ∷ leading xs
 leading (Setting t ∷ xs) = []
 
--- the most bytes that fit into a data_a of this room, with its pad
+-- the most bytes that fit into a DataA of this room, with its pad
 abbrev pub byte_room : ℕ → ℕ
 byte_room room = (room - 4) - (room - 4) % 2
 

@@ -15,7 +15,12 @@ abbrev pub served_after : Sessions → ℕ → ℕ
 served_after e k = cond (e.session k).refused e.served (e.session k).id
 
 abbrev pub first_form : Sessions → ℕ → Slot → Sessions
-first_form e k x = record e { session = updated e.session k (formed (record (e.session k) { generation = suc e.generations }) x); served = served_after e k; generations = suc e.generations; serial_of = updated e.serial_of (suc e.generations) k }
+first_form e k x = record e {
+  session = updated e.session k (formed (record (e.session k) { generation = suc e.generations }) x);
+  served = served_after e k;
+  generations = suc e.generations;
+  serial_of = updated e.serial_of (suc e.generations) k;
+}
 
 abbrev pub next_form : Sessions → ℕ → Slot → Sessions
 next_form e k x = record e { session = updated e.session k (formed (e.session k) x); served = served_after e k }
@@ -45,7 +50,13 @@ pub record Packing : Type 0 where
 abbrev pub turn_by : Packing → ℕ → Offer → Packing
 turn_by p k Nothing = p
 turn_by p k Unfit = record p { going = false }
-turn_by p k (Offers x) = record { after = form p.after k x; slots = p.slots ++ tagged p.after k x ∷ []; room = p.room - slot_len x; left = p.left - 1; going = nat_lt 1 p.left }
+turn_by p k (Offers x) = record {
+  after = form p.after k x;
+  slots = p.slots ++ tagged p.after k x ∷ [];
+  room = p.room - slot_len x;
+  left = p.left - 1;
+  going = nat_lt 1 p.left;
+}
 
 abbrev pub turn : Packing → ℕ → Packing
 turn p k = cond p.going (turn_by p k (offer p.after.master p.after.ceiling p.room (p.after.session k))) p
@@ -56,7 +67,8 @@ turn_all (k ∷ ks) p = turn_all ks (turn p k)
 
 -- waiting rejects in the order heard, then the ids beginning after the one served last
 abbrev pub turns : Sessions → List ℕ
-turns e = keep (λ k. rejecting (e.session k)) (upwards 0 e.made) ++ map e.at_id (upwards e.served (64 - e.served) ++ upwards 0 e.served)
+turns e =
+    keep (λ k. rejecting (e.session k)) (upwards 0 e.made) ++ map e.at_id (upwards e.served (64 - e.served) ++ upwards 0 e.served)
 
 abbrev pub pack : ℕ → Sessions → Packing
 pack room e = turn_all (turns e) (record { after = e; slots = []; room = room; left = 255; going = true })

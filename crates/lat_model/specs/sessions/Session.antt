@@ -92,4 +92,19 @@ take_open s = s.accepted && not (free s) && not s.closed
 
 -- no session at all
 abbrev pub blank : Session
-blank = record { id = 0; generation = 0; service = []; request = None; accepted = false; refused = true; reason = 0; closed = false; attention = None; mark = None; put = []; out = []; came = []; taken = 0 }
+blank = record {
+  id = 0;
+  generation = 0;
+  service = [];
+  request = None;
+  accepted = false;
+  refused = true;
+  reason = 0;
+  closed = false;
+  attention = None;
+  mark = None;
+  put = [];
+  out = [];
+  came = [];
+  taken = 0;
+}

@@ -79,7 +79,7 @@ abbrev pub is_attention : Slot → Bool
 is_attention (Attention to from flag) = true
 is_attention _ = false
 
--- the greatest number of bytes in a data_a that the sender of this start takes
+-- the greatest number of bytes in a DataA that the sender of this start takes
 abbrev pub size_of : Slot → ℕ
 size_of (Start to from c size service request) = size
 size_of _ = 0
