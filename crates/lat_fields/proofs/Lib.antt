@@ -4,3 +4,4 @@ pub mod Steps
 pub mod Taken
 pub mod Found
 pub mod Payloads
+pub mod Entries

@@ -7,11 +7,13 @@ mod params;
 mod params_read;
 mod params_write;
 mod read;
+#[cfg(test)]
+mod tests;
 mod write;
 
 pub use fault::LayoutFault;
 pub use params::{Param, Params};
 pub use params_read::params_of;
-pub use params_write::{params_ok, write_params};
+pub use params_write::{params_len, params_ok, write_params};
 pub use read::{byte_of, counted_of, name_of, number_of, wanted};
 pub use write::{LEAST_PAYLOAD, write_counted, write_number, write_padding};

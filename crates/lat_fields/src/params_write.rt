@@ -1,6 +1,6 @@
 //! Writing parameters.
 
-ghost use Rattle.std.specs.Prelude.{◌≡◌, ◌+◌, ◌<◌, ◌≤◌, ◌++◌, ◌↔◌, length, IsTrue};
+ghost use Rattle.std.specs.Prelude.{◌≡◌, ◌+◌, ◌<◌, ◌≤◌, ◌++◌, ◌↔◌, length, min, IsTrue};
 ghost use Rattle.std.specs.List.{AllByRecursion, list_all};
 ghost use Rattle.lat_fields.specs.Params.{IsEntry, is_entry, entry_text, params_text};
 
@@ -14,11 +14,35 @@ fn entry_ok(entry: &Param) -> bool
     entry.code > 0 && entry.bytes.as_slice().len() < 256
 }
 
-/// Whether each parameter has a code above 0 and at most 255 bytes.
-pub fn params_ok(params: &Params) -> bool
-    ensures { result ≡ list_all is_entry params.now }
+fn entries_ok(entries: &[Param]) -> bool
+    ensures { result ≡ list_all is_entry entries.now }
 {
-    params.as_slice().iter().all(|entry| entry_ok(entry))
+    entries.iter().all(|entry| entry_ok(entry))
+}
+
+/// Whether each parameter has a code above 0 and at most 255 bytes, so that it can be written.
+#[tactic(auto, using(crate::proofs::Entries::entries_pass))]
+pub fn params_ok(params: &Params) -> bool
+    ensures { IsTrue result ↔ AllByRecursion IsEntry params.now }
+{
+    entries_ok(params.as_slice())
+}
+
+fn entry_len(entry: &Param) -> usize
+    ensures { result ≡ min (length (entry_text entry.now)) usize.MAX }
+{
+    entry.bytes.as_slice().len().saturating_add(2)
+}
+
+/// How many bytes the parameters are written as, with the 0 that ends them. It stops at the greatest `usize`.
+pub fn params_len(params: &Params) -> usize
+    ensures { result ≡ min (length (params_text params.now)) usize.MAX }
+{
+    let mut len: usize = 1;
+    for entry in params.as_slice() {
+        len = len.saturating_add(entry_len(entry));
+    }
+    len
 }
 
 fn write_entry(out: &mut Payload, entry: &Param)
