@@ -1,0 +1,177 @@
+//! Reading a slot.
+
+ghost use Rattle.std.specs.Prelude.{◌≡◌, ◌+◌, ◌<◌, ◌≤◌, ℕ, length, take, drop, Ok, IfOk, IsTrue, slice_index};
+ghost use Rattle.lat_fields.specs.Reading.{Gives};
+ghost use Rattle.lat_slots.specs.Reading.{is_type, head_at, start_at, body_at, slot_at};
+ghost use Rattle.lat_slots.specs.Layout.{StandsAt};
+ghost use Rattle.lat_slots.specs.declared.slot.Slot.{Slot};
+ghost use Rattle.lat_slots.specs.declared.slot.Slot.TheVariants as slots;
+
+use crate::head::{ATTENTION, DATA_A, DATA_B, REJECT, START, STOP, SlotHead, count_fits, is_type};
+use crate::slot::Slot;
+use lat_base::{Bytes, Field};
+use lat_fields::{LayoutFault, byte_of, counted_of, name_of, params_of, wanted};
+use std::alloc::Global;
+
+// The head of the slot that stands at the place. The byte with its type is tested before the others.
+#[tactic(auto, unfolding(crate::specs::Reading::head_at))]
+fn head_of(payload: &[u8], at: usize) -> Result<SlotHead, LayoutFault>
+    requires { (at ≤ length payload.now) × (length payload.now ≤ 1500) }
+    ensures gives { Gives (λ h. h) result (head_at at (drop at payload.now)) }
+    ensures kind { IfOk result (λ h. IsTrue (is_type h.kind)) }
+    ensures setting { IfOk result (λ h. h.kind ≡ 10 → h.count ≡ 5) }
+    ensures attention { IfOk result (λ h. h.kind ≡ 11 → h.count ≡ 1) }
+    ensures within { IfOk result (λ h. at + 4 + h.count ≤ length payload.now) }
+{
+    let rest = &payload[at..];
+    let known = rest.len() > 3 && is_type(rest[3] / 16);
+    wanted(known, Field::SlotType, at + 3)?;
+    let kind = rest[3] / 16;
+    let (to, from, count) = (rest[0], rest[1], rest[2]);
+    wanted(kind == START || to > 0, Field::DestinationSlot, at)?;
+    let no_source = kind == REJECT || kind == STOP;
+    wanted(no_source || from > 0, Field::SourceSlot, at + 1)?;
+    let whole = count_fits(kind, count) && 4 + count as usize <= rest.len();
+    wanted(whole, Field::ByteCount, at + 2)?;
+    Ok(SlotHead {
+        kind,
+        low: rest[3] % 16,
+        to,
+        from,
+        count,
+    })
+}
+
+// The start whose body is these bytes from the place on.
+#[tactic(auto, unfolding(crate::specs::Reading::start_at))]
+fn start_of(alloc: Global, head: SlotHead, bytes: &[u8], place: usize) -> Result<Slot, LayoutFault>
+    requires { (place ≤ length bytes.now) × (length bytes.now ≤ 1500) }
+    ensures { Gives (λ s. s) result (start_at (length bytes.now + 1) head place (drop place bytes.now)) }
+{
+    let (class, at) = byte_of(Field::ServiceClass, place, bytes, place)?;
+    wanted(class == 1, Field::ServiceClass, place)?;
+    let (attention, size_at) = byte_of(Field::AttentionSize, at, bytes, at)?;
+    let (size, at) = byte_of(Field::DataSize, size_at, bytes, size_at)?;
+    wanted(size > 0, Field::DataSize, size_at)?;
+    let (service, at) = name_of(Field::Service, bytes, at)?;
+    let (subject, at) = counted_of(Field::Subject, at, bytes, at)?;
+    let (params, at) = params_of(alloc, bytes, at)?;
+    wanted(at == bytes.len(), Field::SlotEnd, at)?;
+    let subject = Bytes::copy(alloc, subject)?;
+    Ok(Slot::Start {
+        to: head.to,
+        from: head.from,
+        credits: head.low,
+        attention,
+        size,
+        service,
+        subject,
+        params,
+    })
+}
+
+// The setting whose body is these five bytes.
+fn setting_of(head: SlotHead, body: &[u8]) -> Slot
+    requires { length body.now ≡ 5 }
+    ensures { result ≡ slots.DataB head.to head.from head.low (slice_index body.now 0) (drop 1 body.now) }
+{
+    let mut chars = [0; 4];
+    chars.copy_from_slice(&body[1..]);
+    Slot::DataB {
+        to: head.to,
+        from: head.from,
+        credits: head.low,
+        flag: body[0],
+        chars,
+    }
+}
+
+// The slot with this head whose body is these bytes from the place on.
+#[tactic(auto, unfolding(crate::specs::Reading::body_at))]
+fn body_of(alloc: Global, head: SlotHead, bytes: &[u8], place: usize) -> Result<Slot, LayoutFault>
+    requires room { (place ≤ length bytes.now) × (length bytes.now ≤ 1500) }
+    requires kind { IsTrue (is_type head.kind) }
+    requires setting { head.kind ≡ 10 → length bytes.now ≡ place + 5 }
+    requires attention { head.kind ≡ 11 → length bytes.now ≡ place + 1 }
+    ensures { Gives (λ s. s) result (body_at (length bytes.now + 1) head place (drop place bytes.now)) }
+{
+    let SlotHead {
+        kind,
+        low,
+        to,
+        from,
+        ..
+    } = head;
+    match kind {
+        DATA_A => Ok(Slot::DataA {
+            to,
+            from,
+            credits: low,
+            bytes: Bytes::copy(alloc, &bytes[place..])?,
+        }),
+        START => start_of(alloc, head, bytes, place),
+        DATA_B => Ok(setting_of(head, &bytes[place..])),
+        ATTENTION => Ok(Slot::Attention {
+            to,
+            from,
+            flag: bytes[place],
+        }),
+        REJECT => Ok(Slot::Reject {
+            to,
+            from,
+            reason: low,
+        }),
+        _ => Ok(Slot::Stop {
+            to,
+            from,
+            reason: low,
+        }),
+    }
+}
+
+// The slot with this head, which stands at the place. Its body is measured to its own end.
+fn behind_head(
+    alloc: Global,
+    payload: &[u8],
+    at: usize,
+    head: SlotHead,
+) -> Result<Slot, LayoutFault>
+    requires room { (at + 4 + head.count ≤ length payload.now) × (length payload.now ≤ 1500) }
+    requires kind { IsTrue (is_type head.kind) }
+    requires setting { head.kind ≡ 10 → head.count ≡ 5 }
+    requires attention { head.kind ≡ 11 → head.count ≡ 1 }
+    ensures { Gives (λ s. s) result (body_at (at + 4 + head.count + 1) head (at + 4) (take head.count (drop 4 (drop at payload.now)))) }
+{
+    let bytes = &payload[..at + 4 + head.count as usize];
+    body_of(alloc, head, bytes, at + 4)
+}
+
+// The slot that stands at the place, and the place behind it with its pad.
+#[tactic(auto, unfolding(crate::specs::Reading::slot_at))]
+fn slot_of(alloc: Global, payload: &[u8], at: usize) -> Result<(Slot, usize), LayoutFault>
+    requires { (at ≤ length payload.now) × (length payload.now ≤ 1500) }
+    ensures gives { Gives (λ x. (x.0, x.1, drop x.1 payload.now)) result (slot_at at (drop at payload.now)) }
+    ensures within { IfOk result (λ x. x.1 ≤ length payload.now) }
+{
+    let head = head_of(payload, at)?;
+    let slot = behind_head(alloc, payload, at, head)?;
+    let end = at + 4 + head.count as usize;
+    let next = end + (head.count % 2) as usize;
+    wanted(next <= payload.len(), Field::SlotPad, end)?;
+    Ok((slot, next))
+}
+
+/// The slot that stands at the place, and the place behind it with its pad. Refused with the first bad field, in the
+/// order of the tables in `docs/FORMATS.md`, part Slots. Takes memory for the bytes that the slot keeps.
+pub fn read_slot(alloc: Global, payload: &[u8], at: usize) -> Result<(Slot, usize), LayoutFault>
+    requires { (at ≤ length payload.now) × (length payload.now ≤ 1500) }
+    // What is read stands there.
+    ensures found { IfOk result (λ x. StandsAt at (drop at payload.now) x.0 x.1) }
+    // What stands there is read, unless memory runs out.
+    ensures only { (s : Slot) (next : ℕ) → StandsAt at (drop at payload.now) s next → Gives (λ x. x) result (Ok (s, next)) }
+    // Which field is bad.
+    ensures exact { Gives (λ x. (x.0, x.1, drop x.1 payload.now)) result (slot_at at (drop at payload.now)) }
+    ensures within { IfOk result (λ x. x.1 ≤ length payload.now) }
+{
+    slot_of(alloc, payload, at)
+}
