@@ -21,7 +21,7 @@ impl Model for Bytes {
 }
 
 impl Bytes {
-    /// A copy of these bytes. Takes memory for them.
+    /// A copy of these bytes, for which it takes memory. `Memory` where none is found.
     pub fn copy(alloc: Global, from: &[u8]) -> Result<Bytes, Memory>
         ensures { IfOk result (λ bytes. bytes ≡ from.now) }
     {

@@ -3,7 +3,7 @@
 ghost use Rattle.std.specs.Prelude.{◌≡◌};
 ghost use Rattle.lat_base.specs.FieldWords.{field_word};
 
-/// A field of a layout. `docs/FORMATS.md` has the layouts with their fields in order.
+/// A field of a layout. `docs/FORMATS.md`, "Fields and their words", has them all.
 #[derive(Clone, Copy, Debug, PartialEq, Eq)]
 pub enum Field {
     Size,
@@ -65,6 +65,7 @@ pub struct Bad {
 
 impl Field {
     /// The word that is printed for it: its name in lower case, a hyphen between its parts.
+    /// `docs/FORMATS.md`, "Fields and their words", has the table.
     pub fn word(self) -> &'static str
         ensures { result.now ≡ field_word self }
     {

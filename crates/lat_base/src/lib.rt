@@ -12,6 +12,8 @@ mod name;
 mod outside;
 mod payload;
 mod standard_ends;
+#[cfg(test)]
+mod tests;
 mod whole;
 
 pub use addr::{Addr, EVERYONE};

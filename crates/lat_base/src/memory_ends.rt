@@ -18,10 +18,13 @@ pub struct MemSource<'a> {
 }
 
 impl<'a> MemSource<'a> {
-    /// A source of these bytes, at most `most` of them a call. The calls in `failing`, counted from 1, fail.
+    /// A source of these bytes, at most `most` of them a call. The calls in `failing`, counted from 1, fail. Its count
+    /// of faults begins at 0.
     pub fn new(bytes: &'a [u8], most: usize, failing: &'a [u64]) -> MemSource<'a>
         requires { 0 < most }
-        ensures { ⟦<MemSource<'a> as Source>⟧.left result ≡ Some bytes.entry.now }
+        ensures left { ⟦<MemSource<'a> as Source>⟧.left result ≡ Some bytes.entry.now }
+        ensures faults { ⟦<MemSource<'a> as Source>⟧.faults result ≡ 0 }
+        ensures calls { (result.most ≡ most) × (result.failing.now ≡ failing.entry.now) × (result.calls ≡ 0) }
     {
         MemSource {
             rest: bytes,
@@ -63,9 +66,12 @@ pub struct MemSink<'a> {
 }
 
 impl<'a> MemSink<'a> {
-    /// A sink without a byte, which takes at most `most` bytes a call. The calls in `failing`, counted from 1, fail.
+    /// A sink without a byte, which takes at most `most` bytes a call. The calls in `failing`, counted from 1, fail, and
+    /// so does each call where `most` is 0. Its count of faults begins at 0.
     pub fn new(alloc: Global, most: usize, failing: &'a [u64]) -> MemSink<'a>
-        ensures { ⟦<MemSink<'a> as Sink>⟧.told result ≡ Some [] }
+        ensures told { ⟦<MemSink<'a> as Sink>⟧.told result ≡ Some [] }
+        ensures faults { ⟦<MemSink<'a> as Sink>⟧.faults result ≡ 0 }
+        ensures calls { (result.most ≡ most) × (result.failing.now ≡ failing.entry.now) × (result.calls ≡ 0) }
     {
         MemSink {
             bytes: Vec::new(alloc),

@@ -1,4 +1,4 @@
-//! Names of nodes, servers and services.
+//! Names of nodes, servers and services. `docs/FORMATS.md`, "Bytes, numbers, names", says which bytes a name may have.
 
 ghost use Rattle.std.specs.Prelude.{◌≡◌, ◌↔◌, ◌≤◌, ◌-◌, ◌++◌, length, IsTrue, not, position, replicate};
 ghost use Rattle.lat_base.specs.Names.{IsName, name_byte, name_read, upper, folded};
@@ -6,15 +6,20 @@ ghost use Rattle.lat_base.specs.Names.{IsName, name_byte, name_read, upper, fold
 use std::hash::{Hash, Hasher};
 use std::marker::Model;
 
-/// Why bytes are no name.
+/// Why bytes are no name: the first of these that is so.
 #[derive(Clone, Copy, Debug, PartialEq, Eq)]
 pub enum NameFault {
+    /// There is no byte.
     Empty,
+    /// There are more than 16 bytes, so many.
     Long(usize),
+    /// A name can't have the byte at this place, counted from 0. It is the first such byte.
     Byte(usize),
 }
 
-/// A name of 1 to 16 bytes.
+/// The name of a node, a server or a service: 1 to 16 bytes, each in 21..7E or A1..FE hex. Contracts see the list of
+/// the bytes, which are kept as they were read. `==` and the hash are of these bytes, so `vax` and `VAX` differ; `same`
+/// compares without regard to case, and `folded` makes a key of a map that does so too. It takes no memory.
 #[derive(Clone, Copy, Debug)]
 pub struct Name {
     bytes: [u8; 16],
@@ -99,7 +104,8 @@ fn placed(bytes: &[u8]) -> [u8; 16]
 }
 
 impl Name {
-    /// Reads a name.
+    /// The name that the bytes are. Refusals, in this order: `Empty` where there is no byte, `Long` where there are more
+    /// than 16, `Byte` where a name can't have one of them.
     pub fn read(bytes: &[u8]) -> Result<Name, NameFault>
         ensures { result ≡ name_read bytes.now }
     {
@@ -126,7 +132,7 @@ impl Name {
         }
     }
 
-    /// Its bytes.
+    /// The bytes, first to last, as they were read.
     pub fn bytes(&self) -> &[u8]
         ensures value { result.now ≡ self.now }
         ensures name { IsName self.now }
@@ -134,7 +140,7 @@ impl Name {
         &self.bytes[..self.len as usize]
     }
 
-    /// In upper case.
+    /// The name in upper case: each byte of 61..7A hex (`a` to `z`) less 20 hex, all others as they are.
     pub fn folded(&self) -> Name
         ensures { result ≡ folded self.now }
     {
@@ -146,7 +152,7 @@ impl Name {
         Name::made(&place[..own.len()])
     }
 
-    /// Whether two names are one.
+    /// Whether the two are one name, which is so where both are the same in upper case.
     pub fn same(&self, other: &Name) -> bool
         ensures { IsTrue result ↔ (folded self.now ≡ folded other.now) }
     {

@@ -9,7 +9,8 @@ ghost use Rattle.lat_base.specs.Causes.{HasCause, ZeroIsFault};
 #[derive(Clone, Copy, Debug, PartialEq, Eq)]
 pub struct Failed;
 
-/// Where bytes come from. Its count of faults never falls, and a call answers `Failed` only where the count rose.
+/// Where bytes come from. Its count of faults never falls, and a call answers `Failed` only where the count rose, or
+/// stands at 2^64 - 1 already.
 pub trait Source: Drop {
     // The bytes that are left, where it tells them.
     ghost left: { Self → Option (List ℕ) };
@@ -17,7 +18,7 @@ pub trait Source: Drop {
     ghost faults: { Self → ℕ };
 
     /// Reads the next bytes into the front of the buffer, and answers how many. 0 into a buffer that isn't empty is
-    /// the end, and then no byte is left.
+    /// the end, and then no byte is left. `Failed` loses none.
     fn read(&mut self, buf: &mut [u8]) -> Result<usize, Failed>
         ensures bound { ReadsAtMost result buf.new }
         ensures bytes { ReadConsumes (left self.old) (left self.new) result buf.new }
@@ -25,14 +26,14 @@ pub trait Source: Drop {
 }
 
 /// Where bytes go. Its count of faults never falls, and a call answers `Failed`, or 0 of a piece that isn't empty,
-/// only where the count rose.
+/// only where the count rose, or stands at 2^64 - 1 already.
 pub trait Sink: Drop {
     // The bytes taken so far, where it tells them.
     ghost told: { Self → Option (List ℕ) };
 
     ghost faults: { Self → ℕ };
 
-    /// Takes bytes from the front of the piece, and answers how many.
+    /// Takes bytes from the front of the piece, and answers how many. `Failed` took none.
     fn write(&mut self, piece: &[u8]) -> Result<usize, Failed>
         ensures bound { WritesAtMost result piece.now }
         ensures bytes { WriteAppends (told self.old) (told self.new) result piece.now }

@@ -35,7 +35,7 @@ impl Payload {
         }
     }
 
-    /// Adds a byte at the end.
+    /// Adds a byte at the end. There must be room: fewer than 1,500 bytes so far.
     pub fn push(&mut self, b: u8)
         requires { length self.old < 1500 }
         ensures { self.new ≡ self.old ++ b ∷ [] }
@@ -44,7 +44,7 @@ impl Payload {
         self.len += 1;
     }
 
-    /// Adds bytes at the end, in order.
+    /// Adds bytes at the end, in order. There must be room for all of them.
     pub fn append(&mut self, bytes: &[u8])
         requires { length self.old + length bytes.now ≤ 1500 }
         ensures { self.new ≡ self.old ++ bytes.now }

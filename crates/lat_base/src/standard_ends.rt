@@ -1,7 +1,7 @@
 //! A source and a sink over the program's own input and output. Nothing is told of their bytes: what a terminal, a
 //! pipe or a file gives or takes is trusted.
 
-ghost use Rattle.std.specs.Prelude.{None};
+ghost use Rattle.std.specs.Prelude.{◌≡◌, None};
 
 use crate::outside::{Failed, Sink, Source};
 use std::io::{Read, Write};
@@ -14,8 +14,11 @@ pub struct StdSource<R: Read + Drop> {
 }
 
 impl<R: Read + Drop> StdSource<R> {
-    /// A source of the reader's bytes, without a fault so far.
-    pub fn new(reader: R) -> StdSource<R> {
+    /// A source of the reader's bytes. Its count of faults begins at 0.
+    pub fn new(reader: R) -> StdSource<R>
+        ensures reader { result.reader ≡ reader }
+        ensures faults { ⟦<StdSource<R> as Source>⟧.faults result ≡ 0 }
+    {
         StdSource { reader, faults: 0 }
     }
 }
@@ -42,8 +45,11 @@ pub struct StdSink<W: Write + Drop> {
 }
 
 impl<W: Write + Drop> StdSink<W> {
-    /// A sink that hands its bytes to the writer, without a fault so far.
-    pub fn new(writer: W) -> StdSink<W> {
+    /// A sink that hands its bytes to the writer. Its count of faults begins at 0.
+    pub fn new(writer: W) -> StdSink<W>
+        ensures writer { result.writer ≡ writer }
+        ensures faults { ⟦<StdSink<W> as Sink>⟧.faults result ≡ 0 }
+    {
         StdSink { writer, faults: 0 }
     }
 }
