@@ -5,7 +5,9 @@ mod head;
 pub mod laws;
 mod read;
 mod slot;
+mod write;
 
 pub use lat_fields::{LayoutFault as SlotFault, Param, Params};
 pub use read::read_slot;
 pub use slot::Slot;
+pub use write::{slot_len, slot_ok, write_slot};

@@ -1,0 +1,211 @@
+//! Writing a slot.
+
+ghost use Rattle.std.specs.Prelude.{◌≡◌, ◌+◌, ◌<◌, ◌≤◌, ◌++◌, ◌*◌, ◌↔◌, List, ℕ, length, min, IsTrue};
+ghost use Rattle.std.specs.List.{AllByRecursion};
+ghost use Rattle.lat_base.specs.Names.{IsName};
+ghost use Rattle.lat_fields.specs.Params.{IsEntry};
+ghost use Rattle.lat_slots.specs.Layout.{Fits, SlotText, IsWritable, body_of, from_of, low_of, slot_text, to_of, type_of};
+
+use crate::head::{ATTENTION, DATA_A, DATA_B, REJECT, START, STOP};
+use crate::slot::Slot;
+use lat_base::{Name, Payload};
+use lat_fields::{Params, params_len, params_ok, write_counted, write_params};
+
+// The number of its type.
+fn kind(slot: &Slot) -> u8
+    ensures { result ≡ type_of slot.now }
+{
+    match slot {
+        Slot::Start { .. } => START,
+        Slot::DataA { .. } => DATA_A,
+        Slot::DataB { .. } => DATA_B,
+        Slot::Attention { .. } => ATTENTION,
+        Slot::Reject { .. } => REJECT,
+        Slot::Stop { .. } => STOP,
+    }
+}
+
+// What stands beside the type: its credits or its reason.
+fn low(slot: &Slot) -> u8
+    ensures { result ≡ low_of slot.now }
+{
+    match slot {
+        Slot::Start { credits, .. } | Slot::DataA { credits, .. } | Slot::DataB { credits, .. } =>
+            *credits,
+        Slot::Attention { .. } => 0,
+        Slot::Reject { reason, .. } | Slot::Stop { reason, .. } => *reason,
+    }
+}
+
+// The id at the end that hears it.
+fn destination(slot: &Slot) -> u8
+    ensures { result ≡ to_of slot.now }
+{
+    match slot {
+        Slot::Start { to, .. }
+        | Slot::DataA { to, .. }
+        | Slot::DataB { to, .. }
+        | Slot::Attention { to, .. }
+        | Slot::Reject { to, .. }
+        | Slot::Stop { to, .. } => *to,
+    }
+}
+
+// The id at the end that sends it.
+fn source(slot: &Slot) -> u8
+    ensures { result ≡ from_of slot.now }
+{
+    match slot {
+        Slot::Start { from, .. }
+        | Slot::DataA { from, .. }
+        | Slot::DataB { from, .. }
+        | Slot::Attention { from, .. }
+        | Slot::Reject { from, .. }
+        | Slot::Stop { from, .. } => *from,
+    }
+}
+
+fn ids_ok(to: u8, from: u8) -> bool
+    ensures { IsTrue result ↔ ((0 < to) × (0 < from)) }
+{
+    to > 0 && from > 0
+}
+
+fn setting_ok(to: u8, from: u8, chars: &[u8; 4]) -> bool
+    ensures { IsTrue result ↔ ((0 < to) × (0 < from) × (length chars.now ≡ 4)) }
+{
+    ids_ok(to, from) && chars.len() == 4
+}
+
+// A name meets its condition by its type.
+fn start_ok(from: u8, size: u8, service: &Name, subject: &[u8], params: &Params) -> bool
+    ensures { IsTrue result ↔ ((0 < from) × (0 < size) × IsName service.now × (length subject.now < 256) × AllByRecursion IsEntry params.now) }
+{
+    let _ = service.bytes();
+    from > 0 && size > 0 && subject.len() < 256 && params_ok(params)
+}
+
+// Whether its fields meet their conditions.
+fn fits(slot: &Slot) -> bool
+    ensures { IsTrue result ↔ Fits slot.now }
+{
+    match slot {
+        Slot::Start {
+            from,
+            size,
+            service,
+            subject,
+            params,
+            ..
+        } => start_ok(*from, *size, service, subject.as_slice(), params),
+        Slot::DataA { to, from, .. } => ids_ok(*to, *from),
+        Slot::DataB {
+            to,
+            from,
+            chars,
+            ..
+        } => setting_ok(*to, *from, chars),
+        Slot::Attention { to, from, .. } => ids_ok(*to, *from),
+        Slot::Reject { to, .. } | Slot::Stop { to, .. } => *to > 0,
+    }
+}
+
+fn setting_len(chars: &[u8; 4]) -> usize
+    ensures { result ≡ 1 + length chars.now }
+{
+    1 + chars.len()
+}
+
+// How many bytes the body has, up to the greatest `usize`.
+fn body_len(slot: &Slot) -> usize
+    ensures { result ≡ min (length (body_of slot.now)) usize.MAX }
+{
+    match slot {
+        Slot::Start {
+            service,
+            subject,
+            params,
+            ..
+        } => {
+            let texts = 5 + service.bytes().len() + subject.as_slice().len();
+            params_len(params).saturating_add(texts)
+        }
+        Slot::DataA { bytes, .. } => bytes.as_slice().len(),
+        Slot::DataB { chars, .. } => setting_len(chars),
+        Slot::Attention { .. } => 1,
+        Slot::Reject { .. } | Slot::Stop { .. } => 0,
+    }
+}
+
+fn writable(slot: &Slot) -> bool
+    ensures { IsTrue result ↔ IsWritable slot.now }
+{
+    fits(slot) && body_len(slot) < 256 && low(slot) < 16
+}
+
+/// Whether the slot has a text: whether its fields meet the conditions of `docs/FORMATS.md`, part Slots, its credits or
+/// reason are at most 15, and its body has at most 255 bytes.
+pub fn slot_ok(slot: &Slot) -> bool
+    ensures text { IsTrue result ↔ ((b : List ℕ) × SlotText slot.now b) }
+    ensures writable { IsTrue result ↔ IsWritable slot.now }
+{
+    writable(slot)
+}
+
+/// How many bytes its text has, with the pad. The slot must be one that `slot_ok` accepts.
+pub fn slot_len(slot: &Slot) -> usize
+    requires { IsWritable slot.now }
+    ensures { result ≡ length (slot_text slot.now) }
+{
+    let len = body_len(slot);
+    4 + len + len % 2
+}
+
+fn write_body(slot: &Slot, out: &mut Payload)
+    requires ok { IsWritable slot.now }
+    requires room { length out.old + length (body_of slot.now) ≤ 1500 }
+    ensures { out.new ≡ out.old ++ body_of slot.now }
+{
+    match slot {
+        Slot::Start {
+            attention,
+            size,
+            service,
+            subject,
+            params,
+            ..
+        } => {
+            out.push(1);
+            out.push(*attention);
+            out.push(*size);
+            write_counted(out, service.bytes());
+            write_counted(out, subject.as_slice());
+            write_params(out, params);
+        }
+        Slot::DataA { bytes, .. } => out.append(bytes.as_slice()),
+        Slot::DataB { flag, chars, .. } => {
+            out.push(*flag);
+            out.append(chars);
+        }
+        Slot::Attention { flag, .. } => out.push(*flag),
+        Slot::Reject { .. } | Slot::Stop { .. } => {}
+    }
+}
+
+/// Adds the slot's text at the end: 0 stands where nothing is kept. The slot must be one that `slot_ok` accepts, and
+/// the text must fit into the 1,500 bytes of the payload. Takes no memory.
+pub fn write_slot(slot: &Slot, out: &mut Payload)
+    requires ok { IsWritable slot.now }
+    requires room { length out.old + length (slot_text slot.now) ≤ 1500 }
+    ensures { out.new ≡ out.old ++ slot_text slot.now }
+{
+    let len = body_len(slot);
+    out.push(destination(slot));
+    out.push(source(slot));
+    out.push(len as u8);
+    out.push(kind(slot) * 16 + low(slot));
+    write_body(slot, out);
+    if len % 2 == 1 {
+        out.push(0);
+    }
+}
