@@ -1,5 +1,5 @@
 -- Every event of a node is a list of events of the world of circuits.
-use Rattle.std.proofs.Common.{◌≡◌, ◌≢◌, ℕ, refl, subst, Bool, true, false, cond, ◌&&◌, List, [], ◌∷◌, Option, Some, None, nat_eq}
+use Rattle.std.proofs.Common.{◌≡◌, ◌≢◌, ℕ, ◌+◌, refl, subst, Bool, true, false, cond, ◌&&◌, List, [], ◌∷◌, Option, Some, None, nat_eq}
 use Rattle.std.proofs.lemmas.Bool.{eqb-false}
 use Rattle.std.specs.List.{find}
 use Rattle.lat_model.specs.sessions.Slots.{Slot}
@@ -20,7 +20,7 @@ use Rattle.lat_machines.specs.values.Answers.{Ignored, IdUsed}
 use Rattle.lat_machines.specs.cores.Hearing.{HeardAct, names, hear_run, hear_stop_at, StartFact, Repeats, Makes, Refuses, start_fact, start_at}
 use Rattle.lat_machines.specs.cores.Cores.{setup_of, at_moment}
 use Rattle.lat_machines.specs.cores.LineCalls.{put_on, set_on, attend_on, take_on, close_on}
-use Rattle.lat_machines.specs.node.Node.{NodeConfig, Requested, Node, NodeStep, node_side, tells, request_of, Verdict, Accepts, Rejects, verdict, local_call, judged, asked_at, answers_one, answers_in, answers_asked, heard_at, hears_run, names_for, hears_start, hears_message, solicited, hears_notice, hears_value, hears, requests_again, withdraws, node_step}
+use Rattle.lat_machines.specs.node.Node.{NodeConfig, Requested, Node, NodeStep, node_side, tells, request_of, Verdict, Accepts, Rejects, verdict, local_call, judged, asked_at, answers_one, answers_in, asked_on, answers_asked, heard_at, hears_run, names_for, hears_start, hears_message, solicited, hears_notice, hears_value, hears, requests_again, withdraws, node_step}
 use Rattle.lat_machines.proofs.events.Leads.{Leads, run_leads, stop_leads, start_leads}
 use Rattle.lat_machines.proofs.events.Mades.{Made, acts_made, made_none, made_quiet, made_notice, local_made, passes_made, put_made, set_made, attend_made, take_made, close_made, line_made}
 use Rattle.lat_machines.proofs.events.Servers.{BroughtRun, Brought, BroughtIn, BroughtBy}
@@ -59,9 +59,12 @@ all_did config w x (id ∷ ids) st fs m =
 asked_did : (config : NodeConfig) (w : World) (x : ℕ) (st : Node) (fs : List OutFrame) → Did w st fs → Did w (answers_asked config x st) fs
 asked_did config w x st fs m = go (lives (st.core.circuits.circuit_at x).end)
   where
-    go : (n : Bool) → Did w (cond n (answers_in config x (upwards 0 64) st) st) fs
+    left : Node
+    left = record st { turned_away = st.turned_away + asked_on st x }
+
+    go : (n : Bool) → Did w (cond n (answers_in config x (upwards 0 64) st) left) fs
     go true = all_did config w x (upwards 0 64) st fs m
-    go false = m
+    go false = record { wired = m.wired; leads = m.leads; shown = m.shown }
 
 -- hearing
 

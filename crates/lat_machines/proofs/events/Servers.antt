@@ -17,7 +17,7 @@ use Rattle.lat_machines.specs.values.Messages.{Head, Message, RunMessage, WideMe
 use Rattle.lat_machines.specs.values.Notices.{Kept, KeptAs, Unknown, Action, Ask, Cancel, Announcement, Command, Notice, AnnouncementNotice, CommandNotice, StatusNotice, SolicitNotice, ResponseNotice}
 use Rattle.lat_machines.specs.values.Frames.{Value, OfCircuit, OfNotice, Reading, Whole, Malformed, OutFrame}
 use Rattle.lat_machines.specs.values.Timing.{agreed_by}
-use Rattle.lat_machines.specs.server.Directory.{Hearing, Best, any_of, lasts, live, is_live, refuses, rating_of, offer_of, beats, better, best_in, best}
+use Rattle.lat_machines.specs.server.Directory.{HeardAnnouncement, Best, any_of, latest, live, is_live, refuses, rating_of, offer_of, beats, better, best_in, best}
 use Rattle.lat_machines.specs.values.Keys.{Key, same_key}
 use Rattle.lat_machines.specs.server.Queue.{QueueEvent, Asks, Cancels, Grants, Finishes, Request, first_asks, is_overfull, records, waits, waiting, first, next_request}
 use Rattle.lat_machines.specs.server.Records.{ask_answer, kept_of, is_granted}
@@ -62,7 +62,7 @@ AskFits (Asks k from service answer) = from ≢ everyone
 AskFits _ = Unit {0}
 
 pub record ServerFits (st : Server) : Type 0 where
-  pub heard : Each (λ (e : Hearing). e.from ≢ everyone) st.heard
+  pub heard : Each (λ (e : HeardAnnouncement). e.from ≢ everyone) st.heard
   pub queue : Each AskFits st.queue
 
 pub each_filter : {A : Type 0} (P : A → Type 0) (test : A → Bool) (xs : List A) → Each P xs → Each P (filter test xs)
@@ -73,11 +73,11 @@ each_filter {A} P test (x ∷ xs) p = go (test x) (each_filter P test xs p.1)
     go true q = (p.0, q)
     go false q = q
 
-each_lasts : (P : Hearing → Type 0) (h : List Hearing) → Each P h → Each P (lasts h)
-each_lasts P [] p = tt
-each_lasts P (e ∷ es) p = go (any_of e.told.node es) (each_lasts P es p.1)
+each_latest : (P : HeardAnnouncement → Type 0) (h : List HeardAnnouncement) → Each P h → Each P (latest h)
+each_latest P [] p = tt
+each_latest P (e ∷ es) p = go (any_of e.announcement.node es) (each_latest P es p.1)
   where
-    go : (n : Bool) → Each P (lasts es) → Each P (cond n (lasts es) (e ∷ lasts es))
+    go : (n : Bool) → Each P (latest es) → Each P (cond n (latest es) (e ∷ latest es))
     go true q = q
     go false q = (p.0, q)
 
@@ -93,16 +93,16 @@ better_fits x (Some y) p q = go (beats y x)
     go true = q
     go false = p
 
-best_in_fits : (service : Name) (h : List Hearing) → Each (λ (e : Hearing). e.from ≢ everyone) h → BestFits (best_in service h)
+best_in_fits : (service : Name) (h : List HeardAnnouncement) → Each (λ (e : HeardAnnouncement). e.from ≢ everyone) h → BestFits (best_in service h)
 best_in_fits service [] p = tt
-best_in_fits service (e ∷ es) p = go (nat_eq (rating_of service e.told.services) 0) (best_in_fits service es p.1)
+best_in_fits service (e ∷ es) p = go (nat_eq (rating_of service e.announcement.services) 0) (best_in_fits service es p.1)
   where
     go : (n : Bool) → BestFits (best_in service es) → BestFits (cond n (best_in service es) (better (offer_of service e) (best_in service es)))
     go true q = q
     go false q = better_fits (offer_of service e) (best_in service es) p.0 q
 
-best_fits : (groups : List ℕ) (service : Name) (now : ℕ) (h : List Hearing) → Each (λ (e : Hearing). e.from ≢ everyone) h → BestFits (best groups service now h)
-best_fits groups service now h p = best_in_fits service (live groups now h) (each_filter (λ (e : Hearing). e.from ≢ everyone) (is_live groups now) (lasts h) (each_lasts (λ (e : Hearing). e.from ≢ everyone) h p))
+best_fits : (groups : List ℕ) (service : Name) (now : ℕ) (h : List HeardAnnouncement) → Each (λ (e : HeardAnnouncement). e.from ≢ everyone) h → BestFits (best groups service now h)
+best_fits groups service now h p = best_in_fits service (live groups now h) (each_filter (λ (e : HeardAnnouncement). e.from ≢ everyone) (is_live groups now) (latest h) (each_latest (λ (e : HeardAnnouncement). e.from ≢ everyone) h p))
 
 abbrev pub RequestFits : Option Request → Type 0
 RequestFits None = Unit {0}
@@ -229,9 +229,9 @@ did_command config w st from m Cancel q f n = go (kept_of (key_of m) (st.queue +
 did_announcement : (config : ServerConfig) (w : World) (st : Server) (from : ℕ) (a : Announcement) → table w true ≡ st.core.circuits → ServerFits st → from ≢ everyone → Did w (hears_announcement config st from a).state (hears_announcement config st from a).frames
 did_announcement config w st from a q f n = record { made = made_none w true st.core q; fits = record { heard = go (refuses config.groups st.core.moment a st.heard); queue = f.queue } }
   where
-    go : (r : Bool) → Each (λ (e : Hearing). e.from ≢ everyone) (cond r st.heard (st.heard ++ record { from = from; told = a; at = st.core.moment } ∷ []))
+    go : (r : Bool) → Each (λ (e : HeardAnnouncement). e.from ≢ everyone) (cond r st.heard (st.heard ++ record { from = from; announcement = a; at = st.core.moment } ∷ []))
     go true = f.heard
-    go false = each_more (λ (e : Hearing). e.from ≢ everyone) st.heard (record { from = from; told = a; at = st.core.moment } ∷ []) f.heard (n, tt)
+    go false = each_more (λ (e : HeardAnnouncement). e.from ≢ everyone) st.heard (record { from = from; announcement = a; at = st.core.moment } ∷ []) f.heard (n, tt)
 
 did_notice : (config : ServerConfig) (w : World) (st : Server) (from : ℕ) (n : Notice) → table w true ≡ st.core.circuits → ServerFits st → from ≢ everyone → Did w (hears_notice config st from n).state (hears_notice config st from n).frames
 did_notice config w st from (AnnouncementNotice a) q f n = did_announcement config w st from a q f n

@@ -1,5 +1,5 @@
 -- A frame leaves alone the circuits of other addresses.
-use Rattle.std.proofs.Common.{◌≡◌, ◌≢◌, ℕ, suc, ◌≤◌, arith, refl, ap, ◌∙◌, Bool, true, false, not, cond, ◌&&◌, ◌||◌, List, [], ◌∷◌, ◌++◌, Option, Some, None, nat_eq, nat_lt, eqb-true}
+use Rattle.std.proofs.Common.{◌≡◌, ◌≢◌, ℕ, suc, ◌+◌, ◌≤◌, arith, refl, ap, ◌∙◌, Bool, true, false, not, cond, ◌&&◌, ◌||◌, List, [], ◌∷◌, ◌++◌, Option, Some, None, nat_eq, nat_lt, eqb-true}
 use Rattle.std.specs.List.{find}
 use Rattle.std.proofs.lemmas.Bool.{and_parts, eqb-false}
 use Rattle.lat_model.specs.sessions.Slots.{Slot}
@@ -28,7 +28,7 @@ use Rattle.lat_machines.specs.cores.Hearing.{HeardAct, foreign, names, fits_kind
 use Rattle.lat_machines.specs.cores.Cores.{at_moment}
 use Rattle.lat_machines.specs.server.Server.{ServerConfig, Server, ServerStep, key_of}
 use Rattle.lat_machines.specs.server.Server as Server
-use Rattle.lat_machines.specs.node.Node.{NodeConfig, Node, NodeStep, Verdict, Accepts, Rejects, judged, verdict, asked_at, answers_one, answers_in, answers_asked}
+use Rattle.lat_machines.specs.node.Node.{NodeConfig, Node, NodeStep, Verdict, Accepts, Rejects, judged, verdict, asked_at, answers_one, answers_in, asked_on, answers_asked}
 use Rattle.lat_machines.specs.node.Node as Node
 use Rattle.lat_machines.specs.world.Home.{ServerStaysHome, NodeStaysHome}
 use Rattle.lat_machines.proofs.queue.Rooms.{least_true}
@@ -144,7 +144,10 @@ ones_home config x y (id ∷ ids) st n = ones_home config x y ids (answers_one c
 asked_home : (config : NodeConfig) (x y : ℕ) (st : Node) → x ≢ y → (answers_asked config y st).core.circuits.circuit_at x ≡ st.core.circuits.circuit_at x
 asked_home config x y st n = go (lives (st.core.circuits.circuit_at y).end)
   where
-    go : (b : Bool) → (cond b (answers_in config y (upwards 0 64) st) st).core.circuits.circuit_at x ≡ st.core.circuits.circuit_at x
+    left : Node
+    left = record st { turned_away = st.turned_away + asked_on st y }
+
+    go : (b : Bool) → (cond b (answers_in config y (upwards 0 64) st) left).core.circuits.circuit_at x ≡ st.core.circuits.circuit_at x
     go true = ones_home config x y (upwards 0 64) st n
     go false = refl
 

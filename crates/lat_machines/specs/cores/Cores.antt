@@ -1,5 +1,5 @@
 -- What the two cores share: their moment, their circuits, and the line sessions that they ever had.
-use Rattle.std.specs.Prelude.{ℕ, Bool, true, false, ◌&&◌, List, [], ◌∷◌, ◌++◌, map, max, Option, None, nat_eq}
+use Rattle.std.specs.Prelude.{ℕ, Bool, true, false, cond, ◌&&◌, List, [], ◌∷◌, ◌++◌, map, max, Option, Some, None, nat_eq}
 use Rattle.lat_model.specs.Lists.{upwards, least}
 use Rattle.lat_model.specs.ends.End.{Sent, Run, CallStart, ReplyStart, Stopped, lives}
 use Rattle.lat_model.specs.ends.Starting.{Setup}
@@ -94,3 +94,7 @@ passes_time k c = time_each k (upwards 0 c.circuits.drawn) (rests c)
 abbrev pub circuit_to : Core → ℕ → ℕ
 circuit_to c address =
     least (λ i. nat_eq (c.circuits.circuit_at i).address address && lives (c.circuits.circuit_at i).end) (upwards 0 c.circuits.drawn)
+
+-- whether the numbers of a living circuit have two bytes on the wire; None where no such circuit lives
+abbrev pub span : Core → ℕ → Option Bool
+span c x = cond (lives (c.circuits.circuit_at x).end) (Some (c.circuits.circuit_at x).end.wide) None

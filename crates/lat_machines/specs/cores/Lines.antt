@@ -27,14 +27,21 @@ last_on line s (x ∷ xs) = last_on line (cond (nat_eq x.line line) x s) xs
 abbrev pub seat_at : Core → ℕ → Seat
 seat_at c line = last_on line no_seat c.seats
 
+-- it has a session
 abbrev pub holds : Core → ℕ → Bool
 holds c line = not (over c (seat_at c line))
 
+-- how many lines are held
 abbrev pub used : Core → ℕ
 used c = length (filter (λ s. not (over c s)) c.seats)
 
-abbrev pub finished : Core → ℕ
-finished c = min 4294967295 (length (filter (over c) c.seats))
+-- how many line sessions have become free
+abbrev pub ended : Core → ℕ
+ended c = length (filter (over c) c.seats)
+
+-- a count as it is told: it stops at the greatest number of 32 bits
+abbrev pub told_count : ℕ → ℕ
+told_count n = min 4294967295 n
 
 abbrev pub line_exists : ℕ → ℕ → Bool
 line_exists lines line = nat_lt 0 line && nat_le line lines

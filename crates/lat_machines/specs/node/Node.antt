@@ -1,6 +1,6 @@
 -- The node: its state, and what each event makes of it. The ratings that its hook gives come as a list, in the order
 -- in which they are asked for; nothing but frames depends on them.
-use Rattle.std.specs.Prelude.{◌≡◌, ℕ, suc, Bool, true, false, not, cond, ◌&&◌, List, [], ◌∷◌, ◌++◌, length, Option, Some, None, nat_eq, find}
+use Rattle.std.specs.Prelude.{◌≡◌, ℕ, suc, ◌+◌, Bool, true, false, not, cond, ◌&&◌, List, [], ◌∷◌, ◌++◌, length, Option, Some, None, nat_eq, find, filter}
 use Rattle.std.specs.List.{list_any}
 use Rattle.lat_model.specs.sessions.Slots.{Slot}
 use Rattle.lat_model.specs.sessions.Session.{Session, waits}
@@ -19,7 +19,7 @@ use Rattle.lat_machines.specs.values.Answers.{Again, Foreign, Answer, Circuit, S
 use Rattle.lat_machines.specs.cores.Hearing.{HeardAct, names, hear_run, hear_stop_at, StartFact, Repeats, Makes, Refuses, start_fact, start_at}
 use Rattle.lat_machines.specs.cores.Acts.{local_at}
 use Rattle.lat_machines.specs.cores.Cores.{Core, Side, setup_of, open_core, Doing, acts, at_moment, passes_time}
-use Rattle.lat_machines.specs.cores.Lines.{holds, used}
+use Rattle.lat_machines.specs.cores.Lines.{holds, used, ended, told_count}
 use Rattle.lat_machines.specs.cores.LineCalls.{Said, put_on, set_on, attend_on, take_on, close_on, on_line}
 use Rattle.lat_model.specs.sessions.Calls as Calls
 
@@ -43,6 +43,7 @@ pub record Node : Type 0 where
   pub core : Core
   pub requests : List Requested
   pub accepted : List ℕ  -- the requests for which a start was accepted
+  pub turned_away : ℕ  -- asked sessions that became free without a line
 
 pub record NodeStep : Type 0 where
   pub state : Node
@@ -53,7 +54,7 @@ abbrev pub node_side : NodeConfig → Side
 node_side config = record { server = false; timing = config.timing; name = config.name }
 
 abbrev pub open_node : NodeConfig → Node
-open_node config = record { core = open_core (node_side config) config.own; requests = []; accepted = [] }
+open_node config = record { core = open_core (node_side config) config.own; requests = []; accepted = []; turned_away = 0 }
 
 abbrev pub tells : Node → Answer → NodeStep
 tells state a = record { state = state; answer = a; frames = [] }
@@ -108,7 +109,10 @@ abbrev pub local_call : NodeConfig → ℕ → Call → Core → Core
 local_call config x k c = (acts (node_side config) c (local_at false c.circuits x k)).core
 
 abbrev pub judged : NodeConfig → Node → ℕ → ℕ → Option ℕ → Verdict → Node
-judged config state x id request (Rejects reason) = with_core state (local_call config x (Refuse id reason) state.core)
+judged config state x id request (Rejects reason) = record state {
+  core = local_call config x (Refuse id reason) state.core;
+  turned_away = suc state.turned_away;
+}
 judged config state x id request (Accepts line) =
     let c : Core = local_call config x (Calls.Answer id) state.core in
     record state {
@@ -129,11 +133,16 @@ abbrev pub answers_in : NodeConfig → ℕ → List ℕ → Node → Node
 answers_in config x [] state = state
 answers_in config x (id ∷ ids) state = answers_in config x ids (answers_one config x state id)
 
+-- the sessions that wait for an answer
+abbrev pub asked_on : Node → ℕ → ℕ
+asked_on state x = length (filter (λ id. waits (asked_at state x id)) (upwards 0 64))
+
+-- where the RUN has ended the circuit, nobody is answered any more
 abbrev pub answers_asked : NodeConfig → ℕ → Node → Node
 answers_asked config x state =
     cond (lives (state.core.circuits.circuit_at x).end)
     (answers_in config x (upwards 0 64) state)
-    state
+    (record state { turned_away = state.turned_away + asked_on state x })
 
 -- announcing
 
@@ -274,6 +283,10 @@ node_step config rates state Announces = record {
   answer = Done;
   frames = announcement config rates ∷ [];
 }
+
+-- the sessions that have become free, in any way
+abbrev pub finished : Node → ℕ
+finished state = told_count (ended state.core + state.turned_away)
 
 -- the ratings of one event: as many as it asks for, each one that the hook allows at the lines then held
 

@@ -1,15 +1,15 @@
--- The services that a server knows of: words over the list of all announcements heard and not refused.
+-- The services that a server knows of: words over the list of all announcements that it heard and didn't refuse.
 use Rattle.std.specs.Prelude.{ℕ, zero, suc, ◌+◌, ◌*◌, ◌/◌, ◌%◌, Bool, false, not, cond, ◌&&◌, ◌||◌, List, [], ◌∷◌, ◌++◌, length, Option, Some, None, nat_eq, nat_lt, nat_le, filter}
 use Rattle.lat_model.specs.Lists.{is_empty}
 use Rattle.lat_machines.specs.values.Names.{Name, folded, same, is_before}
 use Rattle.lat_machines.specs.values.Notices.{Announcement, Service}
 
-pub record Hearing : Type 0 where
+pub record HeardAnnouncement : Type 0 where
   pub from : ℕ
-  pub told : Announcement
+  pub announcement : Announcement
   pub at : ℕ
 
--- two bytes have one of their lowest n bits in common
+-- two bytes have one of their n low bits in common
 abbrev pub share_bits : ℕ → ℕ → ℕ → Bool
 share_bits zero x y = false
 share_bits (suc n) x y = (nat_eq (x % 2) 1 && nat_eq (y % 2) 1) || share_bits n (x / 2) (y / 2)
@@ -24,35 +24,40 @@ share_group (x ∷ xs) (y ∷ ys) = share_bits 8 x y || share_group xs ys
 abbrev pub meets : List ℕ → Announcement → Bool
 meets groups a = is_empty a.groups || share_group a.groups groups
 
-abbrev pub of_node : Name → Hearing → Bool
-of_node node e = same e.told.node node
+-- its node is this one, whatever the case of the letters
+abbrev pub of_node : Name → HeardAnnouncement → Bool
+of_node node e = same e.announcement.node node
 
-abbrev pub any_of : Name → List Hearing → Bool
+abbrev pub any_of : Name → List HeardAnnouncement → Bool
 any_of node [] = false
 any_of node (e ∷ es) = of_node node e || any_of node es
 
--- the last one of each node
-abbrev pub lasts : List Hearing → List Hearing
-lasts [] = []
-lasts (e ∷ es) = cond (any_of e.told.node es) (lasts es) (e ∷ lasts es)
+-- the latest announcement of each node
+abbrev pub latest : List HeardAnnouncement → List HeardAnnouncement
+latest [] = []
+latest (e ∷ es) = cond (any_of e.announcement.node es) (latest es) (e ∷ latest es)
 
-abbrev pub is_live : List ℕ → ℕ → Hearing → Bool
-is_live groups now e = meets groups e.told && nat_lt now (e.at + 3000 * e.told.timer)
+-- live below the moment at which its timer has passed three times, and only where the groups meet
+abbrev pub is_live : List ℕ → ℕ → HeardAnnouncement → Bool
+is_live groups now e = meets groups e.announcement && nat_lt now (e.at + 3000 * e.announcement.timer)
 
-abbrev pub live : List ℕ → ℕ → List Hearing → List Hearing
-live groups now h = filter (is_live groups now) (lasts h)
+abbrev pub live : List ℕ → ℕ → List HeardAnnouncement → List HeardAnnouncement
+live groups now h = filter (is_live groups now) (latest h)
 
 -- 256 other nodes are live
-abbrev pub is_full_for : List ℕ → ℕ → Name → List Hearing → Bool
+abbrev pub is_full_for : List ℕ → ℕ → Name → List HeardAnnouncement → Bool
 is_full_for groups now node h = nat_le 256 (length (filter (λ e. not (of_node node e)) (live groups now h)))
 
--- whether an announcement is refused; one whose groups don't meet never is
-abbrev pub refuses : List ℕ → ℕ → Announcement → List Hearing → Bool
+-- an announcement is refused where 256 other nodes are live; one whose groups don't meet never is
+abbrev pub refuses : List ℕ → ℕ → Announcement → List HeardAnnouncement → Bool
 refuses groups now a h = meets groups a && is_full_for groups now a.node h
 
-abbrev pub hear : List ℕ → ℕ → ℕ → Announcement → List Hearing → List Hearing
-hear groups now from a h = cond (refuses groups now a h) h (h ++ record { from = from; told = a; at = now } ∷ [])
+-- What is kept of an announcement: a refused one leaves the list. One whose groups don't meet is kept too: it is then
+-- the latest of its node, and isn't live
+abbrev pub hear : List ℕ → ℕ → ℕ → Announcement → List HeardAnnouncement → List HeardAnnouncement
+hear groups now from a h = cond (refuses groups now a h) h (h ++ record { from = from; announcement = a; at = now } ∷ [])
 
+-- the chosen node, under the name that it announced
 pub record Best : Type 0 where
   pub from : ℕ
   pub node : Name
@@ -63,8 +68,8 @@ abbrev pub rating_of : Name → List Service → ℕ
 rating_of service [] = 0
 rating_of service (s ∷ ss) = cond (same s.name service) s.rating (rating_of service ss)
 
-abbrev pub offer_of : Name → Hearing → Best
-offer_of service e = record { from = e.from; node = e.told.node; rating = rating_of service e.told.services }
+abbrev pub offer_of : Name → HeardAnnouncement → Best
+offer_of service e = record { from = e.from; node = e.announcement.node; rating = rating_of service e.announcement.services }
 
 -- a higher rating, or the same one of a node that stands first in byte order
 abbrev pub beats : Best → Best → Bool
@@ -74,12 +79,14 @@ abbrev pub better : Best → Option Best → Option Best
 better x None = Some x
 better x (Some y) = cond (beats y x) (Some y) (Some x)
 
-abbrev pub best_in : Name → List Hearing → Option Best
+-- of the nodes that announce it with a rating above 0
+abbrev pub best_in : Name → List HeardAnnouncement → Option Best
 best_in service [] = None
 best_in service (e ∷ es) =
-    cond (nat_eq (rating_of service e.told.services) 0)
+    cond (nat_eq (rating_of service e.announcement.services) 0)
     (best_in service es)
     (better (offer_of service e) (best_in service es))
 
-abbrev pub best : List ℕ → Name → ℕ → List Hearing → Option Best
+-- the best node for a service at a moment
+abbrev pub best : List ℕ → Name → ℕ → List HeardAnnouncement → Option Best
 best groups service now h = best_in service (live groups now h)

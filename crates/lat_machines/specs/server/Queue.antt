@@ -5,6 +5,7 @@ use Rattle.lat_machines.specs.values.Names.{Name, same}
 use Rattle.lat_machines.specs.values.Notices.{Kept, Waiting, RecordsFull}
 use Rattle.lat_machines.specs.values.Keys.{Key, same_key}
 
+-- an ask with its answer, a cancel, a grant, and the end of what was granted
 pub data QueueEvent : Type 0 where
   Asks : (key : Key) (from : ℕ) (service : Name) (answer : Kept) → QueueEvent
   Cancels : Key → QueueEvent
@@ -57,6 +58,7 @@ records h = filter (λ r. not (is_overfull r.answer)) (first_asks [] h)
 abbrev pub waits : Request → Bool
 waits r = is_waiting r.answer && not (list_any (λ e. cancels r.key e || grants r.key e) r.later)
 
+-- those that wait for a service, in the order of their first commands
 abbrev pub waiting : Name → List QueueEvent → List Request
 waiting service h = filter (λ r. waits r && same r.service service) (records h)
 
@@ -64,10 +66,11 @@ abbrev pub first : {A : Type 0} → List A → Option A
 first [] = None
 first (x ∷ xs) = Some x
 
+-- the one that a grant of this service goes to
 abbrev pub next_request : Name → List QueueEvent → Option Request
 next_request service h = first (waiting service h)
 
--- Each grant goes to the first that waits for its service
+-- Each grant goes to the first that waited for its service just before
 abbrev pub LegalQueue : List QueueEvent → Type 0
 LegalQueue h =
     (before after : List QueueEvent) (k : Key) (service : Name) →

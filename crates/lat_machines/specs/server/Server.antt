@@ -10,7 +10,7 @@ use Rattle.lat_machines.specs.values.Messages.{Message, RunMessage, WideMessage,
 use Rattle.lat_machines.specs.values.Notices.{Kept, Granted, Outcome, KeptAs, Unknown, Action, Ask, Cancel, Announcement, Command, Notice, AnnouncementNotice, CommandNotice, StatusNotice, SolicitNotice, ResponseNotice}
 use Rattle.lat_machines.specs.values.Frames.{Value, OfCircuit, OfNotice, Reading, Whole, Malformed, OutFrame, plain}
 use Rattle.lat_machines.specs.values.Timing.{Timing, agreed_by}
-use Rattle.lat_machines.specs.server.Directory.{Hearing, Best, best, meets, refuses, hear}
+use Rattle.lat_machines.specs.server.Directory.{HeardAnnouncement, Best, best, meets, refuses, hear}
 use Rattle.lat_machines.specs.values.Keys.{Key}
 use Rattle.lat_machines.specs.server.Queue.{QueueEvent, Asks, Cancels, Grants, Finishes, Request, next_request}
 use Rattle.lat_machines.specs.server.Records.{ask_answer, kept_of, is_granted}
@@ -19,7 +19,7 @@ use Rattle.lat_machines.specs.values.Answers.{Foreign, Answer, Circuit, Announce
 use Rattle.lat_machines.specs.cores.Hearing.{HeardAct, hear_run, hear_stop_at, hear_reply_at}
 use Rattle.lat_machines.specs.cores.Acts.{call_at, local_at}
 use Rattle.lat_machines.specs.cores.Cores.{Seat, Core, Side, setup_of, open_core, Doing, rests, then_doing, acts, at_moment, passes_time, circuit_to}
-use Rattle.lat_machines.specs.cores.Lines.{over, holds, line_exists}
+use Rattle.lat_machines.specs.cores.Lines.{over, holds, line_exists, ended, told_count}
 use Rattle.lat_machines.specs.cores.LineCalls.{Said, put_on, set_on, attend_on, take_on, close_on, on_line}
 
 pub record Offer : Type 0 where
@@ -36,7 +36,7 @@ pub record ServerConfig : Type 0 where
 
 pub record Server : Type 0 where
   pub core : Core
-  pub heard : List Hearing  -- the announcements heard and not refused
+  pub heard : List HeardAnnouncement  -- the announcements heard and not refused
   pub queue : List QueueEvent  -- all that the queue was told and did
   pub solicits : ℕ  -- the last solicit id drawn
 
@@ -105,10 +105,7 @@ opens config line address node service key request c =
 
 -- Connect
 
-abbrev pub connected : Core → ℕ → Answer
-connected before x = Connected x (least_free (before.circuits.circuit_at x).end.half.sessions)
-
--- the answer, of a session that the circuit to this address can be asked for
+-- a session on the circuit to the chosen address, which is called where none lives
 abbrev pub connects_to : ServerConfig → Server → ℕ → Name → Best → ServerStep
 connects_to config state line service b =
     let c : Core = state.core in
@@ -288,3 +285,7 @@ passed config s =
 
 abbrev pub server_step : ServerConfig → Server → Event → ServerStep
 server_step config state e = passed config (server_event config state e)
+
+-- the sessions that have become free, in any way
+abbrev pub finished : Server → ℕ
+finished state = told_count (ended state.core)

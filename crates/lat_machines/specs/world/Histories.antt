@@ -37,6 +37,11 @@ node_frames config [] state = []
 node_frames config (e ∷ es) state =
     (node_step config e.rates state e.event).frames ++ node_frames config es (node_step config e.rates state e.event).state
 
+abbrev pub node_answers : NodeConfig → List RatedEvent → Node → List Answer
+node_answers config [] state = []
+node_answers config (e ∷ es) state =
+    (node_step config e.rates state e.event).answer ∷ node_answers config es (node_step config e.rates state e.event).state
+
 -- Both histories in some order. A frame that was heard from the other end's address names the frame that it is
 pub record Passed : Type 0 where
   pub server : Bool
