@@ -6,6 +6,7 @@ pub mod Hears
 pub mod Starts
 pub mod Replies
 pub mod Made
+pub mod Alone
 pub mod Asks
 pub mod Forms
 pub mod Freshly

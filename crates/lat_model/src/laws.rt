@@ -1,11 +1,14 @@
 //! The laws of circuits. Each holds for every run, however frames are lost, repeated or brought out of order.
 
-ghost use Rattle.std.specs.Prelude.{◌≡◌, ℕ, ◌+◌, ◌*◌, ◌%◌, ◌<◌, ◌≤◌, slice_get, ◌≢◌, Some, Bool, true, false, List, not, length, ◌-◌};
+ghost use Rattle.std.specs.Prelude.{◌≡◌, ℕ, ◌+◌, ◌*◌, ◌%◌, ◌<◌, ◌≤◌, slice_get, ◌≢◌, Some, Bool, true, false, List, not, length, ◌-◌, min};
 ghost use Rattle.lat_model.specs.numbers.Near.{near, ahead};
-ghost use Rattle.lat_model.specs.sessions.Packing.{TaggedSlot};
-ghost use Rattle.lat_model.specs.sessions.Session.{Session};
-ghost use Rattle.lat_model.specs.sessions.Slots.{Slot, items};
-ghost use Rattle.lat_model.specs.sessions.EndOk.{Accounts, Small};
+ghost use Rattle.lat_model.specs.sessions.Packing.{TaggedSlot, Packing, turn, pack};
+ghost use Rattle.lat_model.specs.sessions.Session.{Session, free, held_slots};
+ghost use Rattle.lat_model.specs.sessions.Sessions.{Sessions, named, held, least_free};
+ghost use Rattle.lat_model.specs.sessions.Calls.{Call, call};
+ghost use Rattle.lat_model.specs.sessions.Hearing.{hear_slot};
+ghost use Rattle.lat_model.specs.sessions.Slots.{Slot, items, credits, costs, source, is_start};
+ghost use Rattle.lat_model.specs.sessions.EndOk.{EndOk, Accounts, Small};
 ghost use Rattle.lat_model.specs.numbers.Link.{Frame};
 ghost use Rattle.lat_model.specs.ends.End.{Mark, Run};
 ghost use Rattle.lat_model.specs.ends.Run.{RunBroke, run_end};
@@ -15,7 +18,7 @@ ghost use Rattle.lat_model.specs.circuits.WorldOk.{Joint};
 ghost use Rattle.lat_model.specs.circuits.Agree.{Agree, the_half};
 ghost use Rattle.lat_model.specs.circuits.Comes.{Comes};
 ghost use Rattle.lat_model.specs.circuits.Pair.{Event, run, open_pair};
-ghost use Rattle.lat_model.specs.ends.Starting.{Setup};
+ghost use Rattle.lat_model.specs.ends.Starting.{Setup, no_sessions};
 ghost use Rattle.lat_model.specs.circuits.InOrder.{InOrder};
 ghost use Rattle.lat_model.specs.circuits.Matched.{Matched};
 ghost use Rattle.lat_model.specs.circuits.Heard.{IsYoung, hearer, heard_frame};
@@ -95,7 +98,9 @@ pub fn world_agrees()
         u.ceiling ≤ 255 →
         v.ceiling ≤ 255 →
         Joint (go_on events (open_world s n u v)) q →
-        Agree (the_half (go_on events (open_world s n u v)) true ((go_on events (open_world s n u v)).node.circuit_at q).end.peer) (the_half (go_on events (open_world s n u v)) false q) }
+        Agree
+        (the_half (go_on events (open_world s n u v)) true ((go_on events (open_world s n u v)).node.circuit_at q).end.peer)
+        (the_half (go_on events (open_world s n u v)) false q) }
 {}
 
 /// No RUN that one end of a world sent breaks the circuit of the other that it names, whenever and how often it comes.
@@ -120,6 +125,45 @@ pub fn world_hears_bytes()
         8 < r →
         Young (List Slot) r (the_half (go_on events (open_world s n u v)) p.by_server p.source).link f →
         as_bytes r (the_half (go_on events (open_world s n u v)) (not p.by_server) p.destination).link f ≡ f }
+{}
+
+/// What one end knows of its sessions (`EndOk`) it keeps beside any peer: a new end has it, and it stays at a lower agreed
+/// number (`agrees`), at each local call (`calls`), at each slot that isn't bad, whatever the peer sends (`hears`; a start
+/// has a source, as its layout says), at each turn of packing (`turns`) and so with each message formed (`packs`).
+pub fn end_stays_good()
+    ensures begins { (master : Bool) (sessions ceiling : ℕ) → EndOk (no_sessions master sessions ceiling) }
+    ensures agrees { (e : Sessions) (n : ℕ) → EndOk e → EndOk (record e { agreed = min n e.agreed }) }
+    ensures calls { (e : Sessions) (c : Call) → EndOk e → EndOk (call e c) }
+    ensures hears { (e f : Sessions) (x : Slot) →
+        EndOk e →
+        (is_start x ≡ true → source x ≢ 0) →
+        hear_slot e x ≡ Some f →
+        EndOk f }
+    ensures turns { (p : Packing) (k : ℕ) → EndOk p.after → EndOk (turn p k).after }
+    ensures packs { (e : Sessions) (room : ℕ) → EndOk e → EndOk (pack room e).after }
+{}
+
+/// What an end may rely on of its own sessions, whatever its peer sends. An id that is held has one session (`holder`),
+/// which is found by it (`found`). Below the agreed number there is a free id, from 1 up to the agreed number (`least`). No
+/// more credits were used by the peer than given to it (`given`), and no more by this end than it was given (`used`); the
+/// credits out and the slots held are at most the ceiling (`ceiling`).
+pub fn sessions_stand_apart()
+    ensures holder { (e : Sessions) (j k : ℕ) →
+        EndOk e →
+        free (e.session j) ≡ false →
+        free (e.session k) ≡ false →
+        (e.session j).id ≡ (e.session k).id →
+        j ≡ k }
+    ensures found { (e : Sessions) (k : ℕ) → EndOk e → free (e.session k) ≡ false → e.at_id (e.session k).id ≡ k }
+    ensures least { (e : Sessions) →
+        EndOk e →
+        held e < e.agreed →
+        (free (named e (least_free e)) ≡ true) × (least_free e ≢ 0) × (least_free e ≤ e.agreed) }
+    ensures given { (e : Sessions) (k : ℕ) → EndOk e → costs (e.session k).came ≤ credits (e.session k).out }
+    ensures used { (e : Sessions) (k : ℕ) → EndOk e → costs (e.session k).out ≤ credits (e.session k).came }
+    ensures ceiling { (e : Sessions) (k : ℕ) →
+        EndOk e →
+        credits (e.session k).out + held_slots (e.session k) ≤ e.ceiling + costs (e.session k).came }
 {}
 
 /// The heard items of a session that wait to be taken are at most 15 slots of 255 items.

@@ -5,7 +5,7 @@ use Rattle.std.specs.List.{find}
 use Rattle.lat_model.specs.sessions.Slots.{Slot}
 use Rattle.lat_model.specs.numbers.Link.{Frame}
 use Rattle.lat_model.specs.ends.End.{Mark, Sent, Run, CallStart, ReplyStart, Stopped, End, lives}
-use Rattle.lat_model.specs.ends.Run.{RunAnswer, RunTaken, RunRepeated, RunAckOnly, RunBroke, RunForeign, run_end}
+use Rattle.lat_model.specs.ends.Run.{RunAnswer, RunTaken, RunRepeated, RunAckOnly, RunBroke, run_end}
 use Rattle.lat_model.specs.ends.Starting.{hear_reply, hear_stop}
 use Rattle.lat_model.specs.circuits.World.{CircuitEntry, Table, Wired, World, table}
 use Rattle.lat_model.specs.circuits.WorldOk.{WorldOk}
@@ -50,7 +50,6 @@ answer_whole (RunTaken n) r p q = let z : ⊥ = cc in z
 answer_whole RunRepeated r p q = let z : ⊥ = cc in z
 answer_whole RunAckOnly r p q = let z : ⊥ = cc in z
 answer_whole RunBroke r p q = p refl
-answer_whole RunForeign r p q = let z : ⊥ = cc in z
 
 run_whole : (b : Bool) (t : Table) (from : ℕ) (wide : Bool) (h : Head) (slots : List Slot) (k : Option Numbers) (now r : ℕ) → WholeRun t from k wide h slots → (hear_run b t from wide h slots k now).answer ≢ Broke r
 run_whole b t from wide h slots k now r p = go (names t from h.to h.from) refl (fits_kind (t.circuit_at h.to).end h.master wide) refl

@@ -5,7 +5,7 @@ use Rattle.lat_model.specs.Lists.{is_empty}
 use Rattle.lat_model.specs.numbers.Link.{Frame}
 use Rattle.lat_model.specs.numbers.Near.{near}
 use Rattle.lat_model.specs.ends.End.{Stopped, End, lives}
-use Rattle.lat_model.specs.ends.Run.{RunAnswer, RunTaken, RunRepeated, RunAckOnly, RunBroke, RunForeign, run_end}
+use Rattle.lat_model.specs.ends.Run.{RunAnswer, RunTaken, RunRepeated, RunAckOnly, RunBroke, run_end}
 use Rattle.lat_model.specs.ends.Starting.{Agreed, Setup, make_slave, again_start, hear_reply, hear_stop}
 use Rattle.lat_model.specs.circuits.World.{CircuitEntry, Table, first_end}
 use Rattle.lat_model.specs.circuits.Arriving.{is_of, living, slave_of}
@@ -27,7 +27,6 @@ answer_of (RunTaken n) = Taken n
 answer_of RunRepeated = Again
 answer_of RunAckOnly = AckOnly
 answer_of RunBroke = Broke 2
-answer_of RunForeign = Foreign
 
 -- a living circuit whose reply was heard, with this address and these ids
 abbrev pub names : Table → ℕ → ℕ → ℕ → Bool

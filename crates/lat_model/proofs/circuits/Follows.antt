@@ -32,8 +32,8 @@ agree m s t =
     record {
       up = stream m.sessions s.sessions (flat t.up) j.master_ok j.slave_ok j.flow_up;
       down = stream s.sessions m.sessions (flat t.down) j.slave_ok j.master_ok j.flow_down;
-      generations_up = generations m.sessions s.sessions (flat t.up) (flat t.down) j.master_ok j.slave_ok j.flow_up j.flow_down;
-      generations_down = generations s.sessions m.sessions (flat t.down) (flat t.up) j.slave_ok j.master_ok j.flow_down j.flow_up;
+      generations_up = generations m.sessions s.sessions (flat t.up) (flat t.down) j.master_ok j.slave_ok j.quiet_up j.flow_up j.flow_down;
+      generations_down = generations s.sessions m.sessions (flat t.down) (flat t.up) j.slave_ok j.master_ok j.quiet_down j.flow_down j.flow_up;
       up_done = t.up_done;
       up_way = t.up;
       down_done = t.down_done;

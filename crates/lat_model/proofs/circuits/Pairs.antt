@@ -190,15 +190,34 @@ run_ok b now ask f e other ps w o t =
 
 -- the other frames
 
+pub lower_ok : (n : ℕ) (e : Sessions) → EndOk e → EndOk (record e { agreed = min n e.agreed })
+lower_ok n e ok = record {
+  agreed = omega (arith, ok.agreed);
+  each = ok.each;
+  accounts = ok.accounts;
+  holds = ok.holds;
+  at_made = ok.at_made;
+  found = ok.found;
+  generation_found = ok.generation_found;
+  serial_found = ok.serial_found;
+  serial_zero = ok.serial_zero;
+  serial_past = ok.serial_past;
+  serial_made = ok.serial_made;
+  none = ok.none;
+  past = ok.past;
+  all_named = ok.all_named;
+}
+
 agree_touched : (g : Agreed) (e : Sessions) → EndOk e → Touched e (record e { agreed = min g.sessions e.agreed })
 agree_touched g e ok = record {
-  ok = record { agreed = omega (arith, ok.agreed); each = ok.each; accounts = ok.accounts; holds = ok.holds; at_made = ok.at_made; found = ok.found; generation_found = ok.generation_found; serial_found = ok.serial_found; serial_zero = ok.serial_zero; serial_past = ok.serial_past; serial_made = ok.serial_made; none = ok.none; past = ok.past; all_named = ok.all_named };
+  ok = lower_ok g.sessions e ok;
   master = refl;
   ceiling = refl;
   generations = refl;
   ids = λ h. refl;
   out = λ h. refl;
   came = λ h. refl;
+  quiet = λ q. q;
 }
 
 pub agree_sides : (b : Bool) (g : Agreed) (own other : Half) (ps : List Posted) → Sides b own other ps → Sides b (agree_half g own) other ps
@@ -332,7 +351,7 @@ run_pair_ok (e ∷ es) w k = run_pair_ok es (happens w e) (happens_ok w k e)
 -- the start
 
 none_ok : (m : Bool) → SessionOk m blank
-none_ok m = record { shape = tt; unnamed = λ z. (refl, refl); asked = λ z n. absurd (n refl); id_some = λ z. absurd (true≢false z); peer_some = λ z n. absurd (n refl); ask_out = λ z n. absurd (n refl); never_refused = λ z n. absurd (n refl) }
+none_ok m = record { shape = tt; unnamed = λ z. refl; asked = λ z n. absurd (n refl); id_some = λ z. absurd (true≢false z); peer_some = λ z n. absurd (n refl); ask_out = λ z n. absurd (n refl); never_refused = λ z n. (refl, refl) }
 
 none_accounts : (c : ℕ) → Accounts c blank
 none_accounts c = record { spends = omega arith; spent = omega arith; gives = omega arith; framed = ([], refl); taken = omega arith }
@@ -369,6 +388,8 @@ open_ok u h = record {
       ceilings = (h, h);
       master_ok = void_ok true (min u.sessions 64) u.ceiling (omega arith);
       slave_ok = void_ok false (min u.sessions 64) u.ceiling (omega arith);
+      quiet_up = λ k q. refl;
+      quiet_down = λ k q. refl;
       flow_up = record { at_generation = λ g. refl };
       flow_down = record { at_generation = λ g. refl };
       fresh_up = tt;

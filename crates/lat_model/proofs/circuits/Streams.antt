@@ -7,7 +7,7 @@ use Rattle.lat_model.specs.sessions.Packing.{TaggedSlot}
 use Rattle.lat_model.specs.numbers.Link.{Frame}
 use Rattle.lat_model.specs.numbers.NetOk.{FrameOf}
 use Rattle.lat_model.specs.sessions.EndOk.{EndOk, Head, Shape}
-use Rattle.lat_model.specs.sessions.Joined.{Flows, Joined, slots_of}
+use Rattle.lat_model.specs.sessions.Joined.{Flows, Quiet, Joined, slots_of}
 use Rattle.lat_model.specs.ends.End.{Mark, Run}
 use Rattle.lat_model.specs.ends.Run.{RunBroke, run_end}
 use Rattle.lat_model.specs.circuits.Pair.{Pair, Event, run, open_pair, end_of}
@@ -74,10 +74,10 @@ bytes_heard w k i r b m ask f e y = go b (frame_of w k i b m ask f e) y
 
 -- generations and credits
 
-pub generations : (a b : Sessions) (wire back : List TaggedSlot) → EndOk a → EndOk b → Flows a b wire → Flows b a back → Generations a b
-generations a b wire back aok bok f r k fr st ns =
+pub generations : (a b : Sessions) (wire back : List TaggedSlot) → EndOk a → EndOk b → Quiet a → Flows a b wire → Flows b a back → Generations a b
+generations a b wire back aok bok quiet f r k fr st ns =
     let x : Session = a.session k in
-    let n : x.generation ≡ 0 → ⊥ = named_since a aok k (starts_not_nil x.came st) in
+    let n : x.generation ≡ 0 → ⊥ = named_since a quiet k (starts_not_nil x.came st) in
     let at : of_generation a x.generation ≡ x = ap a.session (aok.serial_found k n) in
     let y : Session = of_generation b x.generation in
     let ea : x.out ≡ y.came ++ slots_of x.generation wire = sym (ap (λ (z : Session). z.out) at) ∙ f.at_generation x.generation in
@@ -108,8 +108,8 @@ matched w k =
     let t : Together w.master.half w.slave.half w.posts = k.together in
     let j : Joined w.master.half.sessions w.slave.half.sessions (flat t.up) (flat t.down) = t.joined in
     record {
-      generations_up = generations w.master.half.sessions w.slave.half.sessions (flat t.up) (flat t.down) j.master_ok j.slave_ok j.flow_up j.flow_down;
-      generations_down = generations w.slave.half.sessions w.master.half.sessions (flat t.down) (flat t.up) j.slave_ok j.master_ok j.flow_down j.flow_up;
+      generations_up = generations w.master.half.sessions w.slave.half.sessions (flat t.up) (flat t.down) j.master_ok j.slave_ok j.quiet_up j.flow_up j.flow_down;
+      generations_down = generations w.slave.half.sessions w.master.half.sessions (flat t.down) (flat t.up) j.slave_ok j.master_ok j.quiet_down j.flow_down j.flow_up;
       up_done = t.up_done;
       up = t.up;
       down_done = t.down_done;

@@ -80,7 +80,7 @@ void_together a c a' c' i j k l = record {
   way_down = fresh_way;
   up_is = refl;
   down_is = refl;
-  joined = record { master = refl; slave = refl; ceilings = (k, l); master_ok = void_ok true a c i; slave_ok = void_ok false a' c' j; flow_up = record { at_generation = λ g. refl }; flow_down = record { at_generation = λ g. refl }; fresh_up = tt; fresh_down = tt; tags_up = tt; tags_down = tt; asks_up = tt; asked = refl };
+  joined = record { master = refl; slave = refl; ceilings = (k, l); master_ok = void_ok true a c i; slave_ok = void_ok false a' c' j; quiet_up = λ k q. refl; quiet_down = λ k q. refl; flow_up = record { at_generation = λ g. refl }; flow_down = record { at_generation = λ g. refl }; fresh_up = tt; fresh_down = tt; tags_up = tt; tags_down = tt; asks_up = tt; asked = refl };
   frames = tt;
 }
 
@@ -102,6 +102,8 @@ swap_void h a c i k t = record {
     ceilings = (t.joined.ceilings.0, k);
     master_ok = t.joined.master_ok;
     slave_ok = void_ok false a c i;
+    quiet_up = t.joined.quiet_up;
+    quiet_down = λ k q. refl;
     flow_up = record { at_generation = t.joined.flow_up.at_generation };
     flow_down = record { at_generation = t.joined.flow_down.at_generation };
     fresh_up = t.joined.fresh_up;

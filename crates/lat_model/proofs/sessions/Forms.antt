@@ -34,7 +34,7 @@ tail_more to from (y ∷ ys) x t n b =
     (t.0, λ e. absurd (both_ways (is_stop y) p.0 e), tail_more to from ys x t.2 p.1 b)
 
 formed_shape : (m : Bool) (s : Session) (n : ℕ) (x : Slot) → (m ≡ false → s.generation ≡ 0 → ⊥) → SessionOk m s → MayForm m s x → Shape m (formed_as s n x) (s.out ++ x ∷ [])
-formed_shape m s n x g ok (Starts o a r st k so d) =
+formed_shape m s n x g ok (Starts o a r tu st k so d) =
     subst (λ w. Shape m (formed_as s n x) (w ++ x ∷ [])) (sym o)
     (record {
       asks = k;
@@ -56,7 +56,7 @@ formed_shape m s n x g ok (Rejects o r c j d) =
     })
   where
     slave : m ≡ false
-    slave = false_from_ne_true m (λ e. both_ways s.refused (ok.never_refused e (λ q. c (ok.unnamed q).1)) r)
+    slave = false_from_ne_true m (λ e. c (ok.never_refused e r).1)
 formed_shape m s n x g ok (Follows r o a st b) = go s.out o st ok.shape
   where
     go : (xs : List Slot) → (xs ≡ [] → ⊥) → has_stop xs ≡ false → Shape m s xs → Shape m (formed_as s n x) (xs ++ x ∷ [])
@@ -78,12 +78,12 @@ formed_ok m s n x nz g ok may = record {
   id_some = ok.id_some;
   peer_some = λ e h. ok.peer_some e (g e);
   ask_out = λ e h. not_nil s.out x [];
-  never_refused = λ e h. unrefused e may;
+  never_refused = λ e h. absurd (both_ways s.refused (unrefused e may) h);
 }
   where
     unrefused : m ≡ true → MayForm m s x → s.refused ≡ false
-    unrefused e (Starts o a r st k so d) = r
-    unrefused e (Rejects o r c j d) = ok.never_refused e (λ q. c (ok.unnamed q).1)
+    unrefused e (Starts o a r tu st k so d) = r
+    unrefused e (Rejects o r c j d) = absurd (c (ok.never_refused e r).1)
     unrefused e (Follows r o a st b) = r
 
 pub formed_accounts : (c : ℕ) (s : Session) (n : ℕ) (x : Slot) → Accounts c s → Affords c s x → Accounts c (formed_as s n x)
@@ -110,7 +110,7 @@ formed_free s n x h = go (rejected s) (has_stop s.out) (has_stop (s.out ++ x ∷
     go false true false c d i e = absurd (false≢true (i refl))
 
 no_blank_forms : (m : Bool) (x : Slot) → MayForm m blank x → ⊥
-no_blank_forms m x (Starts o a r st k so d) = true≢false r
+no_blank_forms m x (Starts o a r tu st k so d) = true≢false r
 no_blank_forms m x (Rejects o r c j d) = c refl
 no_blank_forms m x (Follows r o a st b) = true≢false r
 
@@ -208,7 +208,7 @@ first_flow a b k x wire ok z nz f = record { at_generation = λ g. go g (nat_eq 
         let w : g ≡ suc a.generations = eqb-true g (suc a.generations) q in
         let before : (of_generation b g).came ++ slots_of g wire ≡ [] = sym (f.at_generation g) ∙ ap (λ (v : Session). v.out) (no_gen a ok g (omega (arith, w))) in
         let one : slots_of g (o ∷ []) ≡ x ∷ [] = ap (λ n. slots_of n (o ∷ [])) w ∙ slots_here o [] in
-        ap (λ n. (of_generation (first_form a k x) n).out) w ∙ ap (λ (v : Session). v.out) (first_new a k x) ∙ ap (λ v. v ++ x ∷ []) ((ok.each k).unnamed z).0
+        ap (λ n. (of_generation (first_form a k x) n).out) w ∙ ap (λ (v : Session). v.out) (first_new a k x) ∙ ap (λ v. v ++ x ∷ []) ((ok.each k).unnamed z)
         ∙ sym (ap (λ v. (of_generation b g).came ++ v) (slots_of-append g wire (o ∷ []) ∙ ap (λ v. slots_of g wire ++ v) one) ∙ sym (append_assoc (of_generation b g).came (slots_of g wire) (x ∷ [])) ∙ ap (λ v. v ++ x ∷ []) before)
     go g false q =
         let w : g ≡ suc a.generations → ⊥ = eqb-false g (suc a.generations) q in
@@ -216,11 +216,11 @@ first_flow a b k x wire ok z nz f = record { at_generation = λ g. go g (nat_eq 
         ap (λ (v : Session). v.out) (first_old a k x ok z nz g w) ∙ f.at_generation g
         ∙ sym (ap (λ v. (of_generation b g).came ++ v) (slots_of-append g wire (o ∷ []) ∙ ap (λ v. slots_of g wire ++ v) none ∙ append-nil (slots_of g wire)))
 
-pub first_came : (e : Sessions) (k : ℕ) (x : Slot) → EndOk e → (e.session k).generation ≡ 0 → (k ≡ 0 → ⊥) → (g : ℕ) → (of_generation (first_form e k x) g).came ≡ (of_generation e g).came
-first_came e k x ok z nz g = go (nat_eq g (suc e.generations)) refl
+pub first_came : (e : Sessions) (k : ℕ) (x : Slot) → EndOk e → (e.session k).generation ≡ 0 → (k ≡ 0 → ⊥) → (e.session k).came ≡ [] → (g : ℕ) → (of_generation (first_form e k x) g).came ≡ (of_generation e g).came
+first_came e k x ok z nz q0 g = go (nat_eq g (suc e.generations)) refl
   where
     go : (c : Bool) → nat_eq g (suc e.generations) ≡ c → (of_generation (first_form e k x) g).came ≡ (of_generation e g).came
     go true q =
         let w : g ≡ suc e.generations = eqb-true g (suc e.generations) q in
-        ap (λ n. (of_generation (first_form e k x) n).came) w ∙ ap (λ (v : Session). v.came) (first_new e k x) ∙ ((ok.each k).unnamed z).1 ∙ sym (ap (λ (v : Session). v.came) (no_gen e ok g (omega (arith, w))))
+        ap (λ n. (of_generation (first_form e k x) n).came) w ∙ ap (λ (v : Session). v.came) (first_new e k x) ∙ q0 ∙ sym (ap (λ (v : Session). v.came) (no_gen e ok g (omega (arith, w))))
     go false q = ap (λ (v : Session). v.came) (first_old e k x ok z nz g (eqb-false g (suc e.generations) q))

@@ -1,6 +1,6 @@
 -- What hearing a slot keeps of the session that hears it, of its end and of the wires.
 use Rattle.std.proofs.Common.{◌≡◌, ℕ, ◌+◌, ◌-◌, ◌≤◌, sym, ap, ap₂, ◌∙◌, refl, subst, arith, Bool, true, false, cond, ◌&&◌, List, [], ◌∷◌, ◌++◌, length, Some, nat_lt, eq-eqb, length-append}
-use Rattle.std.proofs.lemmas.Bool.{le-ltb, and_parts, true≢false, false≢true}
+use Rattle.std.proofs.lemmas.Bool.{le-ltb, and_parts, true≢false, false≢true, both_ways}
 use Rattle.lat_model.specs.sessions.Slots.{Slot, Start, DataA, DataB, Attention, Reject, Stop, destination, items, credits, costs, credits_of, cost_of, items_of, starts, starter}
 use Rattle.lat_model.specs.sessions.Session.{Session, blank, free, answered, peer, held_from, held_slots}
 use Rattle.lat_model.specs.sessions.Sessions.{Sessions, of_generation}
@@ -53,27 +53,27 @@ pub face_heard : (s : Session) (x : Slot) → (s.came ≡ [] → ⊥) → SameFa
 face_heard s x n = record { id = refl; accepted = refl; refused = refl; peer = starter_more s.came (x ∷ []) n; starts = starts_more s.came (x ∷ []) n }
 
 -- a session that had heard something hears one slot more
-pub heard_more_ok : (m : Bool) (s : Session) (x : Slot) → (s.came ≡ [] → ⊥) → (s.generation ≡ 0 → ⊥) → SessionOk m s → SessionOk m (heard s x)
-heard_more_ok m s x n g ok = record {
+pub heard_more_ok : (m : Bool) (s : Session) (x : Slot) → (s.came ≡ [] → ⊥) → SessionOk m s → SessionOk m (heard s x)
+heard_more_ok m s x n ok = record {
   shape = shape_keeps m s (heard s x) s.out (face_heard s x n) ok.shape;
-  unnamed = λ z. absurd (g z);
+  unnamed = ok.unnamed;
   asked = λ z h. starts_more s.came (x ∷ []) n ∙ ok.asked z h;
   id_some = ok.id_some;
   peer_some = λ z h q. ok.peer_some z h (sym (starter_more s.came (x ∷ []) n) ∙ q);
   ask_out = ok.ask_out;
-  never_refused = ok.never_refused;
+  never_refused = λ z r. absurd (n (ok.never_refused z r).1);
 }
 
 -- a session of the master that had heard nothing has at most its ask out
-pub heard_first_ok : (s : Session) (x : Slot) → s.came ≡ [] → (s.generation ≡ 0 → ⊥) → SessionOk true s → SessionOk true (heard s x)
-heard_first_ok s x e g ok = record {
+pub heard_first_ok : (s : Session) (x : Slot) → s.came ≡ [] → s.refused ≡ false → SessionOk true s → SessionOk true (heard s x)
+heard_first_ok s x e r ok = record {
   shape = go s.out ok.shape;
-  unnamed = λ z. absurd (g z);
+  unnamed = ok.unnamed;
   asked = λ z h. absurd (true≢false z);
   id_some = ok.id_some;
   peer_some = λ z. absurd (true≢false z);
   ask_out = ok.ask_out;
-  never_refused = ok.never_refused;
+  never_refused = λ z q. absurd (both_ways s.refused r q);
 }
   where
     no_answer : answered s ≡ true → ⊥
@@ -142,6 +142,7 @@ gen_some e ok g n q = n (ap e.serial_of q ∙ ok.serial_zero)
 
 pub record HeardBy (a : Sessions) (b : Sessions) (o : TaggedSlot) (wire : List TaggedSlot) (back : List TaggedSlot) : Type 0 where
   pub hears : hear_slot b o.slot ≡ Some (hear_at b (b.serial_of o.generation) o.slot)
+  pub named : (of_generation b o.generation).generation ≡ 0 → ⊥
   pub b_ok : EndOk (hear_at b (b.serial_of o.generation) o.slot)
   pub flow : Flows a (hear_at b (b.serial_of o.generation) o.slot) wire
   pub flow_back : Flows (hear_at b (b.serial_of o.generation) o.slot) a back
@@ -152,6 +153,7 @@ heard_kept a b o wire back ok f r n fr so ac h =
     let s : Session = heard (of_generation b o.generation) o.slot in
     record {
       hears = h;
+      named = λ q. gen_some b ok o.generation n (sym (ok.generation_found o.generation n) ∙ q);
       b_ok = end_placed b (b.serial_of o.generation) s b.served ok n (ok.serial_made o.generation) (record { id = refl; generation = refl; free = fr }) so ac;
       flow = flows_heard a b (b.serial_of o.generation) o s b.served wire ok n (gen_some b ok o.generation n) (ok.generation_found o.generation n) refl f;
       flow_back = flows_same b a (place b (b.serial_of o.generation) s b.served) a back (λ g. upd_field (λ (z : Session). z.out) b.session (b.serial_of o.generation) s refl (b.serial_of g)) (λ g. refl) r;
@@ -167,9 +169,7 @@ behind_heard a b o wire back aok bok c f r n =
     let v : Arrives sa sb o.slot = arrives a.master b.master sa sb o.slot (slots_of o.generation wire) (slots_of o.generation back) (aok.each (a.serial_of o.generation)) (bok.each (b.serial_of o.generation)) n ea eb in
     let fit : behind_fits sb o.slot ≡ true = fits sa sb o.slot (slots_of o.generation wire) (slots_of o.generation back) a.ceiling b.ceiling c (aok.accounts (a.serial_of o.generation)) (bok.accounts (b.serial_of o.generation)) ea eb v in
     let w : b.serial_of o.generation ≡ 0 → ⊥ = who_some b (λ z. z.came ≡ [] → ⊥) (λ h. h refl) bok o.generation n in
-    let g : sb.generation ≡ o.generation = bok.generation_found o.generation w in
-    let g0 : sb.generation ≡ 0 → ⊥ = λ q. gen_some b bok o.generation w (sym g ∙ q) in
     let at : b.at_id (destination o.slot) ≡ b.serial_of o.generation = ap b.at_id v.behind.destination ∙ bok.holds (b.serial_of o.generation) v.free_b in
-    heard_kept a b o wire back bok f r w (λ z. v.free_b) (heard_more_ok b.master sb o.slot n g0 (bok.each (b.serial_of o.generation)))
+    heard_kept a b o wire back bok f r w (λ z. v.free_b) (heard_more_ok b.master sb o.slot n (bok.each (b.serial_of o.generation)))
     (heard_accounts b.ceiling sb o.slot (spends_fit sa sb o.slot (slots_of o.generation wire) (slots_of o.generation back) a.ceiling (aok.accounts (a.serial_of o.generation)) ea eb) (bok.accounts (b.serial_of o.generation)))
     (hears_at b o.slot (b.serial_of o.generation) v.behind.kind at fit)

@@ -6,18 +6,18 @@ use Rattle.lat_model.specs.sessions.Session.{Session, blank, free, gone}
 use Rattle.lat_model.specs.sessions.Sessions.{Sessions, of_generation}
 use Rattle.lat_model.specs.sessions.Packing.{TaggedSlot, formed, first_form, next_form, form, tag, tagged}
 use Rattle.lat_model.specs.Lists.{updated}
-use Rattle.lat_model.specs.sessions.Hearing.{heard, hear_at, hear_slot}
+use Rattle.lat_model.specs.sessions.Hearing.{heard, hear_at, hear_slot, asked_session}
 use Rattle.lat_model.specs.sessions.EndOk.{is_behind, Head, Shape, SessionOk, EndOk}
 use Rattle.lat_model.specs.sessions.MayForm.{MayForm, Starts, Rejects, Follows, Affords}
-use Rattle.lat_model.specs.sessions.Joined.{Flows, Fresh, slots_of, AsksFrom, asks, ask_count, Tags, Joined, has_start}
-use Rattle.lat_model.proofs.sessions.Words.{asks-append, upd_same, upd_other, upd_field}
+use Rattle.lat_model.specs.sessions.Joined.{Flows, Fresh, slots_of, AsksFrom, asks, ask_count, Tags, Quiet, Joined, has_start}
+use Rattle.lat_model.proofs.sessions.Words.{asks-append, upd_same, upd_other, upd_field, upd_all}
 use Rattle.lat_model.proofs.numbers.Net.{each_imp, each_append}
 use Rattle.lat_model.proofs.sessions.Wire.{flows_same, flows_formed}
 use Rattle.lat_model.proofs.sessions.Meets.{not_nil}
 use Rattle.lat_model.proofs.sessions.Hears.{HeardBy, behind_heard, starts_more}
 use Rattle.lat_model.proofs.sessions.Starts.{ask_starts, reject_turns, starts_not_turned, slots_here, free_goes}
 use Rattle.lat_model.proofs.sessions.Replies.{first_heard}
-use Rattle.lat_model.proofs.sessions.Asks.{no_gen, asked_in, hears_ask, asked_ok, asked_old, asked_field, asked_flow, asks_clear}
+use Rattle.lat_model.proofs.sessions.Asks.{service_of, request_of, no_gen, asked_in, hears_ask, asked_ok, asked_old, asked_field, asked_flow, asks_clear}
 use Rattle.lat_model.proofs.sessions.Forms.{formed_as, former_some, former_made, next_ok, first_ok, first_new, first_old, first_flow, first_came}
 use Rattle.lat_model.proofs.sessions.Freshly.{OldStart, fresh_keeps, fresh_same, fresh_append, asks_more, tags_more, reply_holds, ask_holds, starts_found, front_nil}
 
@@ -35,7 +35,8 @@ pub record FormedBy (a : Sessions) (k : ℕ) (x : Slot) (f : Sessions) (n : ℕ)
   pub before_id : ((a.session k).out ≡ [] → ⊥) → (of_generation a n).id ≡ (a.session k).id
   pub old_id : n ≤ a.generations → (of_generation a n).id ≡ (a.session k).id
   pub flow : (b : Sessions) (wire : List TaggedSlot) → Flows a b wire → Flows f b (wire ++ record { generation = n; slot = x } ∷ [])
-  pub came : (g : ℕ) → (of_generation f g).came ≡ (of_generation a g).came
+  pub came : Quiet a → (g : ℕ) → (of_generation f g).came ≡ (of_generation a g).came
+  pub quiet : Quiet a → Quiet f
   pub serial_of : (g : ℕ) → a.serial_of g ≡ k → g ≡ n
   pub asks : is_ask x ≡ true → (n ≡ suc a.generations) × (f.generations ≡ suc a.generations)
   pub others : is_ask x ≡ false → f.generations ≡ a.generations
@@ -50,15 +51,15 @@ behind_no_ask (Stop to from reason) e = refl
 
 -- a session with a generation forms no ask
 no_second_ask : (m : Bool) (s : Session) (x : Slot) → SessionOk m s → (s.generation ≡ 0 → ⊥) → MayForm m s x → is_ask x ≡ false
-no_second_ask m s x ok n (Starts o a r st k so d) = k ∙ false_from_ne_true m (λ e. ok.ask_out e n o)
+no_second_ask m s x ok n (Starts o a r tu st k so d) = k ∙ false_from_ne_true m (λ e. ok.ask_out e n o)
 no_second_ask m s x ok n (Rejects o r c j d) = false_from_ne_true (is_ask x) (λ e. both_ways (is_start x) (reject_turns x j) (ask_starts x e))
 no_second_ask m s x ok n (Follows r o a st b) = behind_no_ask x b.kind
 
 -- one without forms nothing else
 only_ask : (m : Bool) (s : Session) (x : Slot) → m ≡ true → SessionOk m s → s.generation ≡ 0 → MayForm m s x → is_ask x ≡ true
-only_ask m s x e ok z (Starts o a r st k so d) = k ∙ e
-only_ask m s x e ok z (Rejects o r c j d) = absurd (c (ok.unnamed z).1)
-only_ask m s x e ok z (Follows r o a st b) = absurd (o (ok.unnamed z).0)
+only_ask m s x e ok z (Starts o a r tu st k so d) = k ∙ e
+only_ask m s x e ok z (Rejects o r c j d) = absurd (c (ok.never_refused e r).1)
+only_ask m s x e ok z (Follows r o a st b) = absurd (o (ok.unnamed z))
 
 next_formed : (a : Sessions) (k : ℕ) (x : Slot) → EndOk a → ((a.session k).generation ≡ 0 → ⊥) → MayForm a.master (a.session k) x → Affords a.ceiling (a.session k) x → FormedBy a k x (next_form a k x) (a.session k).generation
 next_formed a k x ok n may af =
@@ -80,7 +81,8 @@ next_formed a k x ok n may af =
       before_id = λ q. ap (λ (v : Session). v.id) at;
       old_id = λ q. ap (λ (v : Session). v.id) at;
       flow = λ b wire f. flows_formed a b k x (formed s x) (next_form a k x).served wire ok nz n refl f;
-      came = λ g. upd_field (λ (v : Session). v.came) a.session k (formed s x) refl (a.serial_of g);
+      came = λ q g. upd_field (λ (v : Session). v.came) a.session k (formed s x) refl (a.serial_of g);
+      quiet = upd_all (λ v. v.generation ≡ 0 → v.came ≡ []) a.session k (formed s x) (λ z. absurd (n z));
       serial_of = only;
       asks = λ e. absurd (both_ways (is_ask x) (no_second_ask a.master s x (ok.each k) n may) e);
       others = λ e. refl;
@@ -99,11 +101,12 @@ first_formed a k x ok m z may af =
       more = omega arith;
       new = first_new a k x;
       old = first_old a k x ok z nz;
-      before = ap (λ (v : Session). v.out) b ∙ sym ((ok.each k).unnamed z).0;
-      before_id = λ q. absurd (q ((ok.each k).unnamed z).0);
+      before = ap (λ (v : Session). v.out) b ∙ sym ((ok.each k).unnamed z);
+      before_id = λ q. absurd (q ((ok.each k).unnamed z));
       old_id = λ q. absurd (omega arith);
       flow = λ c wire f. first_flow a c k x wire ok z nz f;
-      came = first_came a k x ok z nz;
+      came = λ q. first_came a k x ok z nz (q k z);
+      quiet = upd_all (λ v. v.generation ≡ 0 → v.came ≡ []) a.session k (formed_as s (suc a.generations) x) (λ q. absurd (omega (arith, q)));
       serial_of = λ g q. absurd (nz (sym q ∙ ap a.serial_of (sym (ok.generation_found g (λ h. nz (sym q ∙ h))) ∙ ap (λ v. (a.session v).generation) q ∙ z) ∙ ok.serial_zero));
       asks = λ e. (refl, refl);
       others = λ e. absurd (both_ways (is_ask x) e (only_ask a.master s x m (ok.each k) z may));
@@ -132,11 +135,7 @@ closed_by false false false d e p q r = refl
 
 -- the session that forms isn't free, but to send its reject
 pub may_free : (m : Bool) (s : Session) (x : Slot) → SessionOk m s → (m ≡ false → s.generation ≡ 0 → ⊥) → MayForm m s x → starts (s.out ++ x ∷ []) ≡ true → free s ≡ false
-may_free m s x ok g (Starts o a r st k so d) h = closed_by s.refused (turned s.came) (has_stop s.out) (has_stop s.came) (s.closed || nat_le (length (items s.came)) s.taken) r (turn m refl) (ap has_stop o)
-  where
-    turn : (b : Bool) → m ≡ b → turned s.came ≡ false
-    turn true e = ap turned (⊎_elim {C = s.came ≡ []} (λ z. (ok.unnamed z).1) (λ z. absurd (ok.ask_out e z o)) (cases_eq s.generation 0))
-    turn false e = starts_not_turned s.came (ok.asked e (g e))
+may_free m s x ok g (Starts o a r tu st k so d) h = closed_by s.refused (turned s.came) (has_stop s.out) (has_stop s.came) (s.closed || nat_le (length (items s.came)) s.taken) r tu (ap has_stop o)
 may_free m s x ok g (Rejects o r c j d) h = absurd (both_ways (is_start x) (reject_turns x j) (sym (ap (λ z. starts (z ++ x ∷ [])) o) ∙ h))
 may_free m s x ok g (Follows r o a st b) h = closed_by s.refused (turned s.came) (has_stop s.out) (has_stop s.came) (s.closed || nat_le (length (items s.came)) s.taken) r (starts_not_turned s.came (and_parts s.accepted (starts s.came) a).1) st
 
@@ -206,7 +205,9 @@ form_up m s up down k x j may af =
       master_ok = v.ok;
       slave_ok = j.slave_ok;
       flow_up = v.flow s up j.flow_up;
-      flow_down = flows_same s m s (form m k x) down (λ g. refl) v.came j.flow_down;
+      quiet_up = v.quiet j.quiet_up;
+      quiet_down = j.quiet_down;
+      flow_down = flows_same s m s (form m k x) down (λ g. refl) (v.came j.quiet_up) j.flow_down;
       fresh_up = fresh_formed m s k x (form m k x) (tag m k) up j.master_ok mm v j.flow_up (λ g. ask_holds m s g up down j.master j.slave j.master_ok j.slave_ok j.flow_up j.flow_down) j.tags_up j.fresh_up;
       fresh_down = j.fresh_down;
       tags_up = each_append (λ p. p.generation ≤ (form m k x).generations) up (o ∷ []) (tags_more m.generations (form m k x).generations up v.more j.tags_up) (v.tag, tt);
@@ -223,7 +224,7 @@ form_up m s up down k x j may af =
     count false e = v'.others e ∙ (omega (arith, j.asked, asks-append up (tagged m k x ∷ []), ap {B = ℕ} (λ z. cond z 1 0) e))
 
 no_slave_ask : (s : Session) (x : Slot) → MayForm false s x → is_ask x ≡ false
-no_slave_ask s x (Starts o a r st k so d) = k
+no_slave_ask s x (Starts o a r tu st k so d) = k
 no_slave_ask s x (Rejects o r c j d) = false_from_ne_true (is_ask x) (λ e. both_ways (is_start x) (reject_turns x j) (ask_starts x e))
 no_slave_ask s x (Follows r o a st b) = behind_no_ask x b.kind
 
@@ -239,7 +240,9 @@ form_down m s up down k x j may af =
       ceilings = (j.ceilings.0, subst (λ z. z ≤ 255) (sym v.ceiling) j.ceilings.1);
       master_ok = j.master_ok;
       slave_ok = v.ok;
-      flow_up = flows_same m s m (form s k x) up (λ g. refl) v.came j.flow_up;
+      quiet_up = j.quiet_up;
+      quiet_down = v.quiet j.quiet_down;
+      flow_up = flows_same m s m (form s k x) up (λ g. refl) (v.came j.quiet_down) j.flow_up;
       flow_down = v.flow m down j.flow_down;
       fresh_up = j.fresh_up;
       fresh_down = fresh_formed s m k x (form s k x) (tag s k) down j.slave_ok mm v j.flow_down (λ g. reply_holds s m g down up j.slave j.master j.slave_ok j.master_ok j.flow_down j.flow_up) j.tags_down j.fresh_down;
@@ -259,6 +262,7 @@ pub record Touched (a : Sessions) (f : Sessions) : Type 0 where
   pub ids : (g : ℕ) → (of_generation a g).id ≡ (of_generation f g).id
   pub out : (g : ℕ) → (of_generation f g).out ≡ (of_generation a g).out
   pub came : (g : ℕ) → (of_generation f g).came ≡ (of_generation a g).came
+  pub quiet : Quiet a → Quiet f
 
 pub touch_up : (m s f : Sessions) (up down : List TaggedSlot) → Joined m s up down → Touched m f → Joined f s up down
 touch_up m s f up down j t = record {
@@ -267,6 +271,8 @@ touch_up m s f up down j t = record {
   ceilings = (subst (λ z. z ≤ 255) (sym t.ceiling) j.ceilings.0, j.ceilings.1);
   master_ok = t.ok;
   slave_ok = j.slave_ok;
+  quiet_up = t.quiet j.quiet_up;
+  quiet_down = j.quiet_down;
   flow_up = flows_same m s f s up t.out (λ g. refl) j.flow_up;
   flow_down = flows_same s m s f down (λ g. refl) t.came j.flow_down;
   fresh_up = fresh_same m f t.ids (λ g. sym (t.out g)) m.generations up j.tags_up j.fresh_up;
@@ -284,6 +290,8 @@ touch_down m s f up down j t = record {
   ceilings = (j.ceilings.0, subst (λ z. z ≤ 255) (sym t.ceiling) j.ceilings.1);
   master_ok = j.master_ok;
   slave_ok = t.ok;
+  quiet_up = j.quiet_up;
+  quiet_down = t.quiet j.quiet_down;
   flow_up = flows_same m s m f up (λ g. refl) t.came j.flow_up;
   flow_down = flows_same s m f m down t.out (λ g. refl) j.flow_down;
   fresh_up = j.fresh_up;
@@ -317,6 +325,9 @@ heard_ids b k x g = sym (upd_field (λ (z : Session). z.id) b.session k (heard (
 heard_out : (b : Sessions) (k : ℕ) (x : Slot) (g : ℕ) → (of_generation b g).out ≡ (of_generation (hear_at b k x) g).out
 heard_out b k x g = sym (upd_field (λ (z : Session). z.out) b.session k (heard (b.session k) x) refl (b.serial_of g))
 
+heard_quiet : (b : Sessions) (k : ℕ) (x : Slot) → ((b.session k).generation ≡ 0 → ⊥) → Quiet b → Quiet (hear_at b k x)
+heard_quiet b k x n = upd_all (λ z. z.generation ≡ 0 → z.came ≡ []) b.session k (heard (b.session k) x) (λ q. absurd (n q))
+
 up_behind : (m s : Sessions) (o : TaggedSlot) (up down : List TaggedSlot) → Joined m s (o ∷ up) down → is_ask o.slot ≡ false → HeardBy m s o up down → HeardUp m s o up down
 up_behind m s o up down j na h = record {
   after = hear_at s (s.serial_of o.generation) o.slot;
@@ -329,6 +340,8 @@ up_behind m s o up down j na h = record {
     ceilings = j.ceilings;
     master_ok = j.master_ok;
     slave_ok = h.b_ok;
+    quiet_up = j.quiet_up;
+    quiet_down = heard_quiet s (s.serial_of o.generation) o.slot h.named j.quiet_down;
     flow_up = h.flow;
     flow_down = h.flow_back;
     fresh_up = j.fresh_up.1;
@@ -355,6 +368,8 @@ up_ask m s o up down j a = record {
     ceilings = j.ceilings;
     master_ok = j.master_ok;
     slave_ok = asked_ok s o.slot j.slave a src j.slave_ok;
+    quiet_up = j.quiet_up;
+    quiet_down = upd_all (λ z. z.generation ≡ 0 → z.came ≡ []) s.session (suc s.made) (asked_session s o.slot (service_of o.slot) (request_of o.slot)) (λ q. absurd (omega (arith, q))) j.quiet_down;
     flow_up = asked_flow m s o up j.slave_ok n j.flow_up;
     flow_down = flows_same s m (asked_in s o.slot) m down (asked_field (λ (z : Session). z.out) s o.slot j.slave_ok refl) (λ g. refl) j.flow_down;
     fresh_up = j.fresh_up.1;
@@ -409,6 +424,8 @@ down_heard m s o up down j h = record {
     ceilings = j.ceilings;
     master_ok = h.b_ok;
     slave_ok = j.slave_ok;
+    quiet_up = heard_quiet m (m.serial_of o.generation) o.slot h.named j.quiet_up;
+    quiet_down = j.quiet_down;
     flow_up = h.flow_back;
     flow_down = h.flow;
     fresh_up = fresh_same m (hear_at m (m.serial_of o.generation) o.slot) (heard_ids m (m.serial_of o.generation) o.slot) (heard_out m (m.serial_of o.generation) o.slot) m.generations up j.tags_up j.fresh_up;
@@ -424,5 +441,5 @@ pub hear_down : (m s : Sessions) (o : TaggedSlot) (up down : List TaggedSlot) �
 hear_down m s o up down j = go (of_generation m o.generation).came refl
   where
     go : (xs : List Slot) → (of_generation m o.generation).came ≡ xs → HeardDown m s o up down
-    go [] e = down_heard m s o up down j (first_heard s m o down up j.slave j.master j.slave_ok j.master_ok j.flow_down j.flow_up j.fresh_down.0 e)
+    go [] e = down_heard m s o up down j (first_heard s m o down up j.slave j.master j.slave_ok j.master_ok j.quiet_down j.quiet_up j.flow_down j.flow_up j.fresh_down.0 e)
     go (y ∷ ys) e = down_heard m s o up down j (behind_heard s m o down up j.slave_ok j.master_ok j.ceilings.1 j.flow_down j.flow_up (λ q. not_nil [] y ys (sym e ∙ q)))

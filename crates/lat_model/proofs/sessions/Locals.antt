@@ -6,7 +6,7 @@ use Rattle.lat_model.specs.sessions.Session.{Session, free, gone, answered, reje
 use Rattle.lat_model.specs.sessions.Sessions.{Sessions, of_generation, named, held}
 use Rattle.lat_model.specs.sessions.Calls.{touch, new_call, connect, put_items, put_count, take_count, answer, reject, Call, Connect, Put, Set, Attend, Take, Close, Answer, Refuse, call}
 use Rattle.lat_model.specs.sessions.EndOk.{Head, Shape, SessionOk, Accounts, EndOk}
-use Rattle.lat_model.proofs.sessions.Words.{upd_other, upd_field, not_blank}
+use Rattle.lat_model.proofs.sessions.Words.{upd_other, upd_field, upd_all, not_blank}
 use Rattle.lat_model.proofs.sessions.Wire.{end_placed}
 use Rattle.lat_model.proofs.sessions.Hears.{SameFace, shape_keeps}
 use Rattle.lat_model.proofs.sessions.Starts.{free_goes}
@@ -15,7 +15,7 @@ use Rattle.lat_model.proofs.sessions.Joins.{Touched}
 
 -- nothing changes
 pub untouched : (e : Sessions) → EndOk e → Touched e e
-untouched e ok = record { ok = ok; master = refl; ceiling = refl; generations = refl; ids = λ g. refl; out = λ g. refl; came = λ g. refl }
+untouched e ok = record { ok = ok; master = refl; ceiling = refl; generations = refl; ids = λ g. refl; out = λ g. refl; came = λ g. refl; quiet = λ q. q }
 
 -- a session that isn't free is put anew with the same lists
 pub touched : (e : Sessions) (k : ℕ) (s : Session) → EndOk e → free (e.session k) ≡ false → s.id ≡ (e.session k).id → s.generation ≡ (e.session k).generation → s.out ≡ (e.session k).out → s.came ≡ (e.session k).came → SessionOk e.master s → Accounts e.ceiling s → Touched e (touch e k s)
@@ -30,18 +30,19 @@ touched e k s ok f i g o c so ac = record {
   ids = λ h. sym (upd_field (λ (z : Session). z.id) e.session k s i (e.serial_of h));
   out = λ h. upd_field (λ (z : Session). z.out) e.session k s o (e.serial_of h);
   came = λ h. upd_field (λ (z : Session). z.came) e.session k s c (e.serial_of h);
+  quiet = λ q. upd_all (λ z. z.generation ≡ 0 → z.came ≡ []) e.session k s (λ z. c ∙ q k (sym g ∙ z)) q;
 }
 
 -- the words of a session that its shape looks at stay
 pub session_keeps : (m : Bool) (s t : Session) → SameFace s t → t.out ≡ s.out → t.came ≡ s.came → t.generation ≡ s.generation → SessionOk m s → SessionOk m t
 session_keeps m s t f o c g ok = record {
   shape = subst (Shape m t) (sym o) (shape_keeps m s t s.out f ok.shape);
-  unnamed = λ z. (o ∙ (ok.unnamed (sym g ∙ z)).0, c ∙ (ok.unnamed (sym g ∙ z)).1);
+  unnamed = λ z. o ∙ ok.unnamed (sym g ∙ z);
   asked = λ z n. ap starts c ∙ ok.asked z (λ q. n (g ∙ q));
   id_some = λ r q. ok.id_some (sym f.refused ∙ r) (sym f.id ∙ q);
   peer_some = λ z n q. ok.peer_some z (λ w. n (g ∙ w)) (sym f.peer ∙ q);
   ask_out = λ z n q. ok.ask_out z (λ q. n (g ∙ q)) (sym o ∙ q);
-  never_refused = λ z n. f.refused ∙ ok.never_refused z (λ q. n (g ∙ q));
+  never_refused = λ z r. (g ∙ (ok.never_refused z (sym f.refused ∙ r)).0, c ∙ (ok.never_refused z (sym f.refused ∙ r)).1);
 }
 
 put_free : (s : Session) → put_open s ≡ true → free s ≡ false
@@ -138,7 +139,7 @@ waits_free s w = free_goes s (not-true (gone s) (and_parts (not (answered s)) (n
 settled_ok : (m : Bool) (s t : Session) → m ≡ false → waits s ≡ true → t.id ≡ s.id → t.out ≡ s.out → t.came ≡ s.came → t.generation ≡ s.generation → SessionOk m s → SessionOk m t
 settled_ok m s t e w i o c g ok = record {
   shape = subst (Shape m t) (sym (o ∙ asked_silent s (subst (λ z. SessionOk z s) e ok) w)) tt;
-  unnamed = λ z. (o ∙ (ok.unnamed (sym g ∙ z)).0, c ∙ (ok.unnamed (sym g ∙ z)).1);
+  unnamed = λ z. o ∙ ok.unnamed (sym g ∙ z);
   asked = λ z n. ap starts c ∙ ok.asked z (λ q. n (g ∙ q));
   id_some = λ r q. ok.id_some (or_parts s.refused (turned s.came) (or_parts (rejected s) (stopped s) (not-true (gone s) (and_parts (not (answered s)) (not (gone s)) w).1)).0).0 (sym i ∙ q);
   peer_some = λ z n q. ok.peer_some z (λ v. n (g ∙ v)) (sym (ap starter c) ∙ q);
@@ -173,6 +174,7 @@ connects e service request ok m h =
       ids = λ g. ap (λ (z : Session). z.id) (sym (same g));
       out = λ g. ap (λ (z : Session). z.out) (same g);
       came = λ g. ap (λ (z : Session). z.came) (same g);
+      quiet = λ q. upd_all (λ z. z.generation ≡ 0 → z.came ≡ []) e.session (suc e.made) (new_call e service request) (λ z. refl) q;
     }
 
 pub called : (e : Sessions) (c : Call) → EndOk e → Touched e (call e c)

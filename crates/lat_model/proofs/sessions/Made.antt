@@ -1,6 +1,6 @@
 -- A new session under a free id: an end keeps what it knows.
 use Rattle.std.proofs.Common.{◌≡◌, ◌≢◌, ℕ, zero, suc, ◌<◌, ◌≤◌, ◌⊎◌, inl, inr, ⊎_elim, le_trans, sym, ap, ◌∙◌, refl, subst, arith, Bool, true, false, not, cond, List, [], ◌∷◌, length, Option, nat_eq, nat_le, eqb-true, leb-false, le_refl}
-use Rattle.std.proofs.lemmas.Bool.{true≢false, both_ways, eqb-false}
+use Rattle.std.proofs.lemmas.Bool.{true≢false, false≢true, both_ways, eqb-false}
 use Rattle.lat_model.specs.sessions.Slots.{Slot, Start}
 use Rattle.lat_model.specs.sessions.Session.{Session, free}
 use Rattle.lat_model.specs.sessions.Sessions.{Sessions, named, held, least_free}
@@ -141,7 +141,7 @@ ids_same e s ok i = (omega (arith, ok.at_made i), λ n. ap (λ (z : Session). z.
 -- the master connects
 pub connect_added : (e : Sessions) (service : List ℕ) (request : Option ℕ) → e.master ≡ true → held e < e.agreed → EndOk e → Added e (new_call e service request) (updated e.at_id (least_free e) (suc e.made)) e.generations e.serial_of
 connect_added e service request m h ok = record {
-  session_ok = record { shape = tt; unnamed = λ z. (refl, refl); asked = λ z n. absurd (n refl); id_some = λ z. least_some e h ok.agreed; peer_some = λ z n. absurd (n refl); ask_out = λ z n. absurd (n refl); never_refused = λ z n. refl };
+  session_ok = record { shape = tt; unnamed = λ z. refl; asked = λ z n. absurd (n refl); id_some = λ z. least_some e h ok.agreed; peer_some = λ z n. absurd (n refl); ask_out = λ z n. absurd (n refl); never_refused = λ z n. absurd (false≢true n) };
   accounts = record { spends = omega arith; spent = omega arith; gives = omega arith; framed = ([], refl); taken = omega arith };
   new_id = λ f. upd_same e.at_id (least_free e) (suc e.made);
   old_ids = λ k f q. upd_other e.at_id (least_free e) (suc e.made) (e.session k).id (λ z. both_ways (free (e.session k)) f (sym (ap (λ n. free (e.session n)) (sym (ap e.at_id z) ∙ q)) ∙ least_is_free e h ok.agreed)) ∙ q;
@@ -157,23 +157,23 @@ connect_ok e service request m h ok = added_ok e (new_call e service request) (u
 pub ask_added : (e : Sessions) (from c size : ℕ) (service : List ℕ) (request : Option ℕ) → e.master ≡ false → (from ≡ 0 → ⊥) → EndOk e →
     (let x : Slot = Start 0 from c size service request in Added e (asked_session e x service request) (cond (nat_le e.agreed (held e)) e.at_id (updated e.at_id (least_free e) (suc e.made))) (suc e.generations) (updated e.serial_of (suc e.generations) (suc e.made)))
 ask_added e from c size service request m src ok = record {
-  session_ok = record { shape = tt; unnamed = λ z. absurd (omega (arith, z)); asked = λ z n. refl; id_some = λ z. least_some e (leb-false e.agreed (held e) z) ok.agreed; peer_some = λ z n. src; ask_out = λ z n. absurd (true≢false (sym z ∙ m)); never_refused = λ z n. absurd (true≢false (sym z ∙ m)) };
+  session_ok = record { shape = tt; unnamed = λ z. absurd (omega (arith, z)); asked = λ z n. refl; id_some = λ z q. least_some e (leb-false e.agreed (held e) z) ok.agreed (sym (ap (λ b. cond b 0 (least_free e)) z) ∙ q); peer_some = λ z n. src; ask_out = λ z n. absurd (true≢false (sym z ∙ m)); never_refused = λ z n. absurd (true≢false (sym z ∙ m)) };
   accounts = record { spends = omega arith; spent = omega arith; gives = omega arith; framed = ([], refl); taken = omega arith };
   new_id = new_id (nat_le e.agreed (held e));
   old_ids = λ k f q. old_ids (nat_le e.agreed (held e)) refl k f q;
-  ids_made = λ i. (ids (nat_le e.agreed (held e)) i).0;
-  ids_found = λ i. (ids (nat_le e.agreed (held e)) i).1;
+  ids_made = λ i. (ids (nat_le e.agreed (held e)) refl i).0;
+  ids_found = λ i. (ids (nat_le e.agreed (held e)) refl i).1;
   generation = inr (refl, refl, λ g. refl);
 }
   where
     x : Slot
     x = Start 0 from c size service request
 
-    ids : (b : Bool) (i : ℕ) → ((cond b e.at_id (updated e.at_id (least_free e) (suc e.made))) i ≤ suc e.made) × ((cond b e.at_id (updated e.at_id (least_free e) (suc e.made))) i ≢ 0 → (updated e.session (suc e.made) (asked_session e x service request) ((cond b e.at_id (updated e.at_id (least_free e) (suc e.made))) i)).id ≡ i)
-    ids true i = ids_same e (asked_session e x service request) ok i
-    ids false i = ids_ok e (asked_session e x service request) ok refl i
+    ids : (b : Bool) → nat_le e.agreed (held e) ≡ b → (i : ℕ) → ((cond b e.at_id (updated e.at_id (least_free e) (suc e.made))) i ≤ suc e.made) × ((cond b e.at_id (updated e.at_id (least_free e) (suc e.made))) i ≢ 0 → (updated e.session (suc e.made) (asked_session e x service request) ((cond b e.at_id (updated e.at_id (least_free e) (suc e.made))) i)).id ≡ i)
+    ids true w i = ids_same e (asked_session e x service request) ok i
+    ids false w i = ids_ok e (asked_session e x service request) ok (ap (λ b. cond b 0 (least_free e)) w) i
 
-    new_id : (b : Bool) → free (record (asked_session e x service request) { refused = b }) ≡ false → (cond b e.at_id (updated e.at_id (least_free e) (suc e.made))) (least_free e) ≡ suc e.made
+    new_id : (b : Bool) → free (record (asked_session e x service request) { refused = b }) ≡ false → (cond b e.at_id (updated e.at_id (least_free e) (suc e.made))) (cond b 0 (least_free e)) ≡ suc e.made
     new_id true f = absurd (true≢false f)
     new_id false f = upd_same e.at_id (least_free e) (suc e.made)
 

@@ -11,7 +11,7 @@ use Rattle.lat_model.specs.sessions.Packing.{TaggedSlot, formed, form, first_for
 use Rattle.lat_model.specs.sessions.Offers.{Offer, Nothing, Unfit, Offers, offer}
 use Rattle.lat_model.specs.sessions.EndOk.{EndOk, is_behind}
 use Rattle.lat_model.specs.sessions.MayForm.{MayForm, Starts, Rejects, Follows, Affords}
-use Rattle.lat_model.specs.sessions.Joined.{Joined, slots_of, has_start}
+use Rattle.lat_model.specs.sessions.Joined.{Quiet, Joined, slots_of, has_start}
 use Rattle.lat_model.proofs.sessions.Words.{upd_same, upd_other, upd_field, slots_of-append}
 use Rattle.lat_model.proofs.sessions.Starts.{reject_turns}
 use Rattle.lat_model.proofs.sessions.Forms.{formed_as, formed_free, former_some, former_made}
@@ -80,7 +80,7 @@ later_form m p k x ok n l = record {
 
 -- a start is formed as the first slot
 start_only : (m : Bool) (s : Session) (x : Slot) → MayForm m s x → is_start x ≡ true → starts (s.out ++ x ∷ []) ≡ true
-start_only m s x (Starts o a r st k so d) i = ap (λ z. starts (z ++ x ∷ [])) o ∙ st
+start_only m s x (Starts o a r tu st k so d) i = ap (λ z. starts (z ++ x ∷ [])) o ∙ st
 start_only m s x (Rejects o r c j d) i = absurd (both_ways (is_start x) (reject_turns x j) i)
 start_only m s x (Follows r o a st b) i = absurd (behind x b.kind i)
   where
@@ -138,7 +138,7 @@ starts_form m p k x os ok may af l alive st g h =
 
 -- a slot behind a start is of a session that heard a start
 behind_starts : (m : Bool) (s : Session) (x : Slot) → MayForm m s x → is_behind x ≡ true → Slots.starts s.came ≡ true
-behind_starts m s x (Starts o a r st k so d) e = absurd (starts_not x st e)
+behind_starts m s x (Starts o a r tu st k so d) e = absurd (starts_not x st e)
   where
     starts_not : (y : Slot) → is_start y ≡ true → is_behind y ≡ true → ⊥
     starts_not (Slot.Start to from c size service request) e f = false≢true f
@@ -158,11 +158,11 @@ behind_starts m s x (Rejects o r c j d) e = absurd (rejects_not x j e)
     rejects_not (Slot.Stop to from reason) e f = false≢true e
 behind_starts m s x (Follows r o a st b) e = (and_parts s.accepted (Slots.starts s.came) a).1
 
-behinds_form : (p : Sessions) (k : ℕ) (x : Slot) (os : List TaggedSlot) → EndOk p → MayForm p.master (p.session k) x → Affords p.ceiling (p.session k) x → Each (λ o. is_behind o.slot ≡ true → Slots.starts (of_generation p o.generation).came ≡ true) os → Each (λ o. is_behind o.slot ≡ true → Slots.starts (of_generation (form p k x) o.generation).came ≡ true) (os ++ tagged p k x ∷ [])
-behinds_form p k x os ok may af e =
+behinds_form : (p : Sessions) (k : ℕ) (x : Slot) (os : List TaggedSlot) → EndOk p → Quiet p → MayForm p.master (p.session k) x → Affords p.ceiling (p.session k) x → Each (λ o. is_behind o.slot ≡ true → Slots.starts (of_generation p o.generation).came ≡ true) os → Each (λ o. is_behind o.slot ≡ true → Slots.starts (of_generation (form p k x) o.generation).came ≡ true) (os ++ tagged p k x ∷ [])
+behinds_form p k x os ok quiet may af e =
     let v : FormedBy p k x (form p k x) (tag p k) = form_formed p k x ok may af in
     each_append (λ o. is_behind o.slot ≡ true → Slots.starts (of_generation (form p k x) o.generation).came ≡ true) os (tagged p k x ∷ [])
-    (each_imp (λ o. is_behind o.slot ≡ true → Slots.starts (of_generation p o.generation).came ≡ true) (λ o. is_behind o.slot ≡ true → Slots.starts (of_generation (form p k x) o.generation).came ≡ true) (λ o h i. ap Slots.starts (v.came o.generation) ∙ h i) os e)
+    (each_imp (λ o. is_behind o.slot ≡ true → Slots.starts (of_generation p o.generation).came ≡ true) (λ o. is_behind o.slot ≡ true → Slots.starts (of_generation (form p k x) o.generation).came ≡ true) (λ o h i. ap Slots.starts (v.came quiet o.generation) ∙ h i) os e)
     (λ i. ap (λ (z : Session). Slots.starts z.came) v.new ∙ behind_starts p.master (p.session k) x may i, tt)
 
 -- a whole packing
@@ -175,8 +175,8 @@ pub record News (m : Sessions) (p : Packing) : Type 0 where
 alive : (m p : Sessions) → Later m p → (g : ℕ) → (m.serial_of g ≡ 0 → ⊥) → p.serial_of g ≡ 0 → ⊥
 alive m p l g n q = n (sym (l.serial_of g n) ∙ q)
 
-turn_news : (m : Sessions) (p : Packing) (k : ℕ) → EndOk p.after → (p.after.master ≡ false → (p.after.session k).accepted ≡ true → (p.after.session k).generation ≡ 0 → ⊥) → News m p → News m (turn p k)
-turn_news m p k ok acc n = go p.going (offer p.after.master p.after.ceiling p.room (p.after.session k)) refl
+turn_news : (m : Sessions) (p : Packing) (k : ℕ) → EndOk p.after → Quiet p.after → (p.after.master ≡ false → (p.after.session k).accepted ≡ true → (p.after.session k).generation ≡ 0 → ⊥) → News m p → News m (turn p k)
+turn_news m p k ok quiet acc n = go p.going (offer p.after.master p.after.ceiling p.room (p.after.session k)) refl
   where
     go : (b : Bool) (o : Offer) → offer p.after.master p.after.ceiling p.room (p.after.session k) ≡ o → News m (cond b (turn_by p k o) p)
     go true Nothing e = n
@@ -186,17 +186,17 @@ turn_news m p k ok acc n = go p.going (offer p.after.master p.after.ceiling p.ro
         record {
           later = later_form m p.after k x ok (alive m p.after n.later) n.later;
           starts = starts_form m p.after k x p.slots ok f.may f.affords n.later (alive m p.after n.later) n.starts;
-          behinds = behinds_form p.after k x p.slots ok f.may f.affords n.behinds;
+          behinds = behinds_form p.after k x p.slots ok quiet f.may f.affords n.behinds;
         }
     go false o e = n
 
 turns_news_up : (m s : Sessions) (up down : List TaggedSlot) (ks : List ℕ) (p : Packing) → Joined p.after s (up ++ p.slots) down → News m p → News m (turn_all ks p)
 turns_news_up m s up down [] p j n = n
-turns_news_up m s up down (k ∷ ks) p j n = turns_news_up m s up down ks (turn p k) (turn_up s up down p k j) (turn_news m p k j.master_ok (λ q. absurd (true≢false (sym j.master ∙ q))) n)
+turns_news_up m s up down (k ∷ ks) p j n = turns_news_up m s up down ks (turn p k) (turn_up s up down p k j) (turn_news m p k j.master_ok j.quiet_up (λ q. absurd (true≢false (sym j.master ∙ q))) n)
 
 turns_news_down : (m s : Sessions) (up down : List TaggedSlot) (ks : List ℕ) (p : Packing) → Joined m p.after up (down ++ p.slots) → News s p → News s (turn_all ks p)
 turns_news_down m s up down [] p j n = n
-turns_news_down m s up down (k ∷ ks) p j n = turns_news_down m s up down ks (turn p k) (turn_down m up down p k j) (turn_news s p k j.slave_ok (accepted_named p.after k j.slave_ok) n)
+turns_news_down m s up down (k ∷ ks) p j n = turns_news_down m s up down ks (turn p k) (turn_down m up down p k j) (turn_news s p k j.slave_ok j.quiet_down (accepted_named p.after k j.slave_ok) n)
 
 start_news : (m : Sessions) (room : ℕ) → News m (record { after = m; slots = []; room = room; left = 255; going = true })
 start_news m room = record { later = later_same m; starts = λ g h. absurd (false≢true h); behinds = tt }

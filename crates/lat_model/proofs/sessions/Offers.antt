@@ -2,7 +2,7 @@
 use Rattle.std.proofs.Common.{◌≡◌, ℕ, zero, suc, ◌<◌, ◌≤◌, ◌⊎◌, inl, inr, sym, ap, ◌∙◌, refl, subst, arith, Bool, true, false, not, cond, ◌&&◌, List, [], ◌∷◌, ◌++◌, length, map, take, drop, min, Option, Some, None, nat_lt, nat_le, append_assoc, append-nil, ltb-true, le_refl}
 use Rattle.std.proofs.lemmas.List.{drop_at}
 use Rattle.std.proofs.lemmas.Bool.{and_parts, true≢false, false≢true, not-true}
-use Rattle.lat_model.specs.sessions.Slots.{Item, Byte, Setting, Slot, Start, DataA, DataB, Attention, Reject, Stop, items, items_of, credits, credits_of, costs, cost_of, has_stop, is_ask, slot_len, first_size}
+use Rattle.lat_model.specs.sessions.Slots.{Item, Byte, Setting, Slot, Start, DataA, DataB, Attention, Reject, Stop, items, items_of, credits, credits_of, costs, cost_of, has_stop, turned, is_ask, slot_len, first_size}
 use Rattle.lat_model.specs.sessions.Session.{Session, answered, peer, unframed, due}
 use Rattle.lat_model.specs.sessions.Offers.{Nothing, Unfit, Offers, fit, start_of, leading, byte_room, bytes_offer, credit_offer, data_offer, stop_due, live_offer, offer}
 use Rattle.lat_model.specs.Lists.{is_empty, IsPrefixOf}
@@ -135,21 +135,21 @@ live_fine m c room s x w ac None e = go (stop_due s) e
         (record { may = sends m s y w (record { kind = refl; destination = refl; source = refl }); affords = free_slot c s y ac refl refl (omega arith) })
     go false e = data_fine m c room s x w ac (unframed s) (decide (unframed s)) (stands (has_stop s.came) refl) e
 
-starts_fine : (m : Bool) (c room : ℕ) (s : Session) (x : Slot) → SessionOk m s → Accounts c s → (m ≡ false → s.generation ≡ 0 → ⊥) → s.out ≡ [] → s.accepted ≡ true → s.refused ≡ false → fit room (start_of m c s) ≡ Offers x → Fine m c s x
-starts_fine true c room s x ok ac g o a r e =
+starts_fine : (m : Bool) (c room : ℕ) (s : Session) (x : Slot) → SessionOk m s → Accounts c s → (m ≡ false → s.generation ≡ 0 → ⊥) → s.out ≡ [] → s.accepted ≡ true → s.refused ≡ false → turned s.came ≡ false → fit room (start_of m c s) ≡ Offers x → Fine m c s x
+starts_fine true c room s x ok ac g o a r tu e =
     let y : Slot = start_of true c s in
     subst (Fine true c s) (fit_is room y x e)
-    (record { may = Starts o a r refl refl refl (λ z. absurd (true≢false z)); affords = free_slot c s y ac refl refl (le_refl _) })
-starts_fine false c room s x ok ac g o a r e =
+    (record { may = Starts o a r tu refl refl refl (λ z. absurd (true≢false z)); affords = free_slot c s y ac refl refl (le_refl _) })
+starts_fine false c room s x ok ac g o a r tu e =
     let y : Slot = start_of false c s in
     subst (Fine false c s) (fit_is room y x e)
     (record {
-      may = Starts o a r refl (ask_start (peer s) s.id (due c s) 255 s.service None (ok.peer_some refl (g refl))) refl (λ z. refl);
+      may = Starts o a r tu refl (ask_start (peer s) s.id (due c s) 255 s.service None (ok.peer_some refl (g refl))) refl (λ z. refl);
       affords = free_slot c s y ac refl refl (le_refl _);
     })
 
 pub offer_fine : (m : Bool) (c room : ℕ) (s : Session) (x : Slot) → SessionOk m s → Accounts c s → (m ≡ false → s.accepted ≡ true → s.generation ≡ 0 → ⊥) → offer m c room s ≡ Offers x → Fine m c s x
-offer_fine m c room s x ok ac g = go s.refused (is_empty s.out) (is_empty s.came) s.accepted (answered s && not (has_stop s.out)) refl refl refl refl refl
+offer_fine m c room s x ok ac g = go s.refused (is_empty s.out) (is_empty s.came) (s.accepted && not (turned s.came)) (answered s && not (has_stop s.out)) refl refl refl refl refl
   where
     nothing : Nothing ≡ Offers x → ⊥
     nothing q = cc
@@ -157,14 +157,16 @@ offer_fine m c room s x ok ac g = go s.refused (is_empty s.out) (is_empty s.came
     y : Slot
     y = Reject (peer s) 0 s.reason
 
-    go : (r o k a l : Bool) → s.refused ≡ r → is_empty s.out ≡ o → is_empty s.came ≡ k → s.accepted ≡ a → (answered s && not (has_stop s.out)) ≡ l →
-        cond r (cond o (cond k Nothing (fit room y)) Nothing) (cond o (cond a (fit room (start_of m c s)) Nothing) (cond l (live_offer c room s s.attention) Nothing)) ≡ Offers x → Fine m c s x
+    go : (r o k a l : Bool) → s.refused ≡ r → is_empty s.out ≡ o → is_empty s.came ≡ k → (s.accepted && not (turned s.came)) ≡ a → (answered s && not (has_stop s.out)) ≡ l →
+        cond r (cond (o && not k) (fit room y) Nothing) (cond o (cond a (fit room (start_of m c s)) Nothing) (cond l (live_offer c room s s.attention) Nothing)) ≡ Offers x → Fine m c s x
     go true true true a l er eo ek ea el e = absurd (nothing e)
     go true true false a l er eo ek ea el e =
         subst (Fine m c s) (fit_is room y x e)
         (record { may = Rejects (empty_is s.out eo) er (full_is s.came ek) refl refl; affords = free_slot c s y ac refl refl (omega arith) })
     go true false k a l er eo ek ea el e = absurd (nothing e)
-    go false true k true l er eo ek ea el e = starts_fine m c room s x ok ac (λ q. g q ea) (empty_is s.out eo) ea er e
+    go false true k true l er eo ek ea el e =
+        let p : (s.accepted ≡ true) × (not (turned s.came) ≡ true) = and_parts s.accepted (not (turned s.came)) ea in
+        starts_fine m c room s x ok ac (λ q. g q p.0) (empty_is s.out eo) p.0 er (not-true (turned s.came) p.1) e
     go false true k false l er eo ek ea el e = absurd (nothing e)
     go false false k a true er eo ek ea el e =
         let p : (answered s ≡ true) × (not (has_stop s.out) ≡ true) = and_parts (answered s) (not (has_stop s.out)) el in

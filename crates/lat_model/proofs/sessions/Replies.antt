@@ -8,9 +8,9 @@ use Rattle.lat_model.specs.sessions.Packing.{TaggedSlot}
 use Rattle.lat_model.specs.sessions.Hearing.{names_running, heard, hear_at, hear_slot}
 use Rattle.lat_model.specs.Lists.{any_up_to}
 use Rattle.lat_model.specs.sessions.EndOk.{Head, Shape, SessionOk, EndOk}
-use Rattle.lat_model.specs.sessions.Joined.{Flows, FreshHead, slots_of}
+use Rattle.lat_model.specs.sessions.Joined.{Flows, FreshHead, Quiet, slots_of}
 use Rattle.lat_model.proofs.sessions.Meets.{not_nil, Met, met}
-use Rattle.lat_model.proofs.sessions.Hears.{HeardBy, heard_kept, heard_first_ok, heard_accounts, who_some, gen_some}
+use Rattle.lat_model.proofs.sessions.Hears.{HeardBy, heard_kept, heard_first_ok, heard_accounts, who_some}
 use Rattle.lat_model.proofs.sessions.Starts.{none_upto, no_stop_in_front, starts_not_nil, starts_not_turned, turned_not_starts, slots_here, not_gone, free_goes, unanswered_no_stop, no_clash}
 
 pub hears_reply : (e : Sessions) (x : Slot) (k : ℕ) → e.master ≡ true → is_start x ≡ true → is_ask x ≡ false → e.at_id (destination x) ≡ k → waits (e.session k) ≡ true → any_up_to (λ j. names_running (source x) (e.session j)) e.made ≡ false → hear_slot e x ≡ Some (hear_at e k x)
@@ -57,8 +57,8 @@ reject_costs (Stop to from reason) e = refl
 pub by_gen : (e : Sessions) → EndOk e → (P : Session → Type 0) → (k : ℕ) → ((e.session k).generation ≡ 0 → ⊥) → P (e.session k) → P (of_generation e (e.session k).generation)
 by_gen e ok P k n h = subst P (ap e.session (sym (ok.serial_found k n))) h
 
-pub named_since : (e : Sessions) → EndOk e → (k : ℕ) → ((e.session k).came ≡ [] → ⊥) → (e.session k).generation ≡ 0 → ⊥
-named_since e ok k n q = n ((ok.each k).unnamed q).1
+pub named_since : (e : Sessions) → Quiet e → (k : ℕ) → ((e.session k).came ≡ [] → ⊥) → (e.session k).generation ≡ 0 → ⊥
+named_since e quiet k n q = n (quiet k q)
 
 pub not_answered : (s : Session) → s.came ≡ [] → answered s ≡ false
 not_answered s e = ap (λ z. s.accepted && starts z) e ∙ go s.accepted
@@ -76,25 +76,25 @@ reply_stays s m g x q back sm mm sok mok f e st empty =
     not_gone (of_generation s g) (h.start st).2 (starts_not_turned (of_generation s g).came sc) (no_stop_in_front (of_generation s g).came (slots_of g back) (sym (ap has_stop (f.at_generation g)) ∙ no))
 
 -- no other session of the master has this peer
-replies_clear : (s m : Sessions) (o : TaggedSlot) (wire back : List TaggedSlot) → s.master ≡ false → EndOk s → EndOk m → Flows s m (o ∷ wire) → Flows m s back → FreshHead s o wire → is_start o.slot ≡ true → free (of_generation s o.generation) ≡ false → (s.serial_of o.generation ≡ 0 → ⊥) → (of_generation s o.generation).id ≡ source o.slot → (of_generation m o.generation).came ≡ [] → (k : ℕ) → names_running (source o.slot) (m.session k) ≡ false
-replies_clear s m o wire back sm sok mok f r fresh st fa na ida empty k = false_from_ne_true (names_running (source o.slot) (m.session k)) wrong
+replies_clear : (s m : Sessions) (o : TaggedSlot) (wire back : List TaggedSlot) → s.master ≡ false → EndOk s → EndOk m → Quiet s → Quiet m → Flows s m (o ∷ wire) → Flows m s back → FreshHead s o wire → is_start o.slot ≡ true → free (of_generation s o.generation) ≡ false → (s.serial_of o.generation ≡ 0 → ⊥) → (of_generation s o.generation).id ≡ source o.slot → (of_generation m o.generation).came ≡ [] → (k : ℕ) → names_running (source o.slot) (m.session k) ≡ false
+replies_clear s m o wire back sm sok mok qs qm f r fresh st fa na ida empty k = false_from_ne_true (names_running (source o.slot) (m.session k)) wrong
   where
     wrong : names_running (source o.slot) (m.session k) ≡ true → ⊥
     wrong h =
         let x : Session = m.session k in
         let p : (starts x.came ≡ true) × ((nat_eq (peer x) (source o.slot) && not (gone x)) ≡ true) = and_parts (starts x.came) (nat_eq (peer x) (source o.slot) && not (gone x)) h in
         let q : (nat_eq (peer x) (source o.slot) ≡ true) × (not (gone x) ≡ true) = and_parts (nat_eq (peer x) (source o.slot)) (not (gone x)) p.1 in
-        let named : x.generation ≡ 0 → ⊥ = named_since m mok k (starts_not_nil x.came p.0) in
+        let named : x.generation ≡ 0 → ⊥ = named_since m qm k (starts_not_nil x.came p.0) in
         let other : x.generation ≡ o.generation → ⊥ = λ e. starts_not_nil x.came p.0 (sym (ap (λ z. (m.session z).came) (mok.serial_found k named)) ∙ ap (λ z. (of_generation m z).came) e ∙ empty) in
         let turn : turned (of_generation s x.generation).came ≡ true → gone (of_generation m x.generation) ≡ true = λ t.
         let ts : starts (of_generation s x.generation).came ≡ false = turned_not_starts (of_generation s x.generation).came t in
         let nn : (of_generation s x.generation).came ≡ [] → ⊥ = λ e. false≢true (sym (ap turned e) ∙ t) in
-        absurd (both_ways (starts (of_generation s x.generation).came) ts ((sok.each (s.serial_of x.generation)).asked sm (named_since s sok (s.serial_of x.generation) nn))) in
+        absurd (both_ways (starts (of_generation s x.generation).came) ts ((sok.each (s.serial_of x.generation)).asked sm (named_since s qs (s.serial_of x.generation) nn))) in
         let go : gone (of_generation m x.generation) ≡ true = no_clash s m o wire back sok mok f r fresh st fa na ida x.generation other (by_gen m mok (λ z. starts z.came ≡ true) k named p.0) (by_gen m mok (λ z. peer z ≡ source o.slot) k named (eqb-true (peer x) (source o.slot) q.0)) turn in
         both_ways (gone x) (not-true (gone x) q.1) (sym (ap (λ z. gone (m.session z)) (mok.serial_found k named)) ∙ go)
 
-pub first_heard : (s m : Sessions) (o : TaggedSlot) (wire back : List TaggedSlot) → s.master ≡ false → m.master ≡ true → EndOk s → EndOk m → Flows s m (o ∷ wire) → Flows m s back → FreshHead s o wire → (of_generation m o.generation).came ≡ [] → HeardBy s m o wire back
-first_heard s m o wire back sm mm sok mok f r fresh empty = go (is_start o.slot) refl
+pub first_heard : (s m : Sessions) (o : TaggedSlot) (wire back : List TaggedSlot) → s.master ≡ false → m.master ≡ true → EndOk s → EndOk m → Quiet s → Quiet m → Flows s m (o ∷ wire) → Flows m s back → FreshHead s o wire → (of_generation m o.generation).came ≡ [] → HeardBy s m o wire back
+first_heard s m o wire back sm mm sok mok qs qm f r fresh empty = go (is_start o.slot) refl
   where
     a : Session
     a = of_generation s o.generation
@@ -134,11 +134,8 @@ first_heard s m o wire back sm mm sok mok f r fresh empty = go (is_start o.slot)
     nb : m.serial_of o.generation ≡ 0 → ⊥
     nb = who_some m (λ z. z.out ≡ [] → ⊥) (λ n. n refl) mok o.generation b_out
 
-    gb : b.generation ≡ 0 → ⊥
-    gb q = gen_some m mok o.generation nb (sym (mok.generation_found o.generation nb) ∙ q)
-
     so : SessionOk m.master (heard b o.slot)
-    so = subst (λ z. SessionOk z (heard b o.slot)) (sym mm) (heard_first_ok b o.slot empty gb (subst (λ z. SessionOk z b) mm (mok.each (m.serial_of o.generation))))
+    so = subst (λ z. SessionOk z (heard b o.slot)) (sym mm) (heard_first_ok b o.slot empty meets.refused (subst (λ z. SessionOk z b) mm (mok.each (m.serial_of o.generation))))
 
     kept : cost_of o.slot ≡ 0 → hear_slot m o.slot ≡ Some (hear_at m (m.serial_of o.generation) o.slot) → HeardBy s m o wire back
     kept c q = heard_kept s m o wire back mok f r nb (λ z. free_goes b gone_b) so (heard_accounts m.ceiling b o.slot (omega (arith, c, ap costs empty)) (mok.accounts (m.serial_of o.generation))) q
@@ -148,5 +145,5 @@ first_heard s m o wire back sm mm sok mok f r fresh empty = go (is_start o.slot)
         let stays : gone a ≡ false = reply_stays s m o.generation o.slot (slots_of o.generation wire) back sm mm sok mok r out st empty in
         kept (start_costs o.slot st) (hears_reply m o.slot (m.serial_of o.generation) mm st (h.asks ∙ sm) at waiting
         (none_upto (λ j. names_running (source o.slot) (m.session j)) m.made
-        (λ k i j. replies_clear s m o wire back sm sok mok f r fresh st (free_goes a stays) na (sym (h.start st).0) empty k)))
+        (λ k i j. replies_clear s m o wire back sm sok mok qs qm f r fresh st (free_goes a stays) na (sym (h.start st).0) empty k)))
     go false st = kept (reject_costs o.slot (h.reject st).0) (hears_reject m o.slot (m.serial_of o.generation) mm (h.reject st).0 at waiting)

@@ -6,7 +6,7 @@ use Rattle.lat_model.specs.numbers.Link.{Frame}
 use Rattle.lat_model.specs.ends.End.{Sent, Run, CallStart, ReplyStart, Stopped, lives}
 use Rattle.lat_model.specs.ends.Run.{run_end}
 use Rattle.lat_model.specs.ends.Starting.{Agreed, make_slave, again_start, hear_reply, hear_stop}
-use Rattle.lat_model.specs.circuits.World.{CircuitEntry, Table, World, table, with_table, put_circuit, at_end, first_end}
+use Rattle.lat_model.specs.circuits.World.{CircuitEntry, Table, Wired, World, table, with_table, put_circuit, at_end, first_end}
 
 abbrev pub is_of : CircuitEntry → ℕ → ℕ → Bool
 is_of c from source = nat_eq c.address from && nat_eq c.end.peer source
@@ -39,11 +39,23 @@ abbrev pub slave_of : Table → ℕ → ℕ → ℕ
 slave_of t from source =
     least (λ i. is_of (t.circuit_at i) from source && lives (t.circuit_at i).end) (upwards 0 t.drawn)
 
+-- a STOP with reason 7, which comes from no circuit
+abbrev pub refusal : ℕ → ℕ → Wired
+refusal from source = record {
+  by_server = false;
+  circuit = 0;
+  to = from;
+  destination = source;
+  source = 0;
+  sent = Stopped 7;
+}
+
+-- a new slave, where fewer than 8 live and an id is left
 abbrev pub make_in : World → ℕ → ℕ → ℕ → Agreed → World
 make_in w from source now g =
     cond (nat_lt (living w.node) 8 && nat_lt w.node.drawn 65535)
     (put_circuit w false (suc w.node.drawn) (suc w.node.drawn) from (make_slave now source g (first_end false false w.other)))
-    (with_table w false w.node (record { by_server = false; circuit = 0; to = from; destination = source; source = 0; sent = Stopped 7 } ∷ []))
+    (with_table w false w.node (refusal from source ∷ []))
 
 abbrev pub start_in : World → ℕ → ℕ → ℕ → Agreed → World
 start_in w from source now g =

@@ -1,9 +1,9 @@
 -- What happens in the world of circuits; frames of foreign addresses come with any content at any time.
 use Rattle.std.specs.Prelude.{ℕ, suc, Bool, true, false, not, cond, ◌||◌, List, [], ◌∷◌, Option, Some, None, nat_eq, slice_get}
 use Rattle.lat_model.specs.sessions.Calls.{Call}
-use Rattle.lat_model.specs.ends.End.{Sent, CallStart, lives, call_end}
+use Rattle.lat_model.specs.ends.End.{Sent, lives, call_end}
 use Rattle.lat_model.specs.ends.Timers.{time_step}
-use Rattle.lat_model.specs.ends.Starting.{Agreed, Setup}
+use Rattle.lat_model.specs.ends.Starting.{Agreed, Setup, make_master}
 use Rattle.lat_model.specs.circuits.World.{Wired, World, table, put_circuit, at_end, first_end, no_circuit}
 use Rattle.lat_model.specs.circuits.Arriving.{arrive}
 
@@ -24,7 +24,7 @@ deliver_in w now g (Some p) =
 
 abbrev pub occurs : World → WorldEvent → World
 occurs w (Calls address now) =
-    put_circuit w true (suc w.server.drawn) (suc w.server.drawn) address (record { end = record (first_end true true w.setup) { moment = now; due_at = now; sent_at = now; start_at = now }; sent = CallStart ∷ [] })
+    put_circuit w true (suc w.server.drawn) (suc w.server.drawn) address (make_master now (first_end true true w.setup))
 occurs w (Locally b x c) =
     cond (lives ((table w b).circuit_at x).end)
     (at_end w b x (record { end = call_end c ((table w b).circuit_at x).end; sent = [] }))

@@ -11,11 +11,16 @@ use Rattle.lat_model.specs.sessions.EndOk.{is_behind}
 use Rattle.lat_model.specs.ends.End.{wire_of, Sent, Run, CallStart, ReplyStart, Stopped, Half}
 use Rattle.lat_model.specs.circuits.Pair.{Posted}
 
-abbrev pub wires : List (List TaggedSlot) → List (List Slot)
+-- messages, with the generations of their slots
+abbrev pub Log : Type 0
+Log = List (List TaggedSlot)
+
+-- the messages as they go over the wire
+abbrev pub wires : Log → List (List Slot)
 wires [] = []
 wires (m ∷ ms) = wire_of m ∷ wires ms
 
-abbrev pub flat : List (List TaggedSlot) → List TaggedSlot
+abbrev pub flat : Log → List TaggedSlot
 flat [] = []
 flat (m ∷ ms) = m ++ flat ms
 
@@ -27,7 +32,7 @@ PostIs m s b ReplyStart = Unit {0}
 PostIs m s b (Stopped r) = Unit {0}
 
 -- With each message one end spends no more than the credits that it had taken when it formed it
-pub record Credit (sent : List (List TaggedSlot)) (taken_then : List ℕ) (heard : List (List TaggedSlot)) : Type 0 where
+pub record Credit (sent : Log) (taken_then : List ℕ) (heard : Log) : Type 0 where
   pub each : length taken_then ≡ length sent
   pub taken : (k : ℕ) → k < length sent → get_or taken_then k 0 ≤ length heard
   pub spends :
@@ -37,11 +42,11 @@ pub record Credit (sent : List (List TaggedSlot)) (taken_then : List ℕ) (heard
 
 -- When a message with a start was formed, each older session of that id was over: both stops were in the messages
 -- formed and taken before, or its reject was taken
-abbrev pub Over : ℕ → List (List TaggedSlot) → List (List TaggedSlot) → Type 0
+abbrev pub Over : ℕ → Log → Log → Type 0
 Over h sent heard =
     ((has_stop (slots_of h (flat sent)) ≡ true) × (has_stop (slots_of h (flat heard)) ≡ true)) ⊎ (turned (slots_of h (flat heard)) ≡ true)
 
-pub record Renewed (a : Sessions) (sent : List (List TaggedSlot)) (taken_then : List ℕ) (heard : List (List TaggedSlot)) : Type 0 where
+pub record Renewed (a : Sessions) (sent : Log) (taken_then : List ℕ) (heard : Log) : Type 0 where
   pub over :
       (k g h : ℕ) →
       k < length sent →
@@ -59,15 +64,19 @@ pub record Renewed (a : Sessions) (sent : List (List TaggedSlot)) (taken_then : 
       (of_generation a h).id ≡ (of_generation a g).id →
       h ≡ g
 
+-- a session of this generation begins with a start among these messages
+abbrev pub Started : ℕ → Log → Type 0
+Started g heard = starts (slots_of g (flat heard)) ≡ true
+
 -- A slot behind a start stands in a message formed after the other end's start was taken
-pub record Answered (sent : List (List TaggedSlot)) (taken_then : List ℕ) (heard : List (List TaggedSlot)) : Type 0 where
+pub record Answered (sent : Log) (taken_then : List ℕ) (heard : Log) : Type 0 where
   pub each :
       (k : ℕ) →
       k < length sent →
-      Each (λ o. is_behind o.slot ≡ true → starts (slots_of o.generation (flat (take (get_or taken_then k 0) heard))) ≡ true) (get_or sent k [])
+      Each (λ o. is_behind o.slot ≡ true → Started o.generation (take (get_or taken_then k 0) heard)) (get_or sent k [])
 
 -- All messages of both ends with the generations of their slots: those taken, those on their way
-pub record Logs (m : Half) (s : Half) (up_done : List (List TaggedSlot)) (up : List (List TaggedSlot)) (down_done : List (List TaggedSlot)) (down : List (List TaggedSlot)) : Type 0 where
+pub record Logs (m : Half) (s : Half) (up_done : Log) (up : Log) (down_done : Log) (down : Log) : Type 0 where
   pub done_up : wires up_done ≡ s.link.came
   pub done_down : wires down_done ≡ m.link.came
   pub log_up : (g : ℕ) → (of_generation m.sessions g).out ≡ slots_of g (flat (up_done ++ up))
@@ -81,10 +90,10 @@ pub record Logs (m : Half) (s : Half) (up_done : List (List TaggedSlot)) (up : L
 
 -- The two halves: their numbers, and, for some generations of the slots that weren't heard yet, their sessions
 pub record Together (m : Half) (s : Half) (posts : List Posted) : Type 0 where
-  pub up : List (List TaggedSlot)
-  pub down : List (List TaggedSlot)
-  pub up_done : List (List TaggedSlot)
-  pub down_done : List (List TaggedSlot)
+  pub up : Log
+  pub down : Log
+  pub up_done : Log
+  pub down_done : Log
   pub logs : Logs m s up_done up down_done down
   pub way_up : Way (List Slot) m.link s.link
   pub way_down : Way (List Slot) s.link m.link

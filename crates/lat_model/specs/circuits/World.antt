@@ -46,7 +46,9 @@ wire_all b x to destination (s ∷ ss) =
 -- the circuit x of the side b after a step, and what it sent
 abbrev pub put_circuit : World → Bool → ℕ → ℕ → ℕ → Step → World
 put_circuit w b drawn x address s =
-    with_table w b (record (table w b) { drawn = drawn; circuit_at = updated (table w b).circuit_at x (record { address = address; end = s.end }) }) (wire_all b x address s.end.peer s.sent)
+    let entry : CircuitEntry = record { address = address; end = s.end } in
+    let after : Table = record (table w b) { drawn = drawn; circuit_at = updated (table w b).circuit_at x entry } in
+    with_table w b after (wire_all b x address s.end.peer s.sent)
 
 abbrev pub at_end : World → Bool → ℕ → Step → World
 at_end w b x s =

@@ -1,7 +1,7 @@
 -- How an end begins, and what it does at a START, a reply and a STOP.
 use Rattle.std.specs.Prelude.{ℕ, Bool, true, false, not, cond, ◌&&◌, [], ◌∷◌, min, Some, None}
 use Rattle.lat_model.specs.sessions.Sessions.{Sessions}
-use Rattle.lat_model.specs.ends.End.{Sent, Run, CallStart, ReplyStart, Stopped, Half, End, Step, lives}
+use Rattle.lat_model.specs.ends.End.{Sent, Run, CallStart, ReplyStart, Stopped, Half, End, Step, still, lives}
 use Rattle.lat_model.specs.ends.Run.{run_end}
 use Rattle.lat_model.specs.sessions.Session.{blank, peer}
 use Rattle.lat_model.specs.numbers.Link.{fresh}
@@ -15,9 +15,11 @@ pub record Agreed : Type 0 where
   pub keepalive : ℕ
   pub wide : Bool
 
+-- sessions are the least of both numbers
 abbrev pub agree_half : Agreed → Half → Half
 agree_half g h = record h { sessions = record (h.sessions) { agreed = min g.sessions h.sessions.agreed } }
 
+-- the first reply is heard: an acknowledgement is owed, so that a RUN follows
 abbrev pub reply_end : ℕ → ℕ → Agreed → End → End
 reply_end now peer g e = record e {
   half = agree_half g e.half;
@@ -33,7 +35,14 @@ reply_end now peer g e = record e {
   empty_at = now;
 }
 
--- the slave is made by the first START, and repeats its reply until a RUN was heard
+-- a master is called: it sends START
+abbrev pub make_master : ℕ → End → Step
+make_master now e = record {
+  end = record e { moment = now; due_at = now; sent_at = now; start_at = now };
+  sent = CallStart ∷ [];
+}
+
+-- a slave is made by the first START, and replies
 abbrev pub make_slave : ℕ → ℕ → Agreed → End → Step
 make_slave now peer g e = record {
   end = record e {
@@ -56,33 +65,40 @@ make_slave now peer g e = record {
   sent = ReplyStart ∷ [];
 }
 
+-- a frame of the circuit was heard that changes nothing else
+abbrev pub noted : ℕ → End → Step
+noted now e = still (record e { moment = now; heard_at = now })
+
+abbrev pub replied : ℕ → End → Step
+replied now e = record {
+  end = record e { moment = now; heard_at = now; sent_at = now; owed = false };
+  sent = ReplyStart ∷ [];
+}
+
+-- its START comes again: the slave repeats its reply until a RUN was heard
 abbrev pub again_start : ℕ → End → Step
-again_start now e =
-    cond (lives e && not e.heard_run) (record { end = record e { moment = now; heard_at = now; sent_at = now; owed = false }; sent = ReplyStart ∷ [] })
-    (cond (lives e) (record { end = record e { moment = now; heard_at = now }; sent = [] }) (record { end = e; sent = [] }))
+again_start now e = cond (lives e && not e.heard_run) (replied now e) (cond (lives e) (noted now e) (still e))
 
 abbrev pub hear_start : ℕ → Agreed → End → Step
 hear_start now g e =
     cond e.exists (again_start now e)
     (make_slave now 1 g e)
 
+-- a START reply: the first one makes the master run, another one is noted
 abbrev pub hear_reply : ℕ → ℕ → Agreed → End → Step
 hear_reply now peer g e =
-    cond (lives e)
-    (cond e.running (record { end = record e { moment = now; heard_at = now }; sent = [] }) (record { end = reply_end now peer g e; sent = [] }))
-    (record { end = e; sent = [] })
+    cond (lives e) (cond e.running (noted now e) (still (reply_end now peer g e))) (still e)
 
+-- a STOP ends the circuit with its reason
 abbrev pub hear_stop : ℕ → ℕ → End → Step
 hear_stop now r e =
-    cond (lives e)
-    (record { end = record e { ended = Some r; moment = now }; sent = [] })
-    (record { end = e; sent = [] })
+    cond (lives e) (still (record e { ended = Some r; moment = now })) (still e)
 
 -- what an end does at a frame of the other
 abbrev pub hear : ℕ → Agreed → Sent → End → Step
-hear now g (Run mark ask f) e = cond (lives e && e.running) (run_end now ask f e).step (record { end = e; sent = [] })
-hear now g CallStart e = cond e.master (record { end = e; sent = [] }) (hear_start now g e)
-hear now g ReplyStart e = cond e.master (hear_reply now 1 g e) (record { end = e; sent = [] })
+hear now g (Run mark ask f) e = cond (lives e && e.running) (run_end now ask f e).step (still e)
+hear now g CallStart e = cond e.master (still e) (hear_start now g e)
+hear now g ReplyStart e = cond e.master (hear_reply now 1 g e) (still e)
 hear now g (Stopped r) e = hear_stop now r e
 
 abbrev pub void_sessions : Bool → ℕ → ℕ → Sessions

@@ -39,8 +39,8 @@ Shape master s (x ∷ xs) = Head master s x xs
 
 pub record SessionOk (master : Bool) (s : Session) : Type 0 where
   pub shape : Shape master s s.out
-  -- without a generation nothing went out or came in
-  pub unnamed : s.generation ≡ 0 → (s.out ≡ []) × (s.came ≡ [])
+  -- without a generation nothing went out
+  pub unnamed : s.generation ≡ 0 → s.out ≡ []
   -- the slave has heard the ask of each of its sessions
   pub asked : master ≡ false → s.generation ≢ 0 → starts s.came ≡ true
   -- no session has the id 0, and no ask came from it
@@ -48,7 +48,8 @@ pub record SessionOk (master : Bool) (s : Session) : Type 0 where
   pub peer_some : master ≡ false → s.generation ≢ 0 → peer s ≢ 0
   -- at the master a session has its generation since its ask was formed
   pub ask_out : master ≡ true → s.generation ≢ 0 → s.out ≢ []
-  pub never_refused : master ≡ true → s.generation ≢ 0 → s.refused ≡ false
+  -- no session of a master is refused but the blank one
+  pub never_refused : master ≡ true → s.refused ≡ true → (s.generation ≡ 0) × (s.came ≡ [])
 
 -- the accounts of a session
 pub record Accounts (ceiling : ℕ) (s : Session) : Type 0 where

@@ -18,15 +18,19 @@ names from s = starts s.came && (nat_eq (peer s) from && (not (gone s) || reject
 abbrev pub names_running : ℕ → Session → Bool
 names_running from s = starts s.came && (nat_eq (peer s) from && not (gone s))
 
--- the session that an ask makes. At the agreed number it has no id, and a reject with reason 7 waits
+-- the agreed number of sessions is held
+abbrev pub is_full : Sessions → Bool
+is_full e = nat_le e.agreed (held e)
+
+-- the session that an ask makes. Where the agreed number is held it has no id, and a reject with reason 7 waits
 abbrev pub asked_session : Sessions → Slot → List ℕ → Option ℕ → Session
 asked_session e x service request = record {
-  id = least_free e;
+  id = cond (is_full e) 0 (least_free e);
   generation = suc e.generations;
   service = service;
   request = request;
   accepted = false;
-  refused = nat_le e.agreed (held e);
+  refused = is_full e;
   reason = 7;
   closed = false;
   attention = None;
@@ -41,7 +45,7 @@ abbrev pub ask_in : Sessions → Slot → List ℕ → Option ℕ → Sessions
 ask_in e x service request = record e {
   session = updated e.session (suc e.made) (asked_session e x service request);
   made = suc e.made;
-  at_id = cond (nat_le e.agreed (held e)) e.at_id (updated e.at_id (least_free e) (suc e.made));
+  at_id = cond (is_full e) e.at_id (updated e.at_id (least_free e) (suc e.made));
   generations = suc e.generations;
   serial_of = updated e.serial_of (suc e.generations) (suc e.made);
 }

@@ -48,6 +48,10 @@ asks (o ∷ wire) = ask_count o.slot + asks wire
 abbrev pub Tags : ℕ → List TaggedSlot → Type 0
 Tags n wire = Each (λ o. o.generation ≤ n) wire
 
+-- a session without a generation has heard nothing, as the other end doesn't know it
+abbrev pub Quiet : Sessions → Type 0
+Quiet e = (k : ℕ) → (e.session k).generation ≡ 0 → (e.session k).came ≡ []
+
 -- Two ends of one circuit, as far as their sessions go
 pub record Joined (m : Sessions) (s : Sessions) (up : List TaggedSlot) (down : List TaggedSlot) : Type 0 where
   pub master : m.master ≡ true
@@ -55,6 +59,8 @@ pub record Joined (m : Sessions) (s : Sessions) (up : List TaggedSlot) (down : L
   pub ceilings : (m.ceiling ≤ 255) × (s.ceiling ≤ 255)
   pub master_ok : EndOk m
   pub slave_ok : EndOk s
+  pub quiet_up : Quiet m
+  pub quiet_down : Quiet s
   pub flow_up : Flows m s up
   pub flow_down : Flows s m down
   pub fresh_up : Fresh m up

@@ -1,6 +1,6 @@
 -- What a session may form, and what its accounts allow.
 use Rattle.std.specs.Prelude.{◌≡◌, ℕ, ◌+◌, ◌≤◌, Bool, true, false, [], ◌++◌}
-use Rattle.lat_model.specs.sessions.Slots.{Slot, destination, source, credits_of, cost_of, items_of, is_start, is_ask, is_reject, items, credits, costs, has_stop}
+use Rattle.lat_model.specs.sessions.Slots.{Slot, destination, source, credits_of, cost_of, items_of, is_start, is_ask, is_reject, items, credits, costs, has_stop, turned}
 use Rattle.lat_model.specs.sessions.Session.{Session, answered, peer, due}
 use Rattle.lat_model.specs.Lists.{IsPrefixOf}
 use Rattle.lat_model.specs.sessions.EndOk.{Behind}
@@ -10,6 +10,7 @@ pub data MayForm (master : Bool) (s : Session) (x : Slot) : Type 0 where
       s.out ≡ [] →
       s.accepted ≡ true →
       s.refused ≡ false →
+      turned s.came ≡ false →
       is_start x ≡ true →
       is_ask x ≡ master →
       source x ≡ s.id →
