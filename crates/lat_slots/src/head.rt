@@ -16,6 +16,9 @@ pub const REJECT: u8 = 12;
 /// The number of a stop.
 pub const STOP: u8 = 13;
 
+/// The service class of every start.
+pub const SERVICE_CLASS: u8 = 1;
+
 /// The first four bytes of a slot: the number of its type, the low half of the byte that has it, the ids at the end that
 /// hears it and at the one that sends it, and how many bytes its body has.
 #[derive(Clone, Copy)]

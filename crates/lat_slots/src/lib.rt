@@ -5,6 +5,8 @@ mod head;
 pub mod laws;
 mod read;
 mod slot;
+#[cfg(test)]
+mod tests;
 mod write;
 
 pub use lat_fields::{LayoutFault as SlotFault, Param, Params};

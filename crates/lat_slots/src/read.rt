@@ -7,7 +7,9 @@ ghost use Rattle.lat_slots.specs.Layout.{StandsAt};
 ghost use Rattle.lat_slots.specs.declared.slot.Slot.{Slot};
 ghost use Rattle.lat_slots.specs.declared.slot.Slot.TheVariants as slots;
 
-use crate::head::{ATTENTION, DATA_A, DATA_B, REJECT, START, STOP, SlotHead, count_fits, is_type};
+use crate::head::{
+    ATTENTION, DATA_A, DATA_B, REJECT, SERVICE_CLASS, START, STOP, SlotHead, count_fits, is_type,
+};
 use crate::slot::Slot;
 use lat_base::{Bytes, Field};
 use lat_fields::{LayoutFault, byte_of, counted_of, name_of, params_of, wanted};
@@ -49,7 +51,7 @@ fn start_of(alloc: Global, head: SlotHead, bytes: &[u8], place: usize) -> Result
     ensures { Gives (λ s. s) result (start_at (length bytes.now + 1) head place (drop place bytes.now)) }
 {
     let (class, at) = byte_of(Field::ServiceClass, place, bytes, place)?;
-    wanted(class == 1, Field::ServiceClass, place)?;
+    wanted(class == SERVICE_CLASS, Field::ServiceClass, place)?;
     let (attention, size_at) = byte_of(Field::AttentionSize, at, bytes, at)?;
     let (size, at) = byte_of(Field::DataSize, size_at, bytes, size_at)?;
     wanted(size > 0, Field::DataSize, size_at)?;

@@ -6,7 +6,7 @@ ghost use Rattle.lat_base.specs.Names.{IsName};
 ghost use Rattle.lat_fields.specs.Params.{IsEntry};
 ghost use Rattle.lat_slots.specs.Layout.{Fits, SlotText, IsWritable, body_of, from_of, low_of, slot_text, to_of, type_of};
 
-use crate::head::{ATTENTION, DATA_A, DATA_B, REJECT, START, STOP};
+use crate::head::{ATTENTION, DATA_A, DATA_B, REJECT, SERVICE_CLASS, START, STOP};
 use crate::slot::Slot;
 use lat_base::{Name, Payload};
 use lat_fields::{Params, params_len, params_ok, write_counted, write_params};
@@ -71,6 +71,7 @@ fn ids_ok(to: u8, from: u8) -> bool
     to > 0 && from > 0
 }
 
+// Four characters meet their condition by their type.
 fn setting_ok(to: u8, from: u8, chars: &[u8; 4]) -> bool
     ensures { IsTrue result ↔ ((0 < to) × (0 < from) × (length chars.now ≡ 4)) }
 {
@@ -127,6 +128,7 @@ fn body_len(slot: &Slot) -> usize
             params,
             ..
         } => {
+            // three bytes and two length bytes stand beside the texts
             let texts = 5 + service.bytes().len() + subject.as_slice().len();
             params_len(params).saturating_add(texts)
         }
@@ -175,7 +177,7 @@ fn write_body(slot: &Slot, out: &mut Payload)
             params,
             ..
         } => {
-            out.push(1);
+            out.push(SERVICE_CLASS);
             out.push(*attention);
             out.push(*size);
             write_counted(out, service.bytes());
