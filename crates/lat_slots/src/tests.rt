@@ -4,12 +4,16 @@ use std::test::Fail;
 
 // Whole payloads of a message with one slot, which stands at place 8.
 const DATA: &[u8] = b"\x02\x01\x02\x00\x01\x00\x01\x00\x01\x01\x01\x00\x41\x00";
+
 const START: &[u8] =
     b"\x02\x01\x01\x00\x01\x00\x01\x00\x00\x01\x09\x94\x01\x01\xff\x03VAX\x00\x00\x00";
-const SETTING: &[u8] =
-    b"\x00\x01\x01\x00\x02\x00\x02\x01\x01\x01\x05\xa1\x01\x13\x11\x13\x11\x00";
+
+const SETTING: &[u8] = b"\x00\x01\x01\x00\x02\x00\x02\x01\x01\x01\x05\xa1\x01\x13\x11\x13\x11\x00";
+
 const ATTENTION: &[u8] = b"\x02\x01\x02\x00\x01\x00\x01\x00\x01\x02\x01\xb0\x09\x00";
+
 const REJECT: &[u8] = b"\x00\x01\x01\x00\x02\x00\x01\x01\x01\x00\x00\xc4";
+
 const STOP: &[u8] = b"\x02\x01\x02\x00\x01\x00\x03\x00\x01\x01\x00\xd1";
 
 fn refused(field: Field, at: u16) -> Option<SlotFault> {
@@ -37,20 +41,53 @@ fn slots_are_read_and_written(rt: HostRuntime) -> Result<(), Fail> {
 fn fields_have_their_places(rt: HostRuntime) -> Result<(), Fail> {
     let alloc = rt.alloc();
     let (slot, _) = read_slot(alloc, DATA, 8)?;
-    assert!(rt; matches!(&slot, Slot::DataA { to: 1, from: 1, credits: 0, bytes }
-        if bytes.as_slice() == b"A".as_slice()));
+    assert!(rt;
+        matches!(&slot, Slot::DataA { to: 1, from: 1, credits: 0, bytes }
+        if bytes.as_slice() == b"A".as_slice())
+    );
     let (slot, _) = read_slot(alloc, START, 8)?;
-    assert!(rt; matches!(&slot, Slot::Start { to: 0, from: 1, credits: 4, attention: 1, size: 255, service, subject, params }
-        if service.bytes() == b"VAX".as_slice() && subject.as_slice().is_empty() && params.as_slice().is_empty()));
+    assert!(rt;
+        matches!(&slot, Slot::Start { to: 0, from: 1, credits: 4, attention: 1, size: 255, service, subject, params }
+        if service.bytes() == b"VAX".as_slice() && subject.as_slice().is_empty() && params.as_slice().is_empty())
+    );
     let (slot, _) = read_slot(alloc, SETTING, 8)?;
-    assert!(rt; matches!(&slot, Slot::DataB { to: 1, from: 1, credits: 1, flag: 1, chars }
-        if chars.as_slice() == b"\x13\x11\x13\x11".as_slice()));
+    assert!(rt;
+        matches!(&slot, Slot::DataB { to: 1, from: 1, credits: 1, flag: 1, chars }
+        if chars.as_slice() == b"\x13\x11\x13\x11".as_slice())
+    );
     let (slot, _) = read_slot(alloc, ATTENTION, 8)?;
-    assert!(rt; matches!(slot, Slot::Attention { to: 1, from: 2, flag: 9 }));
+    assert!(rt;
+        matches!(
+            slot,
+            Slot::Attention {
+                to: 1,
+                from: 2,
+                flag: 9
+            }
+        )
+    );
     let (slot, _) = read_slot(alloc, REJECT, 8)?;
-    assert!(rt; matches!(slot, Slot::Reject { to: 1, from: 0, reason: 4 }));
+    assert!(rt;
+        matches!(
+            slot,
+            Slot::Reject {
+                to: 1,
+                from: 0,
+                reason: 4
+            }
+        )
+    );
     let (slot, _) = read_slot(alloc, STOP, 8)?;
-    assert!(rt; matches!(slot, Slot::Stop { to: 1, from: 1, reason: 1 }));
+    assert!(rt;
+        matches!(
+            slot,
+            Slot::Stop {
+                to: 1,
+                from: 1,
+                reason: 1
+            }
+        )
+    );
     Ok(())
 }
 
@@ -115,13 +152,22 @@ fn first_bad_field_is_named(rt: HostRuntime) -> Result<(), Fail> {
 
 #[test]
 fn only_half_a_byte_is_written(rt: HostRuntime) -> Result<(), Fail> {
-    let stop = |reason| Slot::Stop { to: 1, from: 0, reason };
+    let stop = |reason| Slot::Stop {
+        to: 1,
+        from: 0,
+        reason,
+    };
     assert!(rt; slot_ok(&stop(15)));
     assert!(rt; !slot_ok(&stop(16)));
     let bytes = [0; 256];
     for (len, want) in [(255, true), (256, false)] {
         let bytes = Bytes::copy(rt.alloc(), &bytes[..len])?;
-        let slot = Slot::DataA { to: 1, from: 1, credits: 0, bytes };
+        let slot = Slot::DataA {
+            to: 1,
+            from: 1,
+            credits: 0,
+            bytes,
+        };
         assert_eq!(rt; slot_ok(&slot), want, "with {len} bytes");
     }
     Ok(())
