@@ -12,6 +12,10 @@ WrittenIsText = (s : Slot) → IsWritable s → SlotText s (slot_text s)
 abbrev pub TextsAreRead : Type 0
 TextsAreRead = (s : Slot) (text rest : List ℕ) (place : ℕ) → SlotText s text → slot_at place (text ++ rest) ≡ Ok (s, place + length text, rest)
 
+-- so what was written is read as the same slot
+abbrev pub WrittenIsRead : Type 0
+WrittenIsRead = (s : Slot) (rest : List ℕ) (place : ℕ) → IsWritable s → slot_at place (slot_text s ++ rest) ≡ Ok (s, place + length (slot_text s), rest)
+
 -- what is read of bytes stands there as a text
 abbrev pub ReadIsText : Type 0
 ReadIsText =
