@@ -1,4 +1,11 @@
 -- Every run, every history, and computed examples.
 pub mod Stories
 pub mod Safety
-pub mod Examples
+pub mod Words
+pub mod Sessions
+pub mod Strangers
+pub mod Requests
+pub mod Moments
+pub mod Circuits
+pub mod Choices
+pub mod Answering
