@@ -1,0 +1,185 @@
+-- What is read of the fields that notices alone have is their texts.
+use Rattle.std.proofs.Common.{◌≡◌, ℕ, zero, suc, ◌+◌, ◌<◌, ◌≤◌, ◌⊎◌, inl, inr, Bool, true, cond, eqb, leb, ltb, List, [], ◌∷◌, ◌++◌, length, Result, Ok, refl, sym, ap, ◌∙◌, subst, arith, append_assoc}
+use Rattle.std.specs.List.{flat_map, AllByRecursion}
+use Rattle.std.proofs.lemmas.Bool.Decides.{nat_tests}
+use Rattle.lat_base.specs.declared.field.Bad.{Bad}
+use Rattle.lat_base.specs.declared.field.Field.{Field}
+use Rattle.lat_base.specs.declared.field.Field.TheVariants as fields
+use Rattle.lat_fields.specs.Reading.{◌>>=◌, bad, wanted, byte_at, number_at, counted_at, name_at}
+use Rattle.lat_fields.specs.Texts.{counted, number}
+use Rattle.lat_fields.proofs.Steps.{IsBytes, bind_ok, wanted_ok}
+use Rattle.lat_fields.proofs.Found.{FoundByte, FoundText, byte_found, number_found, counted_found, name_found}
+use Rattle.lat_notices.specs.declared.notice.Action.{Action}
+use Rattle.lat_notices.specs.declared.notice.Outcome.{Outcome}
+use Rattle.lat_notices.specs.declared.services.Service.{Service}
+use Rattle.lat_notices.specs.Outcomes.{action_number, is_action, action_of, outcome_number, outcome_place, IsOutcome, is_outcome, place_fits, outcome_of}
+use Rattle.lat_notices.specs.Services.{IsService, service_text}
+use Rattle.lat_notices.specs.Fields.{byte_for, groups_at, action_at, outcome_at}
+use Rattle.lat_notices.specs.ServicesReading.{service, service_at, services_at}
+
+pub right_byte_found : (right : ℕ → Bool) (f : Field) (place : ℕ) (bytes : List ℕ) (x : ℕ × ℕ × List ℕ) → IsBytes bytes → byte_for right f place bytes ≡ Ok x → FoundByte place bytes x × right x.0 ≡ true
+unfolding byte_for
+right_byte_found right f place bytes x all h =
+    let b = bind_ok (byte_at f place place bytes) (λ b. (wanted (right b.0) f place >>= (λ w. Ok b))) x h in
+    let w = bind_ok (wanted (right b.0.0) f place) (λ w. Ok b.0) x b.2 in
+    let e : b.0 ≡ x = let same = w.2 in cc in
+    let P : (ℕ × ℕ × List ℕ) → Type 0 = λ y. FoundByte place bytes y × right y.0 ≡ true in
+    subst P e (byte_found f place place bytes b.0 all b.1, wanted_ok (right b.0.0) f place w.0 w.1)
+
+pub groups_found : (place : ℕ) (bytes : List ℕ) (x : List ℕ × ℕ × List ℕ) → IsBytes bytes → groups_at place bytes ≡ Ok x → FoundText place bytes x × length x.0 ≤ 32
+unfolding groups_at
+groups_found place bytes x all h =
+    let m = bind_ok (counted_at fields.Groups place place bytes) (λ m. (wanted (leb (length m.0) 32) fields.Groups place >>= (λ w. Ok m))) x h in
+    let w = bind_ok (wanted (leb (length m.0.0) 32) fields.Groups place) (λ w. Ok m.0) x m.2 in
+    let e : m.0 ≡ x = let same = w.2 in cc in
+    let small : length m.0.0 ≤ 32 = let b = wanted_ok (leb (length m.0.0) 32) fields.Groups place w.0 w.1 in grind (arith, nat_tests) in
+    let P : (List ℕ × ℕ × List ℕ) → Type 0 = λ y. FoundText place bytes y × length y.0 ≤ 32 in
+    subst P e (counted_found fields.Groups place place bytes m.0 all m.1, small)
+
+which_action : (n : ℕ) → is_action n ≡ true → n ≡ 1 ⊎ n ≡ 2
+which_action n h = grind (arith, nat_tests)
+
+action_back : (n : ℕ) → n ≡ 1 ⊎ n ≡ 2 → n ≡ action_number (action_of n)
+action_back n (inl e) = let P : ℕ → Type 0 = λ k. k ≡ action_number (action_of k) in subst P (sym e) refl
+action_back n (inr e) = let P : ℕ → Type 0 = λ k. k ≡ action_number (action_of k) in subst P (sym e) refl
+
+pub record FoundAction (bytes : List ℕ) (x : Action × ℕ × List ℕ) : Type 0 where
+  pub is : bytes ≡ action_number x.0 ∷ x.2
+  pub others : IsBytes x.2
+
+pub action_found : (place : ℕ) (bytes : List ℕ) (x : Action × ℕ × List ℕ) → IsBytes bytes → action_at place bytes ≡ Ok x → FoundAction bytes x
+unfolding action_at
+action_found place bytes x all h =
+    let a = bind_ok (byte_for is_action fields.Action place bytes) (λ a. Ok (action_of a.0, a.1, a.2)) x h in
+    let f = right_byte_found is_action fields.Action place bytes a.0 all a.1 in
+    let e : (action_of a.0.0, a.0.1, a.0.2) ≡ x = let same = a.2 in cc in
+    let back : a.0.0 ≡ action_number (action_of a.0.0) = action_back a.0.0 (which_action a.0.0 f.1) in
+    let P : (Action × ℕ × List ℕ) → Type 0 = FoundAction bytes in
+    subst P e (record { is = f.0.is ∙ ap (λ n. n ∷ a.0.2) back; others = f.0.others })
+
+-- what an outcome's number and place tell of the outcome that they stand for
+record Stands (number place : ℕ) : Type 0 where
+  number_is : number ≡ outcome_number (outcome_of number place)
+  place_is : place ≡ outcome_place (outcome_of number place)
+  fits : IsOutcome (outcome_of number place)
+
+none : (place : ℕ) → eqb place 0 ≡ true → place ≡ 0
+none place h = grind (arith, nat_tests)
+
+stands : (n place : ℕ) → (n ≡ 1 ⊎ (n ≡ 2 ⊎ (n ≡ 3 ⊎ (n ≡ 4 ⊎ (n ≡ 5 ⊎ (n ≡ 6 ⊎ (n ≡ 7 ⊎ n ≡ 8))))))) → place_fits n place ≡ true → Stands n place
+stands n place which h =
+    let H : ℕ → Type 0 = λ k. place_fits k place ≡ true in
+    let P : ℕ → Type 0 = λ k. Stands k place in
+    elim which as (λ _. Stands n place) [
+      | inl e ↦ let f : ltb 0 place ≡ true = subst H e h in subst P (sym e) (record { number_is = refl; place_is = refl; fits = grind (arith, nat_tests) })
+      | inr w ↦ elim w as (λ _. Stands n place) [
+        | inl e ↦ let f : eqb place 0 ≡ true = subst H e h in subst P (sym e) (record { number_is = refl; place_is = none place f; fits = tt })
+        | inr w ↦ elim w as (λ _. Stands n place) [
+          | inl e ↦ let f : eqb place 0 ≡ true = subst H e h in subst P (sym e) (record { number_is = refl; place_is = none place f; fits = tt })
+          | inr w ↦ elim w as (λ _. Stands n place) [
+            | inl e ↦ let f : eqb place 0 ≡ true = subst H e h in subst P (sym e) (record { number_is = refl; place_is = none place f; fits = tt })
+            | inr w ↦ elim w as (λ _. Stands n place) [
+              | inl e ↦ let f : eqb place 0 ≡ true = subst H e h in subst P (sym e) (record { number_is = refl; place_is = none place f; fits = tt })
+              | inr w ↦ elim w as (λ _. Stands n place) [
+                | inl e ↦ let f : eqb place 0 ≡ true = subst H e h in subst P (sym e) (record { number_is = refl; place_is = none place f; fits = tt })
+                | inr w ↦ elim w as (λ _. Stands n place) [
+                  | inl e ↦ let f : eqb place 0 ≡ true = subst H e h in subst P (sym e) (record { number_is = refl; place_is = none place f; fits = tt })
+                  | inr e ↦ let f : eqb place 0 ≡ true = subst H e h in subst P (sym e) (record { number_is = refl; place_is = none place f; fits = tt })
+                ]
+              ]
+            ]
+          ]
+        ]
+      ]
+    ]
+
+which_outcome : (n : ℕ) → is_outcome n ≡ true → (n ≡ 1 ⊎ (n ≡ 2 ⊎ (n ≡ 3 ⊎ (n ≡ 4 ⊎ (n ≡ 5 ⊎ (n ≡ 6 ⊎ (n ≡ 7 ⊎ n ≡ 8)))))))
+which_outcome n h = grind (arith, nat_tests)
+
+abbrev outcome_given : ℕ → (ℕ × ℕ × List ℕ) → Result (Outcome × ℕ × List ℕ) Bad
+outcome_given number queue = Ok (outcome_of number queue.0, queue.1, queue.2)
+
+pub record FoundOutcome (bytes : List ℕ) (x : Outcome × ℕ × List ℕ) : Type 0 where
+  pub is : bytes ≡ outcome_number x.0 ∷ number (outcome_place x.0) ++ x.2
+  pub fits : IsOutcome x.0
+  pub others : IsBytes x.2
+
+outcome_joined : (bytes : List ℕ) (o q : ℕ × ℕ × List ℕ) (x : Outcome × ℕ × List ℕ) → Stands o.0 q.0 → bytes ≡ o.0 ∷ o.2 → o.2 ≡ number q.0 ++ q.2 → IsBytes q.2
+    → outcome_given o.0 q ≡ Ok x → FoundOutcome bytes x
+outcome_joined bytes o q x s is1 is2 others same =
+    let e : (outcome_of o.0 q.0, q.1, q.2) ≡ x = cc in
+    let P : (Outcome × ℕ × List ℕ) → Type 0 = FoundOutcome bytes in
+    subst P e (record {
+      is = is1 ∙ ap (λ r. o.0 ∷ r) is2 ∙ (λ i. s.number_is i ∷ number (s.place_is i) ++ q.2);
+      fits = s.fits;
+      others = others;
+    })
+
+abbrev after_place : ℕ → ℕ → (ℕ × ℕ × List ℕ) → Result (Outcome × ℕ × List ℕ) Bad
+after_place number place queue = wanted (place_fits number queue.0) fields.Place place >>= (λ w. Ok (outcome_of number queue.0, queue.1, queue.2))
+
+pub outcome_found : (place : ℕ) (bytes : List ℕ) (x : Outcome × ℕ × List ℕ) → IsBytes bytes → outcome_at place bytes ≡ Ok x → FoundOutcome bytes x
+unfolding outcome_at
+outcome_found place bytes x all h =
+    let o = bind_ok (byte_for is_outcome fields.Outcome place bytes) (λ o. (number_at fields.Place o.1 o.2 >>= after_place o.0 o.1)) x h in
+    let f = right_byte_found is_outcome fields.Outcome place bytes o.0 all o.1 in
+    let q = bind_ok (number_at fields.Place o.0.1 o.0.2) (after_place o.0.0 o.0.1) x o.2 in
+    let g = number_found fields.Place o.0.1 o.0.2 q.0 f.0.others q.1 in
+    let w = bind_ok (wanted (place_fits o.0.0 q.0.0) fields.Place o.0.1) (λ w. Ok (outcome_of o.0.0 q.0.0, q.0.1, q.0.2)) x q.2 in
+    let s = stands o.0.0 q.0.0 (which_outcome o.0.0 f.1) (wanted_ok (place_fits o.0.0 q.0.0) fields.Place o.0.1 w.0 w.1) in
+    outcome_joined bytes o.0 q.0 x s f.0.is g.is g.others w.2
+
+pub record FoundService (bytes : List ℕ) (x : Service × ℕ × List ℕ) : Type 0 where
+  pub is : bytes ≡ service_text x.0 ++ x.2
+  pub fits : IsService x.0
+  pub others : IsBytes x.2
+
+abbrev after_description : ℕ → List ℕ → (List ℕ × ℕ × List ℕ) → Result (Service × ℕ × List ℕ) Bad
+after_description rating name d = Ok (service rating name d.0, d.1, d.2)
+
+abbrev after_name : ℕ → (List ℕ × ℕ × List ℕ) → Result (Service × ℕ × List ℕ) Bad
+after_name rating n = counted_at fields.ServiceDescription n.1 n.1 n.2 >>= after_description rating n.0
+
+service_found : (place : ℕ) (bytes : List ℕ) (x : Service × ℕ × List ℕ) → IsBytes bytes → service_at place bytes ≡ Ok x → FoundService bytes x
+unfolding service_at
+service_found place bytes x all h =
+    let r = bind_ok (byte_at fields.Rating place place bytes) (λ r. (name_at fields.Service r.1 r.2 >>= after_name r.0)) x h in
+    let one = byte_found fields.Rating place place bytes r.0 all r.1 in
+    let n = bind_ok (name_at fields.Service r.0.1 r.0.2) (after_name r.0.0) x r.2 in
+    let two = name_found fields.Service r.0.1 r.0.2 n.0 one.others n.1 in
+    let d = bind_ok (counted_at fields.ServiceDescription n.0.1 n.0.1 n.0.2) (after_description r.0.0 n.0.0) x n.2 in
+    let three = counted_found fields.ServiceDescription n.0.1 n.0.1 n.0.2 d.0 two.0.others d.1 in
+    let e : (service r.0.0 n.0.0 d.0.0, d.0.1, d.0.2) ≡ x = let same = d.2 in cc in
+    let regroup : r.0.0 ∷ (counted n.0.0 ++ (counted d.0.0 ++ d.0.2)) ≡ service_text (service r.0.0 n.0.0 d.0.0) ++ d.0.2 = simp append_assoc in
+    let P : (Service × ℕ × List ℕ) → Type 0 = FoundService bytes in
+    subst P e (record {
+      is = one.is ∙ ap (λ bs. r.0.0 ∷ bs) (two.0.is ∙ ap (λ bs. counted n.0.0 ++ bs) three.is) ∙ regroup;
+      fits = record { name = two.1; description = three.short };
+      others = three.others;
+    })
+
+pub record FoundServices (count : ℕ) (bytes : List ℕ) (x : List Service × ℕ × List ℕ) : Type 0 where
+  pub is : bytes ≡ flat_map service_text x.0 ++ x.2
+  pub all : length x.0 ≡ count
+  pub fits : AllByRecursion IsService x.0
+  pub others : IsBytes x.2
+
+pub services_found : (count place : ℕ) (bytes : List ℕ) (x : List Service × ℕ × List ℕ) → IsBytes bytes → services_at count place bytes ≡ Ok x → FoundServices count bytes x
+unfolding services_at
+services_found zero place bytes x all h =
+    let e : ([], place, bytes) ≡ x = let same = h in cc in
+    let P : (List Service × ℕ × List ℕ) → Type 0 = FoundServices 0 bytes in
+    subst P e (record { is = refl; all = refl; fits = tt; others = all })
+services_found (suc count) place bytes x all h =
+    let s = bind_ok (service_at place bytes) (λ s. (services_at count s.1 s.2 >>= (λ m. Ok (s.0 ∷ m.0, m.1, m.2)))) x h in
+    let one = service_found place bytes s.0 all s.1 in
+    let m = bind_ok (services_at count s.0.1 s.0.2) (λ m. Ok (s.0.0 ∷ m.0, m.1, m.2)) x s.2 in
+    let more = services_found count s.0.1 s.0.2 m.0 one.others m.1 in
+    let e : (s.0.0 ∷ m.0.0, m.0.1, m.0.2) ≡ x = let same = m.2 in cc in
+    let P : (List Service × ℕ × List ℕ) → Type 0 = FoundServices (suc count) bytes in
+    subst P e (record {
+      is = one.is ∙ ap (λ bs. service_text s.0.0 ++ bs) more.is ∙ sym (append_assoc (service_text s.0.0) (flat_map service_text m.0.0) m.0.2);
+      all = ap suc more.all;
+      fits = (one.fits, more.fits);
+      others = more.others;
+    })

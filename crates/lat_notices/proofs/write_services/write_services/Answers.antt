@@ -1,0 +1,18 @@
+use Rattle.std.proofs.Common.{length, take, ap, arith, length-append}
+use Rattle.std.specs.List.{flat_map}
+use Rattle.lat_notices.specs.Services.{service_text}
+use Rattle.lat_notices.proofs.Room.{room_at}
+use Rattle.lat_notices.proofs.write_services.write_services.Goals as goal
+
+pub write_service-requires-clause-room : goal.write_service-requires-clause-room
+write_service-requires-clause-room c =
+    let ss = c.as_slice-service-items.result.now in
+    let i = c.loop-service.service-index in
+    omega (
+      arith,
+      room_at ss i c.service-item.result c.loop-service-test.true c.service-item.is,
+      ap length c.loop-service.invariant,
+      length-append c.args.out.now (flat_map service_text (take i ss)),
+      ap (λ es. length (flat_map service_text es)) c.as_slice-service-items.ensures,
+      c.requires.room,
+    )

@@ -1,0 +1,96 @@
+-- The texts of notices.
+use Rattle.std.specs.Prelude.{◌≡◌, ℕ, ◌+◌, ◌*◌, ◌<◌, ◌≤◌, List, [], ◌∷◌, ◌++◌, length}
+use Rattle.std.specs.List.{flat_map, AllByRecursion}
+use Rattle.lat_base.specs.Names.{IsName}
+use Rattle.lat_fields.specs.Texts.{counted, number}
+use Rattle.lat_notices.specs.declared.notice.Announcement.{Announcement}
+use Rattle.lat_notices.specs.declared.notice.Command.{Command}
+use Rattle.lat_notices.specs.declared.notice.Status.{Status}
+use Rattle.lat_notices.specs.declared.notice.Solicit.{Solicit}
+use Rattle.lat_notices.specs.declared.notice.Response.{Response}
+use Rattle.lat_notices.specs.declared.notice.Notice.{Notice}
+use Rattle.lat_notices.specs.declared.notice.Notice.TheVariants as notices
+use Rattle.lat_notices.specs.Outcomes.{action_number, outcome_number, outcome_place, IsOutcome}
+use Rattle.lat_notices.specs.Services.{IsService, service_text}
+
+-- What a notice must be to have a text. That each number fits in its one or two bytes is in its type.
+pub record IsAnnouncement (a : Announcement) : Type 0 where
+  pub timer : 0 < a.timer
+  pub groups : length a.groups ≤ 32
+  pub node : IsName a.node
+  pub description : length a.description < 256
+  pub count : length a.services < 256
+  pub services : AllByRecursion IsService a.services
+
+pub record IsCommand (c : Command) : Type 0 where
+  pub node : IsName c.node
+  pub service : IsName c.service
+
+pub record IsStatus (s : Status) : Type 0 where
+  pub outcome : IsOutcome s.outcome
+  pub node : IsName s.node
+
+pub record IsSolicit (s : Solicit) : Type 0 where
+  pub asker : IsName s.asker
+  pub service : IsName s.service
+
+pub record IsResponse (r : Response) : Type 0 where
+  pub node : IsName r.node
+  pub service : IsName r.service
+  pub timer : 0 < r.timer
+
+abbrev pub Fits : Notice → Type 0
+Fits (notices.Announcement a) = IsAnnouncement a
+Fits (notices.Command c) = IsCommand c
+Fits (notices.Status s) = IsStatus s
+Fits (notices.Solicit s) = IsSolicit s
+Fits (notices.Response r) = IsResponse r
+
+-- The five layouts behind their first byte. Each has the version 5.
+abbrev pub announcement_text : Announcement → List ℕ
+announcement_text a =
+    a.timer ∷ 5 ∷ number a.incarnation ++ (counted a.groups ++ (counted a.node ++ (counted a.description ++ (length a.services ∷ flat_map service_text a.services))))
+
+abbrev pub command_text : Command → List ℕ
+command_text c = 5 ∷ number c.incarnation ++ (number c.request ++ (action_number c.action ∷ counted c.node ++ counted c.service))
+
+abbrev pub status_text : Status → List ℕ
+status_text s = 5 ∷ number s.incarnation ++ (number s.request ++ (outcome_number s.outcome ∷ number (outcome_place s.outcome) ++ counted s.node))
+
+abbrev pub solicit_text : Solicit → List ℕ
+solicit_text s = 5 ∷ number s.id ++ (counted s.asker ++ counted s.service)
+
+abbrev pub response_text : Response → List ℕ
+response_text r = 5 ∷ number r.id ++ (counted r.node ++ (counted r.service ++ (r.rating ∷ r.timer ∷ [])))
+
+abbrev pub fields_text : Notice → List ℕ
+fields_text (notices.Announcement a) = announcement_text a
+fields_text (notices.Command c) = command_text c
+fields_text (notices.Status s) = status_text s
+fields_text (notices.Solicit s) = solicit_text s
+fields_text (notices.Response r) = response_text r
+
+-- the type that stands in the six high bits of the first byte
+abbrev pub kind_of : Notice → ℕ
+kind_of (notices.Announcement a) = 10
+kind_of (notices.Command c) = 12
+kind_of (notices.Status s) = 13
+kind_of (notices.Solicit s) = 14
+kind_of (notices.Response r) = 15
+
+-- b is a text of the notice; the two low bits of its first byte may be anything
+pub record NoticeText (n : Notice) (b : List ℕ) : Type 0 where
+  pub fits : Fits n
+  pub low : ℕ
+  pub low_bits : low < 4
+  pub is : b ≡ (kind_of n * 4 + low) ∷ fields_text n
+
+-- the text that is written has 0 there
+abbrev pub notice_text : Notice → List ℕ
+notice_text n = (kind_of n * 4) ∷ fields_text n
+
+-- there is a text of the notice that a payload has room for
+pub record IsWritable (n : Notice) : Type 0 where
+  pub text : List ℕ
+  pub of : NoticeText n text
+  pub size : length text ≤ 1500

@@ -1,0 +1,149 @@
+//! Writing notices.
+
+ghost use Rattle.std.specs.Prelude.{◌≡◌, ◌+◌, ◌≤◌, ◌++◌, [], length};
+ghost use Rattle.lat_fields.specs.Payloads.{padded};
+ghost use Rattle.lat_notices.specs.Outcomes.{action_number, outcome_number, outcome_place};
+ghost use Rattle.lat_notices.specs.Texts.{IsAnnouncement, IsCommand, IsStatus, IsSolicit, IsResponse, Fits, announcement_text, command_text, status_text, solicit_text, response_text, fields_text, kind_of, notice_text, IsWritable};
+
+use crate::fields::VERSION;
+use crate::notice::{Action, Announcement, Command, Notice, Outcome, Response, Solicit, Status};
+use crate::write_services::write_services;
+use lat_base::{Kept, Payload};
+use lat_fields::{write_counted, write_number, write_padding};
+
+fn write_announcement(out: &mut Payload, a: &Announcement)
+    requires fits { IsAnnouncement a.now }
+    requires room { length out.old + length (announcement_text a.now) ≤ 1500 }
+    ensures { out.new ≡ out.old ++ announcement_text a.now }
+{
+    out.push(a.timer);
+    out.push(VERSION);
+    write_number(out, a.incarnation);
+    write_counted(out, a.groups.as_slice());
+    write_counted(out, a.node.bytes());
+    write_counted(out, a.description.as_slice());
+    out.push(a.services.as_slice().len() as u8);
+    write_services(out, &a.services);
+}
+
+fn action_number(action: Action) -> u8
+    ensures { result ≡ action_number action }
+{
+    match action {
+        Action::Ask => 1,
+        Action::Cancel => 2,
+    }
+}
+
+fn write_command(out: &mut Payload, c: &Command)
+    requires fits { IsCommand c.now }
+    requires room { length out.old + length (command_text c.now) ≤ 1500 }
+    ensures { out.new ≡ out.old ++ command_text c.now }
+{
+    out.push(VERSION);
+    write_number(out, c.incarnation);
+    write_number(out, c.request);
+    out.push(action_number(c.action));
+    write_counted(out, c.node.bytes());
+    write_counted(out, c.service.bytes());
+}
+
+fn outcome_number(outcome: Outcome) -> u8
+    ensures { result ≡ outcome_number outcome }
+{
+    match outcome {
+        Outcome::Kept(Kept::Waiting(_)) => 1,
+        Outcome::Kept(Kept::Granted) => 2,
+        Outcome::Kept(Kept::Cancelled) => 3,
+        Outcome::Kept(Kept::QueueFull) => 4,
+        Outcome::Kept(Kept::NoService) => 5,
+        Outcome::Kept(Kept::RecordsFull) => 6,
+        Outcome::Kept(Kept::Done) => 7,
+        Outcome::Unknown => 8,
+    }
+}
+
+fn outcome_place(outcome: Outcome) -> u16
+    ensures { result ≡ outcome_place outcome }
+{
+    match outcome {
+        Outcome::Kept(Kept::Waiting(place)) => place,
+        _ => 0,
+    }
+}
+
+fn write_status(out: &mut Payload, s: &Status)
+    requires fits { IsStatus s.now }
+    requires room { length out.old + length (status_text s.now) ≤ 1500 }
+    ensures { out.new ≡ out.old ++ status_text s.now }
+{
+    out.push(VERSION);
+    write_number(out, s.incarnation);
+    write_number(out, s.request);
+    out.push(outcome_number(s.outcome));
+    write_number(out, outcome_place(s.outcome));
+    write_counted(out, s.node.bytes());
+}
+
+fn write_solicit(out: &mut Payload, s: &Solicit)
+    requires fits { IsSolicit s.now }
+    requires room { length out.old + length (solicit_text s.now) ≤ 1500 }
+    ensures { out.new ≡ out.old ++ solicit_text s.now }
+{
+    out.push(VERSION);
+    write_number(out, s.id);
+    write_counted(out, s.asker.bytes());
+    write_counted(out, s.service.bytes());
+}
+
+fn write_response(out: &mut Payload, r: &Response)
+    requires fits { IsResponse r.now }
+    requires room { length out.old + length (response_text r.now) ≤ 1500 }
+    ensures { out.new ≡ out.old ++ response_text r.now }
+{
+    out.push(VERSION);
+    write_number(out, r.id);
+    write_counted(out, r.node.bytes());
+    write_counted(out, r.service.bytes());
+    out.push(r.rating);
+    out.push(r.timer);
+}
+
+fn kind_of(n: &Notice) -> u8
+    ensures { result ≡ kind_of n.now }
+{
+    match n {
+        Notice::Announcement(_) => 10,
+        Notice::Command(_) => 12,
+        Notice::Status(_) => 13,
+        Notice::Solicit(_) => 14,
+        Notice::Response(_) => 15,
+    }
+}
+
+// The fields behind the first byte.
+fn write_fields(out: &mut Payload, n: &Notice)
+    requires fits { Fits n.now }
+    requires room { length out.old + length (fields_text n.now) ≤ 1500 }
+    ensures { out.new ≡ out.old ++ fields_text n.now }
+{
+    match n {
+        Notice::Announcement(a) => write_announcement(out, a),
+        Notice::Command(c) => write_command(out, c),
+        Notice::Status(s) => write_status(out, s),
+        Notice::Solicit(s) => write_solicit(out, s),
+        Notice::Response(r) => write_response(out, r),
+    }
+}
+
+/// Writes the notice into a place with no byte in it: its text, with 0 in all bits that aren't kept, and zeros behind
+/// it up to 46 bytes. Takes no memory. `notice_ok` tells whether it may be called.
+pub fn write_notice(n: &Notice, out: &mut Payload)
+    requires ok { IsWritable n.now }
+    requires empty { out.old ≡ [] }
+    ensures { out.new ≡ padded (notice_text n.now) }
+{
+    out.push(kind_of(n) * 4);
+    write_fields(out, n);
+    write_padding(out);
+}
