@@ -1,5 +1,5 @@
 -- From the reader to the texts, and back.
-use Rattle.std.proofs.Common.{◌≡◌, ℕ, suc, ◌+◌, ◌-◌, ◌*◌, ◌/◌, ◌%◌, ◌<◌, ◌≤◌, ◌⊎◌, inl, inr, Bool, true, false, List, [], ◌∷◌, ◌++◌, length, replicate, leb, get_or, Result, Ok, Err, refl, sym, ap, ◌∙◌, subst, arith, length-append}
+use Rattle.std.proofs.Common.{◌≡◌, ℕ, suc, ◌+◌, ◌-◌, ◌*◌, ◌/◌, ◌%◌, ◌<◌, ◌≤◌, ◌⊎◌, inl, inr, Bool, true, false, List, [], ◌∷◌, ◌++◌, length, replicate, leb, Result, Ok, Err, refl, sym, ap, ◌∙◌, subst, arith, length-append}
 use Rattle.std.specs.Prelude.{IfOk}
 use Rattle.std.proofs.lemmas.Bool.Decides.{nat_tests}
 use Rattle.std.proofs.lemmas.List.{length-replicate}
@@ -7,12 +7,12 @@ use Rattle.lat_base.specs.declared.field.Bad.{Bad}
 use Rattle.lat_base.specs.declared.field.Field.TheVariants.{Trailing}
 use Rattle.lat_fields.specs.declared.fault.LayoutFault.{LayoutFault}
 use Rattle.lat_fields.specs.Reading.{Gives, bad}
-use Rattle.lat_fields.specs.Payloads.{PayloadText, payload_at, padded}
+use Rattle.lat_fields.specs.Payloads.{PayloadText, padded}
 use Rattle.lat_fields.proofs.Steps.{IsBytes}
 use Rattle.lat_fields.proofs.Payloads.{payload_taken, payload_trailing, payload_found}
 use Rattle.lat_notices.specs.declared.notice.Notice.{Notice}
 use Rattle.lat_notices.specs.declared.notice.Notice.TheVariants as notices
-use Rattle.lat_notices.specs.Texts.{Fits, fields_text, kind_of, NoticeText, notice_text, IsWritable}
+use Rattle.lat_notices.specs.Texts.{fields_text, kind_of, NoticeText, notice_text, IsWritable}
 use Rattle.lat_notices.specs.Reading.{is_notice, fields_at, notice_read}
 use Rattle.lat_notices.specs.Laws.{IsOneNotice, IsNoNotice}
 use Rattle.lat_notices.proofs.Taken.{fields_taken}

@@ -1,11 +1,11 @@
 -- What is read of the fields that notices alone have is their texts.
-use Rattle.std.proofs.Common.{◌≡◌, ℕ, zero, suc, ◌+◌, ◌<◌, ◌≤◌, ◌⊎◌, inl, inr, Bool, true, cond, eqb, leb, ltb, List, [], ◌∷◌, ◌++◌, length, Result, Ok, refl, sym, ap, ◌∙◌, subst, arith, append_assoc}
+use Rattle.std.proofs.Common.{◌≡◌, ℕ, zero, suc, ◌≤◌, ◌⊎◌, inl, inr, Bool, true, eqb, leb, ltb, List, [], ◌∷◌, ◌++◌, length, Result, Ok, refl, sym, ap, ◌∙◌, subst, arith, append_assoc}
 use Rattle.std.specs.List.{flat_map, AllByRecursion}
 use Rattle.std.proofs.lemmas.Bool.Decides.{nat_tests}
 use Rattle.lat_base.specs.declared.field.Bad.{Bad}
 use Rattle.lat_base.specs.declared.field.Field.{Field}
 use Rattle.lat_base.specs.declared.field.Field.TheVariants as fields
-use Rattle.lat_fields.specs.Reading.{◌>>=◌, bad, wanted, byte_at, number_at, counted_at, name_at}
+use Rattle.lat_fields.specs.Reading.{◌>>=◌, wanted, byte_at, number_at, counted_at, name_at}
 use Rattle.lat_fields.specs.Texts.{counted, number}
 use Rattle.lat_fields.proofs.Steps.{IsBytes, bind_ok, wanted_ok}
 use Rattle.lat_fields.proofs.Found.{FoundByte, FoundText, byte_found, number_found, counted_found, name_found}

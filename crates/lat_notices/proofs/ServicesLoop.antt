@@ -1,5 +1,5 @@
 -- The loop that reads services.
-use Rattle.std.proofs.Common.{◌≡◌, ℕ, zero, suc, ◌+◌, ◌-◌, List, [], ◌∷◌, ◌++◌, append_assoc, append-nil, Result, Ok, Err, refl, sym, ap, ◌∙◌}
+use Rattle.std.proofs.Common.{◌≡◌, ℕ, suc, List, [], ◌∷◌, ◌++◌, append_assoc, append-nil, Result, Ok, Err, refl, sym, ap, ◌∙◌}
 use Rattle.lat_base.specs.declared.field.Bad.{Bad}
 use Rattle.lat_fields.specs.declared.fault.LayoutFault.{LayoutFault}
 use Rattle.lat_fields.specs.declared.fault.LayoutFault.TheVariants as faults

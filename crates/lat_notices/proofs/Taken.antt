@@ -1,9 +1,8 @@
 -- A text of a notice is read as that notice, whatever stands behind it.
-use Rattle.std.proofs.Common.{◌≡◌, ℕ, ◌+◌, ◌*◌, ◌/◌, ◌<◌, ◌≤◌, true, eqb, ltb, List, [], ◌∷◌, ◌++◌, length, Ok, refl, ap, ◌∙◌, arith, append_assoc, length-append}
+use Rattle.std.proofs.Common.{◌≡◌, ℕ, ◌+◌, ◌<◌, true, List, ◌∷◌, ◌++◌, length, Ok, refl, ap, ◌∙◌, arith, append_assoc, length-append}
 use Rattle.std.specs.List.{flat_map}
 use Rattle.std.proofs.lemmas.Bool.Decides.{nat_tests}
 use Rattle.lat_base.specs.declared.field.Field.TheVariants as fields
-use Rattle.lat_fields.specs.Reading.{◌>>=◌, byte_at, number_at, counted_at, name_at}
 use Rattle.lat_fields.specs.Texts.{counted, number}
 use Rattle.lat_fields.proofs.Taken.{number_taken, counted_taken, name_taken}
 use Rattle.lat_notices.specs.declared.notice.Announcement.{Announcement}
@@ -16,8 +15,7 @@ use Rattle.lat_notices.specs.declared.notice.Notice.TheVariants as notices
 use Rattle.lat_notices.specs.Outcomes.{action_number, outcome_number, outcome_place}
 use Rattle.lat_notices.specs.Services.{service_text}
 use Rattle.lat_notices.specs.Texts.{IsAnnouncement, IsCommand, IsStatus, IsSolicit, IsResponse, Fits, announcement_text, command_text, status_text, solicit_text, response_text, fields_text, kind_of}
-use Rattle.lat_notices.specs.Fields.{is_version, is_timer, byte_for, groups_at, action_at, outcome_at}
-use Rattle.lat_notices.specs.ServicesReading.{services_at}
+use Rattle.lat_notices.specs.Fields.{is_version, is_timer}
 use Rattle.lat_notices.specs.Reading.{announcement_at, command_at, status_at, solicit_at, response_at, fields_at}
 use Rattle.lat_notices.proofs.FieldsTaken.{byte_taken, groups_taken, action_taken, outcome_taken, services_taken}
 

@@ -1,5 +1,5 @@
 -- Reading the fields that notices alone have.
-use Rattle.std.specs.Prelude.{ℕ, ◌+◌, Bool, List, length, Result, Ok, nat_le, nat_lt, ◌==◌}
+use Rattle.std.specs.Prelude.{ℕ, Bool, List, length, Result, Ok, nat_le, nat_lt, ◌==◌}
 use Rattle.lat_base.specs.declared.field.Bad.{Bad}
 use Rattle.lat_base.specs.declared.field.Field.{Field}
 use Rattle.lat_base.specs.declared.field.Field.TheVariants as fields

@@ -6,6 +6,8 @@ use crate::{
 };
 use lat_base::{Bad, Bytes, Field, Kept, Name, Payload};
 use std::alloc::Global;
+use std::ops::Range;
+use std::process::Abort;
 use std::test::Fail;
 
 const ANNOUNCEMENT: [u8; 15] = [
@@ -45,23 +47,23 @@ fn filled(alloc: Global, bytes: &[u8], filling: u8, len: usize) -> Result<Vec<u8
 }
 
 // The payload is read, and written back with zeros up to 46 bytes.
-fn comes_back(rt: &HostRuntime, payload: &[u8]) -> Result<(), Fail> {
-    let notice = read_notice(rt.alloc(), payload)?;
+fn comes_back(rt: &impl Abort, alloc: Global, payload: &[u8]) -> Result<(), Fail> {
+    let notice = read_notice(alloc, payload)?;
     assert!(rt; notice_ok(&notice));
     let mut out = Payload::empty();
     write_notice(&notice, &mut out);
-    let want = filled(rt.alloc(), payload, 0, 46)?;
+    let want = filled(alloc, payload, 0, 46)?;
     assert_eq!(rt; out.bytes(), want.as_slice());
     Ok(())
 }
 
 #[test]
 fn notices_come_back(rt: HostRuntime) -> Result<(), Fail> {
-    comes_back(&rt, &ANNOUNCEMENT)?;
-    comes_back(&rt, &COMMAND)?;
-    comes_back(&rt, &STATUS)?;
-    comes_back(&rt, &SOLICIT)?;
-    comes_back(&rt, &RESPONSE)?;
+    comes_back(&rt, rt.alloc(), &ANNOUNCEMENT)?;
+    comes_back(&rt, rt.alloc(), &COMMAND)?;
+    comes_back(&rt, rt.alloc(), &STATUS)?;
+    comes_back(&rt, rt.alloc(), &SOLICIT)?;
+    comes_back(&rt, rt.alloc(), &RESPONSE)?;
     Ok(())
 }
 
@@ -114,86 +116,85 @@ fn notices_have_their_values(rt: HostRuntime) -> Result<(), Fail> {
     Ok(())
 }
 
-// Cut to each length, the payload is refused at these fields, from the first to behind the last length.
-fn is_cut(rt: &HostRuntime, payload: &[u8], table: &[(Field, u16, usize)]) {
-    let mut len = 0;
-    for (field, at, behind) in table {
-        while len < *behind && len < payload.len() {
-            let got = refused(rt.alloc(), &payload[..len]);
+// Cut to each of these lengths, the payload is refused at the field.
+fn is_cut(rt: &impl Abort, alloc: Global, payload: &[u8], table: &[(Field, u16, Range<usize>)]) {
+    for (field, at, lengths) in table {
+        for len in lengths.start..lengths.end {
+            assert!(rt; len < payload.len());
+            let got = refused(alloc, &payload[..len]);
             assert_eq!(rt; got, Some((*field, *at)), "cut to {len}");
-            len += 1;
         }
     }
-    assert_eq!(rt; len, payload.len());
 }
 
 #[test]
 fn cuts_are_refused(rt: HostRuntime) {
     let announcement = [
-        (Field::Kind, 0, 1),
-        (Field::Timer, 1, 2),
-        (Field::Version, 2, 3),
-        (Field::Incarnation, 3, 5),
-        (Field::Groups, 5, 6),
-        (Field::NodeName, 6, 9),
-        (Field::Description, 9, 10),
-        (Field::ServiceCount, 10, 11),
-        (Field::Rating, 11, 12),
-        (Field::Service, 12, 14),
-        (Field::ServiceDescription, 14, 15),
+        (Field::Kind, 0, 0..1),
+        (Field::Timer, 1, 1..2),
+        (Field::Version, 2, 2..3),
+        (Field::Incarnation, 3, 3..5),
+        (Field::Groups, 5, 5..6),
+        (Field::NodeName, 6, 6..9),
+        (Field::Description, 9, 9..10),
+        (Field::ServiceCount, 10, 10..11),
+        (Field::Rating, 11, 11..12),
+        (Field::Service, 12, 12..14),
+        (Field::ServiceDescription, 14, 14..15),
     ];
-    is_cut(&rt, &ANNOUNCEMENT, &announcement);
+    is_cut(&rt, rt.alloc(), &ANNOUNCEMENT, &announcement);
     let command = [
-        (Field::Kind, 0, 1),
-        (Field::Version, 1, 2),
-        (Field::Incarnation, 2, 4),
-        (Field::RequestId, 4, 6),
-        (Field::Action, 6, 7),
-        (Field::NodeName, 7, 12),
-        (Field::Service, 12, 16),
+        (Field::Kind, 0, 0..1),
+        (Field::Version, 1, 1..2),
+        (Field::Incarnation, 2, 2..4),
+        (Field::RequestId, 4, 4..6),
+        (Field::Action, 6, 6..7),
+        (Field::NodeName, 7, 7..12),
+        (Field::Service, 12, 12..16),
     ];
-    is_cut(&rt, &COMMAND, &command);
+    is_cut(&rt, rt.alloc(), &COMMAND, &command);
     let status = [
-        (Field::Kind, 0, 1),
-        (Field::Version, 1, 2),
-        (Field::Incarnation, 2, 4),
-        (Field::RequestId, 4, 6),
-        (Field::Outcome, 6, 7),
-        (Field::Place, 7, 9),
-        (Field::NodeName, 9, 14),
+        (Field::Kind, 0, 0..1),
+        (Field::Version, 1, 1..2),
+        (Field::Incarnation, 2, 2..4),
+        (Field::RequestId, 4, 4..6),
+        (Field::Outcome, 6, 6..7),
+        (Field::Place, 7, 7..9),
+        (Field::NodeName, 9, 9..14),
     ];
-    is_cut(&rt, &STATUS, &status);
+    is_cut(&rt, rt.alloc(), &STATUS, &status);
     let solicit = [
-        (Field::Kind, 0, 1),
-        (Field::Version, 1, 2),
-        (Field::SolicitId, 2, 4),
-        (Field::NodeName, 4, 8),
-        (Field::Service, 8, 12),
+        (Field::Kind, 0, 0..1),
+        (Field::Version, 1, 1..2),
+        (Field::SolicitId, 2, 2..4),
+        (Field::NodeName, 4, 4..8),
+        (Field::Service, 8, 8..12),
     ];
-    is_cut(&rt, &SOLICIT, &solicit);
+    is_cut(&rt, rt.alloc(), &SOLICIT, &solicit);
     let response = [
-        (Field::Kind, 0, 1),
-        (Field::Version, 1, 2),
-        (Field::SolicitId, 2, 4),
-        (Field::NodeName, 4, 9),
-        (Field::Service, 9, 13),
-        (Field::Rating, 13, 14),
-        (Field::Timer, 14, 15),
+        (Field::Kind, 0, 0..1),
+        (Field::Version, 1, 1..2),
+        (Field::SolicitId, 2, 2..4),
+        (Field::NodeName, 4, 4..9),
+        (Field::Service, 9, 9..13),
+        (Field::Rating, 13, 13..14),
+        (Field::Timer, 14, 14..15),
     ];
-    is_cut(&rt, &RESPONSE, &response);
+    is_cut(&rt, rt.alloc(), &RESPONSE, &response);
 }
 
 // With another byte at a place, the payload is answered so.
 fn is_changed(
-    rt: &HostRuntime,
+    rt: &impl Abort,
+    alloc: Global,
     payload: &[u8],
     table: &[(usize, u8, Option<(Field, u16)>)],
 ) -> Result<(), Fail> {
     for (place, byte, want) in table {
-        let mut changed = Vec::from_slice(rt.alloc(), payload)?;
+        let mut changed = Vec::from_slice(alloc, payload)?;
         assert!(rt; *place < changed.len());
         changed[*place] = *byte;
-        let got = refused(rt.alloc(), changed.as_slice());
+        let got = refused(alloc, changed.as_slice());
         assert_eq!(rt; got, *want, "byte {byte} at {place}");
     }
     Ok(())
@@ -217,7 +218,7 @@ fn changed_bytes_are_answered(rt: HostRuntime) -> Result<(), Fail> {
         (15, 0x7f, Some((Field::Service, 12))),
         (15, 0xa1, None),
     ];
-    is_changed(&rt, &COMMAND, &command)?;
+    is_changed(&rt, rt.alloc(), &COMMAND, &command)?;
     let status = [
         (6, 0x00, Some((Field::Outcome, 6))),
         (6, 0x02, Some((Field::Place, 7))),
@@ -226,14 +227,19 @@ fn changed_bytes_are_answered(rt: HostRuntime) -> Result<(), Fail> {
         (7, 0x00, Some((Field::Place, 7))),
         (8, 0x01, None),
     ];
-    is_changed(&rt, &STATUS, &status)?;
+    is_changed(&rt, rt.alloc(), &STATUS, &status)?;
     let announcement = [
         (1, 0x00, Some((Field::Timer, 1))),
         (1, 0xff, None),
         (2, 0x06, Some((Field::Version, 2))),
     ];
-    is_changed(&rt, &ANNOUNCEMENT, &announcement)?;
-    is_changed(&rt, &RESPONSE, &[(14, 0x00, Some((Field::Timer, 14)))])?;
+    is_changed(&rt, rt.alloc(), &ANNOUNCEMENT, &announcement)?;
+    is_changed(
+        &rt,
+        rt.alloc(),
+        &RESPONSE,
+        &[(14, 0x00, Some((Field::Timer, 14)))],
+    )?;
     Ok(())
 }
 
@@ -243,7 +249,7 @@ fn outcomes_without_a_place_come_back(rt: HostRuntime) -> Result<(), Fail> {
         let mut payload = STATUS;
         payload[6] = outcome;
         payload[7] = 0;
-        comes_back(&rt, &payload)?;
+        comes_back(&rt, rt.alloc(), &payload)?;
     }
     Ok(())
 }
@@ -272,7 +278,7 @@ fn services_are_as_many_as_counted(rt: HostRuntime) -> Result<(), Fail> {
         for _ in 0..count {
             payload.extend_from_slice(&ANNOUNCEMENT[11..])?;
         }
-        comes_back(&rt, payload.as_slice())?;
+        comes_back(&rt, rt.alloc(), payload.as_slice())?;
     }
     Ok(())
 }

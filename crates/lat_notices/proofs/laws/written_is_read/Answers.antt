@@ -1,4 +1,3 @@
-use Rattle.std.proofs.Common.{◌++◌}
 use Rattle.lat_fields.specs.Payloads.{padded}
 use Rattle.lat_notices.specs.Texts.{notice_text}
 use Rattle.lat_notices.proofs.Exact.{padded_is, payload_read}

@@ -1,6 +1,5 @@
-use Rattle.std.proofs.Common.{◌≡◌, ℕ, ◌+◌, ◌≤◌, length, arith}
+use Rattle.std.proofs.Common.{arith}
 use Rattle.std.proofs.lemmas.Bool.Decides.{nat_tests}
-use Rattle.lat_notices.specs.Texts.{fields_text}
 use Rattle.lat_notices.proofs.Writable.{text_len, writable}
 use Rattle.lat_notices.proofs.measure.notice_ok.Goals as goal
 

@@ -1,4 +1,4 @@
-use Rattle.std.proofs.Common.{ℕ, ◌+◌, ◌-◌, List, drop, arith}
+use Rattle.std.proofs.Common.{◌+◌, ◌-◌, drop, arith}
 use Rattle.lat_notices.proofs.ServicesLoop.{goes_on}
 use Rattle.lat_notices.proofs.read_services.services_of.Goals as goal
 
