@@ -68,7 +68,7 @@ fn notices_come_back(rt: HostRuntime) -> Result<(), Fail> {
 }
 
 #[test]
-fn notices_have_their_values(rt: HostRuntime) -> Result<(), Fail> {
+fn announcements_have_their_values(rt: HostRuntime) -> Result<(), Fail> {
     let alloc = rt.alloc();
     match read_notice(alloc, &ANNOUNCEMENT)? {
         Notice::Announcement(a) => {
@@ -81,6 +81,12 @@ fn notices_have_their_values(rt: HostRuntime) -> Result<(), Fail> {
         }
         _ => panic!(rt; "no announcement"),
     }
+    Ok(())
+}
+
+#[test]
+fn requests_have_their_values(rt: HostRuntime) -> Result<(), Fail> {
+    let alloc = rt.alloc();
     match read_notice(alloc, &COMMAND)? {
         Notice::Command(c) => {
             assert_eq!(rt; (c.incarnation, c.request, c.action), (1, 1, Action::Ask));
@@ -97,6 +103,12 @@ fn notices_have_their_values(rt: HostRuntime) -> Result<(), Fail> {
         }
         _ => panic!(rt; "no status"),
     }
+    Ok(())
+}
+
+#[test]
+fn questions_have_their_values(rt: HostRuntime) -> Result<(), Fail> {
+    let alloc = rt.alloc();
     match read_notice(alloc, &SOLICIT)? {
         Notice::Solicit(s) => {
             assert_eq!(rt; s.id, 1);
@@ -127,60 +139,66 @@ fn is_cut(rt: &impl Abort, alloc: Global, payload: &[u8], table: &[(Field, u16, 
     }
 }
 
+// Each table has the fields that refuse the payload cut short, their places, and the lengths that it is cut to.
+const ANNOUNCEMENT_CUTS: [(Field, u16, Range<usize>); 11] = [
+    (Field::Kind, 0, 0..1),
+    (Field::Timer, 1, 1..2),
+    (Field::Version, 2, 2..3),
+    (Field::Incarnation, 3, 3..5),
+    (Field::Groups, 5, 5..6),
+    (Field::NodeName, 6, 6..9),
+    (Field::Description, 9, 9..10),
+    (Field::ServiceCount, 10, 10..11),
+    (Field::Rating, 11, 11..12),
+    (Field::Service, 12, 12..14),
+    (Field::ServiceDescription, 14, 14..15),
+];
+
+const COMMAND_CUTS: [(Field, u16, Range<usize>); 7] = [
+    (Field::Kind, 0, 0..1),
+    (Field::Version, 1, 1..2),
+    (Field::Incarnation, 2, 2..4),
+    (Field::RequestId, 4, 4..6),
+    (Field::Action, 6, 6..7),
+    (Field::NodeName, 7, 7..12),
+    (Field::Service, 12, 12..16),
+];
+
+const STATUS_CUTS: [(Field, u16, Range<usize>); 7] = [
+    (Field::Kind, 0, 0..1),
+    (Field::Version, 1, 1..2),
+    (Field::Incarnation, 2, 2..4),
+    (Field::RequestId, 4, 4..6),
+    (Field::Outcome, 6, 6..7),
+    (Field::Place, 7, 7..9),
+    (Field::NodeName, 9, 9..14),
+];
+
+const SOLICIT_CUTS: [(Field, u16, Range<usize>); 5] = [
+    (Field::Kind, 0, 0..1),
+    (Field::Version, 1, 1..2),
+    (Field::SolicitId, 2, 2..4),
+    (Field::NodeName, 4, 4..8),
+    (Field::Service, 8, 8..12),
+];
+
+const RESPONSE_CUTS: [(Field, u16, Range<usize>); 7] = [
+    (Field::Kind, 0, 0..1),
+    (Field::Version, 1, 1..2),
+    (Field::SolicitId, 2, 2..4),
+    (Field::NodeName, 4, 4..9),
+    (Field::Service, 9, 9..13),
+    (Field::Rating, 13, 13..14),
+    (Field::Timer, 14, 14..15),
+];
+
 #[test]
 fn cuts_are_refused(rt: HostRuntime) {
-    let announcement = [
-        (Field::Kind, 0, 0..1),
-        (Field::Timer, 1, 1..2),
-        (Field::Version, 2, 2..3),
-        (Field::Incarnation, 3, 3..5),
-        (Field::Groups, 5, 5..6),
-        (Field::NodeName, 6, 6..9),
-        (Field::Description, 9, 9..10),
-        (Field::ServiceCount, 10, 10..11),
-        (Field::Rating, 11, 11..12),
-        (Field::Service, 12, 12..14),
-        (Field::ServiceDescription, 14, 14..15),
-    ];
-    is_cut(&rt, rt.alloc(), &ANNOUNCEMENT, &announcement);
-    let command = [
-        (Field::Kind, 0, 0..1),
-        (Field::Version, 1, 1..2),
-        (Field::Incarnation, 2, 2..4),
-        (Field::RequestId, 4, 4..6),
-        (Field::Action, 6, 6..7),
-        (Field::NodeName, 7, 7..12),
-        (Field::Service, 12, 12..16),
-    ];
-    is_cut(&rt, rt.alloc(), &COMMAND, &command);
-    let status = [
-        (Field::Kind, 0, 0..1),
-        (Field::Version, 1, 1..2),
-        (Field::Incarnation, 2, 2..4),
-        (Field::RequestId, 4, 4..6),
-        (Field::Outcome, 6, 6..7),
-        (Field::Place, 7, 7..9),
-        (Field::NodeName, 9, 9..14),
-    ];
-    is_cut(&rt, rt.alloc(), &STATUS, &status);
-    let solicit = [
-        (Field::Kind, 0, 0..1),
-        (Field::Version, 1, 1..2),
-        (Field::SolicitId, 2, 2..4),
-        (Field::NodeName, 4, 4..8),
-        (Field::Service, 8, 8..12),
-    ];
-    is_cut(&rt, rt.alloc(), &SOLICIT, &solicit);
-    let response = [
-        (Field::Kind, 0, 0..1),
-        (Field::Version, 1, 1..2),
-        (Field::SolicitId, 2, 2..4),
-        (Field::NodeName, 4, 4..9),
-        (Field::Service, 9, 9..13),
-        (Field::Rating, 13, 13..14),
-        (Field::Timer, 14, 14..15),
-    ];
-    is_cut(&rt, rt.alloc(), &RESPONSE, &response);
+    is_cut(&rt, rt.alloc(), &ANNOUNCEMENT, &ANNOUNCEMENT_CUTS);
+    is_cut(&rt, rt.alloc(), &COMMAND, &COMMAND_CUTS);
+    is_cut(&rt, rt.alloc(), &STATUS, &STATUS_CUTS);
+    is_cut(&rt, rt.alloc(), &SOLICIT, &SOLICIT_CUTS);
+    is_cut(&rt, rt.alloc(), &RESPONSE, &RESPONSE_CUTS);
 }
 
 // With another byte at a place, the payload is answered so.
@@ -201,7 +219,7 @@ fn is_changed(
 }
 
 #[test]
-fn changed_bytes_are_answered(rt: HostRuntime) -> Result<(), Fail> {
+fn changed_bytes_of_a_command_are_answered(rt: HostRuntime) -> Result<(), Fail> {
     let kind = Some((Field::Kind, 0));
     let command = [
         (0, 0x0c, kind),
@@ -218,7 +236,11 @@ fn changed_bytes_are_answered(rt: HostRuntime) -> Result<(), Fail> {
         (15, 0x7f, Some((Field::Service, 12))),
         (15, 0xa1, None),
     ];
-    is_changed(&rt, rt.alloc(), &COMMAND, &command)?;
+    is_changed(&rt, rt.alloc(), &COMMAND, &command)
+}
+
+#[test]
+fn changed_bytes_of_others_are_answered(rt: HostRuntime) -> Result<(), Fail> {
     let status = [
         (6, 0x00, Some((Field::Outcome, 6))),
         (6, 0x02, Some((Field::Place, 7))),
@@ -283,28 +305,40 @@ fn services_are_as_many_as_counted(rt: HostRuntime) -> Result<(), Fail> {
     Ok(())
 }
 
+// A counted text of so many equal bytes, between other bytes.
+fn counted(alloc: Global, front: &[u8], len: u8, byte: u8, behind: &[u8]) -> Result<Vec<u8>, Fail> {
+    let mut all = Vec::from_slice(alloc, front)?;
+    all.push(len)?;
+    for _ in 0..len {
+        all.push(byte)?;
+    }
+    all.extend_from_slice(behind)?;
+    Ok(all)
+}
+
 #[test]
-fn counted_texts_have_their_limits(rt: HostRuntime) -> Result<(), Fail> {
+fn masks_have_at_most_32_bytes(rt: HostRuntime) -> Result<(), Fail> {
     for (len, want) in [(32, None), (33, Some((Field::Groups, 5)))] {
-        let mut payload = Vec::from_slice(rt.alloc(), &ANNOUNCEMENT[..5])?;
-        payload.push(len)?;
-        for _ in 0..len {
-            payload.push(0xff)?;
-        }
-        payload.extend_from_slice(&ANNOUNCEMENT[6..])?;
+        let payload = counted(
+            rt.alloc(),
+            &ANNOUNCEMENT[..5],
+            len,
+            0xff,
+            &ANNOUNCEMENT[6..],
+        )?;
         assert_eq!(rt;
             refused(rt.alloc(), payload.as_slice()),
             want,
             "mask of {len}"
         );
     }
+    Ok(())
+}
+
+#[test]
+fn names_have_at_most_16_bytes(rt: HostRuntime) -> Result<(), Fail> {
     for (len, want) in [(1, None), (16, None), (17, Some((Field::NodeName, 4)))] {
-        let mut payload = Vec::from_slice(rt.alloc(), &SOLICIT[..4])?;
-        payload.push(len)?;
-        for _ in 0..len {
-            payload.push(0x41)?;
-        }
-        payload.extend_from_slice(&SOLICIT[8..])?;
+        let payload = counted(rt.alloc(), &SOLICIT[..4], len, 0x41, &SOLICIT[8..])?;
         assert_eq!(rt;
             refused(rt.alloc(), payload.as_slice()),
             want,
@@ -337,6 +371,11 @@ fn what_has_no_text_is_not_ok(rt: HostRuntime) -> Result<(), Fail> {
         let notice = announcement(rt.alloc(), timer, mask, text)?;
         assert_eq!(rt; notice_ok(&notice), want, "{timer} {mask} {text}");
     }
+    Ok(())
+}
+
+#[test]
+fn a_place_of_0_is_not_ok(rt: HostRuntime) -> Result<(), Fail> {
     for (place, want) in [(0, false), (1, true)] {
         let status = Status {
             incarnation: 0,
