@@ -4,3 +4,4 @@ pub mod Mades
 pub mod Servers
 pub mod Nodes
 pub mod Tied
+pub mod Ratings

@@ -2,3 +2,5 @@
 pub mod Whole
 pub mod Bytes
 pub mod Homes
+pub mod Passes
+pub mod Reads

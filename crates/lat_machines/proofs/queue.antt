@@ -3,3 +3,4 @@ pub mod Legal
 pub mod Rooms
 pub mod Grants
 pub mod Quiet
+pub mod Alone

@@ -1,17 +1,48 @@
-//! The laws of the two machines.
+//! The laws of the two machines. Those of a world hold for every run of a server and a node, however frames are lost,
+//! repeated or brought out of order, and whatever foreign frames come; those of one machine hold whatever it hears.
 
-ghost use Rattle.std.specs.Prelude.{◌≡◌, ℕ, List};
+ghost use Rattle.std.specs.Prelude.{◌≡◌, ℕ, ◌<◌, List};
+ghost use Rattle.lat_machines.specs.values.Events.{Event};
+ghost use Rattle.lat_machines.specs.server.Queue.{LegalQueue};
+ghost use Rattle.lat_machines.specs.server.Server.{ServerConfig, open_server};
+ghost use Rattle.lat_machines.specs.node.Node.{NodeConfig, Node, node_step, SameButFrames};
 ghost use Rattle.lat_machines.specs.world.Machines.{Setups, Move, run, open_machines};
-ghost use Rattle.lat_machines.specs.world.Safe.{Fit, Safe};
-ghost use Rattle.lat_machines.specs.world.Histories.{HistoriesAreAWorld};
-ghost use Rattle.lat_machines.specs.world.Home.{ServerStaysHome, NodeStaysHome};
+ghost use Rattle.lat_machines.specs.world.Safe.{Fit, IsCircuits, EndsAgree, NeverBreaks, NeverMalformed, HeardByBytes, NoGrant, Safe};
+ghost use Rattle.lat_machines.specs.world.Histories.{server_run, HistoriesAreAWorld};
+ghost use Rattle.lat_machines.specs.world.Home.{ServerHearsAtHome, ServerStaysHome, NodeStaysHome};
 
-/// Every run of the two machines is a run of the world of circuits. So on each circuit of both ends streams are in order,
-/// sessions are matched and each credited slot had its credit; the server's queue is legal; no frame that one end sent
-/// breaks a circuit of the other; a young one is heard by its number fields as by its numbers; and no line could grant a
-/// request.
+// of every world
+
+/// All that holds of every run of the two machines, in one record: the laws below up to `grants_leave_none`.
 pub fn machines_are_safe()
     ensures { (u : Setups) (moves : List Move) → Fit u → Safe u (run u moves (open_machines u)) }
+{}
+
+/// Every run of the two machines is a run of the world of circuits: some list of its events gives the tables of circuits of
+/// both, and the frames that they sent, in order. So each law of that world holds here.
+pub fn runs_are_circuit_runs()
+    ensures { (u : Setups) (moves : List Move) → Fit u → IsCircuits u (run u moves (open_machines u)) }
+{}
+
+/// On each circuit of both ends whose reply was heard the invariant of two ends holds: streams are in order both ways,
+/// sessions are matched by their generations, no credit is lost, doubled or spent before it came.
+pub fn both_ends_agree()
+    ensures { (u : Setups) (moves : List Move) → Fit u → EndsAgree u (run u moves (open_machines u)) }
+{}
+
+/// No frame that one end sent breaks a circuit of the other, at any moment and any number of times.
+pub fn no_frame_breaks()
+    ensures { (u : Setups) (moves : List Move) → Fit u → NeverBreaks u (run u moves (open_machines u)) }
+{}
+
+/// No frame that one end sent is refused by the other as one of no layout.
+pub fn no_frame_is_malformed()
+    ensures { (u : Setups) (moves : List Move) → NeverMalformed u (run u moves (open_machines u)) }
+{}
+
+/// A young frame, less than half a range behind in both numbers, is heard by its number fields as by its numbers.
+pub fn young_frames_are_heard_by_bytes()
+    ensures { (u : Setups) (moves : List Move) → Fit u → HeardByBytes u (run u moves (open_machines u)) }
 {}
 
 /// A history of a server and one of a node, in any order in which each frame that one heard from the other's address is a
@@ -20,12 +51,35 @@ pub fn histories_are_a_world()
     ensures { HistoriesAreAWorld }
 {}
 
-/// A frame leaves the server's circuits of other addresses as they were, up to the grant pass, which connects sessions.
+// of one machine
+
+/// Whatever a server hears, and from whom: each of its grants went to the first that waited for the service just then. So
+/// no request is granted twice, and none after its cancel.
+pub fn queue_is_legal()
+    ensures { (config : ServerConfig) (events : List Event) → LegalQueue (server_run config events (open_server config)).queue }
+{}
+
+/// Whatever a server hears, and from whom: after each event no line could grant a request.
+pub fn grants_leave_none()
+    ensures { (config : ServerConfig) (events : List Event) →
+        0 < config.timing.sessions →
+        NoGrant config (server_run config events (open_server config)) }
+{}
+
+/// A frame leaves the server's circuits of other addresses as they were (`hearing`), but for the sessions that the grant
+/// pass behind it connects (`step`).
 pub fn server_heard_stays_home()
-    ensures { ServerStaysHome }
+    ensures hearing { ServerHearsAtHome }
+    ensures step { ServerStaysHome }
 {}
 
 /// A frame leaves the node's circuits of other addresses as they were.
 pub fn node_heard_stays_home()
     ensures { NodeStaysHome }
+{}
+
+/// The ratings that a node's hook gives change the frames of an event alone: state and answer don't depend on them.
+pub fn ratings_change_frames_alone()
+    ensures { (config : NodeConfig) (rates others : List ℕ) (state : Node) (event : Event) →
+        SameButFrames (node_step config rates state event) (node_step config others state event) }
 {}

@@ -30,7 +30,7 @@ use Rattle.lat_machines.specs.server.Server.{ServerConfig, Server, ServerStep, k
 use Rattle.lat_machines.specs.server.Server as Server
 use Rattle.lat_machines.specs.node.Node.{NodeConfig, Node, NodeStep, Verdict, Accepts, Rejects, judged, verdict, asked_at, answers_one, answers_in, asked_on, answers_asked}
 use Rattle.lat_machines.specs.node.Node as Node
-use Rattle.lat_machines.specs.world.Home.{ServerStaysHome, NodeStaysHome}
+use Rattle.lat_machines.specs.world.Home.{ServerHearsAtHome, NodeStaysHome}
 use Rattle.lat_machines.proofs.queue.Rooms.{least_true}
 
 -- the circuit x is as it was
@@ -109,7 +109,7 @@ server_notice config st x from (ResponseNotice r) = refl
 server_notice config st x from (StatusNotice r) = refl
 server_notice config st x from (SolicitNotice r) = refl
 
-pub server_home : ServerStaysHome
+pub server_home : ServerHearsAtHome
 server_home config st from (Malformed field at) k now x n = refl
 server_home config st from (Whole v) k now x n = go (nat_eq from everyone) (value v)
   where

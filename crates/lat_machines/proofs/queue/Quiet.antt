@@ -46,7 +46,7 @@ at_masters : (w : World) (b : Bool) (x : ℕ) (s : Step) → Masters w → s.end
 at_masters w true x s m h = put_masters w true w.server.drawn x (w.server.circuit_at x).address (note_empty (w.server.circuit_at x).end s) m (λ q. h ∙ m x)
 at_masters w false x s m h = m
 
-reply_master : (now source : ℕ) (g : Agreed) (e : End) → (hear_reply now source g e).end.half.sessions.master ≡ e.half.sessions.master
+pub reply_master : (now source : ℕ) (g : Agreed) (e : End) → (hear_reply now source g e).end.half.sessions.master ≡ e.half.sessions.master
 reply_master now source g e = go (lives e) e.running
   where
     again : Step

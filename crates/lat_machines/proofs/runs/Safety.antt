@@ -12,6 +12,7 @@ use Rattle.lat_machines.proofs.events.Tied.{Goes, every_run}
 use Rattle.lat_machines.proofs.frames.Bytes.{heard_by_bytes}
 use Rattle.lat_machines.proofs.queue.Quiet.{world_ok, run_quiet}
 use Rattle.lat_machines.proofs.frames.Whole.{never_breaks}
+use Rattle.lat_machines.proofs.frames.Reads.{never_malformed}
 use Rattle.lat_machines.proofs.queue.Legal.{legal_none, legal_run}
 
 joint_of : (u : Setups) (m : Machines) (w : World) (p q : ℕ) → Ties u m w → Shared u m p q → Joint w q × ((w.node.circuit_at q).end.peer ≡ p)
@@ -36,6 +37,7 @@ every_safe u es f =
       agree = ends_agree u (run u es (open_machines u)) (go_on g.events (circuits_open u)) g.beside.ties (world_ok u f g.events);
       queue = legal_run u es (open_machines u) legal_none;
       whole = never_breaks u (run u es (open_machines u)) (go_on g.events (circuits_open u)) g.beside (world_ok u f g.events);
+      readable = never_malformed u (run u es (open_machines u));
       bytes = heard_by_bytes u (run u es (open_machines u)) (go_on g.events (circuits_open u)) g.beside (world_ok u f g.events);
       grants = run_quiet u es f;
     }

@@ -284,6 +284,11 @@ node_step config rates state Announces = record {
   frames = announcement config rates ∷ [];
 }
 
+-- two steps with different ratings: state and answer are the same
+pub record SameButFrames (a : NodeStep) (b : NodeStep) : Type 0 where
+  pub state : a.state ≡ b.state
+  pub answer : a.answer ≡ b.answer
+
 -- the sessions that have become free, in any way
 abbrev pub finished : Node → ℕ
 finished state = told_count (ended state.core + state.turned_away)

@@ -8,7 +8,7 @@ use Rattle.lat_machines.specs.values.Addresses.{everyone}
 use Rattle.lat_machines.specs.values.Frames.{Whole}
 use Rattle.lat_machines.specs.server.Queue.{LegalQueue}
 use Rattle.lat_machines.specs.values.Events.{Event, Hears}
-use Rattle.lat_machines.specs.values.Answers.{Answer, Circuit, Broke}
+use Rattle.lat_machines.specs.values.Answers.{Answer, Circuit, Broke, Bad}
 use Rattle.lat_machines.specs.cores.Cores.{setup_of}
 use Rattle.lat_machines.specs.server.Server.{ServerConfig, Server, server_step, offer_on, grantable}
 use Rattle.lat_machines.specs.node.Node.{node_step}
@@ -60,6 +60,12 @@ NeverBreaks u m =
     is_for_other u p ≡ true →
     answer_by u m (not p.by_server) (heard_as u p now) ≢ Circuit (Broke r)
 
+-- nor is one refused as of no layout
+abbrev pub NeverMalformed : Setups → Machines → Type 0
+NeverMalformed u m =
+    (now : ℕ) (p : Posted) (field at : ℕ) →
+    answer_by u m (not p.by_server) (heard_as u p now) ≢ Bad field at
+
 -- A young frame of one end is heard by the other as its bytes tell, whenever it comes
 abbrev pub HeardByBytes : Setups → Machines → Type 0
 HeardByBytes u m =
@@ -82,5 +88,6 @@ pub record Safe (u : Setups) (m : Machines) : Type 0 where
   pub agree : EndsAgree u m
   pub queue : LegalQueue m.server.queue
   pub whole : NeverBreaks u m
+  pub readable : NeverMalformed u m
   pub bytes : HeardByBytes u m
   pub grants : NoGrant u.server m.server
