@@ -1,3 +1,4 @@
 pub mod numbers
 pub mod sessions
 pub mod circuits
+pub mod examples

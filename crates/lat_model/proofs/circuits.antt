@@ -8,4 +8,4 @@ pub mod Worlds
 pub mod Begins
 pub mod Arrives
 pub mod Follows
-pub mod Examples
+pub mod Spans

@@ -6,7 +6,6 @@ pub mod Hears
 pub mod Starts
 pub mod Replies
 pub mod Made
-pub mod Alone
 pub mod Asks
 pub mod Forms
 pub mod Freshly
@@ -16,3 +15,5 @@ pub mod Offers
 pub mod Packs
 pub mod News
 pub mod Bounds
+pub mod Alone
+pub mod Peers

@@ -5,9 +5,11 @@ pub mod Together
 pub mod InOrder
 pub mod Heard
 pub mod Matched
+pub mod History
 pub mod World
 pub mod Arriving
 pub mod Events
 pub mod WorldOk
 pub mod Agree
 pub mod Comes
+pub mod Spans

@@ -8,5 +8,6 @@ pub mod Offers
 pub mod Packing
 pub mod Hearing
 pub mod EndOk
+pub mod PeersApart
 pub mod MayForm
 pub mod Joined

@@ -1,26 +1,28 @@
 //! The laws of circuits. Each holds for every run, however frames are lost, repeated or brought out of order.
 
-ghost use Rattle.std.specs.Prelude.{◌≡◌, ℕ, ◌+◌, ◌*◌, ◌%◌, ◌<◌, ◌≤◌, slice_get, ◌≢◌, Some, Bool, true, false, List, not, length, ◌-◌, min};
+ghost use Rattle.std.specs.Prelude.{◌≡◌, ℕ, ◌+◌, ◌*◌, ◌%◌, ◌<◌, ◌≤◌, slice_get, ◌≢◌, Some, Bool, true, false, List, not, length, ◌-◌, min, ◌&&◌};
 ghost use Rattle.lat_model.specs.numbers.Near.{near, ahead};
-ghost use Rattle.lat_model.specs.sessions.Packing.{TaggedSlot, Packing, turn, pack};
+ghost use Rattle.lat_model.specs.sessions.Packing.{TaggedSlot, Packing, turn, pack, waiting_rejects};
 ghost use Rattle.lat_model.specs.sessions.Session.{Session, free, held_slots};
 ghost use Rattle.lat_model.specs.sessions.Sessions.{Sessions, named, held, least_free};
 ghost use Rattle.lat_model.specs.sessions.Calls.{Call, call};
 ghost use Rattle.lat_model.specs.sessions.Hearing.{hear_slot};
 ghost use Rattle.lat_model.specs.sessions.Slots.{Slot, items, credits, costs, source, is_start};
 ghost use Rattle.lat_model.specs.sessions.EndOk.{EndOk, Accounts, Small};
+ghost use Rattle.lat_model.specs.sessions.PeersApart.{PeersApart};
 ghost use Rattle.lat_model.specs.numbers.Link.{Frame};
 ghost use Rattle.lat_model.specs.ends.End.{Mark, Run};
 ghost use Rattle.lat_model.specs.ends.Run.{RunBroke, run_end};
-ghost use Rattle.lat_model.specs.circuits.World.{Wired, table};
-ghost use Rattle.lat_model.specs.circuits.Events.{WorldEvent, go_on, open_world};
+ghost use Rattle.lat_model.specs.circuits.World.{Wired, World, table};
+ghost use Rattle.lat_model.specs.circuits.Events.{WorldRun, open_world};
+ghost use Rattle.lat_model.specs.circuits.Spans.{TellSpans};
 ghost use Rattle.lat_model.specs.circuits.WorldOk.{Joint};
 ghost use Rattle.lat_model.specs.circuits.Agree.{Agree, the_half};
 ghost use Rattle.lat_model.specs.circuits.Comes.{Comes};
-ghost use Rattle.lat_model.specs.circuits.Pair.{Event, run, open_pair};
-ghost use Rattle.lat_model.specs.ends.Starting.{Setup, no_sessions};
+ghost use Rattle.lat_model.specs.circuits.Pair.{Pair, PairRun, end_of};
+ghost use Rattle.lat_model.specs.ends.Starting.{no_sessions};
 ghost use Rattle.lat_model.specs.circuits.InOrder.{InOrder};
-ghost use Rattle.lat_model.specs.circuits.Matched.{Matched};
+ghost use Rattle.lat_model.specs.circuits.History.{Credited, IdsUsedAgain};
 ghost use Rattle.lat_model.specs.circuits.Heard.{IsYoung, hearer, heard_frame};
 ghost use Rattle.lat_model.specs.numbers.Net.{Net, Move, run_net, start_net, side};
 ghost use Rattle.lat_model.specs.numbers.NetOk.{NetOk, Young, FrameOf, as_bytes};
@@ -65,66 +67,116 @@ pub fn young_frames_are_heard_whole()
 /// Of each session of a pair of circuits, under every list of events: what one end took is a prefix of what it heard, that
 /// of what the other end framed, and that of what was put there.
 pub fn pair_is_in_order()
-    ensures { (u : Setup) (events : List Event) → u.ceiling ≤ 255 → InOrder (run events (open_pair u)) }
+    ensures { (w : Pair) → PairRun w → InOrder w }
+{}
+
+/// Each credited slot of a pair had its credit: up to and with each message, a session has spent no more credits than
+/// stood in the messages that its end had taken when it formed this message.
+pub fn pair_is_credited()
+    ensures { (w : Pair) → PairRun w → Credited w.master.half × Credited w.slave.half }
+{}
+
+/// In a pair an id is used again only when the session that had it is over: both stops formed and taken, or its reject
+/// taken, before the message with the new start was formed.
+pub fn pair_uses_ids_again()
+    ensures { (w : Pair) → PairRun w → IdsUsedAgain w.master.half × IdsUsedAgain w.slave.half }
+{}
+
+/// The two ends of a pair agree on numbers, sessions and credits at every moment: the whole invariant of two ends.
+pub fn pair_agrees()
+    ensures { (w : Pair) → PairRun w → Agree w.master.half w.slave.half }
+{}
+
+/// A RUN among the frames of a pair is one of its sender's: its number is at most that of the newest message, its
+/// acknowledgement at most what was shown, and its slots are those of the message of its number.
+pub fn pair_frames_are_true()
+    ensures { (w : Pair) (i : ℕ) (b ask : Bool) (m : Mark) (f : Frame (List Slot)) →
+        PairRun w →
+        slice_get w.posts i ≡ Some (record { by_master = b; sent = Run m ask f }) →
+        FrameOf (List Slot) (end_of w b).half.link f }
 {}
 
 /// No RUN that one end of a pair sent breaks the circuit of the other, whenever and how often it comes.
 pub fn pair_never_breaks()
-    ensures { (u : Setup) (events : List Event) (i now : ℕ) (b ask : Bool) (m : Mark) (f : Frame (List Slot)) →
-        u.ceiling ≤ 255 →
-        slice_get (run events (open_pair u)).posts i ≡ Some (record { by_master = b; sent = Run m ask f }) →
-        (run_end now ask f (hearer (run events (open_pair u)) b)).answer ≢ RunBroke }
+    ensures { (w : Pair) (i now : ℕ) (b ask : Bool) (m : Mark) (f : Frame (List Slot)) →
+        PairRun w →
+        slice_get w.posts i ≡ Some (record { by_master = b; sent = Run m ask f }) →
+        (run_end now ask f (hearer w b)).answer ≢ RunBroke }
 {}
 
 /// A young RUN of a pair is heard by its number fields as by its numbers.
 pub fn pair_hears_bytes()
-    ensures { (u : Setup) (events : List Event) (i r : ℕ) (b ask : Bool) (m : Mark) (f : Frame (List Slot)) →
-        u.ceiling ≤ 255 →
-        slice_get (run events (open_pair u)).posts i ≡ Some (record { by_master = b; sent = Run m ask f }) →
-        IsYoung r (run events (open_pair u)) b f →
-        heard_frame r (run events (open_pair u)) b f ≡ f }
+    ensures { (w : Pair) (i r : ℕ) (b ask : Bool) (m : Mark) (f : Frame (List Slot)) →
+        PairRun w →
+        slice_get w.posts i ≡ Some (record { by_master = b; sent = Run m ask f }) →
+        IsYoung r w b f →
+        heard_frame r w b f ≡ f }
 {}
 
-/// The sessions of a pair are matched by their generations, and no credit is lost, doubled or spent before it came.
-pub fn pair_is_matched()
-    ensures { (u : Setup) (events : List Event) → u.ceiling ≤ 255 → Matched (run events (open_pair u)) }
-{}
-
-/// On every circuit of a server and a node whose reply was heard, whatever frames come, foreign ones too: streams are in
-/// order, sessions are matched, and each credited slot had its credit.
+/// Each circuit of a server and a node whose reply was heard keeps the whole invariant of two ends, whatever frames come,
+/// foreign ones too: numbers agree, streams are in order, sessions are matched, and no credit is lost, doubled or spent
+/// before it came.
 pub fn world_agrees()
-    ensures { (s n : ℕ) (u v : Setup) (events : List WorldEvent) (q : ℕ) →
-        s ≢ n →
-        u.ceiling ≤ 255 →
-        v.ceiling ≤ 255 →
-        Joint (go_on events (open_world s n u v)) q →
-        Agree
-        (the_half (go_on events (open_world s n u v)) true ((go_on events (open_world s n u v)).node.circuit_at q).end.peer)
-        (the_half (go_on events (open_world s n u v)) false q) }
+    ensures { (w : World) (q : ℕ) →
+        WorldRun w →
+        Joint w q →
+        Agree (the_half w true (w.node.circuit_at q).end.peer) (the_half w false q) }
+{}
+
+/// Each credited slot on such a circuit had its credit, at both ends.
+pub fn world_is_credited()
+    ensures { (w : World) (q : ℕ) →
+        WorldRun w →
+        Joint w q →
+        Credited (the_half w true (w.node.circuit_at q).end.peer) × Credited (the_half w false q) }
+{}
+
+/// On such a circuit an id is used again only when the session that had it is over, at both ends.
+pub fn world_uses_ids_again()
+    ensures { (w : World) (q : ℕ) →
+        WorldRun w →
+        Joint w q →
+        IdsUsedAgain (the_half w true (w.node.circuit_at q).end.peer) × IdsUsedAgain (the_half w false q) }
+{}
+
+/// A RUN of one end that names a circuit of the other is a true frame of the circuit that sent it.
+pub fn world_frames_are_true()
+    ensures { (w : World) (i : ℕ) (p : Wired) (ask : Bool) (f : Frame (List Slot)) →
+        WorldRun w →
+        slice_get w.frames i ≡ Some p →
+        Comes w p ask f →
+        FrameOf (List Slot) (the_half w p.by_server p.source).link f }
 {}
 
 /// No RUN that one end of a world sent breaks the circuit of the other that it names, whenever and how often it comes.
 pub fn world_never_breaks()
-    ensures { (s n : ℕ) (u v : Setup) (events : List WorldEvent) (i now : ℕ) (p : Wired) (ask : Bool) (f : Frame (List Slot)) →
-        s ≢ n →
-        u.ceiling ≤ 255 →
-        v.ceiling ≤ 255 →
-        slice_get (go_on events (open_world s n u v)).frames i ≡ Some p →
-        Comes (go_on events (open_world s n u v)) p ask f →
-        (run_end now ask f ((table (go_on events (open_world s n u v)) (not p.by_server)).circuit_at p.destination).end).answer ≢ RunBroke }
+    ensures { (w : World) (i now : ℕ) (p : Wired) (ask : Bool) (f : Frame (List Slot)) →
+        WorldRun w →
+        slice_get w.frames i ≡ Some p →
+        Comes w p ask f →
+        (run_end now ask f ((table w (not p.by_server)).circuit_at p.destination).end).answer ≢ RunBroke }
 {}
 
 /// A RUN of one end that names a circuit of the other and is young is heard there by its number fields as by its numbers.
 pub fn world_hears_bytes()
-    ensures { (s n : ℕ) (u v : Setup) (events : List WorldEvent) (i r : ℕ) (p : Wired) (ask : Bool) (f : Frame (List Slot)) →
-        s ≢ n →
-        u.ceiling ≤ 255 →
-        v.ceiling ≤ 255 →
-        slice_get (go_on events (open_world s n u v)).frames i ≡ Some p →
-        Comes (go_on events (open_world s n u v)) p ask f →
+    ensures { (w : World) (i r : ℕ) (p : Wired) (ask : Bool) (f : Frame (List Slot)) →
+        WorldRun w →
+        slice_get w.frames i ≡ Some p →
+        Comes w p ask f →
         8 < r →
-        Young (List Slot) r (the_half (go_on events (open_world s n u v)) p.by_server p.source).link f →
-        as_bytes r (the_half (go_on events (open_world s n u v)) (not p.by_server) p.destination).link f ≡ f }
+        Young (List Slot) r (the_half w p.by_server p.source).link f →
+        as_bytes r (the_half w (not p.by_server) p.destination).link f ≡ f }
+{}
+
+/// Both ends of a circuit have one span: where each START that comes is read as its sender's configuration states it, the
+/// slave and the master that heard its reply are wide exactly where both configurations are. So each RUN of either is of
+/// the other's kind, and a RUN of another kind is foreign.
+pub fn both_ends_have_one_span()
+    ensures { (w : World) (r : WorldRun w) (wide_server wide_node : Bool) (q : ℕ) →
+        TellSpans wide_server wide_node (open_world r.server r.node r.setup r.other) r.events →
+        Joint w q →
+        ((w.node.circuit_at q).end.wide ≡ (wide_server && wide_node))
+        × ((w.server.circuit_at (w.node.circuit_at q).end.peer).end.wide ≡ (wide_server && wide_node)) }
 {}
 
 /// What one end knows of its sessions (`EndOk`) it keeps beside any peer: a new end has it, and it stays at a lower agreed
@@ -164,6 +216,22 @@ pub fn sessions_stand_apart()
     ensures ceiling { (e : Sessions) (k : ℕ) →
         EndOk e →
         credits (e.session k).out + held_slots (e.session k) ≤ e.ceiling + costs (e.session k).came }
+{}
+
+/// At most 255 rejects of a slave wait: each is for another source of a peer's start (`PeersApart`), which a new end has, and
+/// which stays at each local call, each slot heard and each turn of packing.
+pub fn waiting_rejects_fit()
+    ensures begins { (sessions ceiling : ℕ) → PeersApart (no_sessions false sessions ceiling) }
+    ensures calls { (e : Sessions) (c : Call) → e.master ≡ false → EndOk e → PeersApart e → PeersApart (call e c) }
+    ensures hears { (e f : Sessions) (x : Slot) →
+        e.master ≡ false →
+        EndOk e →
+        PeersApart e →
+        source x < 256 →
+        hear_slot e x ≡ Some f →
+        PeersApart f }
+    ensures turns { (p : Packing) (k : ℕ) → PeersApart p.after → PeersApart (turn p k).after }
+    ensures fit { (e : Sessions) → e.master ≡ false → EndOk e → PeersApart e → length (waiting_rejects e) ≤ 255 }
 {}
 
 /// The heard items of a session that wait to be taken are at most 15 slots of 255 items.

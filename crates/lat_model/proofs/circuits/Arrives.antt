@@ -115,7 +115,7 @@ reply_ok w ok from d s now g fair =
         by true r it l =
             let is : hear_reply now s g c.end ≡ noted = ap₂ (λ u v. cond u (cond v noted first) none) l r in
             subst (λ z. WorldOk (at_end w true d z)) (sym is)
-            (quiet_server w d noted ok l (record { peer = refl; running = refl; master = refl; window = refl; sessions = refl }) (subst (StepOk true c.end.half c.end.window) is (heard_reply_ok true now s g c.end)))
+            (quiet_server w d noted ok l (record { peer = refl; running = refl; master = refl; window = refl; wide = refl; sessions = refl }) (subst (StepOk true c.end.half c.end.window) is (heard_reply_ok true now s g c.end)))
         by false r it l =
             let is : hear_reply now s g c.end ≡ first = ap₂ (λ u v. cond u (cond v noted first) none) l r in
             subst (λ z. WorldOk (at_end w true d z)) (sym is)
@@ -232,10 +232,10 @@ occurs_ok w ok (Times false x now) =
     world_cond (lives e) (at_end w false x (time_step now e)) w (λ l. quiet_node w x (time_step now e) ok l (kin_time now e) (time_ok false now e) (λ i. idle_calm e (time_step now e).end (calm_time now e i) i)) ok
 occurs_ok w ok (Moves true x now) =
     let e : End = (w.server.circuit_at x).end in
-    world_cond (lives e) (at_end w true x (record { end = record e { moment = now }; sent = [] })) w (λ l. quiet_server w x (record { end = record e { moment = now }; sent = [] }) ok l (record { peer = refl; running = refl; master = refl; window = refl; sessions = refl }) (moved_ok true now e)) ok
+    world_cond (lives e) (at_end w true x (record { end = record e { moment = now }; sent = [] })) w (λ l. quiet_server w x (record { end = record e { moment = now }; sent = [] }) ok l (record { peer = refl; running = refl; master = refl; window = refl; wide = refl; sessions = refl }) (moved_ok true now e)) ok
 occurs_ok w ok (Moves false x now) =
     let e : End = (w.node.circuit_at x).end in
-    world_cond (lives e) (at_end w false x (record { end = record e { moment = now }; sent = [] })) w (λ l. quiet_node w x (record { end = record e { moment = now }; sent = [] }) ok l (record { peer = refl; running = refl; master = refl; window = refl; sessions = refl }) (moved_ok false now e) (λ i. record { link = i.link; agreed = i.agreed; ceiling = i.ceiling; agreed_low = i.agreed_low; ceiling_low = i.ceiling_low; sessions = i.sessions; heard_run = i.heard_run; master = i.master })) ok
+    world_cond (lives e) (at_end w false x (record { end = record e { moment = now }; sent = [] })) w (λ l. quiet_node w x (record { end = record e { moment = now }; sent = [] }) ok l (record { peer = refl; running = refl; master = refl; window = refl; wide = refl; sessions = refl }) (moved_ok false now e) (λ i. record { link = i.link; agreed = i.agreed; ceiling = i.ceiling; agreed_low = i.agreed_low; ceiling_low = i.ceiling_low; sessions = i.sessions; heard_run = i.heard_run; master = i.master })) ok
 occurs_ok w ok (Delivers i now g) = deliver_ok w ok now g (slice_get w.frames i) (λ p e. each_at (λ f. Says w f.by_server f.circuit f.to f.destination f.source f.sent) w.frames i p ok.says e)
 occurs_ok w ok (Injects b from bit d s now g m) = go (nat_eq from w.server.own) (nat_eq from w.node.own) refl refl
   where

@@ -60,7 +60,7 @@ pub call_step_ok : (b : Bool) (c : Call) (e : End) → StepOk b e.half e.window 
 call_step_ok b c e o ps i t = record { sides = subst (Sides b (call_end c e).half o) (sym (append-nil ps)) (sides_call b e.half o ps c t); window = i }
 
 pub kin_call : (c : Call) (e : End) → Kin e (call_end c e)
-kin_call c e = record { peer = refl; running = refl; master = refl; window = refl; sessions = call_master e.half.sessions c }
+kin_call c e = record { peer = refl; running = refl; master = refl; window = refl; wide = refl; sessions = call_master e.half.sessions c }
 
 pub world_cond : (c : Bool) (v w : World) → (c ≡ true → WorldOk v) → WorldOk w → WorldOk (cond c v w)
 world_cond true v w p q = p refl

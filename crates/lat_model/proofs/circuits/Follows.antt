@@ -4,13 +4,12 @@ use Rattle.std.proofs.lemmas.Bool.{and_parts}
 use Rattle.lat_model.specs.sessions.Slots.{Slot}
 use Rattle.lat_model.specs.numbers.Link.{Frame}
 use Rattle.lat_model.specs.numbers.NetOk.{FrameOf, Young, as_bytes}
-use Rattle.lat_model.specs.sessions.Joined.{Joined}
-use Rattle.lat_model.specs.ends.End.{Mark, Sent, Run, Half, lives}
+use Rattle.lat_model.specs.ends.End.{Mark, Sent, Run, lives}
 use Rattle.lat_model.specs.ends.Run.{run_end, RunBroke}
 use Rattle.lat_model.specs.ends.Starting.{Setup}
-use Rattle.lat_model.specs.circuits.Together.{Together, flat}
+use Rattle.lat_model.specs.circuits.Together.{Together}
 use Rattle.lat_model.specs.circuits.World.{CircuitEntry, Wired, World, table}
-use Rattle.lat_model.specs.circuits.Events.{WorldEvent, go_on, open_world}
+use Rattle.lat_model.specs.circuits.Events.{WorldEvent, WorldRun, go_on, open_world}
 use Rattle.lat_model.specs.circuits.WorldOk.{mate, void_half, Joint, ByServer, ByNode, Says, WorldOk}
 use Rattle.lat_model.specs.circuits.Arriving.{is_of}
 use Rattle.lat_model.specs.circuits.Agree.{Agree, the_half}
@@ -18,7 +17,7 @@ use Rattle.lat_model.specs.circuits.Comes.{names_run, Comes}
 use Rattle.lat_model.proofs.numbers.Net.{each_at, young_bytes}
 use Rattle.lat_model.proofs.circuits.Halves.{Sides}
 use Rattle.lat_model.proofs.circuits.Pairs.{RunOk, run_ok}
-use Rattle.lat_model.proofs.circuits.Streams.{stream, generations, credits_of_pair}
+use Rattle.lat_model.proofs.circuits.Streams.{agree}
 use Rattle.lat_model.proofs.circuits.Worlds.{joint_sides}
 use Rattle.lat_model.proofs.circuits.Begins.{node_alive}
 use Rattle.lat_model.proofs.circuits.Arrives.{go_on_ok, open_world_ok}
@@ -26,25 +25,11 @@ use Rattle.lat_model.proofs.circuits.Arrives.{go_on_ok, open_world_ok}
 pub every_world : (s n : ℕ) (u v : Setup) (es : List WorldEvent) → (s ≡ n → ⊥) → u.ceiling ≤ 255 → v.ceiling ≤ 255 → WorldOk (go_on es (open_world s n u v))
 every_world s n u v es a c d = go_on_ok es (open_world s n u v) (open_world_ok s n u v a c d)
 
-agree : (m s : Half) → Together m s [] → Agree m s
-agree m s t =
-    let j : Joined m.sessions s.sessions (flat t.up) (flat t.down) = t.joined in
-    record {
-      up = stream m.sessions s.sessions (flat t.up) j.master_ok j.slave_ok j.flow_up;
-      down = stream s.sessions m.sessions (flat t.down) j.slave_ok j.master_ok j.flow_down;
-      generations_up = generations m.sessions s.sessions (flat t.up) (flat t.down) j.master_ok j.slave_ok j.quiet_up j.flow_up j.flow_down;
-      generations_down = generations s.sessions m.sessions (flat t.down) (flat t.up) j.slave_ok j.master_ok j.quiet_down j.flow_down j.flow_up;
-      up_done = t.up_done;
-      up_way = t.up;
-      down_done = t.down_done;
-      down_way = t.down;
-      logs = t.logs;
-      credits_up = credits_of_pair m.sessions s.sessions (flat t.up) j.master_ok j.flow_up;
-      credits_down = credits_of_pair s.sessions m.sessions (flat t.down) j.slave_ok j.flow_down;
-    }
-
 pub circuits_agree : (w : World) → WorldOk w → (q : ℕ) → Joint w q → Agree (the_half w true (w.node.circuit_at q).end.peer) (the_half w false q)
-circuits_agree w ok q j = agree (the_half w true (w.node.circuit_at q).end.peer) (the_half w false q) (joint_sides w q ok j)
+circuits_agree w ok q j = agree (the_half w true (w.node.circuit_at q).end.peer) (the_half w false q) [] (joint_sides w q ok j)
+
+pub world_reached_ok : (w : World) → WorldRun w → WorldOk w
+world_reached_ok w r = subst WorldOk (sym r.reached) (every_world r.server r.node r.setup r.other r.events r.apart r.ceiling r.other_ceiling)
 
 -- a RUN that comes: its sender's circuit, beside which the one that hears it stands
 pub record Met_frame (w : World) (p : Wired) (f : Frame (List Slot)) : Type 0 where

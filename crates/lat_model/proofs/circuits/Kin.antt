@@ -88,23 +88,24 @@ pub record Kin (e : End) (f : End) : Type 0 where
   pub running : f.running ≡ e.running
   pub master : f.master ≡ e.master
   pub window : f.window ≡ e.window
+  pub wide : f.wide ≡ e.wide
   pub sessions : f.half.sessions.master ≡ e.half.sessions.master
 
 kin : (e : End) → Kin e e
-kin e = record { peer = refl; running = refl; master = refl; window = refl; sessions = refl }
+kin e = record { peer = refl; running = refl; master = refl; window = refl; wide = refl; sessions = refl }
 
 kin_then : (e : End) (s : Step) (f : End → Step) → Kin e s.end → Kin s.end (f s.end).end → Kin e (then_do s f).end
-kin_then e s f p q = record { peer = q.peer ∙ p.peer; running = q.running ∙ p.running; master = q.master ∙ p.master; window = q.window ∙ p.window; sessions = q.sessions ∙ p.sessions }
+kin_then e s f p q = record { peer = q.peer ∙ p.peer; running = q.running ∙ p.running; master = q.master ∙ p.master; window = q.window ∙ p.window; wide = q.wide ∙ p.wide; sessions = q.sessions ∙ p.sessions }
 
 kin_cond : (e : End) (c : Bool) (s t : Step) → Kin e s.end → Kin e t.end → Kin e (cond c s t).end
 kin_cond e true s t p q = p
 kin_cond e false s t p q = q
 
 kin_finish : (r : ℕ) (e : End) → Kin e (finish r e).end
-kin_finish r e = record { peer = refl; running = refl; master = refl; window = refl; sessions = refl }
+kin_finish r e = record { peer = refl; running = refl; master = refl; window = refl; wide = refl; sessions = refl }
 
 kin_bare : (a : Bool) (e : End) → Kin e (send_bare a e).end
-kin_bare a e = record { peer = refl; running = refl; master = refl; window = refl; sessions = refl }
+kin_bare a e = record { peer = refl; running = refl; master = refl; window = refl; wide = refl; sessions = refl }
 
 kin_settle : (e : End) → Kin e (settle e).end
 kin_settle e = kin_cond e e.owed (send_bare false e) (still e) (kin_bare false e) (kin e)
@@ -112,14 +113,14 @@ kin_settle e = kin_cond e e.owed (send_bare false e) (still e) (kin_bare false e
 kin_occasion : (e : End) → Kin e (occasion e).end
 kin_occasion e =
     kin_cond e (window_open e.window e.half.link) (form_packed (pack e.room e.half.sessions) e) (settle e)
-    (kin_cond e (is_empty (pack e.room e.half.sessions).slots) (settle e) (send_message (pack e.room e.half.sessions) e) (kin_settle e) (record { peer = refl; running = refl; master = refl; window = refl; sessions = pack_master e.room e.half.sessions }))
+    (kin_cond e (is_empty (pack e.room e.half.sessions).slots) (settle e) (send_message (pack e.room e.half.sessions) e) (kin_settle e) (record { peer = refl; running = refl; master = refl; window = refl; wide = refl; sessions = pack_master e.room e.half.sessions }))
     (kin_settle e)
 
 kin_rounds : (e : End) → Kin e (rounds_step e).end
 kin_rounds e =
     kin_cond e e.running (cond (not (all_known e) && passed e.since 1000 e) (a_round send_again e) (still e)) (cond (passed e.start_at 1000 e) (a_round send_start e) (still e))
-    (kin_cond e (not (all_known e) && passed e.since 1000 e) (a_round send_again e) (still e) (kin_cond e (nat_lt e.rounds 8) (send_again e) (finish 6 e) (record { peer = refl; running = refl; master = refl; window = refl; sessions = refl }) (kin_finish 6 e)) (kin e))
-    (kin_cond e (passed e.start_at 1000 e) (a_round send_start e) (still e) (kin_cond e (nat_lt e.rounds 8) (send_start e) (finish 6 e) (record { peer = refl; running = refl; master = refl; window = refl; sessions = refl }) (kin_finish 6 e)) (kin e))
+    (kin_cond e (not (all_known e) && passed e.since 1000 e) (a_round send_again e) (still e) (kin_cond e (nat_lt e.rounds 8) (send_again e) (finish 6 e) (record { peer = refl; running = refl; master = refl; window = refl; wide = refl; sessions = refl }) (kin_finish 6 e)) (kin e))
+    (kin_cond e (passed e.start_at 1000 e) (a_round send_start e) (still e) (kin_cond e (nat_lt e.rounds 8) (send_start e) (finish 6 e) (record { peer = refl; running = refl; master = refl; window = refl; wide = refl; sessions = refl }) (kin_finish 6 e)) (kin e))
 
 kin_living : (f : End → Step) (e : End) → Kin e (f e).end → Kin e (living f e).end
 kin_living f e p = kin_cond e (lives e) (f e) (still e) p (kin e)
@@ -128,13 +129,13 @@ kin_due : (e : End) → Kin e (due_step e).end
 kin_due e =
     let d : End = record e { due_at = e.moment } in
     let s : Step = cond (may_form e) (occasion d) (still d) in
-    let k : Kin e s.end = kin_cond e (may_form e) (occasion d) (still d) (record { peer = (kin_occasion d).peer; running = (kin_occasion d).running; master = (kin_occasion d).master; window = (kin_occasion d).window; sessions = (kin_occasion d).sessions }) (record { peer = refl; running = refl; master = refl; window = refl; sessions = refl }) in
+    let k : Kin e s.end = kin_cond e (may_form e) (occasion d) (still d) (record { peer = (kin_occasion d).peer; running = (kin_occasion d).running; master = (kin_occasion d).master; window = (kin_occasion d).window; wide = (kin_occasion d).wide; sessions = (kin_occasion d).sessions }) (record { peer = refl; running = refl; master = refl; window = refl; wide = refl; sessions = refl }) in
     kin_cond e (passed e.due_at (10 * e.timer) e) (then_do s alive_step) (still e)
     (kin_then e s alive_step k (kin_cond s.end (s.end.master && s.end.running && passed s.end.sent_at (1000 * s.end.keepalive) s.end) (send_bare true s.end) (still s.end) (kin_bare true s.end) (kin s.end)))
     (kin e)
 
 kin_moment : (e : End) (now : ℕ) (f : End) → Kin (record e { moment = now }) f → Kin e f
-kin_moment e now f k = record { peer = k.peer; running = k.running; master = k.master; window = k.window; sessions = k.sessions }
+kin_moment e now f k = record { peer = k.peer; running = k.running; master = k.master; window = k.window; wide = k.wide; sessions = k.sessions }
 
 pub kin_time : (now : ℕ) (e : End) → Kin e (time_step now e).end
 kin_time now e =
@@ -148,24 +149,24 @@ kin_ack : (a : ℕ) (e : End) → Kin e (ack_end a e)
 kin_ack a e = go (nat_lt e.half.link.known a)
   where
     go : (c : Bool) → Kin e (cond c (record e { half = record (e.half) { link = ack_in e.half.link a }; rounds = 0; since = e.moment }) (record e { half = record (e.half) { link = ack_in e.half.link a } }))
-    go true = record { peer = refl; running = refl; master = refl; window = refl; sessions = refl }
-    go false = record { peer = refl; running = refl; master = refl; window = refl; sessions = refl }
+    go true = record { peer = refl; running = refl; master = refl; window = refl; wide = refl; sessions = refl }
+    go false = record { peer = refl; running = refl; master = refl; window = refl; wide = refl; sessions = refl }
 
 run_cond : (e : End) (c : Bool) (s t : RunStep) → Kin e s.step.end → Kin e t.step.end → Kin e (cond c s t).step.end
 run_cond e true s t p q = p
 run_cond e false s t p q = q
 
 kin_body : (n : ℕ) (a : Bool) (o : Option (List Slot)) (e : End) → Kin e (body_end n a o e).step.end
-kin_body n a None e = record { peer = refl; running = refl; master = refl; window = refl; sessions = refl }
-kin_body n a (Some []) e = record { peer = refl; running = refl; master = refl; window = refl; sessions = refl }
+kin_body n a None e = record { peer = refl; running = refl; master = refl; window = refl; wide = refl; sessions = refl }
+kin_body n a (Some []) e = record { peer = refl; running = refl; master = refl; window = refl; wide = refl; sessions = refl }
 kin_body n a (Some (x ∷ xs)) e =
     let m : List Slot = x ∷ xs in
     let taken : RunStep = record { step = still (record e { half = record { link = take_message e.half.link m; sessions = (hear_all m e.half.sessions).after }; owed = true }); answer = RunTaken (length m) } in
     let bad : RunStep = record { step = finish 2 (record e { half = record (e.half) { sessions = (hear_all m e.half.sessions).after } }); answer = RunBroke } in
     let again : RunStep = record { step = still (record e { owed = true }); answer = RunRepeated } in
     run_cond e (is_next e.half.link n) (take_end m e) again
-    (run_cond e (hear_all m e.half.sessions).good taken bad (record { peer = refl; running = refl; master = refl; window = refl; sessions = hear_master m e.half.sessions }) (record { peer = refl; running = refl; master = refl; window = refl; sessions = hear_master m e.half.sessions }))
-    (record { peer = refl; running = refl; master = refl; window = refl; sessions = refl })
+    (run_cond e (hear_all m e.half.sessions).good taken bad (record { peer = refl; running = refl; master = refl; window = refl; wide = refl; sessions = hear_master m e.half.sessions }) (record { peer = refl; running = refl; master = refl; window = refl; wide = refl; sessions = hear_master m e.half.sessions }))
+    (record { peer = refl; running = refl; master = refl; window = refl; wide = refl; sessions = refl })
 
 pub kin_run : (now : ℕ) (a : Bool) (f : Frame (List Slot)) (e : End) → Kin e (run_end now a f e).step.end
 kin_run now a f e =
@@ -175,20 +176,20 @@ kin_run now a f e =
     let k2 : Kin (ack_end f.acknowledgement d) r.step.end = kin_body f.number a f.body (ack_end f.acknowledgement d) in
     let k3 : Kin r.step.end (living (λ x. cond x.master (still x) (occasion x)) r.step.end).end = kin_living (λ x. cond x.master (still x) (occasion x)) r.step.end (kin_cond r.step.end r.step.end.master (still r.step.end) (occasion r.step.end) (kin r.step.end) (kin_occasion r.step.end)) in
     let bad : RunStep = record { step = finish 2 d; answer = RunBroke } in
-    run_cond e (nat_lt (length d.half.link.sent) f.acknowledgement) bad (after_run r) (record { peer = refl; running = refl; master = refl; window = refl; sessions = refl }) (record { peer = k3.peer ∙ k2.peer ∙ k1.peer; running = k3.running ∙ k2.running ∙ k1.running; master = k3.master ∙ k2.master ∙ k1.master; window = k3.window ∙ k2.window ∙ k1.window; sessions = k3.sessions ∙ k2.sessions ∙ k1.sessions })
+    run_cond e (nat_lt (length d.half.link.sent) f.acknowledgement) bad (after_run r) (record { peer = refl; running = refl; master = refl; window = refl; wide = refl; sessions = refl }) (record { peer = k3.peer ∙ k2.peer ∙ k1.peer; running = k3.running ∙ k2.running ∙ k1.running; master = k3.master ∙ k2.master ∙ k1.master; window = k3.window ∙ k2.window ∙ k1.window; wide = k3.wide ∙ k2.wide ∙ k1.wide; sessions = k3.sessions ∙ k2.sessions ∙ k1.sessions })
 
 pub kin_again : (now : ℕ) (e : End) → Kin e (again_start now e).end
 kin_again now e =
     let again : Step = record { end = record e { moment = now; heard_at = now; sent_at = now; owed = false }; sent = ReplyStart ∷ [] } in
     let noted : Step = record { end = record e { moment = now; heard_at = now }; sent = [] } in
     let none : Step = record { end = e; sent = [] } in
-    kin_cond e (lives e && not e.heard_run) again (cond (lives e) noted none) (record { peer = refl; running = refl; master = refl; window = refl; sessions = refl }) (kin_cond e (lives e) noted none (record { peer = refl; running = refl; master = refl; window = refl; sessions = refl }) (kin e))
+    kin_cond e (lives e && not e.heard_run) again (cond (lives e) noted none) (record { peer = refl; running = refl; master = refl; window = refl; wide = refl; sessions = refl }) (kin_cond e (lives e) noted none (record { peer = refl; running = refl; master = refl; window = refl; wide = refl; sessions = refl }) (kin e))
 
 pub kin_stop : (now r : ℕ) (e : End) → Kin e (hear_stop now r e).end
 kin_stop now r e =
     let ends : Step = record { end = record e { ended = Some r; moment = now }; sent = [] } in
     let none : Step = record { end = e; sent = [] } in
-    kin_cond e (lives e) ends none (record { peer = refl; running = refl; master = refl; window = refl; sessions = refl }) (kin e)
+    kin_cond e (lives e) ends none (record { peer = refl; running = refl; master = refl; window = refl; wide = refl; sessions = refl }) (kin e)
 
 -- A slave that heard no RUN stays as it is, but for its moments
 

@@ -8,15 +8,19 @@ use Rattle.lat_model.specs.numbers.Link.{Frame}
 use Rattle.lat_model.specs.numbers.NetOk.{FrameOf}
 use Rattle.lat_model.specs.sessions.EndOk.{EndOk, Head, Shape}
 use Rattle.lat_model.specs.sessions.Joined.{Flows, Quiet, Joined, slots_of}
-use Rattle.lat_model.specs.ends.End.{Mark, Run}
+use Rattle.lat_model.specs.ends.End.{Mark, Run, Half}
 use Rattle.lat_model.specs.ends.Run.{RunBroke, run_end}
-use Rattle.lat_model.specs.circuits.Pair.{Pair, Event, run, open_pair, end_of}
+use Rattle.lat_model.specs.circuits.Pair.{Pair, Posted, PairRun, Event, run, open_pair, end_of}
 use Rattle.lat_model.specs.ends.Starting.{Setup}
-use Rattle.lat_model.specs.circuits.Together.{PostIs, Together, flat}
+use Rattle.lat_model.specs.circuits.Together.{PostIs, Together, flat, wires}
 use Rattle.lat_model.specs.circuits.InOrder.{Stream, InOrder}
 use Rattle.lat_model.specs.circuits.Heard.{IsYoung, hearer, heard_frame}
-use Rattle.lat_model.specs.circuits.Matched.{Generations, CreditsOf, Matched}
-use Rattle.lat_model.proofs.sessions.Words.{items-append, credits-append}
+use Rattle.lat_model.specs.circuits.Matched.{Generations, CreditsOf}
+use Rattle.lat_model.specs.circuits.History.{History}
+use Rattle.lat_model.specs.circuits.Agree.{Agree}
+use Rattle.lat_model.proofs.circuits.Logs.{wires-append, flat-append}
+use Rattle.std.proofs.lemmas.List.{append_cancel_right}
+use Rattle.lat_model.proofs.sessions.Words.{items-append, credits-append, slots_of-append}
 use Rattle.std.proofs.lemmas.Bool.{true≢false, false≢true, or_parts, both_ways}
 use Rattle.lat_model.proofs.sessions.Meets.{Met, met}
 use Rattle.lat_model.proofs.sessions.Hears.{who_some}
@@ -103,18 +107,58 @@ credits_of_pair a b wire ok f g = record {
   used = (ok.accounts (a.serial_of g)).spends;
 }
 
-pub matched : (w : Pair) → PairOk w → Matched w
-matched w k =
-    let t : Together w.master.half w.slave.half w.posts = k.together in
-    let j : Joined w.master.half.sessions w.slave.half.sessions (flat t.up) (flat t.down) = t.joined in
+-- the messages of both ends
+
+cut : (g : ℕ) (xs : List Slot) (done way : List (List TaggedSlot)) → xs ++ slots_of g (flat way) ≡ slots_of g (flat (done ++ way)) → xs ≡ slots_of g (flat done)
+cut g xs done way e =
+    append_cancel_right xs (slots_of g (flat done)) (slots_of g (flat way))
+    (e ∙ ap (slots_of g) (flat-append done way) ∙ slots_of-append g (flat done) (flat way))
+
+pub history_up : (m s : Half) (ps : List Posted) → Together m s ps → History m
+history_up m s ps t = record {
+  formed = t.up_done ++ t.up;
+  taken = t.down_done;
+  formed_is = wires-append t.up_done t.up ∙ ap (λ z. z ++ wires t.up) t.logs.done_up ∙ t.up_is;
+  taken_is = t.logs.done_down;
+  out_is = t.logs.log_up;
+  came_is = λ g. cut g (of_generation m.sessions g).came t.down_done t.down (sym (t.joined.flow_down.at_generation g) ∙ t.logs.log_down g);
+}
+
+pub history_down : (m s : Half) (ps : List Posted) → Together m s ps → History s
+history_down m s ps t = record {
+  formed = t.down_done ++ t.down;
+  taken = t.up_done;
+  formed_is = wires-append t.down_done t.down ∙ ap (λ z. z ++ wires t.down) t.logs.done_down ∙ t.down_is;
+  taken_is = t.logs.done_up;
+  out_is = t.logs.log_down;
+  came_is = λ g. cut g (of_generation s.sessions g).came t.up_done t.up (sym (t.joined.flow_up.at_generation g) ∙ t.logs.log_up g);
+}
+
+pub agree : (m s : Half) (ps : List Posted) → Together m s ps → Agree m s
+unfolding history_up history_down
+agree m s ps t =
+    let j : Joined m.sessions s.sessions (flat t.up) (flat t.down) = t.joined in
+    let u : History m = history_up m s ps t in
+    let d : History s = history_down m s ps t in
     record {
-      generations_up = generations w.master.half.sessions w.slave.half.sessions (flat t.up) (flat t.down) j.master_ok j.slave_ok j.quiet_up j.flow_up j.flow_down;
-      generations_down = generations w.slave.half.sessions w.master.half.sessions (flat t.down) (flat t.up) j.slave_ok j.master_ok j.quiet_down j.flow_down j.flow_up;
-      up_done = t.up_done;
-      up = t.up;
-      down_done = t.down_done;
-      down = t.down;
-      logs = t.logs;
-      credits_up = credits_of_pair w.master.half.sessions w.slave.half.sessions (flat t.up) j.master_ok j.flow_up;
-      credits_down = credits_of_pair w.slave.half.sessions w.master.half.sessions (flat t.down) j.slave_ok j.flow_down;
+      numbers_up = t.way_up;
+      numbers_down = t.way_down;
+      order_up = stream m.sessions s.sessions (flat t.up) j.master_ok j.slave_ok j.flow_up;
+      order_down = stream s.sessions m.sessions (flat t.down) j.slave_ok j.master_ok j.flow_down;
+      generations_up = generations m.sessions s.sessions (flat t.up) (flat t.down) j.master_ok j.slave_ok j.quiet_up j.flow_up j.flow_down;
+      generations_down = generations s.sessions m.sessions (flat t.down) (flat t.up) j.slave_ok j.master_ok j.quiet_down j.flow_down j.flow_up;
+      credits_up = record { way = t.up; way_is = t.up_is; each = credits_of_pair m.sessions s.sessions (flat t.up) j.master_ok j.flow_up };
+      credits_down = record { way = t.down; way_is = t.down_is; each = credits_of_pair s.sessions m.sessions (flat t.down) j.slave_ok j.flow_down };
+      credited_up = record { history = u; spends = t.logs.credit_up.spends };
+      credited_down = record { history = d; spends = t.logs.credit_down.spends };
+      starts_up = record { history = u; shape = λ g. (j.master_ok.each (m.sessions.serial_of g)).shape; answered = t.logs.answered_up.each };
+      starts_down = record { history = d; shape = λ g. (j.slave_ok.each (s.sessions.serial_of g)).shape; answered = t.logs.answered_down.each };
+      ids_up = record { history = u; over = t.logs.renewed_up.over; single = t.logs.renewed_up.single };
+      ids_down = record { history = d; over = t.logs.renewed_down.over; single = t.logs.renewed_down.single };
     }
+
+pub reached_ok : (w : Pair) → PairRun w → PairOk w
+reached_ok w r = subst PairOk (sym r.reached) (every_run r.setup r.events r.ceiling)
+
+pub pair_agree : (w : Pair) → PairRun w → Agree w.master.half w.slave.half
+pair_agree w r = agree w.master.half w.slave.half w.posts (reached_ok w r).together

@@ -61,10 +61,10 @@ heard_alone e k x ok g first fit =
     so [] q = subst (λ z. SessionOk z (heard s x)) (sym (first q)) (heard_first_ok s x q refused (subst (λ z. SessionOk z s) (first q) (ok.each k)))
     so (y ∷ ys) q = heard_more_ok e.master s x (λ z. not_nil [] y ys (sym q ∙ z)) (ok.each k)
 
-some_is : (e f : Sessions) → Some e ≡ Some f → e ≡ f
+pub some_is : (e f : Sessions) → Some e ≡ Some f → e ≡ f
 some_is e f q = cc
 
-none_is : {C : Type 0} (f : Sessions) → None ≡ Some f → C
+pub none_is : {C : Type 0} (f : Sessions) → None ≡ Some f → C
 none_is f q = absurd (wrong q)
   where
     wrong : None ≡ Some f → ⊥

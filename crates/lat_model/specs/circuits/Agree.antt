@@ -1,25 +1,33 @@
--- What the two halves of a circuit of both ends have in common.
-use Rattle.std.specs.Prelude.{ℕ, Bool, List}
-use Rattle.lat_model.specs.sessions.Packing.{TaggedSlot}
+-- What the two halves of a circuit of both ends have in common: the invariant of two ends, point by point.
+use Rattle.std.specs.Prelude.{ℕ, Bool}
+use Rattle.lat_model.specs.numbers.NetOk.{Way}
 use Rattle.lat_model.specs.sessions.Sessions.{of_generation}
-use Rattle.lat_model.specs.ends.End.{Half}
+use Rattle.lat_model.specs.ends.End.{Message, Half}
 use Rattle.lat_model.specs.circuits.InOrder.{Stream}
-use Rattle.lat_model.specs.circuits.Matched.{Generations, CreditsOf}
-use Rattle.lat_model.specs.circuits.Together.{Logs, flat}
+use Rattle.lat_model.specs.circuits.Matched.{Generations, CreditsKept}
+use Rattle.lat_model.specs.circuits.History.{Credited, StartsFirst, IdsUsedAgain}
 use Rattle.lat_model.specs.circuits.World.{World, table}
 
 pub record Agree (m : Half) (s : Half) : Type 0 where
-  pub up : (g : ℕ) → Stream (of_generation m.sessions g) (of_generation s.sessions g)
-  pub down : (g : ℕ) → Stream (of_generation s.sessions g) (of_generation m.sessions g)
+  -- what one end knows, took and acknowledged of the other's messages
+  pub numbers_up : Way Message m.link s.link
+  pub numbers_down : Way Message s.link m.link
+  -- what one end took is a prefix of what the other put
+  pub order_up : (g : ℕ) → Stream (of_generation m.sessions g) (of_generation s.sessions g)
+  pub order_down : (g : ℕ) → Stream (of_generation s.sessions g) (of_generation m.sessions g)
+  -- ids lead to sessions of one generation at both ends
   pub generations_up : Generations m.sessions s.sessions
   pub generations_down : Generations s.sessions m.sessions
-  pub up_done : List (List TaggedSlot)
-  pub up_way : List (List TaggedSlot)
-  pub down_done : List (List TaggedSlot)
-  pub down_way : List (List TaggedSlot)
-  pub logs : Logs m s up_done up_way down_done down_way
-  pub credits_up : (g : ℕ) → CreditsOf m.sessions s.sessions (flat up_way) g
-  pub credits_down : (g : ℕ) → CreditsOf s.sessions m.sessions (flat down_way) g
+  -- credits given, on their way, heard and used
+  pub credits_up : CreditsKept m s
+  pub credits_down : CreditsKept s m
+  pub credited_up : Credited m
+  pub credited_down : Credited s
+  -- the order of a session's slots, and when an id is used again
+  pub starts_up : StartsFirst m
+  pub starts_down : StartsFirst s
+  pub ids_up : IdsUsedAgain m
+  pub ids_down : IdsUsedAgain s
 
 abbrev pub the_half : World → Bool → ℕ → Half
 the_half w b x = ((table w b).circuit_at x).end.half

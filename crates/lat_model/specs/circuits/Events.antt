@@ -1,5 +1,5 @@
 -- What happens in the world of circuits; frames of foreign addresses come with any content at any time.
-use Rattle.std.specs.Prelude.{ℕ, suc, Bool, true, false, not, cond, ◌||◌, List, [], ◌∷◌, Option, Some, None, nat_eq, slice_get}
+use Rattle.std.specs.Prelude.{◌≡◌, ◌≢◌, ◌≤◌, ℕ, suc, Bool, true, false, not, cond, ◌||◌, List, [], ◌∷◌, Option, Some, None, nat_eq, slice_get}
 use Rattle.lat_model.specs.sessions.Calls.{Call}
 use Rattle.lat_model.specs.ends.End.{Sent, lives, call_end}
 use Rattle.lat_model.specs.ends.Timers.{time_step}
@@ -55,3 +55,15 @@ open_world s n u v = record {
   setup = u;
   other = v;
 }
+
+-- a world after some list of events
+pub record WorldRun (w : World) : Type 0 where
+  pub server : ℕ
+  pub node : ℕ
+  pub apart : server ≢ node
+  pub setup : Setup
+  pub other : Setup
+  pub ceiling : setup.ceiling ≤ 255
+  pub other_ceiling : other.ceiling ≤ 255
+  pub events : List WorldEvent
+  pub reached : w ≡ go_on events (open_world server node setup other)

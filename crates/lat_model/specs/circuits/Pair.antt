@@ -1,5 +1,5 @@
 -- One master of a server and one slave of a node, and all frames between them.
-use Rattle.std.specs.Prelude.{ℕ, suc, Bool, true, false, not, cond, List, [], ◌∷◌, ◌++◌, min, Option, Some, None, slice_get}
+use Rattle.std.specs.Prelude.{◌≡◌, ◌≤◌, ℕ, suc, Bool, true, false, not, cond, List, [], ◌∷◌, ◌++◌, min, Option, Some, None, slice_get}
 use Rattle.lat_model.specs.sessions.Calls.{Call}
 use Rattle.lat_model.specs.ends.End.{Sent, CallStart, End, Step, lives, call_end}
 use Rattle.lat_model.specs.ends.Timers.{note_empty, time_step}
@@ -49,6 +49,7 @@ abbrev pub run : List Event → Pair → Pair
 run [] w = w
 run (e ∷ es) w = run es (happens w e)
 
+-- a pair that was just opened: the START is out
 abbrev pub open_pair : Setup → Pair
 open_pair u = record {
   master = new_end true true u.timer u.keepalive u.sessions u.ceiling;
@@ -63,3 +64,10 @@ open_pair u = record {
     wide = false;
   };
 }
+
+-- a pair after some list of events
+pub record PairRun (w : Pair) : Type 0 where
+  pub setup : Setup
+  pub ceiling : setup.ceiling ≤ 255
+  pub events : List Event
+  pub reached : w ≡ run events (open_pair setup)

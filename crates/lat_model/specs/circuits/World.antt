@@ -1,9 +1,9 @@
 -- All circuits of a server and of a node, with all frames between them.
-use Rattle.std.specs.Prelude.{ℕ, suc, Bool, true, false, List, [], ◌∷◌, ◌++◌, min}
+use Rattle.std.specs.Prelude.{ℕ, Bool, true, false, List, [], ◌∷◌, ◌++◌}
 use Rattle.lat_model.specs.Lists.{updated}
 use Rattle.lat_model.specs.ends.End.{Sent, End, Step}
 use Rattle.lat_model.specs.ends.Timers.{note_empty}
-use Rattle.lat_model.specs.ends.Starting.{Agreed, Setup, new_end}
+use Rattle.lat_model.specs.ends.Starting.{Setup, new_end}
 
 pub record CircuitEntry : Type 0 where
   pub address : ℕ  -- the peer's address
@@ -53,16 +53,6 @@ put_circuit w b drawn x address s =
 abbrev pub at_end : World → Bool → ℕ → Step → World
 at_end w b x s =
     put_circuit w b (table w b).drawn x ((table w b).circuit_at x).address (note_empty ((table w b).circuit_at x).end s)
-
-abbrev pub agreed_of : Setup → Agreed
-agreed_of u = record {
-  sessions = u.sessions;
-  room = 1492;
-  window = min 8 (suc u.extra);
-  timer = u.timer;
-  keepalive = u.keepalive;
-  wide = false;
-}
 
 abbrev pub first_end : Bool → Bool → Setup → End
 first_end m exists u = new_end m exists u.timer u.keepalive u.sessions u.ceiling

@@ -3,7 +3,7 @@ use Rattle.std.specs.Prelude.{ℕ, Bool, true, cond, ◌||◌, List, [], ◌∷�
 use Rattle.lat_model.specs.sessions.Slots.{Slot}
 use Rattle.lat_model.specs.sessions.Sessions.{Sessions}
 use Rattle.lat_model.specs.sessions.Hearing.{HeardAll, hear_all}
-use Rattle.lat_model.specs.numbers.Link.{Frame, ack_in, is_next, take_message}
+use Rattle.lat_model.specs.numbers.Link.{Frame, is_unsent, ack_in, is_next, take_message}
 use Rattle.lat_model.specs.ends.End.{End, Step, still, then_do, finish, occasion}
 use Rattle.lat_model.specs.ends.Timers.{living}
 
@@ -59,6 +59,6 @@ after_run r = record { step = then_do r.step (living (λ e. cond e.master (still
 abbrev pub run_end : ℕ → Bool → Frame (List Slot) → End → RunStep
 run_end now ask f e =
     let d : End = record e { moment = now; heard_at = now; heard_run = true } in
-    cond (nat_lt (length d.half.link.sent) f.acknowledgement)
+    cond (is_unsent d.half.link f.acknowledgement)
     (record { step = finish 2 d; answer = RunBroke })
     (after_run (body_end f.number ask f.body (ack_end f.acknowledgement d)))

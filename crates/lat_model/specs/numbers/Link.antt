@@ -51,8 +51,12 @@ pub data AckFact : Type 0 where
   Old : AckFact
   Unsent : AckFact
 
+-- it acknowledges what was never sent
+abbrev pub is_unsent : {M : Type 0} → Link M → ℕ → Bool
+is_unsent l a = nat_lt (length l.sent) a
+
 abbrev pub ack_fact : {M : Type 0} → Link M → ℕ → AckFact
-ack_fact l a = cond (nat_lt (length l.sent) a) Unsent (cond (nat_lt l.known a) New Old)
+ack_fact l a = cond (is_unsent l a) Unsent (cond (nat_lt l.known a) New Old)
 
 abbrev pub ack_in : {M : Type 0} → Link M → ℕ → Link M
 ack_in l a = record l { known = cond (nat_lt l.known a) a l.known }

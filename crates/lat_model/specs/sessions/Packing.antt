@@ -65,10 +65,16 @@ abbrev pub turn_all : List ℕ → Packing → Packing
 turn_all [] p = p
 turn_all (k ∷ ks) p = turn_all ks (turn p k)
 
--- waiting rejects in the order heard, then the ids beginning after the one served last
+-- the sessions whose reject waits, in the order in which their asks were heard
+abbrev pub waiting_rejects : Sessions → List ℕ
+waiting_rejects e = keep (λ k. rejecting (e.session k)) (upwards 0 e.made)
+
+-- the present or last session of each id, beginning after the id served last
+abbrev pub once_round : Sessions → List ℕ
+once_round e = map e.at_id (upwards e.served (64 - e.served) ++ upwards 0 e.served)
+
 abbrev pub turns : Sessions → List ℕ
-turns e =
-    keep (λ k. rejecting (e.session k)) (upwards 0 e.made) ++ map e.at_id (upwards e.served (64 - e.served) ++ upwards 0 e.served)
+turns e = waiting_rejects e ++ once_round e
 
 abbrev pub pack : ℕ → Sessions → Packing
 pack room e = turn_all (turns e) (record { after = e; slots = []; room = room; left = 255; going = true })

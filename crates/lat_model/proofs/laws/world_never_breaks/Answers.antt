@@ -1,6 +1,5 @@
-use Rattle.lat_model.specs.circuits.Events.{go_on, open_world}
-use Rattle.lat_model.proofs.circuits.Follows.{every_world, world_whole}
+use Rattle.lat_model.proofs.circuits.Follows.{world_reached_ok, world_whole}
 use Rattle.lat_model.proofs.laws.world_never_breaks.Goals as goal
 
 pub returns : goal.returns
-returns c = λ s n u v es i now p k f a c d e h. world_whole (go_on es (open_world s n u v)) (every_world s n u v es a c d) i now p k f e h
+returns c = λ w i now p ask f r e c. world_whole w (world_reached_ok w r) i now p ask f e c

@@ -1,0 +1,5 @@
+use Rattle.lat_model.proofs.circuits.Follows.{world_reached_ok, circuits_agree}
+use Rattle.lat_model.proofs.laws.world_uses_ids_again.Goals as goal
+
+pub returns : goal.returns
+returns c = λ w q r j. ((circuits_agree w (world_reached_ok w r) q j).ids_up, (circuits_agree w (world_reached_ok w r) q j).ids_down)
