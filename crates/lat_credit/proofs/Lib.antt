@@ -1,0 +1,2 @@
+-- The accounts of the model's sessions.
+pub mod Sessions

@@ -1,0 +1,9 @@
+//! The credits of a session, as docs/PROTOCOL.md says under "Credits": small counters in the value, totals that are never
+//! forgotten in the contracts.
+#![tactic(auto)]
+
+mod credits;
+#[cfg(test)]
+mod tests;
+
+pub use credits::{Credits, NoCredit, TooMany};

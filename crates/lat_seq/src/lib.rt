@@ -1,0 +1,13 @@
+//! The numbers of the messages of one direction of a circuit, as docs/PROTOCOL.md says under "Message numbers": fields of
+//! one or two bytes in the values, unbounded numbers in the contracts.
+#![tactic(auto)]
+
+mod receiving;
+mod sending;
+mod span;
+#[cfg(test)]
+mod tests;
+
+pub use receiving::RecvSide;
+pub use sending::{AckFact, SendSide};
+pub use span::Span;
