@@ -1,4 +1,5 @@
 pub mod events
 pub mod queue
 pub mod frames
+pub mod spans
 pub mod runs

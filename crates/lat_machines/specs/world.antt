@@ -7,3 +7,4 @@ pub mod Histories
 pub mod Ties
 pub mod Safe
 pub mod Home
+pub mod Spans

@@ -9,6 +9,7 @@ ghost use Rattle.lat_machines.specs.node.Node.{NodeConfig, Node, node_step, Same
 ghost use Rattle.lat_machines.specs.world.Machines.{Setups, Move, run, open_machines};
 ghost use Rattle.lat_machines.specs.world.Safe.{Fit, IsCircuits, EndsAgree, NeverBreaks, NeverMalformed, HeardByBytes, NoGrant, Safe};
 ghost use Rattle.lat_machines.specs.world.Histories.{server_run, HistoriesAreAWorld};
+ghost use Rattle.lat_machines.specs.world.Spans.{OneSpan};
 ghost use Rattle.lat_machines.specs.world.Home.{ServerHearsAtHome, ServerStaysHome, NodeStaysHome};
 
 // of every world
@@ -43,6 +44,12 @@ pub fn no_frame_is_malformed()
 /// A young frame, less than half a range behind in both numbers, is heard by its number fields as by its numbers.
 pub fn young_frames_are_heard_by_bytes()
     ensures { (u : Setups) (moves : List Move) → Fit u → HeardByBytes u (run u moves (open_machines u)) }
+{}
+
+/// Both ends of a circuit have one span: each running circuit of one end to the other's address is wide exactly where both
+/// configurations are, and each RUN that one end sends the other is of this kind.
+pub fn both_ends_have_one_span()
+    ensures { (u : Setups) (moves : List Move) → Fit u → OneSpan u (run u moves (open_machines u)) }
 {}
 
 /// A history of a server and one of a node, in any order in which each frame that one heard from the other's address is a

@@ -133,7 +133,7 @@ brought_sent w b from k c bs circuit to destination source CallStart p = record 
 brought_sent w b from k c bs circuit to destination source ReplyStart p = record { event = p.event; fits = p.fits; arrives = p.arrives }
 brought_sent w b from k c bs circuit to destination source (Stopped r) p = p
 
-sent_to : (k : Side) (c : Core) (bs : Bool) (circuit to destination source : ℕ) (s : Sent) → (sent_frame k c (record { by_server = bs; circuit = circuit; to = to; destination = destination; source = source; sent = s })).to ≡ to
+pub sent_to : (k : Side) (c : Core) (bs : Bool) (circuit to destination source : ℕ) (s : Sent) → (sent_frame k c (record { by_server = bs; circuit = circuit; to = to; destination = destination; source = source; sent = s })).to ≡ to
 sent_to k c bs circuit to destination source (Run m ask f) = refl
 sent_to k c bs circuit to destination source CallStart = refl
 sent_to k c bs circuit to destination source ReplyStart = refl
