@@ -4,3 +4,4 @@ pub mod Bytes
 pub mod Homes
 pub mod Passes
 pub mod Reads
+pub mod TrueFrames

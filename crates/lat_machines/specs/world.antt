@@ -3,8 +3,8 @@
 pub mod Machines
 pub mod Young
 pub mod Reports
-pub mod Histories
 pub mod Ties
-pub mod Safe
-pub mod Home
 pub mod Spans
+pub mod Safe
+pub mod Histories
+pub mod Home

@@ -7,7 +7,7 @@ ghost use Rattle.lat_machines.specs.server.Queue.{LegalQueue};
 ghost use Rattle.lat_machines.specs.server.Server.{ServerConfig, open_server};
 ghost use Rattle.lat_machines.specs.node.Node.{NodeConfig, Node, node_step, SameButFrames};
 ghost use Rattle.lat_machines.specs.world.Machines.{Setups, Move, run, open_machines};
-ghost use Rattle.lat_machines.specs.world.Safe.{Fit, IsCircuits, EndsAgree, NeverBreaks, NeverMalformed, HeardByBytes, NoGrant, Safe};
+ghost use Rattle.lat_machines.specs.world.Safe.{Fit, IsCircuits, EndsAgree, StreamsInOrder, SlotsCredited, FramesAreTrue, NeverBreaks, NeverMalformed, HeardByBytes, NoGrant, Safe};
 ghost use Rattle.lat_machines.specs.world.Histories.{server_run, HistoriesAreAWorld};
 ghost use Rattle.lat_machines.specs.world.Spans.{OneSpan};
 ghost use Rattle.lat_machines.specs.world.Home.{ServerHearsAtHome, ServerStaysHome, NodeStaysHome};
@@ -25,10 +25,29 @@ pub fn runs_are_circuit_runs()
     ensures { (u : Setups) (moves : List Move) → Fit u → IsCircuits u (run u moves (open_machines u)) }
 {}
 
-/// On each circuit of both ends whose reply was heard the invariant of two ends holds: streams are in order both ways,
-/// sessions are matched by their generations, no credit is lost, doubled or spent before it came.
+/// On each circuit of both ends whose reply was heard the whole invariant of two ends holds: numbers agree, streams are in
+/// order both ways, sessions are matched by their generations, no credit is lost, doubled or spent before it came, and an id
+/// is used again only when the session before is over.
 pub fn both_ends_agree()
     ensures { (u : Setups) (moves : List Move) → Fit u → EndsAgree u (run u moves (open_machines u)) }
+{}
+
+/// Of each session on such a circuit, both ways: what one end took is a prefix of what it heard, that of what the other end
+/// framed, and that of what was put there.
+pub fn streams_are_in_order()
+    ensures { (u : Setups) (moves : List Move) → Fit u → StreamsInOrder u (run u moves (open_machines u)) }
+{}
+
+/// Each credited slot on such a circuit had its credit: up to and with each message, a session has spent no more credits than
+/// stood in the messages that its end had taken when it formed this message.
+pub fn slots_are_credited()
+    ensures { (u : Setups) (moves : List Move) → Fit u → SlotsCredited u (run u moves (open_machines u)) }
+{}
+
+/// Each RUN that one end sent the other is true to the circuit that sent it: its number and acknowledgement are reached, and
+/// its slots are those of the message of its number.
+pub fn frames_are_true()
+    ensures { (u : Setups) (moves : List Move) → Fit u → FramesAreTrue u (run u moves (open_machines u)) }
 {}
 
 /// No frame that one end sent breaks a circuit of the other, at any moment and any number of times.

@@ -1,5 +1,5 @@
 -- What holds of every run of the two machines.
-use Rattle.std.proofs.Common.{◌≡◌, ℕ, sym, ap, ◌∙◌, subst, true, List}
+use Rattle.std.proofs.Common.{◌≡◌, ℕ, sym, ap, ◌∙◌, subst, true, false, List}
 use Rattle.lat_model.specs.circuits.World.{CircuitEntry, Table, World}
 use Rattle.lat_model.specs.circuits.Events.{go_on}
 use Rattle.lat_model.specs.circuits.Agree.{Agree}
@@ -7,12 +7,14 @@ use Rattle.lat_model.specs.circuits.WorldOk.{Joint, WorldOk}
 use Rattle.lat_model.proofs.circuits.Follows.{circuits_agree}
 use Rattle.lat_machines.specs.world.Machines.{Setups, Machines, Move, run, open_machines}
 use Rattle.lat_machines.specs.world.Ties.{Ties}
-use Rattle.lat_machines.specs.world.Safe.{Fit, circuits_open, half_of, Shared, EndsAgree, Safe}
+use Rattle.lat_machines.specs.world.Safe.{Fit, circuits_open, half_of, Shared, EndsAgree, StreamsInOrder, SlotsCredited, Safe}
 use Rattle.lat_machines.proofs.events.Tied.{Goes, every_run}
 use Rattle.lat_machines.proofs.frames.Bytes.{heard_by_bytes}
 use Rattle.lat_machines.proofs.queue.Quiet.{world_ok, run_quiet}
 use Rattle.lat_machines.proofs.frames.Whole.{never_breaks}
 use Rattle.lat_machines.proofs.frames.Reads.{never_malformed}
+use Rattle.lat_machines.proofs.frames.TrueFrames.{frames_true}
+use Rattle.lat_machines.proofs.spans.Runs.{one_span}
 use Rattle.lat_machines.proofs.queue.Legal.{legal_none, legal_run}
 
 joint_of : (u : Setups) (m : Machines) (w : World) (p q : ℕ) → Ties u m w → Shared u m p q → Joint w q × ((w.node.circuit_at q).end.peer ≡ p)
@@ -35,9 +37,17 @@ every_safe u es f =
     record {
       circuits = record { events = g.events; ties = g.beside.ties };
       agree = ends_agree u (run u es (open_machines u)) (go_on g.events (circuits_open u)) g.beside.ties (world_ok u f g.events);
+      spans = one_span u es f;
+      true_frames = frames_true u (run u es (open_machines u)) (go_on g.events (circuits_open u)) g.beside (world_ok u f g.events);
       queue = legal_run u es (open_machines u) legal_none;
       whole = never_breaks u (run u es (open_machines u)) (go_on g.events (circuits_open u)) g.beside (world_ok u f g.events);
       readable = never_malformed u (run u es (open_machines u));
       bytes = heard_by_bytes u (run u es (open_machines u)) (go_on g.events (circuits_open u)) g.beside (world_ok u f g.events);
       grants = run_quiet u es f;
     }
+
+pub every_stream : (u : Setups) (es : List Move) → Fit u → StreamsInOrder u (run u es (open_machines u))
+every_stream u es f p q g s = let a : Agree (half_of (run u es (open_machines u)) true p) (half_of (run u es (open_machines u)) false q) = (every_safe u es f).agree p q s in (a.order_up g, a.order_down g)
+
+pub every_credit : (u : Setups) (es : List Move) → Fit u → SlotsCredited u (run u es (open_machines u))
+every_credit u es f p q s = let a : Agree (half_of (run u es (open_machines u)) true p) (half_of (run u es (open_machines u)) false q) = (every_safe u es f).agree p q s in (a.credited_up, a.credited_down)

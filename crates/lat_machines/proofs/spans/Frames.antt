@@ -1,7 +1,7 @@
 -- Spans of frames, and of a core with the frames that it made.
-use Rattle.std.proofs.Common.{◌≡◌, ℕ, refl, sym, ap, ◌∙◌, Bool, true, false, not, cond, ◌&&◌, List, [], ◌∷◌, ◌++◌, map, length, nat_lt}
+use Rattle.std.proofs.Common.{◌≡◌, ℕ, refl, sym, ◌∙◌, Bool, true, false, not, cond, ◌&&◌, List, [], ◌∷◌, ◌++◌, map}
 use Rattle.lat_model.specs.sessions.Slots.{Slot}
-use Rattle.lat_model.specs.sessions.Session.{put_open, take_open, unframed}
+use Rattle.lat_model.specs.sessions.Session.{put_open, take_open}
 use Rattle.lat_model.specs.sessions.Calls.{Call, Put, Set, Attend, Take, Close}
 use Rattle.lat_model.specs.Lists.{Each}
 use Rattle.lat_model.specs.numbers.Link.{Frame}
@@ -9,7 +9,7 @@ use Rattle.lat_model.specs.ends.End.{Sent, Run, CallStart, ReplyStart, Stopped}
 use Rattle.lat_model.specs.circuits.World.{Table, Wired}
 use Rattle.lat_machines.specs.values.Names.{Name}
 use Rattle.lat_machines.specs.values.Messages.{RunMessage, WideMessage, StartMessage, StopMessage}
-use Rattle.lat_machines.specs.values.Frames.{Value, OfCircuit, OfNotice, Reading, Whole, Malformed, OutFrame}
+use Rattle.lat_machines.specs.values.Frames.{Value, OfCircuit, OfNotice, Whole, Malformed, OutFrame}
 use Rattle.lat_machines.specs.values.Timing.{Timing, is_wide, wide_params}
 use Rattle.lat_machines.specs.values.Runs.{run_message}
 use Rattle.lat_machines.specs.values.Events.{Event, Hears}

@@ -1,23 +1,21 @@
 -- In every run both ends of a circuit have one span, and each RUN is of its kind.
-use Rattle.std.proofs.Common.{◌≡◌, ◌≢◌, ℕ, ⊎_elim, refl, sym, ap, ◌∙◌, subst, Bool, true, false, not, cond, ◌&&◌, ◌||◌, List, [], ◌∷◌, ◌++◌, Option, Some, None, slice_get, nat_eq}
+use Rattle.std.proofs.Common.{◌≡◌, ◌≢◌, ℕ, ⊎_elim, refl, sym, ap, ◌∙◌, subst, Bool, true, false, not, cond, ◌&&◌, List, [], ◌∷◌, Option, Some, None, slice_get, nat_eq}
 use Rattle.std.proofs.lemmas.Bool.{or_parts, false≢true, true≢false, eqb-false}
 use Rattle.lat_model.specs.Lists.{Each}
-use Rattle.lat_model.specs.circuits.World.{Wired, World, table}
+use Rattle.lat_model.specs.circuits.World.{Wired, World}
 use Rattle.lat_model.specs.circuits.Events.{go_on}
 use Rattle.lat_model.proofs.numbers.Net.{each_at}
 use Rattle.lat_machines.specs.values.Notices.{Notice}
 use Rattle.lat_machines.specs.values.Messages.{RunMessage, WideMessage, StartMessage, StopMessage}
 use Rattle.lat_machines.specs.values.Frames.{Value, OfCircuit, OfNotice, Reading, Whole, Malformed, OutFrame}
 use Rattle.lat_machines.specs.values.Events.{Event, Hears, Time, Connects, Puts, Sets, Takes, Attends, Closes, Requests, Withdraws, Announces, is_heard}
-use Rattle.lat_machines.specs.cores.Cores.{setup_of}
 use Rattle.lat_machines.specs.world.Machines.{Setups, Posted, Machines, post_all, Move, Does, HearsFrame, HearsForeign, core_of, own_of, tell, is_for_other, heard_as, counted, marked_delivered, comes, is_own, happens, run, open_machines}
 use Rattle.lat_machines.specs.world.Safe.{Fit, circuits_open}
-use Rattle.lat_machines.specs.world.Ties.{Shown, IsNotice}
+use Rattle.lat_machines.specs.world.Ties.{Shown}
 use Rattle.lat_machines.specs.world.Spans.{both_wide, IsOfSpan, OneSpan}
 use Rattle.lat_machines.proofs.events.Leads.{each_more}
 use Rattle.lat_machines.proofs.events.Tied.{Beside, Goes, happens_goes, open_beside, shows_at, own_tied, sent_to, to_other}
-use Rattle.lat_machines.proofs.spans.Tables.{TableOk}
-use Rattle.lat_machines.proofs.spans.Frames.{Facts, both, ValueOk, FrameOk, CircuitsOk, CoreOk, ReadOk, EventOk}
+use Rattle.lat_machines.proofs.spans.Frames.{Facts, ValueOk, FrameOk, CircuitsOk, CoreOk, EventOk}
 use Rattle.lat_machines.proofs.spans.Servers.{server_span}
 use Rattle.lat_machines.proofs.spans.Nodes.{node_span}
 

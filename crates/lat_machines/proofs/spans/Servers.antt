@@ -1,14 +1,14 @@
 -- What every event of a server keeps of spans.
-use Rattle.std.proofs.Common.{◌≡◌, ℕ, suc, refl, ap, ap₂, ◌∙◌, Bool, true, false, not, cond, ◌&&◌, List, [], ◌∷◌, ◌++◌, Option, Some, None, nat_eq, nat_lt}
+use Rattle.std.proofs.Common.{◌≡◌, ℕ, suc, ap, ap₂, Bool, true, false, cond, ◌&&◌, List, [], ◌∷◌, ◌++◌, Option, Some, None, nat_eq, nat_lt}
 use Rattle.lat_model.specs.sessions.Sessions.{least_free}
 use Rattle.lat_model.specs.sessions.Calls.{Connect}
 use Rattle.lat_model.specs.Lists.{updated, upwards}
 use Rattle.lat_model.specs.circuits.Arriving.{living}
 use Rattle.lat_machines.specs.values.Names.{Name}
 use Rattle.lat_machines.specs.values.Addresses.{everyone}
-use Rattle.lat_machines.specs.values.Messages.{StartInfo, RunMessage, WideMessage, StartMessage, StopMessage}
+use Rattle.lat_machines.specs.values.Messages.{RunMessage, WideMessage, StartMessage, StopMessage}
 use Rattle.lat_machines.specs.values.Notices.{Kept, KeptAs, Unknown, Action, Ask, Cancel, Command, AnnouncementNotice, CommandNotice, StatusNotice, SolicitNotice, ResponseNotice}
-use Rattle.lat_machines.specs.values.Frames.{Value, OfCircuit, OfNotice, Whole, Malformed, OutFrame}
+use Rattle.lat_machines.specs.values.Frames.{Value, OfCircuit, OfNotice, Whole, Malformed}
 use Rattle.lat_machines.specs.values.Timing.{is_wide, agreed_by}
 use Rattle.lat_machines.specs.values.Keys.{Key}
 use Rattle.lat_machines.specs.values.Events.{Numbers, Event, Hears, Time, Connects, Puts, Sets, Takes, Attends, Closes, Requests, Withdraws, Announces}

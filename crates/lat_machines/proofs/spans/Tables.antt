@@ -4,7 +4,7 @@ use Rattle.std.proofs.lemmas.Bool.{and_parts, true≢false, false≢true, eqb-fa
 use Rattle.lat_model.specs.sessions.Slots.{Slot}
 use Rattle.lat_model.specs.sessions.Calls.{Call}
 use Rattle.lat_model.specs.Lists.{Each}
-use Rattle.lat_model.specs.ends.End.{Sent, Stopped, End, Step, lives, call_end}
+use Rattle.lat_model.specs.ends.End.{Sent, End, Step, lives, call_end}
 use Rattle.lat_model.specs.ends.Timers.{note_empty, time_step}
 use Rattle.lat_model.specs.ends.Run.{run_end}
 use Rattle.lat_model.specs.ends.Starting.{Agreed, Setup, reply_end, make_slave, again_start, hear_reply, hear_stop}

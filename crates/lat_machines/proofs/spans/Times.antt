@@ -1,5 +1,5 @@
 -- Only a circuit that runs sends a RUN or a reply at a time event.
-use Rattle.std.proofs.Common.{◌≡◌, ℕ, suc, ◌+◌, ◌*◌, refl, sym, ap, ◌∙◌, subst, Bool, true, false, not, cond, ◌&&◌, List, [], ◌∷◌, ◌++◌, Some, nat_eq, nat_lt, nat_le}
+use Rattle.std.proofs.Common.{◌≡◌, ℕ, suc, ◌*◌, refl, sym, ap, subst, Bool, true, false, cond, ◌&&◌, List, [], ◌∷◌, ◌++◌, Some, nat_eq, nat_lt}
 use Rattle.lat_model.specs.Lists.{Each}
 use Rattle.lat_model.specs.ends.End.{Sent, Run, CallStart, ReplyStart, Stopped, End, Step, still, then_do, lives, finish, send_bare, send_start}
 use Rattle.lat_model.specs.ends.Timers.{passed, unused, a_round, rounds_step, alive_step, due_step, living, time_step}
@@ -60,6 +60,7 @@ rests_rounds d =
     (rests_then (record d { start_at = d.moment; sent_at = d.moment; rounds = suc d.rounds }) (CallStart ∷ []) (refl, tt))
     (rests_then (record d { ended = Some 6 }) (finish 6 (resting d)).sent (plain_finish 6 (resting d))))
     (rests_then d [] tt)
+
 rests_time : (now : ℕ) (e : End) → Plainly (time_step now (resting e)).sent
 rests_time now e =
     let d : End = record e { moment = now } in

@@ -1,11 +1,20 @@
 -- What holds of every run of the two machines.
 use Rattle.std.specs.Prelude.{◌≡◌, ◌≢◌, ℕ, ◌≤◌, ◌<◌, Bool, true, false, not, List, [], Some, None, slice_get}
+use Rattle.lat_model.specs.sessions.Slots.{Slot}
+use Rattle.lat_model.specs.sessions.Session.{Session}
+use Rattle.lat_model.specs.sessions.Sessions.{of_generation}
+use Rattle.lat_model.specs.numbers.Link.{Link, Frame}
+use Rattle.lat_model.specs.numbers.NetOk.{FrameOf}
 use Rattle.lat_model.specs.ends.End.{Half}
 use Rattle.lat_model.specs.circuits.World.{World}
 use Rattle.lat_model.specs.circuits.Events.{WorldEvent, go_on, open_world}
+use Rattle.lat_model.specs.circuits.InOrder.{Stream}
+use Rattle.lat_model.specs.circuits.History.{Credited}
 use Rattle.lat_model.specs.circuits.Agree.{Agree}
 use Rattle.lat_machines.specs.values.Addresses.{everyone}
-use Rattle.lat_machines.specs.values.Frames.{Whole}
+use Rattle.lat_machines.specs.values.Messages.{RunMessage, WideMessage, StartMessage, StopMessage}
+use Rattle.lat_machines.specs.values.Frames.{Value, OfCircuit, OfNotice, Whole, OutFrame}
+use Rattle.lat_machines.specs.values.Runs.{slots_in}
 use Rattle.lat_machines.specs.server.Queue.{LegalQueue}
 use Rattle.lat_machines.specs.values.Events.{Event, Hears}
 use Rattle.lat_machines.specs.values.Answers.{Answer, Circuit, Broke, Bad}
@@ -13,7 +22,8 @@ use Rattle.lat_machines.specs.cores.Cores.{setup_of}
 use Rattle.lat_machines.specs.server.Server.{ServerConfig, Server, server_step, offer_on, grantable}
 use Rattle.lat_machines.specs.node.Node.{node_step}
 use Rattle.lat_machines.specs.world.Machines.{Setups, Posted, Machines, core_of, own_of, tell, is_for_other, heard_as}
-use Rattle.lat_machines.specs.world.Young.{IsYoung}
+use Rattle.lat_machines.specs.world.Young.{link_of, IsYoung}
+use Rattle.lat_machines.specs.world.Spans.{OneSpan}
 use Rattle.lat_machines.specs.world.Ties.{Ties}
 
 -- what the theorems ask of two configurations
@@ -36,6 +46,9 @@ pub record IsCircuits (u : Setups) (m : Machines) : Type 0 where
 abbrev pub half_of : Machines → Bool → ℕ → Half
 half_of m b x = ((core_of m b).circuits.circuit_at x).end.half
 
+abbrev pub session_at : Machines → Bool → ℕ → ℕ → Session
+session_at m b x g = of_generation (half_of m b x).sessions g
+
 -- the circuit q of the node is that of a circuit of the server, which heard its reply
 pub record Shared (u : Setups) (m : Machines) (p : ℕ) (q : ℕ) : Type 0 where
   pub names : (m.node.core.circuits.circuit_at q).end.peer ≡ p
@@ -43,9 +56,43 @@ pub record Shared (u : Setups) (m : Machines) (p : ℕ) (q : ℕ) : Type 0 where
   pub running : (m.server.core.circuits.circuit_at p).end.running ≡ true
   pub peer : (m.server.core.circuits.circuit_at p).end.peer ≡ q
 
--- streams in order both ways, sessions matched by their generations, each credited slot with its credit
+-- the whole invariant of two ends: numbers, streams, sessions, credits, ids
 abbrev pub EndsAgree : Setups → Machines → Type 0
 EndsAgree u m = (p q : ℕ) → Shared u m p q → Agree (half_of m true p) (half_of m false q)
+
+-- what one end took of a session is a prefix of what the other put, both ways
+abbrev pub StreamsInOrder : Setups → Machines → Type 0
+StreamsInOrder u m =
+    (p q g : ℕ) →
+    Shared u m p q →
+    Stream (session_at m true p g) (session_at m false q g) × Stream (session_at m false q g) (session_at m true p g)
+
+-- each credited slot of either end had its credit
+abbrev pub SlotsCredited : Setups → Machines → Type 0
+SlotsCredited u m = (p q : ℕ) → Shared u m p q → Credited (half_of m true p) × Credited (half_of m false q)
+
+-- A RUN is true to its sender: its number is at most that of the newest message, its acknowledgement was shown, and its slots
+-- are those of the message of its number
+pub record TrueFrame (l : Link (List Slot)) (f : OutFrame) (slots : List Slot) : Type 0 where
+  pub frame : Frame (List Slot)
+  pub number : f.number ≡ frame.number
+  pub acknowledgement : f.acknowledgement ≡ frame.acknowledgement
+  pub bears : slots ≡ slots_in frame
+  pub holds : FrameOf (List Slot) l frame
+
+abbrev pub TrueValue : Link (List Slot) → OutFrame → Value → Type 0
+TrueValue l f (OfCircuit (RunMessage h slots)) = TrueFrame l f slots
+TrueValue l f (OfCircuit (WideMessage h slots)) = TrueFrame l f slots
+TrueValue l f (OfCircuit (StartMessage master ask to from info)) = Unit {0}
+TrueValue l f (OfCircuit (StopMessage master ask to from reason text)) = Unit {0}
+TrueValue l f (OfNotice n) = Unit {0}
+
+abbrev pub FramesAreTrue : Setups → Machines → Type 0
+FramesAreTrue u m =
+    (i : ℕ) (p : Posted) →
+    slice_get m.posts i ≡ Some p →
+    is_for_other u p ≡ true →
+    TrueValue (link_of m p.by_server p.frame.circuit) p.frame p.frame.value
 
 -- what an end would answer
 abbrev pub answer_by : Setups → Machines → Bool → Event → Answer
@@ -86,6 +133,8 @@ NoGrant config state =
 pub record Safe (u : Setups) (m : Machines) : Type 0 where
   pub circuits : IsCircuits u m
   pub agree : EndsAgree u m
+  pub spans : OneSpan u m
+  pub true_frames : FramesAreTrue u m
   pub queue : LegalQueue m.server.queue
   pub whole : NeverBreaks u m
   pub readable : NeverMalformed u m
