@@ -14,7 +14,7 @@ pub struct NoCredit;
 pub struct TooMany;
 
 /// The account of one session: what this end gives, and what was given to it. It stands for an account of totals, by the
-/// relation `Keeps`. See "Credits" in docs/PROTOCOL.md.
+/// relation `Keeps`. See "Items and credits" in docs/PROTOCOL.md.
 #[derive(Clone, Copy, Debug)]
 pub struct Credits {
     ceiling: u8,

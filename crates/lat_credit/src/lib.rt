@@ -1,4 +1,4 @@
-//! The credits of a session, as docs/PROTOCOL.md says under "Credits": small counters in the value, totals that are never
+//! The credits of a session, as docs/PROTOCOL.md says under "Items and credits": small counters in the value, totals that are never
 //! forgotten in the contracts.
 #![tactic(auto)]
 

@@ -1,4 +1,4 @@
-//! The numbers of the messages of one direction of a circuit, as docs/PROTOCOL.md says under "Message numbers": fields of
+//! The numbers of the messages of one direction of a circuit, as docs/PROTOCOL.md says under "Messages and numbers": fields of
 //! one or two bytes in the values, unbounded numbers in the contracts.
 #![tactic(auto)]
 

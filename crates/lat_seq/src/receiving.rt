@@ -9,7 +9,7 @@ use crate::span::Span;
 use std::marker::Model;
 
 /// The side that takes messages: the field of the last one taken. It stands for a number of messages taken, by the relation
-/// `Takes`. See "Message numbers" in docs/PROTOCOL.md.
+/// `Takes`. See "Messages and numbers" in docs/PROTOCOL.md.
 #[derive(Clone, Copy, Debug)]
 pub struct RecvSide {
     span: Span,

@@ -22,7 +22,7 @@ pub enum AckFact {
 
 /// The side that forms messages: the field of the last one known to be taken, and how many came behind it. It stands for two
 /// numbers, of the messages formed and of those known to be taken, by the relation `Sends`. The window is kept for life: an
-/// end that agrees on another one makes a new side. See "Message numbers" in docs/PROTOCOL.md.
+/// end that agrees on another one makes a new side. See "Messages and numbers" in docs/PROTOCOL.md.
 #[derive(Clone, Copy, Debug)]
 pub struct SendSide {
     span: Span,

@@ -4,7 +4,7 @@ ghost use Rattle.std.specs.Prelude.{◌≡◌, ◌+◌, ◌*◌, ◌%◌, ◌<�
 ghost use Rattle.lat_model.specs.numbers.Near.{ahead};
 ghost use Rattle.lat_seq.specs.Spans.{half, field};
 
-/// How many bytes a number has in a frame; see "Message numbers" in docs/PROTOCOL.md.
+/// How many bytes a number has in a frame; see "Messages and numbers" in docs/PROTOCOL.md.
 #[derive(Clone, Copy, Debug, PartialEq, Eq)]
 pub enum Span {
     /// One byte: numbers count modulo 256.
