@@ -17,3 +17,5 @@ pub mod News
 pub mod Bounds
 pub mod Alone
 pub mod Peers
+pub mod Smalls
+pub mod Low

@@ -7,8 +7,8 @@ ghost use Rattle.lat_model.specs.sessions.Session.{Session, free, held_slots};
 ghost use Rattle.lat_model.specs.sessions.Sessions.{Sessions, named, held, least_free};
 ghost use Rattle.lat_model.specs.sessions.Calls.{Call, call};
 ghost use Rattle.lat_model.specs.sessions.Hearing.{hear_slot};
-ghost use Rattle.lat_model.specs.sessions.Slots.{Slot, items, credits, costs, source, is_start};
-ghost use Rattle.lat_model.specs.sessions.EndOk.{EndOk, Accounts, Small};
+ghost use Rattle.lat_model.specs.sessions.Slots.{Slot, items, items_of, credits, costs, source, is_start};
+ghost use Rattle.lat_model.specs.sessions.EndOk.{EndOk, Accounts, Small, AllSmall, IdsWithin};
 ghost use Rattle.lat_model.specs.sessions.PeersApart.{PeersApart};
 ghost use Rattle.lat_model.specs.numbers.Link.{Frame};
 ghost use Rattle.lat_model.specs.ends.End.{Mark, Run};
@@ -218,6 +218,21 @@ pub fn sessions_stand_apart()
         credits (e.session k).out + held_slots (e.session k) ≤ e.ceiling + costs (e.session k).came }
 {}
 
+/// An end whose agreed number is at most `n` uses the ids from 1 to `n` alone (`IdsWithin`): a new end has used none, and it
+/// stays so at each local call, each slot heard and each turn of packing. So every other id is free (`past`).
+pub fn ids_stay_low()
+    ensures begins { (n sessions ceiling : ℕ) (master : Bool) → IdsWithin n (no_sessions master sessions ceiling) }
+    ensures calls { (n : ℕ) (e : Sessions) (c : Call) → EndOk e → e.agreed ≤ n → IdsWithin n e → IdsWithin n (call e c) }
+    ensures hears { (n : ℕ) (e f : Sessions) (x : Slot) →
+        EndOk e →
+        e.agreed ≤ n →
+        IdsWithin n e →
+        hear_slot e x ≡ Some f →
+        IdsWithin n f }
+    ensures turns { (n : ℕ) (p : Packing) (k : ℕ) → IdsWithin n p.after → IdsWithin n (turn p k).after }
+    ensures past { (n : ℕ) (e : Sessions) (i : ℕ) → EndOk e → IdsWithin n e → n < i → free (named e i) ≡ true }
+{}
+
 /// At most 255 rejects of a slave wait: each is for another source of a peer's start (`PeersApart`), which a new end has, and
 /// which stays at each local call, each slot heard and each turn of packing.
 pub fn waiting_rejects_fit()
@@ -234,12 +249,22 @@ pub fn waiting_rejects_fit()
     ensures fit { (e : Sessions) → e.master ≡ false → EndOk e → PeersApart e → length (waiting_rejects e) ≤ 255 }
 {}
 
-/// The heard items of a session that wait to be taken are at most 15 slots of 255 items.
+/// The heard items of a session that wait to be taken are at most 15 slots of 255 items (`fit`). That no slot heard has more
+/// items (`AllSmall`) holds of a new end, and stays at each local call, each slot heard that has at most 255, and each turn
+/// of packing.
 pub fn heard_items_fit()
-    ensures { (ceiling : ℕ) (s : Session) →
+    ensures fit { (ceiling : ℕ) (s : Session) →
         ceiling ≤ 15 →
         Accounts ceiling s →
         Small s.came →
         s.closed ≡ false →
         length (items s.came) - s.taken ≤ 3825 }
+    ensures begins { (master : Bool) (sessions ceiling : ℕ) → AllSmall (no_sessions master sessions ceiling) }
+    ensures calls { (e : Sessions) (c : Call) → AllSmall e → AllSmall (call e c) }
+    ensures hears { (e f : Sessions) (x : Slot) →
+        AllSmall e →
+        length (items_of x) ≤ 255 →
+        hear_slot e x ≡ Some f →
+        AllSmall f }
+    ensures turns { (p : Packing) (k : ℕ) → AllSmall p.after → AllSmall (turn p k).after }
 {}

@@ -1,5 +1,5 @@
 -- What one end alone knows of its sessions, whatever its peer sends.
-use Rattle.std.specs.Prelude.{◌≡◌, ℕ, ◌+◌, ◌<◌, ◌≤◌, ◌≢◌, Bool, true, false, List, [], ◌∷◌, length}
+use Rattle.std.specs.Prelude.{◌≡◌, ℕ, ◌+◌, ◌<◌, ◌≤◌, ◌≢◌, ◌⊎◌, Bool, true, false, List, [], ◌∷◌, length}
 use Rattle.lat_model.specs.sessions.Slots.{Slot, Start, DataA, DataB, Attention, Reject, Stop, destination, source, items_of, is_start, is_ask, is_reject, is_stop, items, credits, costs, starts}
 use Rattle.lat_model.specs.sessions.Session.{Session, answered, free, peer, blank, held_slots}
 use Rattle.lat_model.specs.sessions.Sessions.{Sessions}
@@ -83,3 +83,11 @@ pub record EndOk (e : Sessions) : Type 0 where
 -- no slot has more than 255 items, as its length byte says
 abbrev pub Small : List Slot → Type 0
 Small xs = Each (λ x. length (items_of x) ≤ 255) xs
+
+-- no slot that an end heard has more
+abbrev pub AllSmall : Sessions → Type 0
+AllSmall e = (k : ℕ) → Small (e.session k).came
+
+-- no id but those from 1 to n was ever used
+abbrev pub IdsWithin : ℕ → Sessions → Type 0
+IdsWithin n e = (i : ℕ) → (i ≡ 0) ⊎ (n < i) → e.at_id i ≡ 0
