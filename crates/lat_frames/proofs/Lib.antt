@@ -1,0 +1,11 @@
+pub mod FirstByte
+pub mod SlotsLoop
+pub mod EachSlot
+pub mod Taken
+pub mod MessageTaken
+pub mod Steps
+pub mod HeadFound
+pub mod InfoFound
+pub mod MessageFound
+pub mod Written
+pub mod Outcomes

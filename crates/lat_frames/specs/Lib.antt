@@ -1,0 +1,6 @@
+pub mod Heads
+pub mod Conditions
+pub mod MessageText
+pub mod Written
+pub mod Reading
+pub mod Laws

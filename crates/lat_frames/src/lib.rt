@@ -1,9 +1,21 @@
 //! The messages of a circuit: read, tested and written as whole payloads.
 #![tactic(auto)]
 
+mod check;
+pub mod laws;
 mod message;
+mod read;
+mod read_head;
+mod read_run;
+mod read_start;
 mod slots;
+#[cfg(test)]
+mod tests;
+mod write;
 
+pub use check::message_ok;
 pub use lat_fields::LayoutFault as FrameFault;
 pub use message::{Head, Message, StartInfo, WideHead};
+pub use read::read_message;
 pub use slots::Slots;
+pub use write::{write_message, write_run_head, write_wide_head};

@@ -1,0 +1,147 @@
+-- Reading circuit messages from left to right, in the order of their layouts.
+use Rattle.std.specs.Prelude.{ℕ, zero, suc, ◌+◌, ◌/◌, Bool, true, ◌&&◌, ◌||◌, ◌==◌, nat_lt, nat_le, if◌then◌else◌, List, [], ◌∷◌, length, Result, Ok}
+use Rattle.lat_base.specs.declared.field.Field.TheVariants.{SlotCount, DestinationCircuit, SourceCircuit, Sequence, Acknowledgement, FrameSize, Version, Eco, Sessions, Extra, Timer, KeepAlive, Facility, ProductType, ProductVersion, SlaveName, MasterName, Location, Reason, Text}
+use Rattle.lat_base.specs.declared.field.Bad.{Bad}
+use Rattle.lat_fields.specs.Reading.{◌>>=◌, wanted, byte_at, number_at, counted_at, name_at}
+use Rattle.lat_fields.specs.ParamsReading.{params_at}
+use Rattle.lat_fields.specs.Payloads.{payload_at}
+use Rattle.lat_slots.specs.declared.slot.Slot.{Slot}
+use Rattle.lat_slots.specs.Reading.{slot_at}
+use Rattle.lat_frames.specs.declared.message.Message.{Message}
+use Rattle.lat_frames.specs.declared.message.Message.TheVariants.{Run, Wide, Start, Stop}
+use Rattle.lat_frames.specs.declared.message.StartInfo.{StartInfo}
+use Rattle.lat_frames.specs.declared.read_head.Circuits.{Circuits}
+use Rattle.lat_frames.specs.declared.read_start.Limits.{Limits}
+use Rattle.lat_frames.specs.Heads.{is_master, asks}
+
+-- the types of circuit messages: RUN, START, STOP and wide RUN
+abbrev pub is_kind : ℕ → Bool
+is_kind kind = kind == 0 || kind == 1 || kind == 2 || kind == 4
+
+-- in a START of the master 0, else not 0
+abbrev pub destination_fits : ℕ → ℕ → Bool
+destination_fits first to = if first / 4 == 1 && is_master first then to == 0 else nat_lt 0 to
+
+-- any in a STOP, else not 0
+abbrev pub source_fits : ℕ → ℕ → Bool
+source_fits first from = first / 4 == 2 || nat_lt 0 from
+
+-- the number of slots and the two circuits, which stand behind the first byte
+unfoldable pub circuits_at : ℕ → ℕ → List ℕ → Result (Circuits × ℕ × List ℕ) Bad
+circuits_at first place bytes = do
+  slots ← byte_at SlotCount place place bytes
+  to ← number_at DestinationCircuit slots.1 slots.2
+  a ← wanted (destination_fits first to.0) DestinationCircuit slots.1
+  from ← number_at SourceCircuit to.1 to.2
+  b ← wanted (source_fits first from.0) SourceCircuit to.1
+  Ok (record { slots = slots.0; to = to.0; from = from.0 }, from.1, from.2)
+
+abbrev pub timer_fits : Bool → ℕ → Bool
+timer_fits master timer = if master then nat_lt 0 timer && nat_le timer 100 else true
+
+abbrev pub keepalive_fits : Bool → ℕ → Bool
+keepalive_fits master keepalive = if master then nat_lt 0 keepalive else true
+
+-- what the sender of a START can do, with the times of the circuit
+unfoldable pub limits_at : Bool → ℕ → List ℕ → Result (Limits × ℕ × List ℕ) Bad
+limits_at master place bytes = do
+  size ← number_at FrameSize place bytes
+  a ← wanted (nat_le 576 size.0 && nat_le size.0 1518) FrameSize place
+  version ← byte_at Version size.1 size.1 size.2
+  b ← wanted (version.0 == 5) Version size.1
+  eco ← byte_at Eco version.1 version.1 version.2
+  sessions ← byte_at Sessions eco.1 eco.1 eco.2
+  c ← wanted (nat_lt 0 sessions.0) Sessions eco.1
+  extra ← byte_at Extra sessions.1 sessions.1 sessions.2
+  timer ← byte_at Timer extra.1 extra.1 extra.2
+  d ← wanted (timer_fits master timer.0) Timer extra.1
+  keepalive ← byte_at KeepAlive timer.1 timer.1 timer.2
+  e ← wanted (keepalive_fits master keepalive.0) KeepAlive timer.1
+  Ok (record { size = size.0; eco = eco.0; sessions = sessions.0; extra = extra.0; timer = timer.0; keepalive = keepalive.0 }, keepalive.1, keepalive.2)
+
+-- what a START tells of its sender, with at most so many parameters
+unfoldable pub info_at : ℕ → Bool → ℕ → List ℕ → Result (StartInfo × ℕ × List ℕ) Bad
+info_at most master place bytes = do
+  limits ← limits_at master place bytes
+  facility ← number_at Facility limits.1 limits.2
+  product ← byte_at ProductType facility.1 facility.1 facility.2
+  version ← byte_at ProductVersion product.1 product.1 product.2
+  slave ← name_at SlaveName version.1 version.2
+  name ← name_at MasterName slave.1 slave.2
+  location ← counted_at Location name.1 name.1 name.2
+  params ← params_at most location.1 location.2
+  Ok (
+    record {
+      size = limits.0.size;
+      eco = limits.0.eco;
+      sessions = limits.0.sessions;
+      extra = limits.0.extra;
+      timer = limits.0.timer;
+      keepalive = limits.0.keepalive;
+      facility = facility.0;
+      product = product.0;
+      product_version = version.0;
+      slave = slave.0;
+      name = name.0;
+      location = location.0;
+      params = params.0;
+    },
+    params.1,
+    params.2,
+  )
+
+unfoldable pub start_at : ℕ → ℕ → Circuits → ℕ → List ℕ → Result (Message × ℕ × List ℕ) Bad
+start_at most first circuits place bytes = do
+  seq ← byte_at Sequence place place bytes
+  ack ← byte_at Acknowledgement seq.1 seq.1 seq.2
+  info ← info_at most (is_master first) ack.1 ack.2
+  Ok (Start (is_master first) (asks first) circuits.to circuits.from info.0, info.1, info.2)
+
+unfoldable pub stop_at : ℕ → Circuits → ℕ → List ℕ → Result (Message × ℕ × List ℕ) Bad
+stop_at first circuits place bytes = do
+  seq ← byte_at Sequence place place bytes
+  ack ← byte_at Acknowledgement seq.1 seq.1 seq.2
+  reason ← byte_at Reason ack.1 ack.1 ack.2
+  text ← counted_at Text reason.1 reason.1 reason.2
+  Ok (Stop (is_master first) (asks first) circuits.to circuits.from reason.0 text.0, text.1, text.2)
+
+-- so many slots
+unfoldable pub slots_at : ℕ → ℕ → List ℕ → Result (List Slot × ℕ × List ℕ) Bad
+slots_at zero place bytes = Ok ([], place, bytes)
+slots_at (suc count) place bytes = do
+  slot ← slot_at place bytes
+  more ← slots_at count slot.1 slot.2
+  Ok (slot.0 ∷ more.0, more.1, more.2)
+
+unfoldable pub run_at : ℕ → Circuits → ℕ → List ℕ → Result (Message × ℕ × List ℕ) Bad
+run_at first circuits place bytes = do
+  seq ← byte_at Sequence place place bytes
+  ack ← byte_at Acknowledgement seq.1 seq.1 seq.2
+  slots ← slots_at circuits.slots ack.1 ack.2
+  Ok (Run (record { master = is_master first; ask = asks first; to = circuits.to; from = circuits.from; seq = seq.0; ack = ack.0 }) slots.0, slots.1, slots.2)
+
+-- as a RUN, but its two numbers have two bytes
+unfoldable pub wide_at : ℕ → Circuits → ℕ → List ℕ → Result (Message × ℕ × List ℕ) Bad
+wide_at first circuits place bytes = do
+  seq ← number_at Sequence place bytes
+  ack ← number_at Acknowledgement seq.1 seq.2
+  slots ← slots_at circuits.slots ack.1 ack.2
+  Ok (Wide (record { master = is_master first; ask = asks first; to = circuits.to; from = circuits.from; seq = seq.0; ack = ack.0 }) slots.0, slots.1, slots.2)
+
+-- what stands behind the two circuits, by the type
+unfoldable pub tail_at : ℕ → ℕ → Circuits → ℕ → List ℕ → Result (Message × ℕ × List ℕ) Bad
+tail_at most first circuits place bytes =
+    if first / 4 == 0 then run_at first circuits place bytes
+    else if first / 4 == 1 then start_at most first circuits place bytes
+    else if first / 4 == 2 then stop_at first circuits place bytes
+    else wide_at first circuits place bytes
+
+-- what stands behind the first byte; there are never more parameters than bytes
+unfoldable pub message_at : ℕ → List ℕ → Result (Message × ℕ × List ℕ) Bad
+message_at first bytes = do
+  circuits ← circuits_at first 1 bytes
+  tail_at (length bytes + 2) first circuits.0 circuits.1 circuits.2
+
+-- the message that the payload is, or the first bad field
+unfoldable pub message_read : List ℕ → Result Message Bad
+message_read payload = payload_at is_kind message_at payload

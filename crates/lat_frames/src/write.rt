@@ -1,0 +1,193 @@
+//! Writing a circuit message as a payload.
+
+ghost use Rattle.std.specs.Prelude.{◌≡◌, ◌+◌, ◌<◌, ◌≤◌, [], ◌∷◌, ◌++◌, length};
+ghost use Rattle.std.specs.List.{AllByRecursion};
+ghost use Rattle.lat_fields.specs.Params.{IsEntry};
+ghost use Rattle.lat_fields.specs.Payloads.{padded};
+ghost use Rattle.lat_slots.specs.Layout.{IsWritable as SlotIsWritable};
+ghost use Rattle.lat_frames.specs.Heads.{bit, first_byte, head_text, run_head, wide_head};
+ghost use Rattle.lat_frames.specs.MessageText.{info_text, names_text, numbers_text};
+ghost use Rattle.lat_frames.specs.Written.{IsWritable, message_text, slots_text};
+
+use crate::message::{Head, Message, StartInfo, WideHead};
+use crate::read_head::{RUN, START, STOP, WIDE_RUN};
+use crate::read_start::VERSION;
+use lat_base::Payload;
+use lat_fields::{write_counted, write_number, write_padding, write_params};
+use lat_slots::{Slot, write_slot};
+
+fn bit(set: bool) -> u8
+    ensures value { result ≡ bit set }
+    ensures small { result ≤ 1 }
+{
+    if set { 1 } else { 0 }
+}
+
+fn first_byte(kind: u8, master: bool, ask: bool) -> u8
+    requires { kind < 16 }
+    ensures { result ≡ first_byte kind master ask }
+{
+    kind * 4 + bit(master) * 2 + bit(ask)
+}
+
+// The head up to its message numbers.
+fn write_circuits(
+    kind: u8,
+    master: bool,
+    ask: bool,
+    slots: u8,
+    to: u16,
+    from: u16,
+    out: &mut Payload,
+)
+    requires kind { kind < 16 }
+    requires room { length out.old + 6 ≤ 1500 }
+    ensures { out.new ≡ out.old ++ head_text kind master ask slots to from [] }
+{
+    out.push(first_byte(kind, master, ask));
+    out.push(slots);
+    write_number(out, to);
+    write_number(out, from);
+}
+
+/// Adds the head of a RUN with so many slots, eight bytes, at the end. They must fit into the payload.
+pub fn write_run_head(head: &Head, slots: u8, out: &mut Payload)
+    requires { length out.old + 8 ≤ 1500 }
+    ensures { out.new ≡ out.old ++ run_head head.now slots }
+{
+    write_circuits(RUN, head.master, head.ask, slots, head.to, head.from, out);
+    out.push(head.seq);
+    out.push(head.ack);
+}
+
+/// Adds the head of a wide RUN with so many slots, ten bytes, at the end. They must fit into the payload.
+pub fn write_wide_head(head: &WideHead, slots: u8, out: &mut Payload)
+    requires { length out.old + 10 ≤ 1500 }
+    ensures { out.new ≡ out.old ++ wide_head head.now slots }
+{
+    write_circuits(
+        WIDE_RUN,
+        head.master,
+        head.ask,
+        slots,
+        head.to,
+        head.from,
+        out,
+    );
+    write_number(out, head.seq);
+    write_number(out, head.ack);
+}
+
+// The head of a START or a STOP, whose number of slots and message numbers aren't kept.
+fn write_plain_head(kind: u8, master: bool, ask: bool, to: u16, from: u16, out: &mut Payload)
+    requires kind { kind < 16 }
+    requires room { length out.old + 8 ≤ 1500 }
+    ensures { out.new ≡ out.old ++ head_text kind master ask 0 to from (0 ∷ 0 ∷ []) }
+{
+    write_circuits(kind, master, ask, 0, to, from, out);
+    out.push(0);
+    out.push(0);
+}
+
+fn write_slots(slots: &[Slot], out: &mut Payload)
+    requires ok { AllByRecursion SlotIsWritable slots.now }
+    requires room { length out.old + length (slots_text slots.now) ≤ 1500 }
+    ensures { out.new ≡ out.old ++ slots_text slots.now }
+{
+    for slot in slots {
+        write_slot(slot, out);
+    }
+}
+
+// What a START tells of its sender in numbers.
+fn write_numbers(info: &StartInfo, out: &mut Payload)
+    requires { length out.old + 12 ≤ 1500 }
+    ensures { out.new ≡ out.old ++ numbers_text info.now }
+{
+    write_number(out, info.size);
+    out.append(&[
+        VERSION,
+        info.eco,
+        info.sessions,
+        info.extra,
+        info.timer,
+        info.keepalive,
+    ]);
+    write_number(out, info.facility);
+    out.push(info.product);
+    out.push(info.product_version);
+}
+
+fn write_names(info: &StartInfo, out: &mut Payload)
+    requires location { length info.now.location < 256 }
+    requires params { AllByRecursion IsEntry info.now.params }
+    requires room { length out.old + length (names_text info.now) ≤ 1500 }
+    ensures { out.new ≡ out.old ++ names_text info.now }
+{
+    write_counted(out, info.slave.bytes());
+    write_counted(out, info.name.bytes());
+    write_counted(out, info.location.as_slice());
+    write_params(out, &info.params);
+}
+
+fn write_info(info: &StartInfo, out: &mut Payload)
+    requires location { length info.now.location < 256 }
+    requires params { AllByRecursion IsEntry info.now.params }
+    requires room { length out.old + length (info_text info.now) ≤ 1500 }
+    ensures { out.new ≡ out.old ++ info_text info.now }
+{
+    write_numbers(info, out);
+    write_names(info, out);
+}
+
+fn write_text(m: &Message, out: &mut Payload)
+    requires ok { IsWritable m.now }
+    requires empty { out.old ≡ [] }
+    ensures { out.new ≡ message_text m.now }
+{
+    match m {
+        Message::Run { head, slots } => {
+            let slots = slots.as_slice();
+            write_run_head(head, slots.len() as u8, out);
+            write_slots(slots, out);
+        }
+        Message::Wide { head, slots } => {
+            let slots = slots.as_slice();
+            write_wide_head(head, slots.len() as u8, out);
+            write_slots(slots, out);
+        }
+        Message::Start {
+            master,
+            ask,
+            to,
+            from,
+            info,
+        } => {
+            write_plain_head(START, *master, *ask, *to, *from, out);
+            write_info(info, out);
+        }
+        Message::Stop {
+            master,
+            ask,
+            to,
+            from,
+            reason,
+            text,
+        } => {
+            write_plain_head(STOP, *master, *ask, *to, *from, out);
+            out.push(*reason);
+            write_counted(out, text.as_slice());
+        }
+    }
+}
+
+/// Writes the message into an empty payload: its text, in which 0 stands where nothing is kept, with zeros up to 46
+/// bytes. The message must be one that `message_ok` accepts. Takes no memory.
+pub fn write_message(m: &Message, out: &mut Payload)
+    requires ok { IsWritable m.now }
+    requires empty { out.old ≡ [] }
+    ensures { out.new ≡ padded (message_text m.now) }
+{
+    write_text(m, out);
+    write_padding(out);
+}
