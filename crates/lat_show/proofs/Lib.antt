@@ -1,0 +1,2 @@
+pub mod LinesShown
+pub mod Onto

@@ -1,0 +1,7 @@
+pub mod ParamsShown
+pub mod SlotShown
+pub mod MessageShown
+pub mod NoticeShown
+pub mod BadShown
+pub mod PayloadShown
+pub mod ShowOf

@@ -1,0 +1,240 @@
+//! Notices in print.
+
+ghost use Rattle.std.specs.Prelude.{◌≡◌, ◌++◌, OnOk, string_bytes};
+ghost use Rattle.std.specs.List.{flat_map};
+ghost use Rattle.lat_notices.specs.Outcomes.{action_number, outcome_number, outcome_place};
+ghost use Rattle.lat_show.specs.NoticeShown.{service_shown, request_shown, offer_shown, announcer_shown, groups_shown, node_shown, description_shown, rated_shown, question_shown, announcement_shown, command_shown, outcome_shown, status_shown, solicit_shown, response_shown, notice_shown};
+
+use lat_base::{Bytes, Kept, Name};
+use lat_notices::{
+    Action, Announcement, Command, Notice, Outcome, Response, Service, Solicit, Status,
+};
+use lat_text::{hex_onto, name_onto};
+use std::alloc::{AllocError, Global};
+
+fn description_onto(alloc: Global, text: &mut String, description: &[u8]) -> Result<(), AllocError>
+    ensures { OnOk result (string_bytes text.new ≡ string_bytes text.old ++ description_shown description.now) }
+{
+    text.push_str(" description ")?;
+    hex_onto(alloc, text, description)
+}
+
+#[tactic(auto, unfolding(crate::specs::NoticeShown::rated_shown))]
+fn rated_onto(
+    alloc: Global,
+    text: &mut String,
+    rating: u8,
+    description: &Bytes,
+) -> Result<(), AllocError>
+    ensures { OnOk result (string_bytes text.new ≡ string_bytes text.old ++ rated_shown rating description.now) }
+{
+    write!(text, " rating {rating}")?;
+    description_onto(alloc, text, description.as_slice())
+}
+
+#[tactic(auto, unfolding(crate::specs::NoticeShown::service_shown))]
+fn service_onto(alloc: Global, text: &mut String, service: &Service) -> Result<(), AllocError>
+    ensures { OnOk result (string_bytes text.new ≡ string_bytes text.old ++ service_shown service.now) }
+{
+    text.push_str("service ")?;
+    name_onto(alloc, text, &service.name)?;
+    rated_onto(alloc, text, service.rating, &service.description)?;
+    text.push_str("\n")
+}
+
+fn services_onto(alloc: Global, text: &mut String, services: &[Service]) -> Result<(), AllocError>
+    ensures { OnOk result (string_bytes text.new ≡ string_bytes text.old ++ flat_map service_shown services.now) }
+{
+    for service in services {
+        service_onto(alloc, text, service)?;
+    }
+    Ok(())
+}
+
+// Adds the first word of the line of a command or a status, and the request that it is about.
+#[tactic(auto, unfolding(crate::specs::NoticeShown::request_shown))]
+fn request_onto(
+    text: &mut String,
+    word: &str,
+    incarnation: u16,
+    request: u16,
+) -> Result<(), AllocError>
+    ensures { OnOk result (string_bytes text.new ≡ string_bytes text.old ++ request_shown word.now incarnation request) }
+{
+    write!(
+        text,
+        "{word} version 5 incarnation {incarnation} request {request}"
+    )
+}
+
+#[tactic(auto, unfolding(crate::specs::NoticeShown::offer_shown))]
+fn offer_onto(
+    alloc: Global,
+    text: &mut String,
+    node: &Name,
+    service: &Name,
+) -> Result<(), AllocError>
+    ensures { OnOk result (string_bytes text.new ≡ string_bytes text.old ++ offer_shown node.now service.now) }
+{
+    text.push_str(" node ")?;
+    name_onto(alloc, text, node)?;
+    text.push_str(" service ")?;
+    name_onto(alloc, text, service)
+}
+
+#[tactic(auto, unfolding(crate::specs::NoticeShown::announcer_shown))]
+fn announcer_onto(text: &mut String, announcement: &Announcement) -> Result<(), AllocError>
+    ensures { OnOk result (string_bytes text.new ≡ string_bytes text.old ++ announcer_shown announcement.now) }
+{
+    let (timer, incarnation) = (announcement.timer, announcement.incarnation);
+    write!(
+        text,
+        "announcement timer {timer} version 5 incarnation {incarnation}"
+    )
+}
+
+#[tactic(auto, unfolding(crate::specs::NoticeShown::groups_shown))]
+fn groups_onto(alloc: Global, text: &mut String, groups: &Bytes) -> Result<(), AllocError>
+    ensures { OnOk result (string_bytes text.new ≡ string_bytes text.old ++ groups_shown groups.now) }
+{
+    text.push_str(" groups ")?;
+    hex_onto(alloc, text, groups.as_slice())
+}
+
+#[tactic(auto, unfolding(crate::specs::NoticeShown::node_shown))]
+fn node_onto(
+    alloc: Global,
+    text: &mut String,
+    node: &Name,
+    description: &Bytes,
+) -> Result<(), AllocError>
+    ensures { OnOk result (string_bytes text.new ≡ string_bytes text.old ++ node_shown node.now description.now) }
+{
+    text.push_str(" node ")?;
+    name_onto(alloc, text, node)?;
+    description_onto(alloc, text, description.as_slice())
+}
+
+#[tactic(auto, unfolding(crate::specs::NoticeShown::announcement_shown))]
+fn announcement_onto(
+    alloc: Global,
+    text: &mut String,
+    announcement: &Announcement,
+) -> Result<(), AllocError>
+    ensures { OnOk result (string_bytes text.new ≡ string_bytes text.old ++ announcement_shown announcement.now) }
+{
+    let services = announcement.services.as_slice();
+    let count = services.len();
+    announcer_onto(text, announcement)?;
+    groups_onto(alloc, text, &announcement.groups)?;
+    node_onto(alloc, text, &announcement.node, &announcement.description)?;
+    write!(text, " services {count}\n")?;
+    services_onto(alloc, text, services)
+}
+
+fn action_number(action: Action) -> u8
+    ensures { result ≡ action_number action }
+{
+    match action {
+        Action::Ask => 1,
+        Action::Cancel => 2,
+    }
+}
+
+#[tactic(auto, unfolding(crate::specs::NoticeShown::command_shown))]
+fn command_onto(alloc: Global, text: &mut String, command: &Command) -> Result<(), AllocError>
+    ensures { OnOk result (string_bytes text.new ≡ string_bytes text.old ++ command_shown command.now) }
+{
+    let action = action_number(command.action);
+    request_onto(text, "command", command.incarnation, command.request)?;
+    write!(text, " action {action}")?;
+    offer_onto(alloc, text, &command.node, &command.service)?;
+    text.push_str("\n")
+}
+
+fn outcome_number(outcome: Outcome) -> u8
+    ensures { result ≡ outcome_number outcome }
+{
+    match outcome {
+        Outcome::Kept(Kept::Waiting(_)) => 1,
+        Outcome::Kept(Kept::Granted) => 2,
+        Outcome::Kept(Kept::Cancelled) => 3,
+        Outcome::Kept(Kept::QueueFull) => 4,
+        Outcome::Kept(Kept::NoService) => 5,
+        Outcome::Kept(Kept::RecordsFull) => 6,
+        Outcome::Kept(Kept::Done) => 7,
+        Outcome::Unknown => 8,
+    }
+}
+
+fn outcome_place(outcome: Outcome) -> u16
+    ensures { result ≡ outcome_place outcome }
+{
+    match outcome {
+        Outcome::Kept(Kept::Waiting(place)) => place,
+        _ => 0,
+    }
+}
+
+#[tactic(auto, unfolding(crate::specs::NoticeShown::outcome_shown))]
+fn outcome_onto(text: &mut String, outcome: u8, place: u16) -> Result<(), AllocError>
+    ensures { OnOk result (string_bytes text.new ≡ string_bytes text.old ++ outcome_shown outcome place) }
+{
+    write!(text, " outcome {outcome} place {place}")
+}
+
+#[tactic(auto, unfolding(crate::specs::NoticeShown::status_shown))]
+fn status_onto(alloc: Global, text: &mut String, status: &Status) -> Result<(), AllocError>
+    ensures { OnOk result (string_bytes text.new ≡ string_bytes text.old ++ status_shown status.now) }
+{
+    request_onto(text, "status", status.incarnation, status.request)?;
+    outcome_onto(
+        text,
+        outcome_number(status.outcome),
+        outcome_place(status.outcome),
+    )?;
+    text.push_str(" node ")?;
+    name_onto(alloc, text, &status.node)?;
+    text.push_str("\n")
+}
+
+// Adds the first word of the line of a solicit or a response, and the question that it is about.
+#[tactic(auto, unfolding(crate::specs::NoticeShown::question_shown))]
+fn question_onto(text: &mut String, word: &str, id: u16) -> Result<(), AllocError>
+    ensures { OnOk result (string_bytes text.new ≡ string_bytes text.old ++ question_shown word.now id) }
+{
+    write!(text, "{word} version 5 id {id}")
+}
+
+#[tactic(auto, unfolding(crate::specs::NoticeShown::solicit_shown))]
+fn solicit_onto(alloc: Global, text: &mut String, solicit: &Solicit) -> Result<(), AllocError>
+    ensures { OnOk result (string_bytes text.new ≡ string_bytes text.old ++ solicit_shown solicit.now) }
+{
+    question_onto(text, "solicit", solicit.id)?;
+    offer_onto(alloc, text, &solicit.asker, &solicit.service)?;
+    text.push_str("\n")
+}
+
+#[tactic(auto, unfolding(crate::specs::NoticeShown::response_shown))]
+fn response_onto(alloc: Global, text: &mut String, response: &Response) -> Result<(), AllocError>
+    ensures { OnOk result (string_bytes text.new ≡ string_bytes text.old ++ response_shown response.now) }
+{
+    let (rating, timer) = (response.rating, response.timer);
+    question_onto(text, "response", response.id)?;
+    offer_onto(alloc, text, &response.node, &response.service)?;
+    write!(text, " rating {rating} timer {timer}\n")
+}
+
+/// Adds the line of a notice to a text, and behind that of an announcement the lines of its services.
+/// `docs/FORMATS.md`, part Printed texts, has the lines.
+pub fn notice_onto(alloc: Global, text: &mut String, notice: &Notice) -> Result<(), AllocError>
+    ensures { OnOk result (string_bytes text.new ≡ string_bytes text.old ++ notice_shown notice.now) }
+{
+    match notice {
+        Notice::Announcement(announcement) => announcement_onto(alloc, text, announcement),
+        Notice::Command(command) => command_onto(alloc, text, command),
+        Notice::Status(status) => status_onto(alloc, text, status),
+        Notice::Solicit(solicit) => solicit_onto(alloc, text, solicit),
+        Notice::Response(response) => response_onto(alloc, text, response),
+    }
+}

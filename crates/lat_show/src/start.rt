@@ -1,0 +1,85 @@
+//! The message that starts a circuit in print.
+
+ghost use Rattle.std.specs.Prelude.{◌≡◌, ◌++◌, OnOk, string_bytes};
+ghost use Rattle.lat_show.specs.MessageShown.{terms_shown, product_shown, names_shown, location_shown, info_shown, start_shown};
+
+use crate::message::circuit_onto;
+use crate::params::params_onto;
+use lat_base::{Bytes, Name};
+use lat_fields::Params;
+use lat_frames::StartInfo;
+use lat_text::{hex_onto, name_onto};
+use std::alloc::{AllocError, Global};
+
+#[tactic(auto, unfolding(crate::specs::MessageShown::terms_shown))]
+fn terms_onto(text: &mut String, info: &StartInfo) -> Result<(), AllocError>
+    ensures { OnOk result (string_bytes text.new ≡ string_bytes text.old ++ terms_shown info.now) }
+{
+    let (size, eco, sessions, extra) = (info.size, info.eco, info.sessions, info.extra);
+    let (timer, keepalive) = (info.timer, info.keepalive);
+    write!(
+        text,
+        " size {size} version 5 eco {eco} sessions {sessions} extra {extra} timer {timer} keepalive {keepalive}"
+    )
+}
+
+#[tactic(auto, unfolding(crate::specs::MessageShown::product_shown))]
+fn product_onto(text: &mut String, info: &StartInfo) -> Result<(), AllocError>
+    ensures { OnOk result (string_bytes text.new ≡ string_bytes text.old ++ product_shown info.now) }
+{
+    let (facility, product, version) = (info.facility, info.product, info.product_version);
+    write!(text, " facility {facility} product {product} {version}")
+}
+
+#[tactic(auto, unfolding(crate::specs::MessageShown::names_shown))]
+fn names_onto(alloc: Global, text: &mut String, slave: &Name, name: &Name) -> Result<(), AllocError>
+    ensures { OnOk result (string_bytes text.new ≡ string_bytes text.old ++ names_shown slave.now name.now) }
+{
+    text.push_str(" slave ")?;
+    name_onto(alloc, text, slave)?;
+    text.push_str(" name ")?;
+    name_onto(alloc, text, name)
+}
+
+#[tactic(auto, unfolding(crate::specs::MessageShown::location_shown))]
+fn location_onto(
+    alloc: Global,
+    text: &mut String,
+    location: &Bytes,
+    params: &Params,
+) -> Result<(), AllocError>
+    ensures { OnOk result (string_bytes text.new ≡ string_bytes text.old ++ location_shown location.now params.now) }
+{
+    text.push_str(" location ")?;
+    hex_onto(alloc, text, location.as_slice())?;
+    text.push_str(" params ")?;
+    params_onto(alloc, text, params)
+}
+
+#[tactic(auto, unfolding(crate::specs::MessageShown::info_shown))]
+fn info_onto(alloc: Global, text: &mut String, info: &StartInfo) -> Result<(), AllocError>
+    ensures { OnOk result (string_bytes text.new ≡ string_bytes text.old ++ info_shown info.now) }
+{
+    terms_onto(text, info)?;
+    product_onto(text, info)?;
+    names_onto(alloc, text, &info.slave, &info.name)?;
+    location_onto(alloc, text, &info.location, &info.params)
+}
+
+/// Adds the line of a START message to a text.
+#[tactic(auto, unfolding(crate::specs::MessageShown::start_shown))]
+pub fn start_onto(
+    alloc: Global,
+    text: &mut String,
+    master: bool,
+    ask: bool,
+    to: u16,
+    from: u16,
+    info: &StartInfo,
+) -> Result<(), AllocError>
+    ensures { OnOk result (string_bytes text.new ≡ string_bytes text.old ++ start_shown master ask to from info.now) }
+{
+    circuit_onto(text, "circuit-start", master, ask, to, from)?;
+    info_onto(alloc, text, info)?;
+    text.push_str("\n")
+}
