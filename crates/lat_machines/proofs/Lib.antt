@@ -2,4 +2,5 @@ pub mod events
 pub mod queue
 pub mod frames
 pub mod spans
+pub mod tally
 pub mod runs

@@ -7,4 +7,5 @@ pub mod Ties
 pub mod Spans
 pub mod Safe
 pub mod Histories
+pub mod Tally
 pub mod Home

@@ -10,6 +10,7 @@ ghost use Rattle.lat_machines.specs.world.Machines.{Setups, Move, run, open_mach
 ghost use Rattle.lat_machines.specs.world.Safe.{Fit, IsCircuits, EndsAgree, StreamsInOrder, SlotsCredited, FramesAreTrue, NeverBreaks, NeverMalformed, HeardByBytes, NoGrant, Safe};
 ghost use Rattle.lat_machines.specs.world.Histories.{server_run, HistoriesAreAWorld};
 ghost use Rattle.lat_machines.specs.world.Spans.{OneSpan};
+ghost use Rattle.lat_machines.specs.world.Tally.{ServerTallies, NodeTallies};
 ghost use Rattle.lat_machines.specs.world.Home.{ServerHearsAtHome, ServerStaysHome, NodeStaysHome};
 
 // of every world
@@ -108,4 +109,13 @@ pub fn node_heard_stays_home()
 pub fn ratings_change_frames_alone()
     ensures { (config : NodeConfig) (rates others : List ℕ) (state : Node) (event : Event) →
         SameButFrames (node_step config rates state event) (node_step config others state event) }
+{}
+
+/// The two numbers of each frame are those that are tallied: a new message has the next number of its circuit, a repeated
+/// one the newest less its mark, a RUN without slots the newest; and a frame acknowledges as many messages as its circuit
+/// had answered as taken, one in the same event counted. Of a server's frames (`server`) and a node's (`node`), at every
+/// event of every history.
+pub fn numbers_are_tallied()
+    ensures server { ServerTallies }
+    ensures node { NodeTallies }
 {}

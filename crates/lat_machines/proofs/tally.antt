@@ -1,0 +1,5 @@
+-- The numbers of frames are those that are tallied from their marks and from what was taken.
+pub mod Ends
+pub mod Cores
+pub mod Servers
+pub mod Nodes
