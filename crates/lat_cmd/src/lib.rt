@@ -1,0 +1,9 @@
+//! All that the program `lat` does, over any source and any sink.
+#![tactic(auto)]
+
+mod command;
+#[cfg(test)]
+mod tests;
+mod top;
+
+pub use top::{INPUT_BYTES, run};

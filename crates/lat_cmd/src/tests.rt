@@ -1,0 +1,119 @@
+use crate::run;
+use lat_base::{MemSink, MemSource};
+use std::alloc::Global;
+use std::test::Fail;
+
+const ONE_RUN: &[u8] = b"0201020001000100010101004100\n";
+
+const ONE_RUN_SHOWN: &[u8] =
+    b"run master 1 ask 0 to 2 from 1 seq 1 ack 0 slots 1\ndata_a to 1 from 1 credits 0 bytes 41\n";
+
+// How the outside behaves: bytes a call, and the calls that fail.
+#[derive(Clone, Copy)]
+struct Outside<'a> {
+    read_most: usize,
+    failing_reads: &'a [u64],
+    write_most: usize,
+    failing_writes: &'a [u64],
+}
+
+const SOUND: Outside<'static> = Outside {
+    read_most: 4096,
+    failing_reads: &[],
+    write_most: 4096,
+    failing_writes: &[],
+};
+
+// The status, and what was written.
+fn ran(
+    alloc: Global,
+    words: &[&str],
+    input: &[u8],
+    outside: &Outside<'_>,
+) -> Result<(u8, Vec<u8>), Fail> {
+    let mut own = Vec::new(alloc);
+    for word in words {
+        own.push(String::from_str(alloc, word)?)?;
+    }
+    let mut source = MemSource::new(input, outside.read_most.max(1), outside.failing_reads);
+    let mut sink = MemSink::new(alloc, outside.write_most, outside.failing_writes);
+    let status = run(alloc, &own, &mut source, &mut sink);
+    Ok((status, Vec::from_slice(alloc, sink.bytes())?))
+}
+
+#[test]
+fn words_and_inputs_are_answered(rt: HostRuntime) -> Result<(), Fail> {
+    let show: &[&str] = &["show"];
+    let rows: [(&[&str], &[u8], u8, &[u8]); 9] = [
+        (show, ONE_RUN, 0, ONE_RUN_SHOWN),
+        (show, b"", 0, b""),
+        (show, b"\n", 0, b"bad kind 0\n"),
+        (show, b"02010200010001\n", 0, b"bad acknowledgement 7\n"),
+        (
+            show,
+            b"0201020001000100010101104100\n",
+            0,
+            b"bad slot-type 11\n",
+        ),
+        (show, b"02\n0g\n", 2, b"line 2 form\n"),
+        (show, b"02", 2, b"line 1 form\n"),
+        (&["show", "x"], ONE_RUN, 1, b"words\n"),
+        (&[], ONE_RUN, 1, b"words\n"),
+    ];
+    for (words, input, status, text) in rows {
+        let (answer, written) = ran(rt.alloc(), words, input, &SOUND)?;
+        assert_eq!(rt; answer, status);
+        assert_eq!(rt; written.as_slice(), text);
+    }
+    Ok(())
+}
+
+#[test]
+fn a_failing_read_writes_nothing(rt: HostRuntime) -> Result<(), Fail> {
+    for call in 1..4 {
+        let failing = [call];
+        let outside = Outside {
+            read_most: 14,
+            failing_reads: &failing,
+            ..SOUND
+        };
+        let (status, written) = ran(rt.alloc(), &["show"], ONE_RUN, &outside)?;
+        assert_eq!(rt; status, 4);
+        assert!(rt; written.is_empty());
+    }
+    Ok(())
+}
+
+#[test]
+fn a_failing_write_leaves_a_prefix(rt: HostRuntime) -> Result<(), Fail> {
+    for call in 1..13 {
+        let failing = [call];
+        let outside = Outside {
+            write_most: 7,
+            failing_writes: &failing,
+            ..SOUND
+        };
+        let (status, written) = ran(rt.alloc(), &["show"], ONE_RUN, &outside)?;
+        assert_eq!(rt; status, 5);
+        let before = 7 * (call as usize - 1);
+        assert!(rt; before <= ONE_RUN_SHOWN.len());
+        assert_eq!(rt; written.as_slice(), &ONE_RUN_SHOWN[..before]);
+    }
+    Ok(())
+}
+
+#[test]
+fn limits_are_told(rt: HostRuntime) -> Result<(), Fail> {
+    let feeds = vec![in rt.alloc(); b'\n'; 16_777_217]?;
+    let (status, written) = ran(rt.alloc(), &["show"], &feeds, &SOUND)?;
+    assert_eq!(rt; status, 6);
+    assert_eq!(rt; written.as_slice(), b"limit bytes\n".as_slice());
+    let nothing_taken = Outside {
+        write_most: 0,
+        ..SOUND
+    };
+    let (status, written) = ran(rt.alloc(), &["show"], ONE_RUN, &nothing_taken)?;
+    assert_eq!(rt; status, 5);
+    assert!(rt; written.is_empty());
+    Ok(())
+}
