@@ -12,8 +12,8 @@
 //! 3. `server`: what it heard announced (`Directory`), the requests (`Queue`, `Records`), and `server_step` (`Server`).
 //! 4. `node`: `node_step`.
 //! 5. `world`: both machines and all frames between them (`Machines`), which frames are `Young`, what a run shows
-//!    (`Reports`), the histories of the two machines (`Histories`), and what holds of every run (`Safe`, with `Ties` to the
-//!    world of circuits, and `Home`).
+//!    (`Reports`), the histories of the two machines (`Histories`), the numbers of their frames (`Tally`), and what holds of
+//!    every run (`Safe`, with `Ties` to the world of circuits, `Spans`, and `Home`).
 #![tactic(auto)]
 
 pub mod laws;
