@@ -1,0 +1,3 @@
+pub mod Words
+pub mod Stands
+pub mod Steps

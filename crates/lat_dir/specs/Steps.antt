@@ -1,0 +1,26 @@
+-- What hearing an announcement makes of a directory.
+use Rattle.std.specs.Prelude.{ℕ, Bool, true, List, [], ◌∷◌, ◌++◌, length, Result, Ok, Err, nat_le, if◌then◌else◌}
+use Rattle.lat_dir.specs.declared.directory.DirFault.{DirFault}
+use Rattle.lat_dir.specs.declared.directory.DirFault.TheVariants.{Full}
+use Rattle.lat_dir.specs.declared.node.Node.{Node}
+use Rattle.lat_dir.specs.Words.{Nodes, living, others}
+use Rattle.lat_dir.specs.Stands.{Kept}
+
+-- nothing of this name is kept
+abbrev pub turned_away : ℕ → List ℕ → Kept → Kept
+turned_away now name k = record { groups = k.groups; nodes = others name (living now k.nodes); moment = now }
+
+-- 256 nodes of other names
+abbrev pub is_full : List ℕ → Nodes → Bool
+is_full name nodes = nat_le 256 (length (others name nodes))
+
+-- the answer to an announcement whose groups are met
+abbrev pub answer_met : List ℕ → Nodes → Result Bool DirFault
+answer_met name nodes = if is_full name nodes then Err Full else Ok true
+
+-- the node goes behind those of other names, where there is room
+abbrev pub with_node : List ℕ → Node → Nodes → Nodes
+with_node name node nodes = if is_full name nodes then nodes else others name nodes ++ (name, node) ∷ []
+
+abbrev pub taken_in : ℕ → List ℕ → Node → Kept → Kept
+taken_in now name node k = record { groups = k.groups; nodes = with_node name node (living now k.nodes); moment = now }

@@ -1,0 +1,206 @@
+//! The directory of services.
+
+ghost use Rattle.std.specs.Prelude.{◌≡◌, ◌≤◌, ◌<◌, List, [], length, Ok, Err, None, option_map, reverse, map, fold, IfOk, IfSome};
+ghost use Rattle.indexmap.specs.IndexMap.{spare};
+ghost use Rattle.lat_machines.specs.server.Directory.{HeardAnnouncement, best};
+ghost use Rattle.lat_dir.specs.Words.{living, others, better_in, best_shown};
+ghost use Rattle.lat_dir.specs.Stands.{Stands, heard, answer_to, at_moment, UnlessMemory};
+ghost use Rattle.lat_dir.specs.Steps.{turned_away, answer_met, with_node, taken_in};
+
+use crate::best::Best;
+use crate::groups::are_met;
+use crate::node::Node;
+use indexmap::IndexMap;
+use lat_base::{Addr, Memory, Name};
+use lat_notices::Announcement;
+use std::alloc::{AllocError, AllocFailed, Global};
+use std::marker::Model;
+
+/// So many nodes are live at most.
+const NODES: usize = 256;
+
+/// Why an announcement isn't kept.
+#[derive(Clone, Copy, Debug, PartialEq, Eq)]
+pub enum DirFault {
+    /// 256 other nodes are live.
+    Full,
+    /// No memory was found.
+    Memory,
+}
+
+impl From<Memory> for DirFault {
+    ghost use Rattle.std.specs.Prelude.{◌≡◌};
+    ghost use Rattle.lat_dir.specs.declared.directory.DirFault.TheVariants as faults;
+
+    ghost from_gives = { λ _ fault. fault ≡ faults.Memory };
+
+    fn from(_e: Memory) -> DirFault {
+        DirFault::Memory
+    }
+}
+
+impl From<AllocError> for DirFault {
+    ghost use Rattle.std.specs.Prelude.{◌≡◌};
+    ghost use Rattle.lat_dir.specs.declared.directory.DirFault.TheVariants as faults;
+
+    ghost from_gives = { λ _ fault. fault ≡ faults.Memory };
+
+    fn from(_e: AllocError) -> DirFault {
+        DirFault::Memory
+    }
+}
+
+impl<T: Drop> From<AllocFailed<T>> for DirFault {
+    ghost use Rattle.std.specs.Prelude.{◌≡◌};
+    ghost use Rattle.lat_dir.specs.declared.directory.DirFault.TheVariants as faults;
+
+    ghost from_gives = { λ _ fault. fault ≡ faults.Memory };
+
+    fn from(_e: AllocFailed<T>) -> DirFault {
+        DirFault::Memory
+    }
+}
+
+fn forget_expired(nodes: &mut IndexMap<Name, Node>, now: u64)
+    ensures kept { nodes.new.entries ≡ living now nodes.old.entries }
+    ensures room { spare nodes.old ≤ spare nodes.new }
+{
+    nodes.retain(|_, node| node.lives(now));
+}
+
+fn forget(nodes: &mut IndexMap<Name, Node>, name: &Name)
+    ensures kept { nodes.new.entries ≡ others name.now nodes.old.entries }
+    ensures room { spare nodes.old ≤ spare nodes.new }
+{
+    nodes.retain(|other, _| other != name);
+}
+
+// Puts the node behind those of other names, of which there may be 255. The answer is that of `hear`.
+fn keep(nodes: &mut IndexMap<Name, Node>, name: Name, node: Node) -> Result<bool, DirFault>
+    requires room { 0 < spare nodes.old }
+    requires most { length nodes.old.entries ≤ 256 }
+    ensures answer { result ≡ answer_met name nodes.old.entries }
+    ensures kept { nodes.new.entries ≡ with_node name node nodes.old.entries }
+{
+    forget(nodes, &name);
+    // So many are left only where none of this name was there.
+    if nodes.len() >= NODES {
+        return Err(DirFault::Full);
+    }
+    nodes.insert(name, node)?;
+    Ok(true)
+}
+
+fn chosen(nodes: &IndexMap<Name, Node>, service: &Name, now: u64) -> Option<Best>
+    ensures { result ≡ fold (better_in service.now now) None (reverse (map (λ e. e.1) nodes.now.entries)) }
+{
+    nodes
+        .values()
+        .rev()
+        .fold(None, |found, node| node.better(found, service, now))
+}
+
+/// The nodes that a server knows of, each with its last announcement. At most 256 are live.
+#[derive(Drop)]
+pub struct Directory {
+    groups: [u8; 32],
+    nodes: IndexMap<Name, Node>,
+    moment: u64,
+}
+
+impl Model for Directory {
+    ghost use Rattle.std.specs.Prelude.{◌≤◌, length};
+    ghost use Rattle.lat_dir.specs.Stands.{Kept};
+
+    ghost Value = { Kept };
+
+    ghost view = { λ a. record { groups = a.groups; nodes = a.nodes.entries; moment = a.moment } };
+
+    ghost invariant = { λ a. length a.nodes.entries ≤ 256 };
+}
+
+impl Directory {
+    /// A directory at moment 0 that knows no node and listens to the groups of the mask. Takes memory for its table.
+    pub fn make(alloc: Global, groups: &[u8; 32]) -> Result<Directory, Memory>
+        ensures made { IfOk result (λ d. (d.groups ≡ groups.now) × (d.moment ≡ 0)) }
+        ensures stands { IfOk result (λ d. Stands d []) }
+    {
+        Ok(Directory {
+            groups: *groups,
+            nodes: IndexMap::with_capacity(alloc, NODES)?,
+            moment: 0,
+        })
+    }
+
+    /// Forgets what isn't live any more. `now` isn't below any moment that the directory was told before.
+    pub fn expire(&mut self, now: u64)
+        requires { self.old.moment ≤ now }
+        ensures stands { (h : List HeardAnnouncement) → Stands self.old h → Stands self.new h }
+        ensures kept { self.new ≡ at_moment now self.old }
+    {
+        forget_expired(&mut self.nodes, now);
+        self.moment = now;
+    }
+
+    // Forgets the node.
+    fn turn_away(&mut self, name: &Name, now: u64)
+        ensures { self.new ≡ turned_away now name.now self.old }
+    {
+        forget_expired(&mut self.nodes, now);
+        forget(&mut self.nodes, name);
+        self.moment = now;
+    }
+
+    // Keeps what was last heard of the node, and answers as `hear` does. Takes memory first.
+    fn take_in(&mut self, name: Name, node: Node, now: u64) -> Result<bool, DirFault>
+        ensures answer { UnlessMemory result (result ≡ answer_met name (living now self.old.nodes)) }
+        ensures kept { UnlessMemory result (self.new ≡ taken_in now name node self.old) }
+        ensures memory { result ≡ Err DirFault.Memory → self.new ≡ self.old }
+    {
+        self.nodes.reserve(1)?;
+        forget_expired(&mut self.nodes, now);
+        self.moment = now;
+        keep(&mut self.nodes, name, node)
+    }
+
+    /// Hears an announcement from an address. Where its groups are met, it is kept as the last one of its node, a node being
+    /// a name in upper case, and true is answered. Where they aren't, what was kept of this node is dropped, and false is
+    /// answered. `Full` where the groups are met and 256 other nodes are live: then nothing changes but that what has
+    /// expired is dropped. Takes memory; without it nothing has changed. `now` isn't below any moment that the directory was
+    /// told before.
+    pub fn hear(
+        &mut self,
+        alloc: Global,
+        from: Addr,
+        a: &Announcement,
+        now: u64,
+    ) -> Result<bool, DirFault>
+        requires { self.old.moment ≤ now }
+        ensures stands { (h : List HeardAnnouncement) → Stands self.old h → UnlessMemory result (Stands self.new (heard self.old.groups now from a.now h)) }
+        ensures answer { (h : List HeardAnnouncement) → Stands self.old h → UnlessMemory result (result ≡ answer_to self.old.groups now a.now h) }
+        ensures full { result ≡ Err DirFault.Full → self.new ≡ at_moment now self.old }
+        ensures memory { result ≡ Err DirFault.Memory → self.new ≡ self.old }
+        ensures groups { self.new.groups ≡ self.old.groups }
+        ensures moment { self.new.moment ≤ now }
+    {
+        let name = a.node.folded();
+        if !are_met(a.groups.as_slice(), &self.groups) {
+            self.turn_away(&name, now);
+            return Ok(false);
+        }
+        let node = Node::heard(alloc, from, a, now)?;
+        self.take_in(name, node, now)
+    }
+
+    /// The best node for a service at the moment: of the live nodes that announced it with a rating above 0 the one with the
+    /// highest rating, and of those the one whose name comes first in byte order, in upper case. None where there is no such
+    /// node. Where one announcement lists a service twice the first entry counts. `now` isn't below any moment that the
+    /// directory was told before by `hear` or `expire`.
+    pub fn best(&self, service: &Name, now: u64) -> Option<Best>
+        requires { self.now.moment ≤ now }
+        ensures best { (h : List HeardAnnouncement) → Stands self.now h → option_map best_shown result ≡ best self.now.groups service.now now h }
+        ensures above { IfSome result (λ b. 0 < b.rating) }
+    {
+        chosen(&self.nodes, &service.folded(), now)
+    }
+}

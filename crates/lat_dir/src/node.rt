@@ -1,0 +1,60 @@
+//! What is kept of a node.
+
+ghost use Rattle.std.specs.Prelude.{◌≡◌, nat_lt, IfOk};
+ghost use Rattle.lat_dir.specs.Words.{node_of, better_in};
+
+use crate::best::Best;
+use crate::offers::Offers;
+use lat_base::{Addr, Memory, Name};
+use lat_notices::Announcement;
+use std::alloc::Global;
+
+/// The last announcement of a node, as far as a choice needs it.
+#[derive(Debug, Drop)]
+pub struct Node {
+    pub from: Addr,
+    pub name: Name,
+    /// The moment from which on it isn't live any more.
+    pub until: u128,
+    pub offers: Offers,
+}
+
+// How many milliseconds a node is live for each second of its timer: three times the timer.
+const LIVES: u128 = 3000;
+
+impl Node {
+    /// What is kept of an announcement that is heard at the moment. Takes memory for the services.
+    pub fn heard(alloc: Global, from: Addr, a: &Announcement, now: u64) -> Result<Node, Memory>
+        ensures { IfOk result (λ node. node ≡ node_of from a.now now) }
+    {
+        Ok(Node {
+            from,
+            name: a.node,
+            until: now as u128 + LIVES * a.timer as u128,
+            offers: Offers::of(alloc, a.services.as_slice())?,
+        })
+    }
+
+    /// Whether it is live at the moment.
+    pub fn lives(&self, now: u64) -> bool
+        ensures { result ≡ nat_lt now self.now.until }
+    {
+        (now as u128) < self.until
+    }
+
+    /// The best of this node and those before it, for a service whose name is given in upper case.
+    pub fn better(&self, found: Option<Best>, service: &Name, now: u64) -> Option<Best>
+        ensures { result ≡ better_in service.now now found self.now }
+    {
+        let rating = self.offers.rating(service);
+        if rating == 0 || !self.lives(now) {
+            return found;
+        }
+        let own = Best {
+            from: self.from,
+            node: self.name,
+            rating,
+        };
+        Some(own.or(found))
+    }
+}
