@@ -1,5 +1,6 @@
 //! The service directory of a server: which nodes announced what, and which node is the best for a service. The
-//! definitions that its contracts cite are those of the machines (`lat_machines`).
+//! rules are those of `docs/PROTOCOL.md`, "Announcements and choice"; the definitions that its contracts cite are those of
+//! the machines (`lat_machines`).
 #![tactic(auto)]
 
 mod best;
