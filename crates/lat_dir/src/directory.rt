@@ -91,6 +91,7 @@ fn keep(nodes: &mut IndexMap<Name, Node>, name: Name, node: Node) -> Result<bool
     Ok(true)
 }
 
+// The best node, looked at from the last heard to the first; any order would choose the same.
 fn chosen(nodes: &IndexMap<Name, Node>, service: &Name, now: u64) -> Option<Best>
     ensures { result ≡ fold (better_in service.now now) None (reverse (map (λ e. e.1) nodes.now.entries)) }
 {
@@ -104,7 +105,9 @@ fn chosen(nodes: &IndexMap<Name, Node>, service: &Name, now: u64) -> Option<Best
 #[derive(Drop)]
 pub struct Directory {
     groups: [u8; 32],
+    // Each under its name in upper case, in the order in which they were last heard.
     nodes: IndexMap<Name, Node>,
+    // The last moment that it was told.
     moment: u64,
 }
 
