@@ -8,6 +8,38 @@ const ONE_RUN: &[u8] = b"0201020001000100010101004100\n";
 const ONE_RUN_SHOWN: &[u8] =
     b"run master 1 ask 0 to 2 from 1 seq 1 ack 0 slots 1\ndata_a to 1 from 1 credits 0 bytes 41\n";
 
+// Payloads that have something in each of their fields, and their printed texts.
+const SHOWN: [(&[u8], &[u8]); 7] = [
+    (
+        b"0201020001000100010201b70900\n",
+        b"run master 1 ask 0 to 2 from 1 seq 1 ack 0 slots 1\nattention to 1 from 2 flag 09\n",
+    ),
+    (
+        b"1202341278560001ffff0102000305030f9f01021001410268690502010007000000\n",
+        b"wide-run master 1 ask 0 to 4660 from 22136 seq 256 ack 65535 slots 2\ndata_a to 1 from 2 credits 3 bytes -\nstart to 5 from 3 credits 15 attention 2 size 16 service A subject 6869 params 5:0100,7:-\n",
+    ),
+    (
+        b"0400020003000000dc05050701ff00000201030401560154026c6f00\n",
+        b"circuit-start master 0 ask 0 to 2 from 3 size 1500 version 5 eco 7 sessions 1 extra 255 timer 0 keepalive 0 facility 258 product 3 4 slave V name T location 6c6f params -\n",
+    ),
+    (
+        b"090001000000000006026279\n",
+        b"circuit-stop master 0 ask 1 to 1 from 0 reason 6 text 6279\n",
+    ),
+    (
+        b"28ff0502000108014e026f6b0200014100ff022541012d\n",
+        b"announcement timer 255 version 5 incarnation 2 groups 08 node N description 6f6b services 2\nservice A rating 0 description -\nservice %25A rating 255 description 2d\n",
+    ),
+    (
+        b"33050100020102014e0153\n",
+        b"command version 5 incarnation 1 request 258 action 2 node N service S\n",
+    ),
+    (
+        b"340501000100080000014e\n",
+        b"status version 5 incarnation 1 request 1 outcome 8 place 0 node N\n",
+    ),
+];
+
 // How the outside behaves: bytes a call, and the calls that fail.
 #[derive(Clone, Copy)]
 struct Outside<'a> {
@@ -69,8 +101,18 @@ fn words_and_inputs_are_answered(rt: HostRuntime) -> Result<(), Fail> {
 }
 
 #[test]
+fn every_field_is_shown(rt: HostRuntime) -> Result<(), Fail> {
+    for (input, text) in SHOWN {
+        let (status, written) = ran(rt.alloc(), &["show"], input, &SOUND)?;
+        assert_eq!(rt; status, 0);
+        assert_eq!(rt; written.as_slice(), text);
+    }
+    Ok(())
+}
+
+#[test]
 fn a_failing_read_writes_nothing(rt: HostRuntime) -> Result<(), Fail> {
-    for call in 1..4 {
+    for call in 1..5 {
         let failing = [call];
         let outside = Outside {
             read_most: 14,
@@ -86,7 +128,7 @@ fn a_failing_read_writes_nothing(rt: HostRuntime) -> Result<(), Fail> {
 
 #[test]
 fn a_failing_write_leaves_a_prefix(rt: HostRuntime) -> Result<(), Fail> {
-    for call in 1..13 {
+    for call in 1..14 {
         let failing = [call];
         let outside = Outside {
             write_most: 7,
