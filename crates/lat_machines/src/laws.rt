@@ -15,7 +15,8 @@ ghost use Rattle.lat_machines.specs.world.Home.{ServerHearsAtHome, ServerStaysHo
 
 // of every world
 
-/// All that holds of every run of the two machines, in one record: the laws below up to `grants_leave_none`.
+/// All that holds of every run of the two machines, in one record: the laws below up to `grants_leave_none`, but
+/// `histories_are_a_world`.
 pub fn machines_are_safe()
     ensures { (u : Setups) (moves : List Move) → Fit u → Safe u (run u moves (open_machines u)) }
 {}

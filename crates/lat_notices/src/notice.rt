@@ -1,5 +1,8 @@
 //! Notices.
 
+ghost use Rattle.std.specs.Prelude.{◌≡◌};
+ghost use Rattle.lat_notices.specs.Outcomes.{action_number, outcome_number, outcome_place};
+
 use crate::services::Services;
 use lat_base::{Bytes, Kept, Name};
 
@@ -21,8 +24,22 @@ pub struct Announcement {
 /// What a node wants of its request.
 #[derive(Clone, Copy, Debug, PartialEq, Eq)]
 pub enum Action {
+    /// For a session.
     Ask,
+    /// Nothing any more: the request is withdrawn.
     Cancel,
+}
+
+impl Action {
+    /// The number that it is written as and printed by: 1 asks, 2 cancels.
+    pub fn number(self) -> u8
+        ensures { result ≡ action_number self }
+    {
+        match self {
+            Action::Ask => 1,
+            Action::Cancel => 2,
+        }
+    }
 }
 
 /// A node asks a server for a session with a service of the server's, or withdraws the request.
@@ -44,6 +61,34 @@ pub enum Outcome {
     Kept(Kept),
     /// It has no record of it.
     Unknown,
+}
+
+impl Outcome {
+    /// The number that it is written as and printed by, 1 to 8.
+    pub fn number(self) -> u8
+        ensures { result ≡ outcome_number self }
+    {
+        match self {
+            Outcome::Kept(Kept::Waiting(_)) => 1,
+            Outcome::Kept(Kept::Granted) => 2,
+            Outcome::Kept(Kept::Cancelled) => 3,
+            Outcome::Kept(Kept::QueueFull) => 4,
+            Outcome::Kept(Kept::NoService) => 5,
+            Outcome::Kept(Kept::RecordsFull) => 6,
+            Outcome::Kept(Kept::Done) => 7,
+            Outcome::Unknown => 8,
+        }
+    }
+
+    /// The place in the queue that is written with it: 0 unless the request waits.
+    pub fn place(self) -> u16
+        ensures { result ≡ outcome_place self }
+    {
+        match self {
+            Outcome::Kept(Kept::Waiting(place)) => place,
+            _ => 0,
+        }
+    }
 }
 
 /// A server tells a node what became of its request.

@@ -2,13 +2,12 @@
 
 ghost use Rattle.std.specs.Prelude.{◌≡◌, ◌+◌, ◌≤◌, ◌++◌, [], length};
 ghost use Rattle.lat_fields.specs.Payloads.{padded};
-ghost use Rattle.lat_notices.specs.Outcomes.{action_number, outcome_number, outcome_place};
 ghost use Rattle.lat_notices.specs.Texts.{IsAnnouncement, IsCommand, IsStatus, IsSolicit, IsResponse, Fits, announcement_text, command_text, status_text, solicit_text, response_text, fields_text, kind_of, notice_text, IsWritable};
 
 use crate::fields::VERSION;
-use crate::notice::{Action, Announcement, Command, Notice, Outcome, Response, Solicit, Status};
+use crate::notice::{Announcement, Command, Notice, Response, Solicit, Status};
 use crate::write_services::write_services;
-use lat_base::{Kept, Payload};
+use lat_base::Payload;
 use lat_fields::{write_counted, write_number, write_padding};
 
 fn write_announcement(out: &mut Payload, a: &Announcement)
@@ -26,15 +25,6 @@ fn write_announcement(out: &mut Payload, a: &Announcement)
     write_services(out, &a.services);
 }
 
-fn action_number(action: Action) -> u8
-    ensures { result ≡ action_number action }
-{
-    match action {
-        Action::Ask => 1,
-        Action::Cancel => 2,
-    }
-}
-
 fn write_command(out: &mut Payload, c: &Command)
     requires fits { IsCommand c.now }
     requires room { length out.old + length (command_text c.now) ≤ 1500 }
@@ -43,33 +33,9 @@ fn write_command(out: &mut Payload, c: &Command)
     out.push(VERSION);
     write_number(out, c.incarnation);
     write_number(out, c.request);
-    out.push(action_number(c.action));
+    out.push(c.action.number());
     write_counted(out, c.node.bytes());
     write_counted(out, c.service.bytes());
-}
-
-fn outcome_number(outcome: Outcome) -> u8
-    ensures { result ≡ outcome_number outcome }
-{
-    match outcome {
-        Outcome::Kept(Kept::Waiting(_)) => 1,
-        Outcome::Kept(Kept::Granted) => 2,
-        Outcome::Kept(Kept::Cancelled) => 3,
-        Outcome::Kept(Kept::QueueFull) => 4,
-        Outcome::Kept(Kept::NoService) => 5,
-        Outcome::Kept(Kept::RecordsFull) => 6,
-        Outcome::Kept(Kept::Done) => 7,
-        Outcome::Unknown => 8,
-    }
-}
-
-fn outcome_place(outcome: Outcome) -> u16
-    ensures { result ≡ outcome_place outcome }
-{
-    match outcome {
-        Outcome::Kept(Kept::Waiting(place)) => place,
-        _ => 0,
-    }
 }
 
 fn write_status(out: &mut Payload, s: &Status)
@@ -80,8 +46,8 @@ fn write_status(out: &mut Payload, s: &Status)
     out.push(VERSION);
     write_number(out, s.incarnation);
     write_number(out, s.request);
-    out.push(outcome_number(s.outcome));
-    write_number(out, outcome_place(s.outcome));
+    out.push(s.outcome.number());
+    write_number(out, s.outcome.place());
     write_counted(out, s.node.bytes());
 }
 

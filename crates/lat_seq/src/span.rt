@@ -15,7 +15,7 @@ pub enum Span {
 
 impl Span {
     // Half of the range of a number field. A field is heard as the whole number that leaves it modulo twice
-    // this and lies less than this away from the number last known.
+    // this and lies from this below the number last known up to this less one above it.
     pub(crate) fn half(self) -> u16
         ensures { result ≡ half self }
     {

@@ -9,11 +9,7 @@ mod print;
 mod slot;
 mod start;
 
-pub use message::message_onto;
-pub use notice::notice_onto;
-pub use payload::payload_onto;
 pub use print::show;
-pub use slot::slot_onto;
 
 #[cfg(test)]
 mod tests;

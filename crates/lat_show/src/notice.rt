@@ -2,13 +2,10 @@
 
 ghost use Rattle.std.specs.Prelude.{◌≡◌, ◌++◌, OnOk, string_bytes};
 ghost use Rattle.std.specs.List.{flat_map};
-ghost use Rattle.lat_notices.specs.Outcomes.{action_number, outcome_number, outcome_place};
 ghost use Rattle.lat_show.specs.NoticeShown.{service_shown, request_shown, offer_shown, announcer_shown, groups_shown, node_shown, description_shown, rated_shown, question_shown, announcement_shown, command_shown, outcome_shown, status_shown, solicit_shown, response_shown, notice_shown};
 
-use lat_base::{Bytes, Kept, Name};
-use lat_notices::{
-    Action, Announcement, Command, Notice, Outcome, Response, Service, Solicit, Status,
-};
+use lat_base::{Bytes, Name};
+use lat_notices::{Announcement, Command, Notice, Response, Service, Solicit, Status};
 use lat_text::{hex_onto, name_onto};
 use std::alloc::{AllocError, Global};
 
@@ -132,48 +129,15 @@ fn announcement_onto(
     services_onto(alloc, text, services)
 }
 
-fn action_number(action: Action) -> u8
-    ensures { result ≡ action_number action }
-{
-    match action {
-        Action::Ask => 1,
-        Action::Cancel => 2,
-    }
-}
-
 #[tactic(auto, unfolding(crate::specs::NoticeShown::command_shown))]
 fn command_onto(alloc: Global, text: &mut String, command: &Command) -> Result<(), AllocError>
     ensures { OnOk result (string_bytes text.new ≡ string_bytes text.old ++ command_shown command.now) }
 {
-    let action = action_number(command.action);
+    let action = command.action.number();
     request_onto(text, "command", command.incarnation, command.request)?;
     write!(text, " action {action}")?;
     offer_onto(alloc, text, &command.node, &command.service)?;
     text.push_str("\n")
-}
-
-fn outcome_number(outcome: Outcome) -> u8
-    ensures { result ≡ outcome_number outcome }
-{
-    match outcome {
-        Outcome::Kept(Kept::Waiting(_)) => 1,
-        Outcome::Kept(Kept::Granted) => 2,
-        Outcome::Kept(Kept::Cancelled) => 3,
-        Outcome::Kept(Kept::QueueFull) => 4,
-        Outcome::Kept(Kept::NoService) => 5,
-        Outcome::Kept(Kept::RecordsFull) => 6,
-        Outcome::Kept(Kept::Done) => 7,
-        Outcome::Unknown => 8,
-    }
-}
-
-fn outcome_place(outcome: Outcome) -> u16
-    ensures { result ≡ outcome_place outcome }
-{
-    match outcome {
-        Outcome::Kept(Kept::Waiting(place)) => place,
-        _ => 0,
-    }
 }
 
 #[tactic(auto, unfolding(crate::specs::NoticeShown::outcome_shown))]
@@ -188,11 +152,7 @@ fn status_onto(alloc: Global, text: &mut String, status: &Status) -> Result<(), 
     ensures { OnOk result (string_bytes text.new ≡ string_bytes text.old ++ status_shown status.now) }
 {
     request_onto(text, "status", status.incarnation, status.request)?;
-    outcome_onto(
-        text,
-        outcome_number(status.outcome),
-        outcome_place(status.outcome),
-    )?;
+    outcome_onto(text, status.outcome.number(), status.outcome.place())?;
     text.push_str(" node ")?;
     name_onto(alloc, text, &status.node)?;
     text.push_str("\n")

@@ -15,6 +15,7 @@ pub fn byte_onto(alloc: Global, text: &mut String, byte: u8) -> Result<(), Alloc
 }
 
 /// Adds bytes to a text: two lower-case hex digits for each, or `-` for no byte.
+/// After want of memory a part of it may stand in the text.
 pub fn hex_onto(alloc: Global, text: &mut String, bytes: &[u8]) -> Result<(), AllocError>
     ensures { OnOk result (string_bytes text.new ≡ string_bytes text.old ++ hex_text bytes.now) }
 {

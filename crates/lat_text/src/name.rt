@@ -25,6 +25,7 @@ fn name_byte_onto(alloc: Global, text: &mut String, byte: u8) -> Result<(), Allo
 
 /// Adds a name to a text: each byte from 21 to 7E hex but `%` as itself, each other byte as `%` and its two lower-case
 /// hex digits.
+/// After want of memory a part of it may stand in the text.
 pub fn name_onto(alloc: Global, text: &mut String, name: &Name) -> Result<(), AllocError>
     ensures { OnOk result (string_bytes text.new ≡ string_bytes text.old ++ name_text name.now) }
 {

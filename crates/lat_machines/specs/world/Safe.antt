@@ -26,7 +26,7 @@ use Rattle.lat_machines.specs.world.Young.{link_of, IsYoung}
 use Rattle.lat_machines.specs.world.Spans.{OneSpan}
 use Rattle.lat_machines.specs.world.Ties.{Ties}
 
--- what the theorems ask of two configurations
+-- what the laws ask of two configurations
 pub record Fit (u : Setups) : Type 0 where
   pub apart : u.server.own ≢ u.node.own
   pub server_own : u.server.own ≢ everyone
