@@ -9,3 +9,4 @@ pub mod Moments
 pub mod Circuits
 pub mod Choices
 pub mod Answering
+pub mod Timers
