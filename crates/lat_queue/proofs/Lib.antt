@@ -1,0 +1,9 @@
+pub mod CallLemmas
+pub mod EventLemmas
+pub mod KeyLemmas
+pub mod LegalLemmas
+pub mod RecordLemmas
+pub mod StandLemmas
+pub mod TableLemmas
+pub mod ToldLemmas
+pub mod WaitLemmas

@@ -1,0 +1,11 @@
+use Rattle.std.proofs.Common.{length, sym, subst}
+use Rattle.lat_queue.specs.declared.entry.Entry.{Entry}
+use Rattle.lat_queue.specs.Tables.{Table, OnLine}
+use Rattle.lat_queue.proofs.TableLemmas.{lookup_each}
+use Rattle.lat_queue.proofs.queue.Queue.told.Goals as goal
+
+pub told_of-requires : goal.told_of-requires
+told_of-requires c =
+    let e = c.in_ok-entry.entry.now in
+    subst (λ (t : Table). OnLine (length t.offered) e.standing) c.self.view_is
+    (lookup_each (λ (x : Entry). OnLine (length c.self.inside.offered) x.standing) c.args.key.now c.self.inside.entries.entries e c.self.invariant.placed (sym c.in_ok-entry.ensures.value))

@@ -1,0 +1,128 @@
+-- For which lists of events a queue stands.
+use Rattle.std.specs.Prelude.{◌≡◌, ℕ, ◌<◌, Bool, true, false, cond, ◌&&◌, List, [], ◌∷◌, ◌++◌, length, map, Option, Some, None}
+use Rattle.std.specs.Option.{is_some}
+use Rattle.std.specs.List.{list_any, position_or_len}
+use Rattle.lat_base.specs.declared.addr.Addr.{Addr}
+use Rattle.lat_base.specs.declared.kept.Kept as base
+use Rattle.lat_base.specs.declared.kept.Kept.TheVariants as told
+use Rattle.lat_model.specs.Lists.{Each}
+use Rattle.lat_machines.specs.values.Names.{Name, same}
+use Rattle.lat_machines.specs.values.Addresses.{address}
+use Rattle.lat_machines.specs.values.Keys as keys
+use Rattle.lat_machines.specs.values.Notices.{Kept, Waiting, Granted, Cancelled, QueueFull, NoService, RecordsFull, Done}
+use Rattle.lat_machines.specs.server.Queue.{QueueEvent, Asks, Cancels, Grants, Finishes, Request, cancels, grants, finishes, is_waiting, records, first_asks, LegalQueue}
+use Rattle.lat_machines.specs.server.Records as records
+use Rattle.lat_machines.specs.server.Records.{grants_of, grant_of, record_of, is_granted, kept_of}
+use Rattle.lat_queue.specs.declared.key.Key.{Key}
+use Rattle.lat_queue.specs.declared.entry.Standing.{Standing}
+use Rattle.lat_queue.specs.declared.entry.Standing.TheVariants as stands
+use Rattle.lat_queue.specs.declared.entry.Entry.{Entry}
+use Rattle.lat_queue.specs.declared.record.Record.{Record}
+use Rattle.lat_queue.specs.Tables.{Table}
+
+-- this crate's values in the words of the machines
+
+abbrev pub key_in : Key → keys.Key
+key_in k = record { node = k.node; incarnation = k.incarnation; request = k.request }
+
+abbrev pub address_in : Addr → ℕ
+address_in a = address a.0
+
+abbrev pub kept_in : base.Kept → Kept
+kept_in (told.Waiting place) = Waiting place
+kept_in told.Granted = Granted
+kept_in told.Cancelled = Cancelled
+kept_in told.QueueFull = QueueFull
+kept_in told.NoService = NoService
+kept_in told.RecordsFull = RecordsFull
+kept_in told.Done = Done
+
+abbrev pub record_in : Record → records.Record
+record_in r = record { key = key_in r.key; service = r.service; kept = kept_in r.kept; grant = r.grant }
+
+abbrev pub some_kept : Option base.Kept → Option Kept
+some_kept None = None
+some_kept (Some k) = Some (kept_in k)
+
+abbrev pub some_record : Option Record → Option records.Record
+some_record None = None
+some_record (Some r) = Some (record_in r)
+
+abbrev pub some_key : Option Key → Option keys.Key
+some_key None = None
+some_key (Some k) = Some (key_in k)
+
+-- what is known of a first ask: the key, the address that it came from, and the key's service
+abbrev pub some_first : Option (Key × Addr) → Option (keys.Key × ℕ)
+some_first None = None
+some_first (Some p) = Some (key_in p.0, address_in p.1)
+
+abbrev pub some_request : Option Request → Option (keys.Key × ℕ)
+some_request None = None
+some_request (Some r) = Some (r.key, r.from)
+
+abbrev pub request_key : Option Request → Option keys.Key
+request_key None = None
+request_key (Some r) = Some r.key
+
+-- a record as the table and as the events have it
+
+pub record Noted : Type 0 where
+  pub key : keys.Key
+  pub from : ℕ
+  pub service : Name
+  pub standing : Standing
+
+abbrev pub noted : Key × Entry → Noted
+noted e = record { key = key_in e.0; from = address_in e.1.from; service = e.1.service; standing = e.1.standing }
+
+abbrev pub turned_away : Kept → Standing
+turned_away QueueFull = stands.QueueFull
+turned_away _ = stands.NoService
+
+-- one that was told to wait: granted by number, or cancelled, or waiting still
+abbrev pub waited : Option ℕ → Bool → Bool → Standing → Standing
+waited None true finished waits = stands.Cancelled
+waited None false finished waits = waits
+waited (Some n) cancelled true waits = stands.Done n
+waited (Some n) cancelled false waits = stands.Granted n
+
+-- the place of the service among those offered, which is the line
+abbrev pub line_of : List Name → Name → ℕ
+line_of offered service = position_or_len (λ n. same service n) offered
+
+abbrev pub standing_in : List Name → List QueueEvent → Request → Standing
+standing_in offered h r =
+    cond (is_waiting r.answer) (waited (grant_of r.key h) (list_any (cancels r.key) r.later) (list_any (finishes r.key) r.later) (stands.Waits (line_of offered r.service))) (turned_away r.answer)
+
+abbrev pub noted_in : List Name → List QueueEvent → Request → Noted
+noted_in offered h r = record { key = r.key; from = r.from; service = r.service; standing = standing_in offered h r }
+
+-- what a new request may have been told and be recorded
+abbrev pub is_first_answer : Kept → Bool
+is_first_answer (Waiting place) = true
+is_first_answer QueueFull = true
+is_first_answer NoService = true
+is_first_answer _ = false
+
+-- a first ask was answered as a new request, and waited for an offered service; its grants came behind it, and its end
+-- behind those
+pub record IsFirst (offered : List Name) (h : List QueueEvent) (r : Request) : Type 0 where
+  pub answered : is_first_answer r.answer ≡ true
+  pub offered_then : is_waiting r.answer ≡ true → line_of offered r.service < length offered
+  pub granted_then : list_any (grants r.key) r.later ≡ is_some (grant_of r.key h)
+  pub asked_then : is_waiting r.answer ≡ false → grant_of r.key h ≡ None
+  pub ended_then : grant_of r.key h ≡ None → list_any (finishes r.key) r.later ≡ false
+
+-- The queue stands for these events: it has the record of each first ask that had room, as the events leave it
+pub record Stands (t : Table) (h : List QueueEvent) : Type 0 where
+  pub entries : map noted t.entries ≡ map (noted_in t.offered h) (records h)
+  pub granted : t.granted ≡ length (grants_of h)
+  pub firsts : Each (IsFirst t.offered h) (records h)
+  pub known : (k : keys.Key) → record_of k h ≡ None → grant_of k h ≡ None
+  pub room : length (records h) < 65536 → records h ≡ first_asks [] h
+  pub legal : LegalQueue h
+
+-- the end of a grant counts where the record is granted
+abbrev pub finish_history : keys.Key → List QueueEvent → List QueueEvent
+finish_history k h = cond (is_granted (kept_of k h)) (h ++ Finishes k ∷ []) h

@@ -1,0 +1,4 @@
+pub mod KeyHash
+pub mod Lines
+pub mod Tables
+pub mod Histories

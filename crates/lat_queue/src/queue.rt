@@ -1,0 +1,302 @@
+//! The queue.
+
+ghost use Rattle.std.specs.Prelude.{◌≡◌, ◌<◌, ◌≤◌, ◌+◌, [], ◌∷◌, ◌++◌, length, true, false, Some, None, replicate, OnOk, OnErr, IfOk, IfSome, IfNone, IsSome, ◌↔◌, List, slice_get};
+ghost use Rattle.lat_machines.specs.server.Queue.{QueueEvent, Asks, Cancels, Grants, next_request};
+ghost use Rattle.lat_machines.specs.server.Records.{ask_answer, kept_of, record_at};
+ghost use Rattle.lat_queue.specs.Histories.{Stands, key_in, address_in, kept_in, some_kept, some_first, some_request, some_key, request_key, some_record, finish_history};
+ghost use Rattle.std.specs.Map.{lookup};
+ghost use Rattle.lat_queue.specs.KeyHash.{one_key};
+ghost use Rattle.indexmap.specs.IndexMap.{insert_entry};
+ghost use Rattle.lat_queue.specs.Tables.{waiters, OnLine, HasRoom, told, told_of, new_told, new_standing, added, shown, first_of, waiting_of, cancelled, given, finished};
+
+use crate::entry::{Entry, Standing, Waiter};
+use crate::key::Key;
+use crate::line::{LINE, Line};
+use crate::record::Record;
+use crate::services::Services16;
+use indexmap::IndexMap;
+use lat_base::{Addr, Kept, Memory, Name};
+use std::alloc::Global;
+use std::marker::Model;
+
+/// How many records a queue keeps.
+pub const RECORDS: usize = 65536;
+
+/// The requests of a server. Contracts see it as a table; `Stands` says for which lists of events it stands.
+#[derive(Drop)]
+pub struct Queue {
+    offered: Services16,
+    entries: IndexMap<Key, Entry>,
+    lines: Vec<Line>,
+    granted: u32,
+}
+
+impl Model for Queue {
+    ghost use Rattle.lat_queue.specs.Tables.{Table, Holds};
+
+    ghost Value = { Table };
+
+    ghost view = { λ a. record { offered = a.offered; entries = a.entries.entries; granted = a.granted } };
+
+    ghost invariant = { λ a. Holds (record { offered = a.offered; entries = a.entries.entries; granted = a.granted }) a.lines.items };
+}
+
+fn no_lines(alloc: Global, count: usize) -> Result<Vec<Line>, Memory>
+    requires { count ≤ 32 }
+    ensures { IfOk result (λ v. v.items ≡ replicate count []) }
+{
+    let mut lines = Vec::with_capacity(alloc, count)?;
+    for _ in 0..count {
+        lines.push(Line::make(alloc)?)?;
+    }
+    Ok(lines)
+}
+
+// A record more, behind all others.
+fn insert_new(entries: &mut IndexMap<Key, Entry>, key: &Key, entry: Entry) -> Result<(), Memory>
+    requires { lookup (one_key key.now) entries.old.entries ≡ None }
+    ensures ok { OnOk result (entries.new.entries ≡ entries.old.entries ++ (key.now, entry) ∷ []) }
+    ensures err { OnErr result (entries.new.entries ≡ entries.old.entries) }
+{
+    entries.insert(*key, entry)?;
+    Ok(())
+}
+
+// The key is there, so that this needs no memory.
+fn rewrite(entries: &mut IndexMap<Key, Entry>, key: &Key, entry: Entry)
+    requires { IsSome (lookup (one_key key.now) entries.old.entries) }
+    ensures { entries.new.entries ≡ insert_entry one_key entries.old.entries key.now entry }
+{
+    let _ = entries.insert(*key, entry);
+}
+
+impl Queue {
+    /// A queue with no record, for these services, with all the room that their lines will need. It stands for no event.
+    pub fn make(alloc: Global, services: Services16) -> Result<Queue, Memory>
+        ensures offered { IfOk result (λ q. q.offered ≡ services) }
+        ensures stands { IfOk result (λ q. Stands q []) }
+    {
+        let lines = no_lines(alloc, services.len())?;
+        Ok(Queue {
+            offered: services,
+            entries: IndexMap::new(alloc),
+            lines,
+            granted: 0,
+        })
+    }
+
+    /// A node asks for a service. A known key is answered from its record, whatever the service. A new key is told
+    /// `RecordsFull` where 65,536 records are kept, and gets no record then; else `NoService` where the service isn't
+    /// offered; else `QueueFull` where 64 wait for it; else `Waiting` with its place, counted from 1. After `Memory`
+    /// nothing has changed.
+    pub fn ask(&mut self, _alloc: Global, key: &Key, from: Addr, service: &Name) -> Result<Kept, Memory>
+        ensures answer { (h : List QueueEvent) → Stands self.old h → IfOk result (λ a. kept_in a ≡ ask_answer self.old.offered (key_in key.now) service.now h) }
+        ensures stands { (h : List QueueEvent) → Stands self.old h → IfOk result (λ a. Stands self.new (h ++ Asks (key_in key.now) (address_in from) service.now (kept_in a) ∷ [])) }
+        ensures offered { self.new.offered ≡ self.old.offered }
+        ensures err { OnErr result (self.new ≡ self.old) }
+    {
+        if let Some(kept) = self.told(key) {
+            return Ok(kept);
+        }
+        if self.entries.len() >= RECORDS {
+            return Ok(Kept::RecordsFull);
+        }
+        self.admit(key, from, service)
+    }
+
+    /// A node withdraws a request: `Waiting` becomes `Cancelled`, and no other record changes. It tells the record, or
+    /// None where there is none.
+    pub fn cancel(&mut self, key: &Key) -> Option<Kept>
+        ensures answer { (h : List QueueEvent) → Stands self.old h → some_kept result ≡ kept_of (key_in key.now) (h ++ Cancels (key_in key.now) ∷ []) }
+        ensures stands { (h : List QueueEvent) → Stands self.old h → Stands self.new (h ++ Cancels (key_in key.now) ∷ []) }
+        ensures offered { self.new.offered ≡ self.old.offered }
+    {
+        self.withdraw(key);
+        self.told(key)
+    }
+
+    /// The key of the first that waits for the service, and the address that its first command came from. None where
+    /// nobody waits for it.
+    pub fn first(&self, service: &Name) -> Option<(Key, Addr)>
+        ensures { (h : List QueueEvent) → Stands self.now h → some_first result ≡ some_request (next_request service.now h) }
+    {
+        self.first_waiter(service)
+    }
+
+    /// Grants the first that waits for the service, and tells its key. None where nobody waits for it, and then nothing
+    /// has changed.
+    pub fn grant(&mut self, service: &Name) -> Option<Key>
+        ensures answer { (h : List QueueEvent) → Stands self.old h → some_key result ≡ request_key (next_request service.now h) }
+        ensures stands { (h : List QueueEvent) → Stands self.old h → IfSome result (λ k. Stands self.new (h ++ Grants (key_in k) service.now ∷ [])) }
+        ensures offered { self.new.offered ≡ self.old.offered }
+        ensures none { IfNone result (self.new ≡ self.old) }
+    {
+        let (key, _) = self.first_waiter(service)?;
+        self.give(&key);
+        Some(key)
+    }
+
+    /// The session of a granted request is over: its record becomes `Done`. Where the record isn't `Granted`, nothing
+    /// changes and no event is counted.
+    pub fn finish(&mut self, key: &Key)
+        ensures stands { (h : List QueueEvent) → Stands self.old h → Stands self.new (finish_history (key_in key.now) h) }
+        ensures offered { self.new.offered ≡ self.old.offered }
+    {
+        self.end(key);
+    }
+
+    /// The record at this place of the order of first commands, counted from 0. None past the last.
+    pub fn record_at(&self, place: usize) -> Option<Record>
+        ensures value { (h : List QueueEvent) → Stands self.now h → some_record result ≡ record_at place h }
+        ensures within { IsSome result ↔ (place < length self.now.entries) }
+    {
+        self.shown(place)
+    }
+
+    fn admit(&mut self, key: &Key, from: Addr, service: &Name) -> Result<Kept, Memory>
+        requires new { lookup (one_key key.now) self.old.entries ≡ None }
+        requires few { length self.old.entries < 65536 }
+        ensures answer { IfOk result (λ a. a ≡ new_told self.old (new_standing self.old service.now)) }
+        ensures ok { OnOk result (self.new ≡ added self.old key.now (record { from = from; service = service.now; standing = new_standing self.old service.now })) }
+        ensures err { OnErr result (self.new ≡ self.old) }
+    {
+        let standing = self.new_standing(service);
+        let kept = self.new_told(standing);
+        let service = *service;
+        self.add(key, Entry { from, service, standing })?;
+        Ok(kept)
+    }
+
+    fn told_of(&self, key: &Key, standing: Standing) -> Kept
+        requires { OnLine (length self.now.offered) standing }
+        ensures { result ≡ told_of self.now.entries key.now standing }
+    {
+        match standing {
+            Standing::Waits(line) => Kept::Waiting(self.lines[line as usize].place_of(key)),
+            Standing::Granted(_) => Kept::Granted,
+            Standing::Done(_) => Kept::Done,
+            Standing::Cancelled => Kept::Cancelled,
+            Standing::QueueFull => Kept::QueueFull,
+            Standing::NoService => Kept::NoService,
+        }
+    }
+
+    fn told(&self, key: &Key) -> Option<Kept>
+        ensures { result ≡ told self.now key.now }
+    {
+        let entry = self.entries.get(key)?;
+        Some(self.told_of(key, entry.standing))
+    }
+
+    fn new_standing(&self, service: &Name) -> Standing
+        ensures value { result ≡ new_standing self.now service.now }
+        ensures room { HasRoom self.now result }
+    {
+        match self.offered.place_of(service) {
+            Some(line) if self.lines[line].len() >= LINE => Standing::QueueFull,
+            Some(line) => Standing::Waits(line as u8),
+            None => Standing::NoService,
+        }
+    }
+
+    fn new_told(&self, standing: Standing) -> Kept
+        requires { HasRoom self.now standing }
+        ensures { result ≡ new_told self.now standing }
+    {
+        match standing {
+            Standing::Waits(line) => Kept::Waiting(self.lines[line as usize].len() as u16 + 1),
+            Standing::QueueFull => Kept::QueueFull,
+            _ => Kept::NoService,
+        }
+    }
+
+    fn add(&mut self, key: &Key, entry: Entry) -> Result<(), Memory>
+        requires new { lookup (one_key key.now) self.old.entries ≡ None }
+        requires few { length self.old.entries < 65536 }
+        requires room { HasRoom self.old entry.standing }
+        ensures ok { OnOk result (self.new ≡ added self.old key.now entry) }
+        ensures err { OnErr result (self.new ≡ self.old) }
+    {
+        let Entry { from, standing, .. } = entry;
+        insert_new(&mut self.entries, key, entry)?;
+        if let Standing::Waits(line) = standing {
+            let waiting = &mut self.lines[line as usize];
+            waiting.join(Waiter { key: *key, from });
+        }
+        Ok(())
+    }
+
+    fn waiting(&self, key: &Key) -> Option<(Entry, u8)>
+        ensures value { result ≡ waiting_of self.now key.now }
+        ensures on_line { IfSome result (λ p. p.1 < length self.now.offered) }
+    {
+        let entry = *self.entries.get(key)?;
+        match entry.standing {
+            Standing::Waits(line) => Some((entry, line)),
+            _ => None,
+        }
+    }
+
+    fn withdraw(&mut self, key: &Key)
+        ensures { self.new ≡ cancelled self.old key.now }
+    {
+        if let Some((entry, line)) = self.waiting(key) {
+            let standing = Standing::Cancelled;
+            let waiting = &mut self.lines[line as usize];
+            waiting.leave(key);
+            rewrite(&mut self.entries, key, Entry { standing, ..entry });
+        }
+    }
+
+    fn give(&mut self, key: &Key)
+        ensures { self.new ≡ given self.old key.now }
+    {
+        if let Some((entry, line)) = self.waiting(key) {
+            let granted = self.granted + 1;
+            let standing = Standing::Granted(granted);
+            let waiting = &mut self.lines[line as usize];
+            waiting.leave(key);
+            rewrite(&mut self.entries, key, Entry { standing, ..entry });
+            self.granted = granted;
+        }
+    }
+
+    fn end(&mut self, key: &Key)
+        ensures { self.new ≡ finished self.old key.now }
+    {
+        if let Some(entry) = self.entries.get(key).copied() {
+            if let Standing::Granted(grant) = entry.standing {
+                let standing = Standing::Done(grant);
+                rewrite(&mut self.entries, key, Entry { standing, ..entry });
+            }
+        }
+    }
+
+    fn first_waiter(&self, service: &Name) -> Option<(Key, Addr)>
+        ensures { result ≡ first_of self.now service.now }
+    {
+        let line = self.offered.place_of(service)?;
+        let waiter = self.first_of(line)?;
+        Some((waiter.key, waiter.from))
+    }
+
+    fn first_of(&self, line: usize) -> Option<Waiter>
+        requires { line < length self.now.offered }
+        ensures { result ≡ slice_get (waiters line self.now.entries) 0 }
+    {
+        self.lines[line].first()
+    }
+
+    fn shown(&self, place: usize) -> Option<Record>
+        ensures value { result ≡ shown self.now place }
+        ensures within { IsSome result ↔ (place < length self.now.entries) }
+    {
+        let (key, entry) = self.entries.get_index(place)?;
+        Some(Record {
+            key: *key,
+            service: entry.service,
+            kept: self.told_of(key, entry.standing),
+            grant: entry.standing.grant(),
+        })
+    }
+}

@@ -1,0 +1,14 @@
+//! What is shown of a request.
+
+use crate::key::Key;
+use lat_base::{Kept, Name};
+
+/// The record of a request: its key and service as first heard, what is kept of it now, and the number of its grant,
+/// counted from 1 over all services (None where it was never granted).
+#[derive(Clone, Copy, Debug)]
+pub struct Record {
+    pub key: Key,
+    pub service: Name,
+    pub kept: Kept,
+    pub grant: Option<u32>,
+}
