@@ -1,5 +1,5 @@
 -- What the queue stands for after each call.
-use Rattle.std.proofs.Common.{◌≡◌, ℕ, suc, ◌+◌, ◌<◌, ◌≤◌, arith, refl, sym, ap, ap₂, ◌∙◌, subst, Bool, true, false, not, cond, ◌&&◌, ◌||◌, List, [], ◌∷◌, ◌++◌, map, length, filter, Option, Some, None, find, position, nat_le, true≢false}
+use Rattle.std.proofs.Common.{◌≡◌, ℕ, ◌+◌, ◌<◌, ◌≤◌, arith, refl, sym, ap, ap₂, ◌∙◌, subst, Bool, true, false, not, cond, ◌&&◌, ◌||◌, List, [], ◌∷◌, ◌++◌, map, length, filter, Option, Some, None, find, position, nat_le, true≢false}
 use Rattle.std.specs.List.{list_any}
 use Rattle.std.specs.Option.{is_some}
 use Rattle.std.specs.Prelude.{Result, Ok, Err, IfOk, OnOk}
@@ -13,7 +13,7 @@ use Rattle.lat_machines.specs.values.Keys as keys
 use Rattle.lat_machines.specs.values.Keys.{same_key}
 use Rattle.lat_machines.specs.values.Notices as answers
 use Rattle.lat_machines.specs.values.Notices.{Kept}
-use Rattle.lat_machines.specs.server.Queue.{QueueEvent, Asks, Cancels, Grants, Finishes, Request, cancels, grants, finishes, is_waiting, is_overfull, first_asks, records, waits, waiting, first, next_request, LegalQueue}
+use Rattle.lat_machines.specs.server.Queue.{QueueEvent, Asks, Cancels, Grants, Finishes, Request, cancels, grants, finishes, is_waiting, is_overfull, first_asks, records, waits, first, next_request, LegalQueue}
 use Rattle.lat_machines.specs.server.Records.{grants_of, grant_of, place_among, kept_of, record_of, is_granted}
 use Rattle.lat_base.specs.declared.addr.Addr.{Addr}
 use Rattle.lat_base.specs.declared.kept.Kept as base
@@ -22,14 +22,14 @@ use Rattle.lat_queue.specs.declared.entry.Entry.{Entry}
 use Rattle.lat_queue.specs.declared.entry.Standing.{Standing}
 use Rattle.lat_queue.specs.declared.entry.Standing.TheVariants as stands
 use Rattle.lat_queue.specs.KeyHash.{one_key}
-use Rattle.lat_queue.specs.Tables.{Table, waits_somewhere, waiters, told_of, told_entry, told, standing_at, new_standing, new_told, added, with_standing, restood, waiting_entry, waiting_found, waiting_of, cancelled_by, cancelled, given_by, given, finished_entry, finished_by, finished, first_of}
+use Rattle.lat_queue.specs.Tables.{Table, waits_somewhere, waiters, told_of, told_entry, told, standing_at, new_standing, new_told, added, with_standing, restood, waiting_entry, waiting_found, cancelled_by, cancelled, given_by, given, finished_entry, finished_by, finished, first_of}
 use Rattle.lat_queue.specs.Histories.{Noted, noted, key_in, address_in, kept_in, some_kept, some_first, some_request, request_key, waited, turned_away, line_of, standing_in, noted_in, is_first_answer, IsFirst, Stands, finish_history}
 use Rattle.lat_queue.proofs.KeyLemmas.{key_self, key_turn, key_right}
 use Rattle.lat_queue.proofs.EventLemmas.{extend, Grows, grows_cancel, grows_grant, grows_finish, grows_again, full_asks, grows_new, grants_more, place_other, place_same}
 use Rattle.lat_machines.proofs.queue.Legal.{legal_none}
 use Rattle.lat_queue.proofs.LegalLemmas.{legal_ask, legal_cancel, legal_finish, legal_grant}
 use Rattle.lat_queue.proofs.RecordLemmas.{Distinct, distinct_records, each_all, Found, restand, map_same, map_twice, moved, unmoved, unmoved_none}
-use Rattle.lat_queue.proofs.StandLemmas.{grant_still, stays, cancel_waits, cancel_stays, grant_waits, granted_is, IsGranted, finish_granted, stands_quiet, stands_grant}
+use Rattle.lat_queue.proofs.StandLemmas.{grant_still, stays, cancel_waits, cancel_stays, grant_waits, granted_is, finish_granted, stands_quiet, stands_grant}
 use Rattle.lat_queue.proofs.ToldLemmas.{told_known, unknown, told_right, count_is, each_found}
 use Rattle.lat_queue.proofs.WaitLemmas.{Stood, stood, first_right, any_either}
 
@@ -64,7 +64,7 @@ stands_again t h k from s a st q = by (lookup (one_key k) t.entries) refl q
     by (Some x) l q =
         let f : Found (noted_in t.offered h) (records h) k x = told_known t h k x st l in
         still_stands t t.entries h e st (grows_again h (key_in k) (address_in from) s (kept_in a) f.request f.found) refl (λ j. refl) (λ r n. refl)
-            (st.entries ∙ asks_stay t.offered h (key_in k) (address_in from) s (kept_in a) (records h)) (legal_ask h (key_in k) (address_in from) s (kept_in a) st.legal)
+        (st.entries ∙ asks_stay t.offered h (key_in k) (address_in from) s (kept_in a) (records h)) (legal_ask h (key_in k) (address_in from) s (kept_in a) st.legal)
 
 pub stands_full : (t : Table) (h : List QueueEvent) (k : Key) (from : Addr) (s : Name) → Stands t h → 65536 ≤ length t.entries → Stands t (h ++ Asks (key_in k) (address_in from) s answers.RecordsFull ∷ [])
 stands_full t h k from s st n =
@@ -197,7 +197,7 @@ stands_finished t h k st = by (lookup (one_key k) t.entries) refl (told_right t 
     ends x n q l =
         let f : Found g (records h) k x = told_known t h k x st l in
         still_stands t (insert_entry one_key t.entries k (with_standing x (stands.Done n))) h e st (grows_finish h (key_in k)) refl (λ j. refl) (λ r m. apart n (granted_of n x q f) r m (same_key r.key (key_in k)) refl)
-            (moved (λ r. Unit {0}) g g' (λ r. refl) k x (stands.Done n) others (λ r u p s. finish_granted t.offered h (key_in k) r n p (s ∙ q)) t.entries (records h) st.entries (distinct_records h) (each_of (λ r. Unit {0}) (λ r. tt) (records h)) l) (legal_finish h (key_in k) st.legal)
+        (moved (λ r. Unit {0}) g g' (λ r. refl) k x (stands.Done n) others (λ r u p s. finish_granted t.offered h (key_in k) r n p (s ∙ q)) t.entries (records h) st.entries (distinct_records h) (each_of (λ r. Unit {0}) (λ r. tt) (records h)) l) (legal_finish h (key_in k) st.legal)
 
     at : (x : Entry) (s : Standing) → x.standing ≡ s → lookup (one_key k) t.entries ≡ Some x → Some (kept_in (told_of t.entries k s)) ≡ kept_of (key_in k) h → Stands (finished_entry t k x s) (finish_history (key_in k) h)
     at x (stands.Granted n) q l r = subst (λ b. Stands (restood t k x (stands.Done n) t.granted) (cond b (h ++ e ∷ []) h)) (ap is_granted r) (ends x n q l)
@@ -295,8 +295,8 @@ stands_given t h s k from st q = by (next_request s h) refl (sym (ap some_first 
         let told : Each (λ (y : Request). same_key y.key (key_in k) ≡ true → is_waiting y.answer ≡ true) (records h) = each_all (λ (y : Request). same_key y.key (key_in k) ≡ true → y ≡ r) (λ (y : Request). same_key y.key (key_in k) ≡ true → is_waiting y.answer ≡ true) (records h) (λ y f m. ap (λ (z : Request). is_waiting z.answer) (f m) ∙ w) (only_found (key_in k) (records h) r (distinct_records h) there) in
         let grown : Grows h e [] = grows_grant h (key_in k) s in
         stands_grant t (insert_entry one_key t.entries k (with_standing x (stands.Granted (t.granted + 1)))) h (key_in k) s r st there told (grown.are ∙ append-nil (map (extend e) (records h))) (rooms t h e [] st grown)
-            (moved (IsFirst t.offered h) g g' (λ y. refl) k x (stands.Granted (t.granted + 1)) others (λ y f m c. grant_waits t.offered h (key_in k) s y l f m (c ∙ p) ∙ ap (λ z. restand (stands.Granted (z + 1)) (g y)) (sym st.granted)) t.entries (records h) st.entries (distinct_records h) st.firsts look ∙ sym (map_twice (noted_in t.offered (h ++ e ∷ [])) (extend e) (records h)))
-            (legal_grant h r (key_in k) s n i st.legal)
+        (moved (IsFirst t.offered h) g g' (λ y. refl) k x (stands.Granted (t.granted + 1)) others (λ y f m c. grant_waits t.offered h (key_in k) s y l f m (c ∙ p) ∙ ap (λ z. restand (stands.Granted (z + 1)) (g y)) (sym st.granted)) t.entries (records h) st.entries (distinct_records h) st.firsts look ∙ sym (map_twice (noted_in t.offered (h ++ e ∷ [])) (extend e) (records h)))
+        (legal_grant h r (key_in k) s n i st.legal)
 
     at : (r : Request) → next_request s h ≡ Some r → r.key ≡ key_in k → (o : Option Entry) → lookup (one_key k) t.entries ≡ o → Stands (given_by t k (waiting_found o)) (h ++ e ∷ [])
     at r n i None l =

@@ -1,13 +1,11 @@
 -- One event more at the end of a history.
-use Rattle.std.proofs.Common.{◌≡◌, ℕ, suc, ◌+◌, ◌<◌, arith, refl, sym, ap, ap₂, ◌∙◌, Bool, true, false, not, cond, ◌||◌, List, [], ◌∷◌, ◌++◌, map, length, filter, Option, Some, None, find, true≢false, append_assoc}
+use Rattle.std.proofs.Common.{◌≡◌, ℕ, suc, ◌+◌, ◌<◌, arith, refl, sym, ap, ap₂, ◌∙◌, Bool, true, false, not, cond, ◌||◌, List, [], ◌∷◌, ◌++◌, map, length, filter, Some, None, find, true≢false}
 use Rattle.std.specs.List.{list_any}
-use Rattle.std.specs.Option.{is_some}
-use Rattle.std.proofs.lemmas.List.{append-nil, length-map}
-use Rattle.lat_model.specs.Lists.{Each}
+use Rattle.std.proofs.lemmas.List.{append-nil}
 use Rattle.lat_machines.specs.values.Names.{Name}
 use Rattle.lat_machines.specs.values.Notices.{Kept}
 use Rattle.lat_machines.specs.values.Keys.{Key, same_key}
-use Rattle.lat_machines.specs.server.Queue.{QueueEvent, Asks, Cancels, Grants, Finishes, Request, cancels, grants, finishes, first_asks, is_overfull, records}
+use Rattle.lat_machines.specs.server.Queue.{QueueEvent, Asks, Cancels, Grants, Finishes, Request, first_asks, is_overfull, records}
 use Rattle.lat_machines.specs.server.Records.{grants_of, place_among, record_of}
 use Rattle.lat_queue.proofs.KeyLemmas.{key_turn, key_left, key_right}
 

@@ -1,5 +1,5 @@
 -- Keys that are one.
-use Rattle.std.proofs.Common.{◌≡◌, ℕ, refl, sym, ap, ◌∙◌, Bool, true, false, nat_eq, rules}
+use Rattle.std.proofs.Common.{◌≡◌, refl, ◌∙◌, true, nat_eq, rules}
 use Rattle.std.specs.Cmp.{IsEquivalence}
 use Rattle.std.specs.Cmp.Rules.{comparing}
 use Rattle.std.specs.Cmp.Lexicographic.{pointwise}

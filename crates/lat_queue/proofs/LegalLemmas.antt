@@ -1,5 +1,5 @@
 -- A legal history with one event more.
-use Rattle.std.proofs.Common.{◌≡◌, ℕ, ◌⊎◌, inl, inr, ⊎_elim, refl, ap, ap₂, subst, List, [], ◌∷◌, ◌++◌, Option, Some}
+use Rattle.std.proofs.Common.{◌≡◌, ℕ, ◌⊎◌, inl, inr, ⊎_elim, refl, ap, ap₂, subst, List, [], ◌∷◌, ◌++◌, Some}
 use Rattle.lat_machines.specs.values.Names.{Name}
 use Rattle.lat_machines.specs.values.Notices.{Kept}
 use Rattle.lat_machines.specs.values.Keys.{Key}

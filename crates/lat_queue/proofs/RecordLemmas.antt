@@ -1,5 +1,5 @@
 -- Records as the table has them and as the events have them.
-use Rattle.std.proofs.Common.{◌≡◌, ◌≢◌, ℕ, suc, ◌+◌, ◌<◌, arith, refl, sym, ap, ap₂, ◌∙◌, subst, Bool, true, false, not, cond, ◌&&◌, ◌||◌, List, [], ◌∷◌, ◌++◌, map, length, filter, Option, Some, None, find, true≢false}
+use Rattle.std.proofs.Common.{◌≡◌, refl, sym, ap, ap₂, ◌∙◌, Bool, true, false, not, cond, List, [], ◌∷◌, map, filter, Some, None, find}
 use Rattle.std.specs.List.{list_any}
 use Rattle.std.specs.Map.{lookup}
 use Rattle.std.proofs.lemmas.Bool.{or_parts}
@@ -14,7 +14,7 @@ use Rattle.lat_queue.specs.declared.entry.Standing.{Standing}
 use Rattle.lat_queue.specs.KeyHash.{one_key}
 use Rattle.lat_queue.specs.Tables.{with_standing}
 use Rattle.lat_queue.specs.Histories.{Noted, noted, key_in}
-use Rattle.lat_queue.proofs.KeyLemmas.{key_self, key_turn, key_left, key_right}
+use Rattle.lat_queue.proofs.KeyLemmas.{key_turn, key_right}
 
 -- no two records have one key
 

@@ -1,27 +1,23 @@
 -- The queue stands for one event more.
-use Rattle.std.proofs.Common.{◌≡◌, ◌≢◌, ℕ, suc, ◌+◌, ◌<◌, ◌≤◌, arith, refl, sym, ap, ap₂, ◌∙◌, subst, Bool, true, false, cond, ◌&&◌, ◌||◌, List, [], ◌∷◌, ◌++◌, map, length, Option, Some, None, find, true≢false}
+use Rattle.std.proofs.Common.{◌≡◌, ◌≢◌, ℕ, ◌+◌, ◌<◌, arith, refl, sym, ap, ap₂, ◌∙◌, subst, Bool, true, false, cond, ◌||◌, List, [], ◌∷◌, ◌++◌, map, length, Option, Some, None, find, true≢false}
 use Rattle.std.specs.List.{list_any}
 use Rattle.std.specs.Option.{is_some}
-use Rattle.std.proofs.lemmas.List.{append-nil, length-map, length-append}
-use Rattle.std.specs.Map.{lookup}
-use Rattle.indexmap.specs.IndexMap.{insert_entry}
+use Rattle.std.proofs.lemmas.List.{append-nil, length-append}
 use Rattle.lat_model.specs.Lists.{Each}
 use Rattle.lat_machines.specs.values.Names.{Name}
 use Rattle.lat_machines.specs.values.Notices as answers
 use Rattle.lat_machines.specs.values.Keys as keys
 use Rattle.lat_machines.specs.values.Keys.{same_key}
-use Rattle.lat_machines.specs.server.Queue.{QueueEvent, Asks, Cancels, Grants, Finishes, Request, cancels, grants, finishes, is_waiting, first_asks, records, LegalQueue}
+use Rattle.lat_machines.specs.server.Queue.{QueueEvent, Cancels, Grants, Finishes, Request, cancels, grants, finishes, is_waiting, first_asks, records, LegalQueue}
 use Rattle.lat_machines.specs.server.Records.{grants_of, grant_of, place_among, record_of}
 use Rattle.lat_queue.specs.declared.key.Key.{Key}
 use Rattle.lat_queue.specs.declared.entry.Entry.{Entry}
 use Rattle.lat_queue.specs.declared.entry.Standing.{Standing}
-use Rattle.lat_queue.specs.declared.entry.Standing.TheVariants.{Waits, Granted, Done, Cancelled, QueueFull, NoService}
-use Rattle.lat_queue.specs.KeyHash.{one_key}
-use Rattle.lat_queue.specs.Tables.{Table, waits_somewhere, with_standing, restood}
-use Rattle.lat_queue.specs.Histories.{Noted, noted, key_in, turned_away, waited, line_of, standing_in, noted_in, IsFirst, Stands}
-use Rattle.lat_queue.proofs.KeyLemmas.{key_turn, key_right}
-use Rattle.lat_queue.proofs.EventLemmas.{extend, Grows, any_more, any_not_more, grants_more, place_other, place_own, place_some, place_same, find_extend, find_front, find_same}
-use Rattle.lat_queue.proofs.RecordLemmas.{restand, each_all, Distinct}
+use Rattle.lat_queue.specs.declared.entry.Standing.TheVariants.{Waits, Granted, Done, Cancelled}
+use Rattle.lat_queue.specs.Tables.{Table, waits_somewhere}
+use Rattle.lat_queue.specs.Histories.{Noted, noted, turned_away, waited, line_of, standing_in, noted_in, IsFirst, Stands}
+use Rattle.lat_queue.proofs.EventLemmas.{extend, any_more, any_not_more, grants_more, place_other, place_own, place_some, find_extend, find_front, find_same}
+use Rattle.lat_queue.proofs.RecordLemmas.{restand, each_all}
 
 -- one record
 

@@ -1,8 +1,7 @@
 -- What a change of one record leaves of the lines.
-use Rattle.std.proofs.Common.{◌≡◌, ◌≢◌, ℕ, zero, suc, ◌+◌, ◌<◌, ◌≤◌, arith, refl, sym, ap, ap₂, ◌∙◌, subst, Bool, true, false, cond, List, [], ◌∷◌, ◌++◌, length, Option, Some, None, position, remove, slice_get, slice_set, get_or, take, drop, append_assoc, true≢false, nat_eq, eqb-true}
+use Rattle.std.proofs.Common.{◌≡◌, ◌≢◌, ℕ, zero, suc, ◌+◌, ◌<◌, ◌≤◌, arith, refl, sym, ap, ap₂, ◌∙◌, subst, Bool, true, false, cond, List, [], ◌∷◌, ◌++◌, length, Option, Some, None, position, slice_get, slice_set, take, drop, append_assoc, true≢false, nat_eq, eqb-true}
 use Rattle.std.proofs.lemmas.Bool.{eqb-false}
 use Rattle.std.proofs.lemmas.List.{length-append, length-set, append-nil}
-use Rattle.std.proofs.lemmas.Option.{get_or_from_slice_get}
 use Rattle.std.proofs.Math.Seq.{take-append_seam, drop-append-add}
 use Rattle.std.proofs.lemmas.Iterator.Adapters.{position_from-zero}
 use Rattle.std.specs.List.{position_from}
@@ -14,9 +13,10 @@ use Rattle.lat_queue.specs.declared.entry.Standing.{Standing}
 use Rattle.lat_queue.specs.declared.entry.Standing.TheVariants.{Waits, Granted, Done, Cancelled, QueueFull, NoService}
 use Rattle.lat_queue.specs.declared.entry.Entry.{Entry}
 use Rattle.lat_queue.specs.declared.entry.Waiter.{Waiter}
+use Rattle.lat_base.specs.declared.kept.Kept.{Kept}
 use Rattle.lat_queue.specs.KeyHash.{one_key}
-use Rattle.lat_queue.specs.Lines.{has_key, without_at, without}
-use Rattle.lat_queue.specs.Tables.{Table, Holds, HasRoom, added, restood, waiting_entry, waiting_found, waits_at, waits_somewhere, waiter_of, waiters, waiting_count, OnLine, with_standing}
+use Rattle.lat_queue.specs.Lines.{has_key, place_at, without_at, without}
+use Rattle.lat_queue.specs.Tables.{Table, HasPlace, IsShort, told_of, Holds, HasRoom, added, restood, waiting_entry, waiting_found, waits_at, waits_somewhere, waiter_of, waiters, waiting_count, OnLine, with_standing}
 
 pub lookup_each : (P : Entry → Type 0) (k : Key) (es : List (Key × Entry)) (e : Entry) → Each (λ (x : Key × Entry). P x.1) es → lookup (one_key k) es ≡ Some e → P e
 lookup_each P k [] e p q = let z : ⊥ = cc in absurd z
@@ -310,3 +310,36 @@ waits_there t k e i h = by (lookup (one_key k) t.entries) refl h
     by : (o : Option Entry) → lookup (one_key k) t.entries ≡ o → waiting_found o ≡ Some (e, i) → WaitsThere t k e i
     by None q h = let z : ⊥ = cc in absurd z
     by (Some x) q h = at x x.standing refl q h
+
+-- places
+
+some_wait : (i : ℕ) (k : Key) (e : Entry) (es : List (Key × Entry)) → lookup (one_key k) es ≡ Some e → waits_at i e.standing ≡ true → 0 < length (waiters i es)
+some_wait i k e [] l w = let z : ⊥ = cc in absurd z
+some_wait i k e (x ∷ xs) l w = by (one_key k x.0) (waits_at i x.1.standing) refl l (some_wait i k e xs)
+  where
+    by : (a b : Bool) → waits_at i x.1.standing ≡ b → cond a (Some x.1) (lookup (one_key k) xs) ≡ Some e → (lookup (one_key k) xs ≡ Some e → waits_at i e.standing ≡ true → 0 < length (waiters i xs)) → 0 < length (cond b (waiter_of x ∷ waiters i xs) (waiters i xs))
+    by a true q l m = omega arith
+    by true false q l m = let s : x.1 ≡ e = cc in absurd (true≢false (sym w ∙ ap (λ (z : Entry). waits_at i z.standing) (sym s) ∙ q))
+    by false false q l m = m l w
+
+counts : (n : ℕ) (o : Option ℕ) → 0 < n → 1 ≤ place_at n o
+counts n None h = omega (arith, h)
+counts n (Some i) h = omega arith
+
+same_line : (i : ℕ) → nat_eq i i ≡ true
+same_line i = by (nat_eq i i) refl
+  where
+    by : (b : Bool) → nat_eq i i ≡ b → nat_eq i i ≡ true
+    by true q = q
+    by false q = absurd (eqb-false i i q refl)
+
+pub has_place : (k : Key) (e : Entry) (es : List (Key × Entry)) (r : Kept) → lookup (one_key k) es ≡ Some e → r ≡ told_of es k e.standing → IsShort r → HasPlace r
+has_place k e es r l q h = by e.standing refl (subst IsShort q h) (λ p. subst HasPlace (sym q) p)
+  where
+    by : (s : Standing) → e.standing ≡ s → IsShort (told_of es k s) → (HasPlace (told_of es k s) → HasPlace r) → HasPlace r
+    by (Waits i) w h m = m (counts (length (waiters i es)) (position (has_key k) (waiters i es)) (some_wait i k e es l (ap (waits_at i) w ∙ same_line i)), h)
+    by (Granted n) w h m = m tt
+    by (Done n) w h m = m tt
+    by Cancelled w h m = m tt
+    by QueueFull w h m = m tt
+    by NoService w h m = m tt

@@ -1,5 +1,5 @@
 -- What the table tells is what the events say.
-use Rattle.std.proofs.Common.{◌≡◌, ℕ, zero, suc, ◌+◌, ◌<◌, ◌≤◌, arith, refl, sym, ap, ap₂, ◌∙◌, subst, Bool, true, false, not, cond, ◌&&◌, ◌||◌, List, [], ◌∷◌, map, length, Option, Some, None, find, slice_get, position, nat_le, true≢false}
+use Rattle.std.proofs.Common.{◌≡◌, ℕ, zero, suc, ◌+◌, ◌<◌, ◌≤◌, arith, refl, sym, ap, ◌∙◌, subst, Bool, true, false, not, cond, List, [], ◌∷◌, map, length, Option, Some, None, find, slice_get, position, nat_le, true≢false}
 use Rattle.std.specs.List.{list_any}
 use Rattle.std.specs.Option.{is_some}
 use Rattle.std.specs.Map.{lookup}
@@ -7,11 +7,10 @@ use Rattle.std.proofs.lemmas.List.{length-map}
 use Rattle.std.proofs.lemmas.Bool.Decides.{nat_tests}
 use Rattle.lat_model.specs.Lists.{Each}
 use Rattle.lat_machines.specs.values.Names.{Name, same}
-use Rattle.lat_machines.specs.values.Keys as keys
 use Rattle.lat_machines.specs.values.Keys.{same_key}
 use Rattle.lat_machines.specs.values.Notices as answers
 use Rattle.lat_machines.specs.values.Notices.{Kept}
-use Rattle.lat_machines.specs.server.Queue.{QueueEvent, Request, cancels, grants, finishes, is_waiting, records, waiting}
+use Rattle.lat_machines.specs.server.Queue.{QueueEvent, Request, cancels, finishes, is_waiting, records, waiting}
 use Rattle.lat_machines.specs.server.Records.{Record, grant_of, place_in, kept_now, kept_of, record_of, new_answer, ask_answer, shown, record_at}
 use Rattle.lat_queue.specs.declared.key.Key.{Key}
 use Rattle.lat_queue.specs.declared.entry.Entry.{Entry}

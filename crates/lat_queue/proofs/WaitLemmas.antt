@@ -1,6 +1,6 @@
 -- The lines of a table are the waiting requests of its events.
-use Rattle.std.proofs.Common.{◌≡◌, ℕ, suc, ◌+◌, ◌<◌, ◌≤◌, arith, refl, sym, ap, ap₂, ◌∙◌, subst, Bool, true, false, not, cond, ◌&&◌, ◌||◌, List, [], ◌∷◌, map, length, filter, Option, Some, None, find, slice_get, position, nat_eq, nat_lt, true≢false}
-use Rattle.std.specs.List.{list_any, position_or_len, position_from}
+use Rattle.std.proofs.Common.{◌≡◌, ℕ, suc, ◌+◌, ◌<◌, arith, refl, sym, ap, ap₂, ◌∙◌, subst, Bool, true, false, not, cond, ◌&&◌, ◌||◌, List, [], ◌∷◌, map, length, filter, Option, Some, None, slice_get, position, nat_eq, nat_lt, true≢false}
+use Rattle.std.specs.List.{list_any, position_from}
 use Rattle.std.specs.Option.{is_some}
 use Rattle.std.proofs.lemmas.Bool.Decides.{nat_tests}
 use Rattle.std.proofs.lemmas.Iterator.Adapters.{position_from-zero}
@@ -15,11 +15,10 @@ use Rattle.lat_queue.specs.declared.entry.Entry.{Entry}
 use Rattle.lat_queue.specs.declared.entry.Waiter.{Waiter}
 use Rattle.lat_queue.specs.declared.entry.Standing.{Standing}
 use Rattle.lat_queue.specs.declared.entry.Standing.TheVariants.{Waits}
-use Rattle.lat_queue.specs.KeyHash.{one_key}
 use Rattle.lat_queue.specs.Lines.{has_key, place_at, place_of}
 use Rattle.lat_queue.specs.Tables.{Table, waits_at, waits_somewhere, waiters, waiter_told, first_waiter, first_of}
 use Rattle.lat_queue.specs.Histories.{Noted, noted, key_in, address_in, waited, turned_away, line_of, standing_in, noted_in, some_first, some_request, IsFirst, Stands}
-use Rattle.lat_queue.proofs.KeyLemmas.{key_left, key_right, name_turn, name_left}
+use Rattle.lat_queue.proofs.KeyLemmas.{key_left, name_turn, name_left}
 use Rattle.lat_queue.proofs.TableLemmas.{not_at}
 use Rattle.lat_queue.proofs.RecordLemmas.{each_all}
 use Rattle.lat_queue.proofs.StandLemmas.{not_turned}

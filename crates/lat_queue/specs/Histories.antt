@@ -1,5 +1,5 @@
 -- For which lists of events a queue stands.
-use Rattle.std.specs.Prelude.{◌≡◌, ℕ, ◌<◌, Bool, true, false, cond, ◌&&◌, List, [], ◌∷◌, ◌++◌, length, map, Option, Some, None}
+use Rattle.std.specs.Prelude.{◌≡◌, ℕ, ◌<◌, Bool, true, false, cond, List, [], ◌∷◌, ◌++◌, length, map, Option, Some, None}
 use Rattle.std.specs.Option.{is_some}
 use Rattle.std.specs.List.{list_any, position_or_len}
 use Rattle.lat_base.specs.declared.addr.Addr.{Addr}
@@ -10,7 +10,7 @@ use Rattle.lat_machines.specs.values.Names.{Name, same}
 use Rattle.lat_machines.specs.values.Addresses.{address}
 use Rattle.lat_machines.specs.values.Keys as keys
 use Rattle.lat_machines.specs.values.Notices.{Kept, Waiting, Granted, Cancelled, QueueFull, NoService, RecordsFull, Done}
-use Rattle.lat_machines.specs.server.Queue.{QueueEvent, Asks, Cancels, Grants, Finishes, Request, cancels, grants, finishes, is_waiting, records, first_asks, LegalQueue}
+use Rattle.lat_machines.specs.server.Queue.{QueueEvent, Finishes, Request, cancels, grants, finishes, is_waiting, records, first_asks, LegalQueue}
 use Rattle.lat_machines.specs.server.Records as records
 use Rattle.lat_machines.specs.server.Records.{grants_of, grant_of, record_of, is_granted, kept_of}
 use Rattle.lat_queue.specs.declared.key.Key.{Key}

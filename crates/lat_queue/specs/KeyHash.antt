@@ -1,6 +1,6 @@
 -- Keys that compare alike are hashed alike.
-use Rattle.std.specs.Prelude.{◌≡◌, ℕ, List, [], ◌∷◌, ◌++◌, Bool, true, false, ◌&&◌, IsTrue, ◌==◌}
-use Rattle.std.proofs.Common.{refl, sym, ap, ap₂, ◌∙◌, eqb-true}
+use Rattle.std.specs.Prelude.{◌≡◌, ℕ, List, ◌∷◌, ◌++◌, Bool, true, ◌&&◌, IsTrue, ◌==◌}
+use Rattle.std.proofs.Common.{ap₂, eqb-true}
 use Rattle.std.proofs.lemmas.Bool.{and_parts}
 use Rattle.std.specs.Hash as fed
 use Rattle.std.specs.Cmp.Lexicographic.{pointwise}

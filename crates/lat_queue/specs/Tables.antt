@@ -61,6 +61,7 @@ pub record Holds (t : Table) (lines : List (List Waiter)) : Type 0 where
 
 -- what is told
 
+-- what a key is told that stands so
 abbrev pub told_of : List (Key × Entry) → Key → Standing → Kept
 told_of es k (Waits i) = kept.Waiting (place_of k (waiters i es))
 told_of es k (Granted n) = kept.Granted
@@ -69,13 +70,25 @@ told_of es k Cancelled = kept.Cancelled
 told_of es k QueueFull = kept.QueueFull
 told_of es k NoService = kept.NoService
 
+-- where it tells a place, that is 1 to 64
+abbrev pub HasPlace : Kept → Type 0
+HasPlace (kept.Waiting place) = (1 ≤ place) × (place ≤ 64)
+HasPlace _ = Unit {0}
+
+-- its place is at most 64
+abbrev pub IsShort : Kept → Type 0
+IsShort (kept.Waiting place) = place ≤ 64
+IsShort _ = Unit {0}
+
 abbrev pub told_entry : List (Key × Entry) → Key → Option Entry → Option Kept
 told_entry es k None = None
 told_entry es k (Some e) = Some (told_of es k e.standing)
 
+-- what is kept of a key
 abbrev pub told : Table → Key → Option Kept
 told t k = told_entry t.entries k (lookup (one_key k) t.entries)
 
+-- the number of its grant
 abbrev pub grant_told : Standing → Option ℕ
 grant_told (Granted n) = Some n
 grant_told (Done n) = Some n
@@ -85,6 +98,7 @@ abbrev pub shown_entry : List (Key × Entry) → Option (Key × Entry) → Optio
 shown_entry es None = None
 shown_entry es (Some e) = Some (record { key = e.0; service = e.1.service; kept = told_of es e.0 e.1.standing; grant = grant_told e.1.standing })
 
+-- the record at a place of the order of first commands
 abbrev pub shown : Table → ℕ → Option Record
 shown t place = shown_entry t.entries (slice_get t.entries place)
 
@@ -96,6 +110,7 @@ abbrev pub waiter_told : Option Waiter → Option (Key × Addr)
 waiter_told None = None
 waiter_told (Some w) = Some (w.key, w.from)
 
+-- the first that waits for a service
 abbrev pub first_of : Table → List ℕ → Option (Key × Addr)
 first_of t service = waiter_told (first_waiter t.entries (position (λ n. same service n) t.offered))
 
@@ -105,18 +120,22 @@ abbrev pub standing_at : List (Key × Entry) → Option ℕ → Standing
 standing_at es None = NoService
 standing_at es (Some i) = cond (nat_le 64 (length (waiters i es))) QueueFull (Waits i)
 
+-- how a new request for a service stands
 abbrev pub new_standing : Table → List ℕ → Standing
 new_standing t service = standing_at t.entries (position (λ n. same service n) t.offered)
 
+-- what a new request that stands so is told
 abbrev pub new_told : Table → Standing → Kept
 new_told t (Waits i) = kept.Waiting (length (waiters i t.entries) + 1)
 new_told t QueueFull = kept.QueueFull
 new_told t _ = kept.NoService
 
+-- its line has room for one that waits
 abbrev pub HasRoom : Table → Standing → Type 0
 HasRoom t (Waits i) = (i < length t.offered) × (length (waiters i t.entries) < 64)
 HasRoom t _ = Unit {0}
 
+-- one record more
 abbrev pub added : Table → Key → Entry → Table
 added t k e = record { offered = t.offered; entries = t.entries ++ (k, e) ∷ []; granted = t.granted }
 
@@ -125,6 +144,7 @@ added t k e = record { offered = t.offered; entries = t.entries ++ (k, e) ∷ []
 abbrev pub with_standing : Entry → Standing → Entry
 with_standing e s = record { from = e.from; service = e.service; standing = s }
 
+-- the key stands so now
 abbrev pub restood : Table → Key → Entry → Standing → ℕ → Table
 restood t k e s granted = record { offered = t.offered; entries = insert_entry one_key t.entries k (with_standing e s); granted = granted }
 
@@ -136,6 +156,7 @@ abbrev pub waiting_found : Option Entry → Option (Entry × ℕ)
 waiting_found None = None
 waiting_found (Some e) = waiting_entry e e.standing
 
+-- the entry of a key that waits, and its line
 abbrev pub waiting_of : Table → Key → Option (Entry × ℕ)
 waiting_of t k = waiting_found (lookup (one_key k) t.entries)
 
@@ -143,6 +164,7 @@ abbrev pub cancelled_by : Table → Key → Option (Entry × ℕ) → Table
 cancelled_by t k None = t
 cancelled_by t k (Some p) = restood t k p.0 Cancelled t.granted
 
+-- cancelled where it waits
 abbrev pub cancelled : Table → Key → Table
 cancelled t k = cancelled_by t k (waiting_of t k)
 
@@ -150,6 +172,7 @@ abbrev pub given_by : Table → Key → Option (Entry × ℕ) → Table
 given_by t k None = t
 given_by t k (Some p) = restood t k p.0 (Granted (t.granted + 1)) (t.granted + 1)
 
+-- granted where it waits
 abbrev pub given : Table → Key → Table
 given t k = given_by t k (waiting_of t k)
 
@@ -161,5 +184,6 @@ abbrev pub finished_by : Table → Key → Option Entry → Table
 finished_by t k None = t
 finished_by t k (Some e) = finished_entry t k e e.standing
 
+-- ended where it is granted
 abbrev pub finished : Table → Key → Table
 finished t k = finished_by t k (lookup (one_key k) t.entries)

@@ -7,6 +7,8 @@ mod line;
 mod queue;
 mod record;
 mod services;
+#[cfg(test)]
+mod tests;
 
 pub use key::Key;
 pub use queue::Queue;

@@ -64,7 +64,8 @@ impl Line {
 
     /// The place of the key, counted from 1.
     pub(crate) fn place_of(&self, key: &Key) -> u16
-        ensures { result ≡ place_of key.now self.now }
+        ensures value { result ≡ place_of key.now self.now }
+        ensures most { result ≤ 64 }
     {
         match self.index_of(key) {
             Some(at) => at as u16 + 1,

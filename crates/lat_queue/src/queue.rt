@@ -7,7 +7,7 @@ ghost use Rattle.lat_queue.specs.Histories.{Stands, key_in, address_in, kept_in,
 ghost use Rattle.std.specs.Map.{lookup};
 ghost use Rattle.lat_queue.specs.KeyHash.{one_key};
 ghost use Rattle.indexmap.specs.IndexMap.{insert_entry};
-ghost use Rattle.lat_queue.specs.Tables.{waiters, OnLine, HasRoom, told, told_of, new_told, new_standing, added, shown, first_of, waiting_of, cancelled, given, finished};
+ghost use Rattle.lat_queue.specs.Tables.{waiters, OnLine, HasRoom, HasPlace, IsShort, told, told_of, new_told, new_standing, added, shown, first_of, waiting_of, cancelled, given, finished};
 
 use crate::entry::{Entry, Standing, Waiter};
 use crate::key::Key;
@@ -20,9 +20,12 @@ use std::alloc::Global;
 use std::marker::Model;
 
 /// How many records a queue keeps.
-pub const RECORDS: usize = 65536;
+const RECORDS: usize = 65536;
 
-/// The requests of a server. Contracts see it as a table; `Stands` says for which lists of events it stands.
+/// The requests of a server: one record for each key, in the order of first commands, and for each service the line
+/// of those that wait. Contracts see a table; `Stands` says for which lists of events (asks with their answers, cancels,
+/// grants, ends) it stands, and what is asked of it follows from such a list alone. Each call but a first `ask` costs
+/// look-ups and the length of one line, and takes no memory.
 #[derive(Drop)]
 pub struct Queue {
     offered: Services16,
@@ -41,6 +44,7 @@ impl Model for Queue {
     ghost invariant = { λ a. Holds (record { offered = a.offered; entries = a.entries.entries; granted = a.granted }) a.lines.items };
 }
 
+// So many empty lines.
 fn no_lines(alloc: Global, count: usize) -> Result<Vec<Line>, Memory>
     requires { count ≤ 32 }
     ensures { IfOk result (λ v. v.items ≡ replicate count []) }
@@ -89,9 +93,16 @@ impl Queue {
     /// `RecordsFull` where 65,536 records are kept, and gets no record then; else `NoService` where the service isn't
     /// offered; else `QueueFull` where 64 wait for it; else `Waiting` with its place, counted from 1. After `Memory`
     /// nothing has changed.
-    pub fn ask(&mut self, _alloc: Global, key: &Key, from: Addr, service: &Name) -> Result<Kept, Memory>
+    pub fn ask(
+        &mut self,
+        _alloc: Global,
+        key: &Key,
+        from: Addr,
+        service: &Name,
+    ) -> Result<Kept, Memory>
         ensures answer { (h : List QueueEvent) → Stands self.old h → IfOk result (λ a. kept_in a ≡ ask_answer self.old.offered (key_in key.now) service.now h) }
         ensures stands { (h : List QueueEvent) → Stands self.old h → IfOk result (λ a. Stands self.new (h ++ Asks (key_in key.now) (address_in from) service.now (kept_in a) ∷ [])) }
+        ensures place { IfOk result HasPlace }
         ensures offered { self.new.offered ≡ self.old.offered }
         ensures err { OnErr result (self.new ≡ self.old) }
     {
@@ -109,6 +120,7 @@ impl Queue {
     pub fn cancel(&mut self, key: &Key) -> Option<Kept>
         ensures answer { (h : List QueueEvent) → Stands self.old h → some_kept result ≡ kept_of (key_in key.now) (h ++ Cancels (key_in key.now) ∷ []) }
         ensures stands { (h : List QueueEvent) → Stands self.old h → Stands self.new (h ++ Cancels (key_in key.now) ∷ []) }
+        ensures place { IfSome result HasPlace }
         ensures offered { self.new.offered ≡ self.old.offered }
     {
         self.withdraw(key);
@@ -153,23 +165,34 @@ impl Queue {
         self.shown(place)
     }
 
+    // The record of a new key.
     fn admit(&mut self, key: &Key, from: Addr, service: &Name) -> Result<Kept, Memory>
         requires new { lookup (one_key key.now) self.old.entries ≡ None }
         requires few { length self.old.entries < 65536 }
         ensures answer { IfOk result (λ a. a ≡ new_told self.old (new_standing self.old service.now)) }
+        ensures place { IfOk result HasPlace }
         ensures ok { OnOk result (self.new ≡ added self.old key.now (record { from = from; service = service.now; standing = new_standing self.old service.now })) }
         ensures err { OnErr result (self.new ≡ self.old) }
     {
         let standing = self.new_standing(service);
         let kept = self.new_told(standing);
         let service = *service;
-        self.add(key, Entry { from, service, standing })?;
+        self.add(
+            key,
+            Entry {
+                from,
+                service,
+                standing,
+            },
+        )?;
         Ok(kept)
     }
 
+    // What a key of this standing is told.
     fn told_of(&self, key: &Key, standing: Standing) -> Kept
         requires { OnLine (length self.now.offered) standing }
-        ensures { result ≡ told_of self.now.entries key.now standing }
+        ensures value { result ≡ told_of self.now.entries key.now standing }
+        ensures most { IsShort result }
     {
         match standing {
             Standing::Waits(line) => Kept::Waiting(self.lines[line as usize].place_of(key)),
@@ -181,13 +204,16 @@ impl Queue {
         }
     }
 
+    // What is kept of the key.
     fn told(&self, key: &Key) -> Option<Kept>
-        ensures { result ≡ told self.now key.now }
+        ensures value { result ≡ told self.now key.now }
+        ensures place { IfSome result HasPlace }
     {
         let entry = self.entries.get(key)?;
         Some(self.told_of(key, entry.standing))
     }
 
+    // How a new request for the service stands.
     fn new_standing(&self, service: &Name) -> Standing
         ensures value { result ≡ new_standing self.now service.now }
         ensures room { HasRoom self.now result }
@@ -199,9 +225,11 @@ impl Queue {
         }
     }
 
+    // What a new request that stands so is told.
     fn new_told(&self, standing: Standing) -> Kept
         requires { HasRoom self.now standing }
-        ensures { result ≡ new_told self.now standing }
+        ensures value { result ≡ new_told self.now standing }
+        ensures place { HasPlace result }
     {
         match standing {
             Standing::Waits(line) => Kept::Waiting(self.lines[line as usize].len() as u16 + 1),
@@ -210,6 +238,7 @@ impl Queue {
         }
     }
 
+    // A record more, which waits behind all others of its line where it waits.
     fn add(&mut self, key: &Key, entry: Entry) -> Result<(), Memory>
         requires new { lookup (one_key key.now) self.old.entries ≡ None }
         requires few { length self.old.entries < 65536 }
@@ -226,6 +255,7 @@ impl Queue {
         Ok(())
     }
 
+    // The entry of a key that waits, and its line.
     fn waiting(&self, key: &Key) -> Option<(Entry, u8)>
         ensures value { result ≡ waiting_of self.now key.now }
         ensures on_line { IfSome result (λ p. p.1 < length self.now.offered) }
@@ -237,6 +267,7 @@ impl Queue {
         }
     }
 
+    // Cancels the key where it waits.
     fn withdraw(&mut self, key: &Key)
         ensures { self.new ≡ cancelled self.old key.now }
     {
@@ -248,6 +279,7 @@ impl Queue {
         }
     }
 
+    // Grants the key where it waits.
     fn give(&mut self, key: &Key)
         ensures { self.new ≡ given self.old key.now }
     {
@@ -261,6 +293,7 @@ impl Queue {
         }
     }
 
+    // Ends the grant of the key where it is granted.
     fn end(&mut self, key: &Key)
         ensures { self.new ≡ finished self.old key.now }
     {
@@ -272,6 +305,7 @@ impl Queue {
         }
     }
 
+    // The first that waits for the service.
     fn first_waiter(&self, service: &Name) -> Option<(Key, Addr)>
         ensures { result ≡ first_of self.now service.now }
     {
@@ -280,6 +314,7 @@ impl Queue {
         Some((waiter.key, waiter.from))
     }
 
+    // The first of the line.
     fn first_of(&self, line: usize) -> Option<Waiter>
         requires { line < length self.now.offered }
         ensures { result ≡ slice_get (waiters line self.now.entries) 0 }
@@ -287,6 +322,7 @@ impl Queue {
         self.lines[line].first()
     }
 
+    // The record at the place.
     fn shown(&self, place: usize) -> Option<Record>
         ensures value { result ≡ shown self.now place }
         ensures within { IsSome result ↔ (place < length self.now.entries) }

@@ -7,9 +7,6 @@ use lat_base::{Memory, Name};
 use std::alloc::Global;
 use std::marker::Model;
 
-/// How many services a list has at most.
-pub const SERVICES: usize = 32;
-
 /// A list of at most 32 names of services. Contracts see the list of the names, in order.
 #[derive(Drop)]
 pub struct Services16 {

@@ -1,4 +1,4 @@
-use Rattle.std.proofs.Common.{◌≡◌, ◌≤◌, [], replicate}
+use Rattle.std.proofs.Common.{◌≡◌, [], replicate}
 use Rattle.lat_queue.proofs.queue.no_lines.Given as goal
 
 abbrev pub invariant-loop : goal.invariant-loop

@@ -2,7 +2,7 @@ use Rattle.std.proofs.Common.{◌<◌, ◌++◌, ◌∷◌, [], length, sym, ap,
 use Rattle.std.proofs.lemmas.Option.{get_or_from_slice_get}
 use Rattle.lat_queue.specs.declared.key.Key.{Key}
 use Rattle.lat_queue.specs.declared.entry.Entry.{Entry}
-use Rattle.lat_queue.specs.Tables.{Table, Holds, HasRoom, OnLine, waiters, waiter_of}
+use Rattle.lat_queue.specs.Tables.{Table, Holds, HasRoom, waiters, waiter_of}
 use Rattle.lat_queue.proofs.TableLemmas.{holds_joined, holds_added, not_waiting}
 use Rattle.lat_queue.proofs.queue.Queue.add.Goals as goal
 

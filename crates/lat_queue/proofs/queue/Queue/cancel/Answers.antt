@@ -1,5 +1,5 @@
-use Rattle.std.proofs.Common.{[], ◌∷◌, ◌++◌, List, sym, ap, ◌∙◌, subst}
-use Rattle.lat_machines.specs.server.Queue.{QueueEvent, Cancels}
+use Rattle.std.proofs.Common.{[], ◌∷◌, ◌++◌, sym, ap, ◌∙◌, subst}
+use Rattle.lat_machines.specs.server.Queue.{Cancels}
 use Rattle.lat_queue.specs.Tables.{Table}
 use Rattle.lat_queue.specs.Histories.{Stands, key_in, some_kept}
 use Rattle.lat_queue.proofs.CallLemmas.{stands_cancelled}
@@ -10,5 +10,5 @@ pub returns-clause-stands : goal.returns-clause-stands
 returns-clause-stands c = λ h st. subst (λ (t : Table). Stands t (h ++ Cancels (key_in c.args.key.now) ∷ [])) (sym c.withdraw.ensures) (stands_cancelled c.args.self.now h c.args.key.now st)
 
 pub returns-clause-answer : goal.returns-clause-answer
-returns-clause-answer c = λ h st. ap some_kept c.told.ensures ∙ told_right c.withdraw.new.self (h ++ Cancels (key_in c.args.key.now) ∷ []) c.args.key.now
+returns-clause-answer c = λ h st. ap some_kept c.told.ensures.value ∙ told_right c.withdraw.new.self (h ++ Cancels (key_in c.args.key.now) ∷ []) c.args.key.now
     (subst (λ (t : Table). Stands t (h ++ Cancels (key_in c.args.key.now) ∷ [])) (sym c.withdraw.ensures) (stands_cancelled c.args.self.now h c.args.key.now st))

@@ -1,8 +1,8 @@
-use Rattle.std.proofs.Common.{◌≡◌, Some, ◌<◌, ◌≤◌, ◌+◌, length, refl, sym, ap, ◌∙◌, subst, slice_set, List, arith}
+use Rattle.std.proofs.Common.{◌≡◌, Some, ◌<◌, length, refl, sym, ap, ◌∙◌, subst, slice_set, List, arith}
 use Rattle.std.proofs.lemmas.Option.{get_or_from_slice_get}
 use Rattle.lat_queue.specs.declared.key.Key.{Key}
 use Rattle.lat_queue.specs.declared.entry.Entry.{Entry}
-use Rattle.lat_queue.specs.declared.entry.Standing.TheVariants.{Cancelled, Granted}
+use Rattle.lat_queue.specs.declared.entry.Standing.TheVariants.{Cancelled}
 use Rattle.lat_queue.specs.Lines.{without}
 use Rattle.lat_queue.specs.Tables.{Table, Holds, waiting_of, waiters}
 use Rattle.lat_queue.proofs.TableLemmas.{WaitsThere, waits_there, holds_left}
