@@ -16,7 +16,7 @@ ghost use Rattle.lat_model.specs.ends.Run.{RunBroke, run_end};
 ghost use Rattle.lat_model.specs.circuits.World.{Wired, World, table};
 ghost use Rattle.lat_model.specs.circuits.Events.{WorldRun, open_world};
 ghost use Rattle.lat_model.specs.circuits.Spans.{TellSpans};
-ghost use Rattle.lat_model.specs.circuits.WorldOk.{Joint};
+ghost use Rattle.lat_model.specs.circuits.WorldOk.{Idle, Joint};
 ghost use Rattle.lat_model.specs.circuits.Agree.{Agree, the_half};
 ghost use Rattle.lat_model.specs.circuits.Comes.{Comes};
 ghost use Rattle.lat_model.specs.circuits.Pair.{Pair, PairRun, end_of};
@@ -111,6 +111,22 @@ pub fn pair_hears_bytes()
         slice_get w.posts i ≡ Some (record { by_master = b; sent = Run m ask f }) →
         IsYoung r w b f →
         heard_frame r w b f ≡ f }
+{}
+
+/// A circuit of the server to the node that runs is joint with the slave that it names, and this slave names it (`answered`).
+/// So what the laws say of joint circuits holds of every circuit whose reply was heard. A slave of the server whose circuit
+/// isn't joint has formed nothing and taken nothing (`idle`).
+pub fn circuits_are_joined()
+    ensures answered { (w : World) (p : ℕ) →
+        WorldRun w →
+        (w.server.circuit_at p).address ≡ w.node.own →
+        (w.server.circuit_at p).end.running ≡ true →
+        Joint w (w.server.circuit_at p).end.peer × ((w.node.circuit_at (w.server.circuit_at p).end.peer).end.peer ≡ p) }
+    ensures idle { (w : World) (q : ℕ) →
+        WorldRun w →
+        (w.node.circuit_at q).address ≡ w.server.own →
+        (Joint w q → ⊥) →
+        Idle (w.node.circuit_at q).end }
 {}
 
 /// Each circuit of a server and a node whose reply was heard keeps the whole invariant of two ends, whatever frames come,
