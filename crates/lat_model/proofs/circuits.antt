@@ -9,3 +9,4 @@ pub mod Begins
 pub mod Arrives
 pub mod Follows
 pub mod Spans
+pub mod Windows

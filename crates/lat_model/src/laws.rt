@@ -10,7 +10,7 @@ ghost use Rattle.lat_model.specs.sessions.Hearing.{hear_slot};
 ghost use Rattle.lat_model.specs.sessions.Slots.{Slot, items, items_of, credits, costs, source, is_start};
 ghost use Rattle.lat_model.specs.sessions.EndOk.{EndOk, Accounts, Small, AllSmall, IdsWithin};
 ghost use Rattle.lat_model.specs.sessions.PeersApart.{PeersApart};
-ghost use Rattle.lat_model.specs.numbers.Link.{Frame};
+ghost use Rattle.lat_model.specs.numbers.Link.{Frame, fresh};
 ghost use Rattle.lat_model.specs.ends.End.{Mark, Run};
 ghost use Rattle.lat_model.specs.ends.Run.{RunBroke, run_end};
 ghost use Rattle.lat_model.specs.circuits.World.{Wired, World, table};
@@ -115,7 +115,8 @@ pub fn pair_hears_bytes()
 
 /// A circuit of the server to the node that runs is joint with the slave that it names, and this slave names it (`answered`).
 /// So what the laws say of joint circuits holds of every circuit whose reply was heard. A slave of the server whose circuit
-/// isn't joint has formed nothing and taken nothing (`idle`).
+/// isn't joint has formed nothing and taken nothing (`idle`), and a circuit of the server whose reply wasn't heard has formed
+/// and taken no message (`calling`).
 pub fn circuits_are_joined()
     ensures answered { (w : World) (p : ℕ) →
         WorldRun w →
@@ -127,6 +128,19 @@ pub fn circuits_are_joined()
         (w.node.circuit_at q).address ≡ w.server.own →
         (Joint w q → ⊥) →
         Idle (w.node.circuit_at q).end }
+    ensures calling { (w : World) (p : ℕ) →
+        WorldRun w →
+        (w.server.circuit_at p).end.running ≡ false →
+        (w.server.circuit_at p).end.half.link ≡ fresh }
+{}
+
+/// Each end keeps to its own window, which its peer's START stated: on every circuit of both tables, the messages formed are
+/// at most those known to be taken and the window together (`within`), and no window is above 8 (`most`).
+pub fn windows_hold()
+    ensures within { (w : World) (b : Bool) (x : ℕ) →
+        WorldRun w →
+        length (the_half w b x).link.sent ≤ (the_half w b x).link.known + ((table w b).circuit_at x).end.window }
+    ensures most { (w : World) (b : Bool) (x : ℕ) → WorldRun w → ((table w b).circuit_at x).end.window ≤ 8 }
 {}
 
 /// Each circuit of a server and a node whose reply was heard keeps the whole invariant of two ends, whatever frames come,

@@ -218,11 +218,11 @@ calm_false e false s t q p = p
 idle_known : (e : End) → Idle e → all_known e ≡ true
 idle_known e i = ap (λ (l : Link (List Slot)). nat_le (length l.sent) l.known) i.link
 
-and_false : (a b : Bool) → a ≡ false → (a && b) ≡ false
+pub and_false : (a b : Bool) → a ≡ false → (a && b) ≡ false
 and_false true b q = absurd (true≢false q)
 and_false false b q = refl
 
-right_false : (a b : Bool) → b ≡ false → (a && b) ≡ false
+pub right_false : (a b : Bool) → b ≡ false → (a && b) ≡ false
 right_false true b q = q
 right_false false b q = refl
 

@@ -1,6 +1,7 @@
 use Rattle.std.proofs.Common.{ap, ◌∙◌}
 use Rattle.lat_model.specs.circuits.WorldOk.{Replied}
 use Rattle.lat_model.proofs.circuits.Follows.{world_reached_ok}
+use Rattle.lat_model.proofs.circuits.Windows.{run_open}
 use Rattle.lat_model.proofs.laws.circuits_are_joined.Goals as goal
 
 pub returns : goal.returns
@@ -15,4 +16,5 @@ returns c = record {
         o.peer,
       );
   idle = λ w q r a n. (world_reached_ok w r).idle q a n;
+  calling = λ w p r i. ((run_open w r).server p).quiet i;
 }
