@@ -1,17 +1,21 @@
-//! The values that every other crate speaks of: names, addresses, lists of bytes, the fields of a layout, and the
-//! outside that bytes come from and go to. No rule of the protocol stands here.
+//! The values that every other crate speaks of: names, addresses, lists of bytes and items, frames on their way out, the
+//! fields of a layout, and the outside that bytes come from and go to. No rule of the protocol stands here.
 #![tactic(auto)]
 
 mod addr;
 mod bytes;
 mod field;
+mod heard;
+mod item;
 mod kept;
 mod memory;
 mod memory_ends;
 mod name;
+mod outbox;
 mod outside;
 mod payload;
 mod standard_ends;
+mod state;
 #[cfg(test)]
 mod tests;
 mod whole;
@@ -19,11 +23,15 @@ mod whole;
 pub use addr::{Addr, EVERYONE};
 pub use bytes::Bytes;
 pub use field::{Bad, Field};
+pub use heard::Heard;
+pub use item::{Item, Items, ItemsRoom};
 pub use kept::Kept;
 pub use memory::Memory;
 pub use memory_ends::{MemSink, MemSource};
 pub use name::{Name, NameFault};
+pub use outbox::{Mark, OUTBOX_FRAMES, OutBox, OutFrame};
 pub use outside::{Failed, Sink, Source};
 pub use payload::{PAYLOAD_BYTES, Payload};
 pub use standard_ends::{StdSink, StdSource};
+pub use state::{SessionEnd, SessionState};
 pub use whole::{ReadEnd, read_all, write_all};

@@ -1,6 +1,6 @@
 //! The place that one frame's payload is written into.
 
-ghost use Rattle.std.specs.Prelude.{◌≡◌, ◌+◌, ◌<◌, ◌≤◌, [], ◌∷◌, ◌++◌, length};
+ghost use Rattle.std.specs.Prelude.{◌≡◌, ◌+◌, ◌<◌, ◌≤◌, [], ◌∷◌, ◌++◌, length, slice_set};
 
 use std::marker::Model;
 
@@ -53,6 +53,31 @@ impl Payload {
         let end = start + bytes.len();
         self.place[start..end].copy_from_slice(bytes);
         self.len = end as u16;
+    }
+
+    /// Writes another byte at this place, counted from 0. There must be a byte.
+    pub fn set(&mut self, at: usize, b: u8)
+        requires { at < length self.old }
+        ensures { self.new ≡ slice_set self.old at b }
+    {
+        self.place[at] = b;
+    }
+
+    /// Drops all its bytes.
+    pub fn clear(&mut self)
+        ensures { self.new ≡ [] }
+    {
+        self.len = 0;
+    }
+
+    /// A place of its own with the same bytes.
+    pub fn copy(&self) -> Payload
+        ensures { result ≡ self.now }
+    {
+        Payload {
+            place: self.place,
+            len: self.len,
+        }
     }
 
     /// How many bytes it has.

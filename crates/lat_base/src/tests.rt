@@ -1,6 +1,7 @@
 use crate::{
-    Addr, Bytes, EVERYONE, Failed, Field, MemSink, MemSource, Name, NameFault, PAYLOAD_BYTES,
-    Payload, ReadEnd, Sink, Source, StdSink, StdSource, read_all, write_all,
+    Addr, Bytes, EVERYONE, Failed, Field, Item, Items, ItemsRoom, Mark, MemSink, MemSource, Name,
+    NameFault, OutBox, OutFrame, PAYLOAD_BYTES, Payload, ReadEnd, Sink, Source, StdSink, StdSource,
+    read_all, write_all,
 };
 use std::io::{self, Read};
 use std::test::Fail;
@@ -88,6 +89,27 @@ fn values(rt: HostRuntime) -> Result<(), Fail> {
 }
 
 #[test]
+fn memory_is_found(rt: HostRuntime) -> Result<(), Fail> {
+    let mut items = Items::new(rt.alloc());
+    items.push(Item::Byte(b'h'))?;
+    items.push(Item::Set([1, 2, 3, 4, 5]))?;
+    let room = ItemsRoom::take(rt.alloc(), 2)?;
+    let copied = room.fill(items.as_slice());
+    assert_eq!(rt; copied.as_slice().len(), 2);
+    let mut out = OutBox::make(rt.alloc())?;
+    out.push(OutFrame {
+        to: EVERYONE,
+        payload: Payload::empty(),
+        circuit: 0,
+        mark: Mark::Plain,
+    });
+    assert_eq!(rt; out.len(), 1);
+    out.clear();
+    assert_eq!(rt; out.frames().len(), 0);
+    Ok(())
+}
+
+#[test]
 fn payload(rt: HostRuntime) {
     let mut payload = Payload::empty();
     assert_eq!(rt; payload.bytes().len(), 0);
@@ -99,6 +121,12 @@ fn payload(rt: HostRuntime) {
     assert_eq!(rt; bytes.first(), Some(&7));
     assert_eq!(rt; bytes.get(1498), Some(&8));
     assert_eq!(rt; bytes.get(1499), Some(&9));
+    let copied = payload.copy();
+    payload.set(1499, 10);
+    assert_eq!(rt; payload.bytes().last(), Some(&10));
+    assert_eq!(rt; copied.bytes().last(), Some(&9));
+    payload.clear();
+    assert_eq!(rt; payload.len(), 0);
 }
 
 #[test]
