@@ -3,3 +3,4 @@ pub mod NamePlace
 pub mod NameEq
 pub mod FieldWords
 pub mod Causes
+pub mod Answers

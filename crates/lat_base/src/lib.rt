@@ -1,13 +1,18 @@
-//! The values that every other crate speaks of: names, addresses, lists of bytes and items, frames on their way out, the
-//! fields of a layout, and the outside that bytes come from and go to. No rule of the protocol stands here.
+//! The values that every other crate speaks of: names, addresses, lists of bytes and items, payloads and frames on their
+//! way out, the fields of a layout, what a core is told and answers, the trait of the cores, and the outside that bytes
+//! come from and go to. No rule of the protocol stands here.
 #![tactic(auto)]
 
 mod addr;
+mod answer;
+mod book;
 mod bytes;
+mod event;
 mod field;
 mod heard;
 mod item;
 mod kept;
+mod machine;
 mod memory;
 mod memory_ends;
 mod name;
@@ -21,11 +26,15 @@ mod tests;
 mod whole;
 
 pub use addr::{Addr, EVERYONE};
+pub use answer::Answer;
+pub use book::{LineBook, LineSession};
 pub use bytes::Bytes;
+pub use event::Event;
 pub use field::{Bad, Field};
 pub use heard::Heard;
 pub use item::{Item, Items, ItemsRoom};
 pub use kept::Kept;
+pub use machine::Core;
 pub use memory::Memory;
 pub use memory_ends::{MemSink, MemSource};
 pub use name::{Name, NameFault};
