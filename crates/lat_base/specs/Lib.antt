@@ -4,3 +4,5 @@ pub mod NameEq
 pub mod FieldWords
 pub mod Causes
 pub mod Answers
+pub mod Carriers
+pub mod LineEnds

@@ -1,6 +1,7 @@
 use crate::{
-    Addr, Bytes, EVERYONE, Failed, Field, Item, Items, ItemsRoom, Mark, MemSink, MemSource, Name,
-    NameFault, OutBox, OutFrame, PAYLOAD_BYTES, Payload, ReadEnd, Sink, Source, StdSink, StdSource,
+    Addr, Bytes, EVERYONE, Failed, Field, Got, HeardFrame, Item, Items, ItemsRoom, LineEnd,
+    LineGot, Mark, MemLine, MemOpener, MemRx, MemSink, MemSource, MemTx, Name, NameFault, Opener,
+    OutBox, OutFrame, PAYLOAD_BYTES, Payload, ReadEnd, Rx, Sink, Source, StdSink, StdSource, Tx,
     read_all, write_all,
 };
 use std::io::{self, Read};
@@ -156,6 +157,52 @@ fn sink(rt: HostRuntime) {
     let mut shut = MemSink::new(rt.alloc(), 0, &[]);
     assert_eq!(rt; shut.write(b"a"), Err(Failed));
     assert_eq!(rt; shut.bytes().len(), 0);
+}
+
+#[test]
+fn carrier(rt: HostRuntime) {
+    let mut tx = MemTx::new(rt.alloc(), &[2]);
+    assert_eq!(rt; tx.send(EVERYONE, b"one"), Ok(()));
+    assert_eq!(rt; tx.send(EVERYONE, b"two"), Err(Failed));
+    assert_eq!(rt; tx.send(EVERYONE, b""), Ok(()));
+    assert_eq!(rt; tx.frames().map(|frames| frames.len()), Some(3));
+    let mut payload = Payload::empty();
+    payload.push(b'x');
+    let frames = [HeardFrame {
+        from: EVERYONE,
+        payload,
+    }];
+    let mut rx = MemRx::new(&frames, &[1, 3]);
+    let mut buf = [0; 1500];
+    let frame = Got::Frame {
+        from: EVERYONE,
+        len: 1,
+    };
+    for answer in [Err(Failed), Ok(frame), Err(Failed), Ok(Got::Quiet)] {
+        assert_eq!(rt; rx.recv(&mut buf), answer);
+    }
+    assert_eq!(rt; buf.first(), Some(&b'x'));
+}
+
+#[test]
+fn line(rt: HostRuntime) -> Result<(), Fail> {
+    let bytes = [Bytes::copy(rt.alloc(), b"abc")?];
+    let mut opener = MemOpener::new(rt.alloc(), &[], &bytes, 2, &[2]);
+    let mut line = opener.open_line(1)?;
+    let mut buf = [0; 3];
+    for answer in [LineGot::Bytes(2), LineGot::Bytes(1), LineGot::End] {
+        assert_eq!(rt; line.read(&mut buf), Ok(answer));
+    }
+    assert_eq!(rt; opener.open_line(2).err(), Some(Failed));
+    let mut empty = opener.open_line(3)?;
+    assert_eq!(rt; empty.read(&mut buf), Ok(LineGot::End));
+    let mut flaky = MemLine::new(rt.alloc(), b"abc", 2, 2, &[1, 3]);
+    assert_eq!(rt; flaky.read(&mut buf), Err(Failed));
+    assert_eq!(rt; flaky.write(b"xyz"), Ok(2));
+    assert_eq!(rt; flaky.write(b"z"), Err(Failed));
+    assert_eq!(rt; flaky.read(&mut buf), Ok(LineGot::Bytes(2)));
+    assert_eq!(rt; flaky.written(), &b"xy"[..]);
+    Ok(())
 }
 
 #[test]
