@@ -21,17 +21,18 @@ pub enum Answer {
     Announced,
     /// Heard: an announcement for which the directory had no room.
     DirectoryFull,
-    /// Heard: a command, and what is kept of its request.
+    /// Heard: a command, and what is kept of its request now.
     Kept(Kept),
     /// Heard: a command that cancels a request of which nothing is kept.
     NotKept,
-    /// Heard: a notice that has no effect but on what was asked for.
+    /// Heard: a Response at a server, or a Status at a node. Nothing is done with it.
     Noted,
     /// Heard: an announcement of a node to whose groups this server doesn't listen.
     Apart,
     /// Heard: a Solicit for a service that is offered here.
     Solicited,
-    /// Heard: a notice that isn't for this end.
+    /// Heard: a notice that isn't for this kind of core, a Solicit for a service that isn't offered here, or any frame
+    /// from the address of EVERYONE. Nothing is done with it.
     Ignored,
     /// Heard: no layout is the payload, and this is its first bad field.
     Bad(Bad),
@@ -55,7 +56,7 @@ pub enum Answer {
     CircuitsFull,
     /// Connect: no circuit id is left.
     IdsOut,
-    /// The line has no session, or one that no longer takes this; for a cancel, the id was never requested.
+    /// The line has no session, or its session refuses; for a cancel, the id was never requested.
     Closed,
     /// Set: the session holds as many items as it can.
     Full,

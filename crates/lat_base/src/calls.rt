@@ -1,6 +1,7 @@
 //! The calls of an end in memory: which of them are to fail, and how many faults there were.
 
-ghost use Rattle.std.specs.Prelude.{◌≡◌, ◌+◌, ◌-◌, ◌^◌, ◌≤◌, min, OnOk};
+ghost use Rattle.std.specs.Prelude.{◌≡◌, ◌+◌, ◌-◌, ◌^◌, ◌≤◌, ◌==◌, min, is_err, OnOk};
+ghost use Rattle.std.specs.List.{list_any};
 ghost use Rattle.lat_base.specs.Causes.{HasCause, Rose};
 
 use crate::outside::Failed;
@@ -26,10 +27,11 @@ impl<'a> Calls<'a> {
         }
     }
 
-    /// Counts a call. `Failed`, with one more fault, where it is to fail.
+    /// Counts a call. `Failed`, with one more fault, exactly where it is to fail.
     pub fn count(&mut self) -> Result<(), Failed>
         ensures made { self.new.made ≡ min (self.old.made + 1) (2 ^ 64 - 1) }
         ensures failing { self.new.failing.now ≡ self.old.failing.now }
+        ensures fails { is_err result ≡ list_any (λ call. call == self.new.made) self.old.failing.now }
         ensures cause { HasCause self.old.faults self.new.faults result }
         ensures ok { OnOk result (self.new.faults ≡ self.old.faults) }
     {

@@ -67,10 +67,10 @@ impl<'a> Opener for MemOpener<'a> {
         _port: u16,
         _peers: &[u16],
     ) -> Result<(MemTx<'a>, MemRx<'a>), Failed>
-        ensures counts { IfOk result (λ halves. (⟦<MemTx<'a> as Tx>⟧.faults halves.0 ≡ 0) × (⟦<MemRx<'a> as Rx>⟧.faults halves.1 ≡ 0)) }
+        ensures counts { IfOk result (λ h. (⟦<MemTx<'a> as Tx>⟧.faults h.0 ≡ 0) × (⟦<MemRx<'a> as Rx>⟧.faults h.1 ≡ 0)) }
         ensures cause { HasCause self.old.calls.faults self.new.calls.faults result }
-        ensures tried { IfOk result (λ halves. ⟦<MemTx<'a> as Tx>⟧.tried halves.0 ≡ Some []) }
-        ensures left { IfOk result (λ halves. ⟦<MemRx<'a> as Rx>⟧.left halves.1 ≡ Some self.old.frames.now) }
+        ensures tried { IfOk result (λ h. ⟦<MemTx<'a> as Tx>⟧.tried h.0 ≡ Some []) }
+        ensures left { IfOk result (λ h. ⟦<MemRx<'a> as Rx>⟧.left h.1 ≡ Some self.old.frames.now) }
     {
         self.calls.count()?;
         Ok((MemTx::new(self.alloc, &[]), MemRx::new(self.frames, &[])))

@@ -4,27 +4,27 @@
 /// The state of a session at one end.
 #[derive(Clone, Copy, Debug, PartialEq, Eq)]
 pub enum SessionState {
-    /// There is no session.
+    /// There is none: it never began, or it is over.
     Free,
-    /// This end asked for it, and no reply was heard.
+    /// This end asked for it, and neither start nor reject was heard.
     Calling,
-    /// The peer asked for it, and it was neither accepted nor rejected.
+    /// The peer asked for it, and it is neither answered nor rejected.
     Asked,
-    /// Both ends have it.
+    /// It is answered, and carries items both ways.
     Live,
-    /// One end has closed it, and not all that belongs to its end was said.
+    /// It is answered, and this end has closed it or has heard the peer's stop.
     Closing,
-    /// It is over, and items that were heard are still to be taken.
+    /// Both stops were formed and heard, and heard items are still to be taken.
     Left,
 }
 
 /// How a session ended.
 #[derive(Clone, Copy, Debug, PartialEq, Eq)]
 pub enum SessionEnd {
-    /// Both ends said that it is over.
+    /// It became free after both stops.
     Closed,
-    /// It was rejected, for this reason.
+    /// A reject was heard, with this reason.
     Rejected(u8),
-    /// Its circuit ended, for this reason.
+    /// Its circuit ended before, with this reason.
     Circuit(u8),
 }
