@@ -18,4 +18,4 @@ pub use lat_fields::LayoutFault as FrameFault;
 pub use message::{Head, Message, StartInfo, WideHead};
 pub use read::read_message;
 pub use slots::Slots;
-pub use write::{write_message, write_run_head, write_wide_head};
+pub use write::{write_message, write_plain_head, write_run_head, write_wide_head};

@@ -78,8 +78,9 @@ pub fn write_wide_head(head: &WideHead, slots: u8, out: &mut Payload)
     write_number(out, head.ack);
 }
 
-// The head of a START or a STOP, whose number of slots and message numbers aren't kept.
-fn write_plain_head(kind: u8, master: bool, ask: bool, to: u16, from: u16, out: &mut Payload)
+/// Adds the head of a START or a STOP, of type 1 or 2, eight bytes, at the end. Its number of slots and its message numbers are
+/// 0. They must fit into the payload.
+pub fn write_plain_head(kind: u8, master: bool, ask: bool, to: u16, from: u16, out: &mut Payload)
     requires kind { kind < 16 }
     requires room { length out.old + 8 ≤ 1500 }
     ensures { out.new ≡ out.old ++ head_text kind master ask 0 to from (0 ∷ 0 ∷ []) }

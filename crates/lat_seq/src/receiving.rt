@@ -39,6 +39,15 @@ impl RecvSide {
         RecvSide { span, last: 0 }
     }
 
+    /// Whether the number heard is the next one. The number is a field of a frame, below twice the half range.
+    pub fn expects(&self, number: u16) -> bool
+        requires { number < 2 * half self.now.span }
+        ensures field { result ≡ nat_eq number (field self.now.span (suc self.now.last)) }
+        ensures answer { (taken : ℕ) → Takes self.now taken → result ≡ nat_eq (near number taken (half self.now.span)) (suc taken) }
+    {
+        number == self.span.step(self.last, 1)
+    }
+
     /// True, and takes the message, exactly where the number heard is the next one. The number is a field of a frame, below
     /// twice the half range.
     pub fn offer(&mut self, number: u16) -> bool
@@ -48,7 +57,7 @@ impl RecvSide {
         ensures after { (taken : ℕ) → Takes self.old taken → Takes self.new (cond result (suc taken) taken) }
         ensures span { self.new.span ≡ self.old.span }
     {
-        let next = number == self.span.step(self.last, 1);
+        let next = self.expects(number);
         if next {
             self.last = number;
         }

@@ -9,6 +9,7 @@ mod slot;
 mod tests;
 mod write;
 
+pub use head::{ATTENTION, DATA_A, DATA_B, REJECT, SERVICE_CLASS, START, STOP};
 pub use lat_fields::{LayoutFault as SlotFault, Param, Params};
 pub use read::read_slot;
 pub use slot::Slot;
