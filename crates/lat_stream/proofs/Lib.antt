@@ -1,0 +1,13 @@
+pub mod Same
+pub mod Left
+pub mod Begun
+pub mod Running
+pub mod Answered
+pub mod Heard
+pub mod Taken
+pub mod Stopped
+pub mod FormsBytes
+pub mod Texts
+pub mod Forms
+pub mod FormsAfter
+pub mod FormsTurns

@@ -1,0 +1,9 @@
+use Rattle.std.proofs.Common.{◌≡◌, ◌-◌, ℕ, Bool, true, false, cond, length, map, drop, ap, sym, ◌∙◌, arith}
+use Rattle.lat_stream.specs.Kept.{Kept, kept_of}
+use Rattle.lat_stream.specs.Steps.{can_take}
+use Rattle.lat_stream.proofs.Taken.{waiting_is}
+use Rattle.lat_stream.proofs.stream.Stream.waiting.Goals as goal
+
+pub returns-clause-model : goal.returns-clause-model
+returns-clause-model c = λ m ceiling s h e.
+    c.count_waiting.ensures ∙ ap (λ (k : Kept). cond (can_take k) (length k.heard) 0) e ∙ waiting_is m ceiling s h

@@ -1,0 +1,314 @@
+//! The slots that a session forms.
+
+ghost use Rattle.std.specs.Prelude.{◌≡◌, ℕ, ◌+◌, ◌-◌, ◌<◌, ◌≤◌, Bool, false, cond, [], ◌∷◌, ◌++◌, ◌||◌, ◌&&◌, length, take, drop, min, nat_lt, nat_le, slice_get, true, not, Some, None};
+ghost use Rattle.circular_buffer.specs.Buffer.{buffer};
+ghost use Rattle.lat_model.specs.Lists.{is_empty};
+ghost use Rattle.lat_model.specs.sessions.Offers as offers;
+ghost use Rattle.lat_model.specs.sessions.Slots as sessions;
+ghost use Rattle.lat_model.specs.sessions.Session.{Session};
+ghost use Rattle.lat_slots.specs.Layout.{slot_text};
+ghost use Rattle.lat_stream.specs.Does.{Does, reject_due};
+ghost use Rattle.lat_stream.specs.Kept.{kept_of};
+ghost use Rattle.lat_stream.specs.Sound.{Sound};
+ghost use Rattle.lat_stream.specs.Turns.{Meets, turn_of, later_turn, over, data_turn, due, gave, framed, stopped, is_byte, leading, next_bytes, start_slot, bytes_offer, credits_offer, kept_after, offer_at};
+ghost use Rattle.lat_stream.specs.Wire.{formed_as};
+
+use crate::opening::Opening;
+use crate::stream::Stream;
+use crate::write::{
+    start_len, write_attention, write_credits, write_head, write_pad, write_setting, write_start,
+    write_stop,
+};
+use circular_buffer::HeapCircularBuffer;
+use lat_base::{Item, Payload, SessionEnd, SessionState};
+use lat_slots::DATA_A;
+
+/// What became of a session's turn in a message.
+#[derive(Clone, Copy, Debug, PartialEq, Eq)]
+pub enum Formed {
+    /// It has nothing to send.
+    Nothing,
+    /// What it has to send doesn't fit into the room.
+    Unfit,
+    /// It formed one slot.
+    Slot,
+}
+
+/// What a session sends at its turn.
+#[derive(Clone, Copy)]
+pub enum Turn {
+    Nothing,
+    Start(Opening),
+    Attention(u8),
+    Stop,
+    Setting([u8; 5]),
+    /// The bytes that stand next.
+    Bytes,
+    /// Credits alone, where one is due.
+    Credits,
+}
+
+impl Stream {
+    /// Forms the slot that the session sends when its turn in a message comes, and adds its text to the payload, where it
+    /// fits into `room` bytes; nothing changes where it doesn't, or where the session has nothing to send. `id` is this
+    /// end's id of the session. A waiting reject is formed elsewhere. See "Packing" in docs/PROTOCOL.md.
+    pub fn form(&mut self, master: bool, id: u8, room: u16, out: &mut Payload) -> Formed
+        requires { length out.old + room ≤ 1500 }
+        ensures does { (ceiling : ℕ) (s : Session) → Sound master ceiling s → self.old ≡ kept_of master ceiling s → s.id ≡ id → reject_due s ≡ false → Does master ceiling s (offers.offer master ceiling room s) self.old self.new out.old out.new result }
+        ensures room { (length out.old ≤ length out.new) × (length out.new ≤ length out.old + room) }
+    {
+        self.form_turn(master, id, room, out)
+    }
+
+    fn form_turn(&mut self, master: bool, id: u8, room: u16, out: &mut Payload) -> Formed
+        requires { length out.old + room ≤ 1500 }
+        ensures meets { Meets (offer_at master id room self.old (turn_of self.old)) (kept_after room self.old (turn_of self.old)) self.old self.new out.old out.new result }
+        ensures room { (length out.old ≤ length out.new) × (length out.new ≤ length out.old + room) }
+    {
+        match self.turn() {
+            Turn::Nothing => Formed::Nothing,
+            Turn::Start(opening) => self.form_start(master, id, &opening, room, out),
+            Turn::Attention(flag) => self.form_attention(id, flag, room, out),
+            Turn::Stop => self.form_stop(id, room, out),
+            Turn::Setting(setting) => self.form_setting(id, &setting, room, out),
+            Turn::Bytes => self.form_bytes(id, room, out),
+            Turn::Credits => self.form_credits(id, room, out),
+        }
+    }
+
+    // What it sends next.
+    fn turn(&self) -> Turn
+        ensures { result ≡ turn_of self.now }
+    {
+        match (self.state, self.start) {
+            (SessionState::Calling | SessionState::Live | SessionState::Closing, Some(opening)) =>
+                Turn::Start(opening),
+            (SessionState::Live | SessionState::Closing, None) => self.later_turn(),
+            _ => Turn::Nothing,
+        }
+    }
+
+    // What stands behind its start, until its stop was formed.
+    fn later_turn(&self) -> Turn
+        ensures { result ≡ later_turn self.now }
+    {
+        if self.stop_formed {
+            return Turn::Nothing;
+        }
+        match self.attention {
+            Some(flag) => Turn::Attention(flag),
+            None if self.stop_is_due() => Turn::Stop,
+            None => self.data_turn(),
+        }
+    }
+
+    fn stop_is_due(&self) -> bool
+        ensures { result ≡ (self.now.stop_heard || (self.now.closed && is_empty self.now.unframed)) }
+    {
+        self.stop_heard || self.closed && self.unframed.is_empty()
+    }
+
+    fn data_turn(&self) -> Turn
+        ensures { result ≡ data_turn (nat_lt 0 self.now.credits.unused) self.now.unframed }
+    {
+        let mut after = self.credits;
+        let may_spend = after.spend().is_ok();
+        match self.unframed.front() {
+            Some(Item::Byte(_)) if may_spend => Turn::Bytes,
+            Some(Item::Set(setting)) if may_spend => Turn::Setting(*setting),
+            _ => Turn::Credits,
+        }
+    }
+
+    // Gives the credits due, and tells how many.
+    fn give_due(&mut self) -> u8
+        ensures value { result ≡ due self.old }
+        ensures most { result ≤ 15 }
+        ensures kept { self.new ≡ gave self.old }
+    {
+        let due = self.credits.give();
+        self.given = self.given.saturating_add(u64::from(due));
+        due
+    }
+
+    // Forms a start, with the credits due: an ask of the master, a reply of the slave.
+    fn form_start(
+        &mut self,
+        master: bool,
+        id: u8,
+        opening: &Opening,
+        room: u16,
+        out: &mut Payload,
+    ) -> Formed
+        requires { length out.old + room ≤ 1500 }
+        ensures meets { Meets (offers.fit room (start_slot master id self.old opening.now)) (record (gave self.old) { start = None }) self.old self.new out.old out.new result }
+        ensures room { (length out.old ≤ length out.new) × (length out.new ≤ length out.old + room) }
+    {
+        let to = if master { 0 } else { self.peer };
+        let request = if master { opening.request } else { None };
+        if !fits(start_len(&opening.service, request), room) {
+            return Formed::Unfit;
+        }
+        let credits = self.give_due();
+        self.start = None;
+        write_start(out, to, id, credits, &opening.service, request);
+        Formed::Slot
+    }
+
+    fn form_attention(&mut self, id: u8, flag: u8, room: u16, out: &mut Payload) -> Formed
+        requires { length out.old + room ≤ 1500 }
+        ensures meets { Meets (offers.fit room (sessions.Attention self.old.peer id flag)) (record self.old { attention = None }) self.old self.new out.old out.new result }
+        ensures room { (length out.old ≤ length out.new) × (length out.new ≤ length out.old + room) }
+    {
+        if !fits(6, room) {
+            return Formed::Unfit;
+        }
+        self.attention = None;
+        write_attention(out, self.peer, id, flag);
+        Formed::Slot
+    }
+
+    // Both stops were formed and heard: it is over, or left until its heard items are taken.
+    fn leave(&mut self)
+        ensures { self.new ≡ over self.old }
+    {
+        if self.heard.is_empty() {
+            self.state = SessionState::Free;
+            self.end = Some(SessionEnd::Closed);
+        } else {
+            self.state = SessionState::Left;
+        }
+    }
+
+    fn form_stop(&mut self, id: u8, room: u16, out: &mut Payload) -> Formed
+        requires { length out.old + room ≤ 1500 }
+        ensures meets { Meets (offers.fit room (sessions.Stop self.old.peer id 1)) (stopped self.old) self.old self.new out.old out.new result }
+        ensures room { (length out.old ≤ length out.new) × (length out.new ≤ length out.old + room) }
+    {
+        if !fits(4, room) {
+            return Formed::Unfit;
+        }
+        self.stop_formed = true;
+        if self.stop_heard {
+            self.leave();
+        }
+        write_stop(out, self.peer, id);
+        Formed::Slot
+    }
+
+    // Counts a slot with items: a credit is used.
+    fn spend(&mut self)
+        ensures { self.new ≡ framed 0 self.old }
+    {
+        let _ = self.credits.spend();
+        self.used = self.used.saturating_add(1);
+    }
+
+    // Forms the setting that stands next, with the credits due.
+    fn form_setting(&mut self, id: u8, setting: &[u8; 5], room: u16, out: &mut Payload) -> Formed
+        requires { length out.old + room ≤ 1500 }
+        ensures meets { Meets (offers.fit room (sessions.DataB self.old.peer id (due self.old) setting.now)) (framed 1 (gave self.old)) self.old self.new out.old out.new result }
+        ensures room { (length out.old ≤ length out.new) × (length out.new ≤ length out.old + room) }
+    {
+        if !fits(10, room) {
+            return Formed::Unfit;
+        }
+        let credits = self.give_due();
+        self.spend();
+        let _ = self.unframed.pop_front();
+        write_setting(out, self.peer, id, credits, setting);
+        Formed::Slot
+    }
+
+    // Forms as many of the bytes that stand next as one slot takes, with the credits due. Where the room cuts them to
+    // none they don't fit.
+    fn form_bytes(&mut self, id: u8, room: u16, out: &mut Payload) -> Formed
+        requires { length out.old + room ≤ 1500 }
+        ensures meets { Meets (bytes_offer id self.old (next_bytes room self.old)) (framed (length (next_bytes room self.old)) (gave self.old)) self.old self.new out.old out.new result }
+        ensures room { (length out.old ≤ length out.new) × (length out.new ≤ length out.old + room) }
+    {
+        let count = leading_count(&self.unframed, most_bytes(self.size, room));
+        if count == 0 {
+            return Formed::Unfit;
+        }
+        let credits = self.give_due();
+        self.spend();
+        write_head(out, self.peer, id, count, DATA_A, credits);
+        move_bytes(&mut self.unframed, count, out);
+        write_pad(out, count);
+        Formed::Slot
+    }
+
+    // Forms credits alone, where one is due.
+    fn form_credits(&mut self, id: u8, room: u16, out: &mut Payload) -> Formed
+        requires { length out.old + room ≤ 1500 }
+        ensures meets { Meets (credits_offer id room self.old) (gave self.old) self.old self.new out.old out.new result }
+        ensures room { (length out.old ≤ length out.new) × (length out.new ≤ length out.old + room) }
+    {
+        if self.credits.due() == 0 {
+            return Formed::Nothing;
+        }
+        if !fits(4, room) {
+            return Formed::Unfit;
+        }
+        let credits = self.give_due();
+        write_credits(out, self.peer, id, credits);
+        Formed::Slot
+    }
+}
+
+fn fits(len: u16, room: u16) -> bool
+    ensures { result ≡ nat_le len room }
+{
+    len <= room
+}
+
+// The most bytes that one slot takes: what the peer's start states, cut to the room so that the slot fits with its pad.
+fn most_bytes(size: u8, room: u16) -> u8
+    ensures { result ≡ min (min 255 size) (offers.byte_room room) }
+{
+    let space = room.saturating_sub(4);
+    u16::from(size).min(space - space % 2) as u8
+}
+
+// How many bytes stand first, up to `most`.
+fn leading_count(items: &HeapCircularBuffer<Item>, most: u8) -> u8
+    ensures { result ≡ length (take most (leading items.now.items)) }
+{
+    for count in 0..most {
+        if !is_byte(items, usize::from(count)) {
+            return count;
+        }
+    }
+    most
+}
+
+fn is_byte(items: &HeapCircularBuffer<Item>, place: usize) -> bool
+    ensures { result ≡ is_byte (slice_get items.now.items place) }
+{
+    matches!(items.get(place), Some(Item::Byte(_)))
+}
+
+// Moves the first `count` items, which are bytes.
+fn move_bytes(items: &mut HeapCircularBuffer<Item>, count: u8, out: &mut Payload)
+    requires bytes { count ≤ length (leading items.old.items) }
+    requires room { length out.old + count ≤ 1500 }
+    ensures items { items.new ≡ buffer (drop count items.old.items) items.old.capacity }
+    ensures bytes { out.new ≡ out.old ++ take count (leading items.old.items) }
+{
+    for _ in 0..count {
+        move_byte(items, out);
+    }
+}
+
+// Moves the first item; one that isn't a byte is dropped.
+#[tactic(auto, using(crate::proofs::FormsBytes::first_alone))]
+fn move_byte(items: &mut HeapCircularBuffer<Item>, out: &mut Payload)
+    requires { length out.old < 1500 }
+    ensures items { items.new ≡ buffer (drop 1 items.old.items) items.old.capacity }
+    ensures bytes { out.new ≡ out.old ++ take 1 (leading items.old.items) }
+{
+    if let Some(Item::Byte(b)) = items.pop_front() {
+        out.push(b);
+    }
+}

@@ -1,0 +1,139 @@
+//! The slots that sessions form, written as they stand in a message. It takes no memory.
+
+ghost use Rattle.std.specs.Prelude.{◌≡◌, ◌+◌, ◌<◌, ◌≤◌, ◌*◌, ◌%◌, [], ◌∷◌, ◌++◌, length, replicate};
+ghost use Rattle.lat_fields.specs.Params.{params_text};
+ghost use Rattle.lat_model.specs.sessions.Slots as sessions;
+ghost use Rattle.lat_slots.specs.Layout.{slot_text};
+ghost use Rattle.lat_stream.specs.Wire.{formed_as, request_params};
+
+use lat_base::{Name, Payload};
+use lat_fields::{write_counted, write_number};
+use lat_slots::{ATTENTION, DATA_A, DATA_B, SERVICE_CLASS, START, STOP};
+
+/// The greatest data slot that an end takes, as its starts state.
+const DATA_SIZE: u8 = 255;
+
+/// The greatest attention that an end takes, in bytes.
+const ATTENTION_SIZE: u8 = 1;
+
+/// The code of the parameter that bears a request.
+const REQUEST: u8 = 5;
+
+/// The reason that each stop gives.
+const USER: u8 = 1;
+
+/// The head of a slot. The number of its type and what stands beside it have four bits each.
+pub fn write_head(out: &mut Payload, to: u8, from: u8, count: u8, kind: u8, low: u8)
+    requires halves { (kind < 16) × (low < 16) }
+    requires room { length out.old + 4 ≤ 1500 }
+    ensures { out.new ≡ out.old ++ to ∷ from ∷ count ∷ (kind * 16 + low) ∷ [] }
+{
+    out.push(to);
+    out.push(from);
+    out.push(count);
+    out.push(kind * 16 + low);
+}
+
+/// The byte behind a body of odd length.
+pub fn write_pad(out: &mut Payload, count: u8)
+    requires { length out.old + count % 2 ≤ 1500 }
+    ensures { out.new ≡ out.old ++ replicate (count % 2) 0 }
+{
+    if count % 2 == 1 {
+        out.push(0);
+    }
+}
+
+/// How many bytes the parameters of a start have.
+pub fn request_len(request: Option<u16>) -> u8
+    ensures value { result ≡ sessions.params_len request }
+    ensures text { result ≡ length (params_text (request_params request)) }
+{
+    match request {
+        None => 1,
+        Some(_) => 5,
+    }
+}
+
+fn write_request(out: &mut Payload, request: Option<u16>)
+    requires { length out.old + sessions.params_len request ≤ 1500 }
+    ensures { out.new ≡ out.old ++ params_text (request_params request) }
+{
+    if let Some(id) = request {
+        out.push(REQUEST);
+        out.push(2);
+        write_number(out, id);
+    }
+    out.push(0);
+}
+
+/// How many bytes a start has, with its pad.
+pub fn start_len(service: &Name, request: Option<u16>) -> u16
+    ensures { result ≡ sessions.even_up (9 + length service.now + sessions.params_len request) }
+{
+    let len = 9 + service.bytes().len() as u16 + u16::from(request_len(request));
+    len + len % 2
+}
+
+/// A start, which gives so many credits.
+pub fn write_start(
+    out: &mut Payload,
+    to: u8,
+    from: u8,
+    credits: u8,
+    service: &Name,
+    request: Option<u16>,
+)
+    requires low { credits < 16 }
+    requires room { length out.old + sessions.slot_len (sessions.Start to from credits 255 service.now request) ≤ 1500 }
+    ensures { out.new ≡ out.old ++ slot_text (formed_as (sessions.Start to from credits 255 service.now request)) }
+{
+    let name = service.bytes();
+    let count = 5 + name.len() as u8 + request_len(request);
+    write_head(out, to, from, count, START, credits);
+    out.push(SERVICE_CLASS);
+    out.push(ATTENTION_SIZE);
+    out.push(DATA_SIZE);
+    write_counted(out, name);
+    out.push(0);
+    write_request(out, request);
+    write_pad(out, count);
+}
+
+/// A setting, which gives so many credits.
+pub fn write_setting(out: &mut Payload, to: u8, from: u8, credits: u8, setting: &[u8; 5])
+    requires low { credits < 16 }
+    requires room { length out.old + 10 ≤ 1500 }
+    ensures { out.new ≡ out.old ++ slot_text (formed_as (sessions.DataB to from credits setting.now)) }
+{
+    write_head(out, to, from, 5, DATA_B, credits);
+    out.append(setting);
+    out.push(0);
+}
+
+/// Credits alone.
+pub fn write_credits(out: &mut Payload, to: u8, from: u8, credits: u8)
+    requires low { credits < 16 }
+    requires room { length out.old + 4 ≤ 1500 }
+    ensures { out.new ≡ out.old ++ slot_text (formed_as (sessions.DataA to from credits [])) }
+{
+    write_head(out, to, from, 0, DATA_A, credits);
+}
+
+/// An attention.
+pub fn write_attention(out: &mut Payload, to: u8, from: u8, flag: u8)
+    requires { length out.old + 6 ≤ 1500 }
+    ensures { out.new ≡ out.old ++ slot_text (formed_as (sessions.Attention to from flag)) }
+{
+    write_head(out, to, from, 1, ATTENTION, 0);
+    out.push(flag);
+    out.push(0);
+}
+
+/// A stop, for the reason 1.
+pub fn write_stop(out: &mut Payload, to: u8, from: u8)
+    requires { length out.old + 4 ≤ 1500 }
+    ensures { out.new ≡ out.old ++ slot_text (formed_as (sessions.Stop to from 1)) }
+{
+    write_head(out, to, from, 0, STOP, USER);
+}
