@@ -2,12 +2,14 @@
 use Rattle.std.specs.Prelude.{◌≡◌, ℕ, List, length, take, Option, nat_lt, codes, ◌⊎◌, if◌then◌else◌}
 use Rattle.std.specs.Io.KnownBytes.{Appends}
 use Rattle.lat_show.specs.ShowOf.{show_of}
+use Rattle.lat_choose.specs.ChooseOf.{choose_of}
 use Rattle.lat_cmd.specs.declared.command.Command.{Command}
-use Rattle.lat_cmd.specs.declared.command.Command.TheVariants.{Show}
+use Rattle.lat_cmd.specs.declared.command.Command.TheVariants.{Show, Choose}
 
 -- what a command answers to an input that is within the limit
 abbrev pub answer_to : Command → List ℕ → ℕ × List ℕ
 answer_to Show input = show_of input
+answer_to Choose input = choose_of input
 
 -- what it answers to an input of any length: one past the limit has status 6
 abbrev pub answer_of : Command → List ℕ → ℕ × List ℕ

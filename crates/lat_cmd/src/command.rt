@@ -8,6 +8,8 @@ ghost use Rattle.lat_cmd.specs.Commands.{command_of};
 pub enum Command {
     /// `show`: prints the payloads that the input's lines spell.
     Show,
+    /// `choose`: names the best nodes that the input's lines ask for.
+    Choose,
 }
 
 /// The command that the words are, behind the program's name.
@@ -16,6 +18,7 @@ pub fn command_of(words: &[String]) -> Option<Command>
 {
     match words {
         [word] if word.as_str() == "show" => Some(Command::Show),
+        [word] if word.as_str() == "choose" => Some(Command::Choose),
         _ => None,
     }
 }

@@ -9,6 +9,7 @@ ghost use Rattle.lat_cmd.specs.Answers.{answer_to, answer_of, IsTold, IsEarly, I
 
 use crate::command::{Command, command_of};
 use lat_base::{Memory, ReadEnd, Sink, Source, read_all, write_all};
+use lat_choose::choose;
 use lat_show::show;
 use std::alloc::Global;
 
@@ -36,6 +37,7 @@ fn answered(alloc: Global, command: Command, input: &[u8]) -> Result<(u8, String
 {
     match command {
         Command::Show => show(alloc, input),
+        Command::Choose => choose(alloc, input),
     }
 }
 
