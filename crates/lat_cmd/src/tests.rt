@@ -40,6 +40,12 @@ const SHOWN: [(&[u8], &[u8]); 7] = [
     ),
 ];
 
+// What nodes announce and what is asked for, and the nodes that are chosen: the example of `docs/USE.md`.
+const CHOICES: &[u8] =
+    b"groups 08\nhear 0 020000000001 281e0501000108024e310001c8015800\nhear 0 020000000002 281e0501000110024e320001fa015800\nbest 1 X\nhear 2 020000000003 281e04\nbest 95000 x\n";
+
+const CHOSEN: &[u8] = b"020000000001 200\nline 5 bad version 2\nnone\n";
+
 // How the outside behaves: bytes a call, and the calls that fail.
 #[derive(Clone, Copy)]
 struct Outside<'a> {
@@ -76,7 +82,8 @@ fn ran(
 #[test]
 fn words_and_inputs_are_answered(rt: HostRuntime) -> Result<(), Fail> {
     let show: &[&str] = &["show"];
-    let rows: [(&[&str], &[u8], u8, &[u8]); 9] = [
+    let choose: &[&str] = &["choose"];
+    let rows: [(&[&str], &[u8], u8, &[u8]); 13] = [
         (show, ONE_RUN, 0, ONE_RUN_SHOWN),
         (show, b"", 0, b""),
         (show, b"\n", 0, b"bad kind 0\n"),
@@ -89,7 +96,11 @@ fn words_and_inputs_are_answered(rt: HostRuntime) -> Result<(), Fail> {
         ),
         (show, b"02\n0g\n", 2, b"line 2 form\n"),
         (show, b"02", 2, b"line 1 form\n"),
+        (choose, CHOICES, 0, CHOSEN),
+        (choose, b"", 0, b""),
+        (choose, b"best 5 X\nbest 4 X\n", 2, b"line 2 form\n"),
         (&["show", "x"], ONE_RUN, 1, b"words\n"),
+        (&["choose", "x"], CHOICES, 1, b"words\n"),
         (&[], ONE_RUN, 1, b"words\n"),
     ];
     for (words, input, status, text) in rows {
