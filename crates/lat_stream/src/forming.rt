@@ -111,6 +111,7 @@ impl Stream {
     fn data_turn(&self) -> Turn
         ensures { result ≡ data_turn (nat_lt 0 self.now.credits.unused) self.now.unframed }
     {
+        // a copy tells whether a credit is left
         let mut after = self.credits;
         let may_spend = after.spend().is_ok();
         match self.unframed.front() {
@@ -196,7 +197,7 @@ impl Stream {
         Formed::Slot
     }
 
-    // Counts a slot with items: a credit is used.
+    // Counts a slot with items: a credit is used, of those that are left.
     fn spend(&mut self)
         ensures { self.new ≡ framed 0 self.old }
     {
