@@ -34,31 +34,27 @@ fn slots_have_their_bytes(rt: HostRuntime) -> Result<(), Fail> {
     let mut stream = Stream::make(rt.alloc(), 4)?;
     stream.call(&Name::read(b"VAX")?, Some(258));
     forms(&rt, &mut stream, &[(17, b""), (18, ASK), (1500, b"")]);
-    // answered, with credits for three slots
-    stream.state = SessionState::Live;
-    stream.peer = 7;
-    stream.size = 255;
-    stream.attention = Some(9);
-    let _ = stream.credits.heard(3);
-    for b in *b"hello" {
-        let _ = stream.unframed.push_back(Item::Byte(b));
-    }
-    let _ = stream
-        .unframed
-        .push_back(Item::Set(*b"\x01\x13\x11\x13\x11"));
-    let _ = stream.unframed.push_back(Item::Byte(1));
+    assert!(rt; matches!(stream.state(), SessionState::Calling));
+    assert!(rt; stream.hear_start(7, 3, 255).is_ok());
+    assert!(rt; stream.attend(9).is_ok());
+    assert_eq!(rt; stream.put(b"hello"), Ok(5));
+    assert!(rt; stream.set(*b"\x01\x13\x11\x13\x11").is_ok());
+    assert_eq!(rt; stream.put(b"!"), Ok(1));
     forms(
         &rt,
         &mut stream,
         &[(5, b""), (6, ATTENTION), (5, b""), (9, CUT), (1500, LAST)],
     );
+    // the third credit goes with the setting, so that the last byte waits
     forms(&rt, &mut stream, &[(9, b""), (10, SETTING), (1500, b"")]);
-    // two slots heard, and their items taken
-    let _ = stream.credits.slot_in(false);
-    let _ = stream.credits.slot_in(false);
+    assert!(rt; stream.hear_bytes(7, 0, b"a").is_ok());
+    assert!(rt; stream.hear_bytes(7, 0, b"b").is_ok());
+    let mut items = [Item::Byte(0); 2];
+    assert_eq!(rt; stream.take(&mut items), Ok(2));
     forms(&rt, &mut stream, &[(3, b""), (4, CREDITS), (1500, b"")]);
-    let _ = stream.unframed.pop_front();
-    stream.closed = true;
+    assert!(rt; stream.close().is_ok());
+    forms(&rt, &mut stream, &[(1500, b"")]);
+    assert!(rt; stream.hear_stop(7).is_ok());
     forms(&rt, &mut stream, &[(3, b""), (4, STOP), (1500, b"")]);
     Ok(())
 }
