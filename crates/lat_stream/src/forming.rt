@@ -1,17 +1,15 @@
 //! The slots that a session forms.
 
-ghost use Rattle.std.specs.Prelude.{◌≡◌, ℕ, ◌+◌, ◌-◌, ◌<◌, ◌≤◌, Bool, false, cond, [], ◌∷◌, ◌++◌, ◌||◌, ◌&&◌, length, take, drop, min, nat_lt, nat_le, slice_get, true, not, Some, None};
+ghost use Rattle.std.specs.Prelude.{◌≡◌, ℕ, ◌+◌, ◌<◌, ◌≤◌, false, ◌++◌, ◌||◌, ◌&&◌, length, take, drop, min, nat_lt, nat_le, slice_get, None};
 ghost use Rattle.circular_buffer.specs.Buffer.{buffer};
 ghost use Rattle.lat_model.specs.Lists.{is_empty};
 ghost use Rattle.lat_model.specs.sessions.Offers as offers;
 ghost use Rattle.lat_model.specs.sessions.Slots as sessions;
 ghost use Rattle.lat_model.specs.sessions.Session.{Session};
-ghost use Rattle.lat_slots.specs.Layout.{slot_text};
 ghost use Rattle.lat_stream.specs.Does.{Does, reject_due};
 ghost use Rattle.lat_stream.specs.Kept.{kept_of};
 ghost use Rattle.lat_stream.specs.Sound.{Sound};
 ghost use Rattle.lat_stream.specs.Turns.{Meets, turn_of, later_turn, over, data_turn, due, gave, framed, stopped, is_byte, leading, next_bytes, start_slot, bytes_offer, credits_offer, kept_after, offer_at};
-ghost use Rattle.lat_stream.specs.Wire.{formed_as};
 
 use crate::opening::Opening;
 use crate::stream::Stream;
