@@ -1,13 +1,12 @@
 -- Sessions that have just begun.
-use Rattle.std.proofs.Common.{◌≡◌, ℕ, ap, ◌∙◌, refl, Bool, true, false, cond, List, Option, Some, None, nat_eq, length, map, drop, ◌+◌, ◌-◌, arith, zero}
+use Rattle.std.proofs.Common.{◌≡◌, ℕ, ap, ◌∙◌, refl, Bool, true, false, cond, List, Option, Some, None, nat_eq, ◌+◌, ◌-◌, arith}
 use Rattle.lat_base.specs.declared.state.SessionState.TheVariants as kept_states
 use Rattle.lat_base.specs.declared.state.SessionEnd.{SessionEnd}
 use Rattle.lat_model.specs.sessions.Session.{blank}
 use Rattle.lat_stream.specs.declared.opening.Opening.{Opening}
 use Rattle.lat_stream.specs.Begins.{called, asked}
-use Rattle.lat_stream.specs.Kept.{Kept, kept_of, end_of}
+use Rattle.lat_stream.specs.Kept.{Kept, kept_of}
 use Rattle.lat_stream.specs.Steps.{granted}
-use Rattle.lat_stream.proofs.Same.{same}
 
 no_end : (b : Bool) → ◌≡◌ {A = Option SessionEnd} None (cond b None None)
 no_end true = refl

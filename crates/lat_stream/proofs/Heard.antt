@@ -1,16 +1,14 @@
 -- What is kept of a session that runs, behind a slot that it hears.
-use Rattle.std.proofs.Common.{◌≡◌, ◌≢◌, ℕ, suc, ◌+◌, ◌-◌, ◌<◌, ◌≤◌, sym, ap, ap₂, ◌∙◌, refl, arith, Bool, true, false, not, cond, ◌&&◌, ◌||◌, List, [], ◌∷◌, ◌++◌, length, map, drop, Option, Some, None, nat_lt, nat_le, subst, length-append, length-drop, append-nil}
+use Rattle.std.proofs.Common.{◌≡◌, ℕ, suc, ◌+◌, ◌-◌, ◌<◌, ◌≤◌, sym, ap, ap₂, ◌∙◌, refl, arith, Bool, true, false, not, cond, ◌&&◌, ◌||◌, List, [], ◌∷◌, ◌++◌, length, map, drop, Option, Some, None, nat_lt, nat_le, subst, length-append, length-drop, append-nil}
 use Rattle.std.proofs.lemmas.Bool.{lt-ltb, ltb-true, and_parts}
 use Rattle.std.proofs.lemmas.List.{map-append, length-map, drop-append-le}
-use Rattle.lat_base.specs.declared.item.Item as base_item
 use Rattle.lat_base.specs.declared.item.Item.TheVariants as kept_items
 use Rattle.lat_credit.specs.Account.{Account}
 use Rattle.lat_credit.specs.Account as account
-use Rattle.lat_credit.specs.Sessions.{account_of, with_heard}
 use Rattle.lat_credit.proofs.Sessions as sessions
 use Rattle.lat_model.specs.Lists.{is_empty}
-use Rattle.lat_model.specs.sessions.Slots.{Byte, Slot, DataA, DataB, Attention, items_of, items, credits, credits_of, costs, cost_of, mark_after, is_stop, has_stop, first_size}
-use Rattle.lat_model.specs.sessions.Session.{Session, Closing, Live, answered, rejected, gone, peer, unframed, held_slots, state}
+use Rattle.lat_model.specs.sessions.Slots.{Byte, Slot, DataA, DataB, Attention, items_of, items, credits, credits_of, costs, cost_of, mark_after, is_stop, has_stop}
+use Rattle.lat_model.specs.sessions.Session.{Session, Closing, Live, held_slots}
 use Rattle.lat_model.specs.sessions.Hearing.{heard}
 use Rattle.lat_model.specs.sessions.EndOk.{Accounts, Small}
 use Rattle.lat_model.proofs.numbers.Net.{each_append}
@@ -18,9 +16,9 @@ use Rattle.lat_model.proofs.sessions.Bounds.{heard_fit}
 use Rattle.lat_model.proofs.sessions.Hears.{starter_more, heard_accounts}
 use Rattle.lat_model.proofs.sessions.Words.{items-append}
 use Rattle.lat_stream.specs.declared.opening.Opening.{Opening}
-use Rattle.lat_stream.specs.Kept.{Kept, kept_of, item_shown, state_shown, left_in, end_of, start_left}
+use Rattle.lat_stream.specs.Kept.{Kept, kept_of, item_shown, state_shown, left_in}
 use Rattle.lat_stream.specs.Sound.{Sound}
-use Rattle.lat_stream.specs.Steps.{granted, brought, can_pay}
+use Rattle.lat_stream.specs.Steps.{granted, held_more, kept_more, can_pay}
 use Rattle.lat_stream.proofs.Same.{same}
 use Rattle.lat_stream.proofs.Left.{left_behind, bytes_shown}
 use Rattle.lat_stream.proofs.Running.{Runs, runs_more, rejected_more, no_stop_more, state_runs, end_runs, size_more}
@@ -106,7 +104,7 @@ free_of m c s x ac r h i cost none =
 -- items come, for a credit
 
 pub paid_for : (m : Bool) (c : ℕ) (s : Session) (x : Slot) → Accounts c s → Runs s → has_stop s.came ≡ false → is_stop x ≡ false → cost_of x ≡ 1 → 0 < length (items_of x) → mark_after s.mark x ≡ s.mark →
-    brought (map item_shown (items_of x)) (granted (credits_of x) (kept_of m c s)) ≡ kept_of m c (heard s x)
+    kept_more (map item_shown (items_of x)) (held_more (length (items_of x)) (granted (credits_of x) (kept_of m c s))) ≡ kept_of m c (heard s x)
 paid_for m c s x ac r h i cost some mark =
     same _ _ (record {
       state = refl;
@@ -135,10 +133,10 @@ paid_for m c s x ac r h i cost some mark =
     items_come true = refl
     items_come false = ap (λ z. map item_shown (drop s.taken (items s.came)) ++ map item_shown z) (sym (append-nil (items_of x)))
 
-    is_held : (b : Bool) → cond b (cond b [] (left_in s.taken s.came)) (cond b [] (left_in s.taken s.came) ++ length (map item_shown (items_of x)) ∷ []) ≡ cond b [] (left_in s.taken s.came ++ cond (nat_lt 0 (length (items_of x))) ((length (items_of x) - 0) ∷ []) [])
+    is_held : (b : Bool) → cond b (cond b [] (left_in s.taken s.came)) (cond b [] (left_in s.taken s.came) ++ length (items_of x) ∷ []) ≡ cond b [] (left_in s.taken s.came ++ cond (nat_lt 0 (length (items_of x))) ((length (items_of x) - 0) ∷ []) [])
     is_held true = refl
     is_held false =
-        let e : length (map item_shown (items_of x)) ≡ length (items_of x) - 0 = omega (arith, length-map (items_of x) item_shown) in
+        let e : length (items_of x) ≡ length (items_of x) - 0 = omega arith in
         ap (λ z. left_in s.taken s.came ++ z ∷ []) e
         ∙ ap (λ b. left_in s.taken s.came ++ cond b ((length (items_of x) - 0) ∷ []) []) (sym (lt-ltb 0 (length (items_of x)) some))
 
@@ -166,10 +164,11 @@ attention_is m c s to from flag ac r h =
     ∙ free_of m c s (Attention to from flag) ac r h refl refl refl
 
 pub bytes_are : (m : Bool) (c : ℕ) (s : Session) (to from n : ℕ) (bs : List ℕ) → 0 < length bs → Accounts c s → Runs s → has_stop s.came ≡ false →
-    brought (map kept_items.Byte bs) (granted n (kept_of m c s)) ≡ kept_of m c (heard s (DataA to from n bs))
+    kept_more (map kept_items.Byte bs) (held_more (length bs) (granted n (kept_of m c s))) ≡ kept_of m c (heard s (DataA to from n bs))
 bytes_are m c s to from n [] some ac r h = absurd (omega (arith, some))
 bytes_are m c s to from n (b ∷ bs) some ac r h =
-    ap (λ z. brought z (granted n (kept_of m c s))) (sym (bytes_shown (b ∷ bs)))
+    ap (λ z. kept_more z (held_more (length (b ∷ bs)) (granted n (kept_of m c s)))) (sym (bytes_shown (b ∷ bs)))
+    ∙ ap (λ z. kept_more (map item_shown (map Byte (b ∷ bs))) (held_more z (granted n (kept_of m c s)))) (sym (length-map (b ∷ bs) Byte))
     ∙ paid_for m c s (DataA to from n (b ∷ bs)) ac r h refl refl (omega arith) refl
 
 pub no_bytes_are : (m : Bool) (c : ℕ) (s : Session) (to from n : ℕ) (bs : List ℕ) → length bs ≡ 0 → Accounts c s → Runs s → has_stop s.came ≡ false →
@@ -178,12 +177,12 @@ no_bytes_are m c s to from n [] none ac r h = free_of m c s (DataA to from n [])
 no_bytes_are m c s to from n (b ∷ bs) none ac r h = absurd (omega (arith, none))
 
 pub setting_is : (m : Bool) (c : ℕ) (s : Session) (to from n : ℕ) (t : List ℕ) → Accounts c s → Runs s → has_stop s.came ≡ false →
-    brought (kept_items.Set t ∷ []) (granted n (kept_of m c s)) ≡ kept_of m c (heard s (DataB to from n t))
+    kept_more (kept_items.Set t ∷ []) (held_more 1 (granted n (kept_of m c s))) ≡ kept_of m c (heard s (DataB to from n t))
 setting_is m c s to from n t ac r h = paid_for m c s (DataB to from n t) ac r h refl refl (omega arith) refl
 
 -- a slot that may be paid has a credit
 
-pub has_credit : (m : Bool) (c : ℕ) (s : Session) (k : Kept) (n : ℕ) → k ≡ kept_of m c s → can_pay true n k ≡ true → costs s.came + 1 ≤ credits s.out
+pub has_credit : (m : Bool) (c : ℕ) (s : Session) (k : Kept) (n : ℕ) → k ≡ kept_of m c s → can_pay n k ≡ true → costs s.came + 1 ≤ credits s.out
 has_credit m c s k n e h =
     let p : (nat_lt 0 k.credits.outstanding ≡ true) × _ = and_parts (nat_lt 0 k.credits.outstanding) (nat_le (k.credits.unused + n) 255) h in
     let q : 0 < credits s.out - costs s.came = subst (λ (z : Kept). 0 < z.credits.outstanding) e (ltb-true 0 k.credits.outstanding p.0) in

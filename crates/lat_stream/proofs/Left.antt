@@ -1,5 +1,5 @@
 -- Slots that are held, and the items that are left in them.
-use Rattle.std.proofs.Common.{◌≡◌, ℕ, zero, suc, ◌+◌, ◌-◌, ◌<◌, ◌≤◌, sym, ap, ◌∙◌, refl, arith, Bool, true, false, cond, List, [], ◌∷◌, ◌++◌, length, map, drop, nat_lt, length-append, ltb-true, ltb-false}
+use Rattle.std.proofs.Common.{◌≡◌, ℕ, ◌+◌, ◌-◌, ◌≤◌, ap, ◌∙◌, refl, arith, Bool, true, false, cond, List, [], ◌∷◌, ◌++◌, length, map, nat_lt, length-append, ltb-true, ltb-false}
 use Rattle.std.proofs.lemmas.Bool.{lt-ltb, le-ltb}
 use Rattle.lat_base.specs.declared.item.Item.TheVariants as kept_items
 use Rattle.lat_model.specs.sessions.Slots.{Byte, Slot, items_of, items}

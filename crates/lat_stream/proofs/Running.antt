@@ -1,8 +1,8 @@
 -- Sessions that run.
-use Rattle.std.proofs.Common.{◌≡◌, ◌≢◌, ℕ, ◌+◌, ◌-◌, ◌≤◌, sym, ap, ap₂, ◌∙◌, refl, subst, arith, Bool, true, false, not, cond, ◌&&◌, ◌||◌, List, [], ◌∷◌, ◌++◌, length, map, drop, Option, Some, None, nat_eq}
+use Rattle.std.proofs.Common.{◌≡◌, ◌≢◌, ℕ, sym, ap, ap₂, ◌∙◌, refl, subst, arith, Bool, true, false, not, cond, ◌&&◌, ◌||◌, List, [], ◌∷◌, ◌++◌, Option, Some, None, nat_eq}
 use Rattle.std.proofs.lemmas.Bool.{and_parts, or_parts, not-true, true≢false, false≢true}
 use Rattle.lat_base.specs.declared.state.SessionEnd.TheVariants as ends
-use Rattle.lat_model.specs.sessions.Slots.{Slot, Start, DataA, DataB, Attention, Reject, Stop, is_stop, has_stop, starts, turned, first_size}
+use Rattle.lat_model.specs.sessions.Slots.{Slot, is_stop, has_stop, starts, turned, first_size}
 use Rattle.lat_model.specs.sessions.Session.{Session, Free, Live, Closing, Left, Calling, Asked, answered, rejected, stopped, gone, free, runs, state}
 use Rattle.lat_model.specs.sessions.Hearing.{heard}
 use Rattle.lat_model.proofs.sessions.Hears.{starts_more}

@@ -1,18 +1,18 @@
 -- What is kept of a session that runs, behind the peer's stop.
-use Rattle.std.proofs.Common.{◌≡◌, ◌≢◌, ℕ, suc, ◌+◌, ◌-◌, ◌<◌, ◌≤◌, sym, ap, ap₂, ◌∙◌, refl, arith, Bool, true, false, not, cond, ◌&&◌, ◌||◌, List, [], ◌∷◌, ◌++◌, length, map, drop, Option, Some, None, nat_eq, nat_lt, nat_le, length-append, append-nil, ne_eqb}
+use Rattle.std.proofs.Common.{◌≡◌, ℕ, ◌+◌, ◌-◌, sym, ap, ap₂, ◌∙◌, refl, arith, Bool, true, false, not, cond, ◌&&◌, ◌||◌, List, [], ◌∷◌, ◌++◌, length, map, drop, Option, Some, None, nat_eq, nat_le, append-nil, ne_eqb}
 use Rattle.std.proofs.lemmas.Bool.{or_parts}
 use Rattle.lat_base.specs.declared.state.SessionState.TheVariants as kept_states
 use Rattle.lat_base.specs.declared.state.SessionEnd.TheVariants as ends
 use Rattle.lat_credit.specs.Account.{Account}
 use Rattle.lat_credit.proofs.Sessions as sessions
 use Rattle.lat_model.specs.Lists.{is_empty}
-use Rattle.lat_model.specs.sessions.Slots.{Slot, Stop, items_of, items, credits, costs, has_stop, turned}
-use Rattle.lat_model.specs.sessions.Session.{Session, Free, Calling, Asked, Live, Closing, Left, state, answered, rejected, stopped, gone, held_slots}
+use Rattle.lat_model.specs.sessions.Slots.{Slot, Stop, items, has_stop, turned}
+use Rattle.lat_model.specs.sessions.Session.{Session, Free, Calling, Asked, Live, Closing, Left, answered, rejected, gone, held_slots}
 use Rattle.lat_model.specs.sessions.Hearing.{heard}
 use Rattle.lat_model.proofs.sessions.Hears.{starter_more, starts_more}
 use Rattle.lat_model.proofs.sessions.Words.{items-append, has_stop-append}
 use Rattle.lat_stream.specs.declared.opening.Opening.{Opening}
-use Rattle.lat_stream.specs.Kept.{Kept, kept_of, item_shown, state_shown, left_in, end_of, reject_reason}
+use Rattle.lat_stream.specs.Kept.{kept_of, item_shown, state_shown, left_in, end_of, reject_reason}
 use Rattle.lat_stream.specs.Sound.{Sound}
 use Rattle.lat_stream.specs.Steps.{is_left, stop_in}
 use Rattle.lat_stream.proofs.Same.{same}

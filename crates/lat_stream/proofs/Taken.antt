@@ -1,18 +1,15 @@
 -- Items that are put and taken.
-use Rattle.std.proofs.Common.{◌≡◌, ◌≢◌, ℕ, suc, ◌+◌, ◌-◌, ◌<◌, ◌≤◌, sym, ap, ap₂, ◌∙◌, refl, arith, Bool, true, false, not, cond, ◌&&◌, ◌||◌, List, [], ◌∷◌, ◌++◌, length, map, take, drop, min, Option, Some, None, nat_eq, nat_lt, nat_le, length-append, length-drop, ne_eqb}
+use Rattle.std.proofs.Common.{◌≡◌, ℕ, ◌+◌, ◌-◌, ◌≤◌, sym, ap, ap₂, ◌∙◌, refl, arith, Bool, true, false, not, cond, ◌&&◌, ◌||◌, List, [], ◌∷◌, ◌++◌, length, map, take, drop, min, Some, None, nat_eq, nat_le, length-append, length-drop, ne_eqb}
 use Rattle.std.proofs.lemmas.Bool.{and_parts, or_parts, not-true, le-leb, lt-leb}
 use Rattle.std.proofs.lemmas.List.{map-append, length-map, drop-append-le, drop-map, drop-drop}
 use Rattle.std.specs.List.{take-map}
 use Rattle.lat_base.specs.declared.item.Item as base_item
 use Rattle.lat_base.specs.declared.item.Item.TheVariants as kept_items
-use Rattle.lat_base.specs.declared.state.SessionState as base_state
 use Rattle.lat_base.specs.declared.state.SessionState.TheVariants as kept_states
-use Rattle.lat_base.specs.declared.state.SessionEnd.{SessionEnd}
 use Rattle.lat_base.specs.declared.state.SessionEnd.TheVariants as ends
-use Rattle.lat_credit.specs.Account as account
 use Rattle.lat_model.specs.Lists.{is_empty, IsPrefixOf}
-use Rattle.lat_model.specs.sessions.Slots.{Item, Byte, Slot, items, credits, costs, has_stop, turned}
-use Rattle.lat_model.specs.sessions.Session.{Session, Free, Calling, Asked, Live, Closing, Left, SessionState, state, answered, rejected, stopped, gone, free, unframed, held_from, put_open, take_open}
+use Rattle.lat_model.specs.sessions.Slots.{Item, Byte, items, credits, costs, has_stop, turned}
+use Rattle.lat_model.specs.sessions.Session.{Session, Free, Calling, Asked, Live, Closing, Left, state, answered, rejected, stopped, gone, free, unframed, held_from, put_open, take_open}
 use Rattle.lat_model.specs.sessions.Calls.{put_items, put_count, take_count}
 use Rattle.lat_stream.specs.Kept.{Kept, kept_of, item_shown, state_shown, left_in, end_of, reject_reason}
 use Rattle.lat_stream.specs.Sound.{Sound}

@@ -1,5 +1,5 @@
 -- What is kept of a session, and the session that it stands for.
-use Rattle.std.specs.Prelude.{ℕ, ◌-◌, Bool, true, false, not, cond, ◌&&◌, List, [], ◌∷◌, map, length, drop, min, Option, Some, None, nat_eq, nat_lt}
+use Rattle.std.specs.Prelude.{ℕ, ◌-◌, Bool, not, cond, ◌&&◌, List, [], ◌∷◌, map, length, drop, min, Option, Some, None, nat_eq, nat_lt}
 use Rattle.lat_base.specs.declared.item.Item as base_item
 use Rattle.lat_base.specs.declared.item.Item.TheVariants as kept_items
 use Rattle.lat_base.specs.declared.state.SessionState as base_state

@@ -1,7 +1,6 @@
 -- What calls and slots do to what is kept.
-use Rattle.std.specs.Prelude.{ℕ, suc, ◌+◌, ◌-◌, Bool, true, false, not, cond, ◌&&◌, ◌||◌, List, [], ◌∷◌, ◌++◌, map, length, drop, Option, Some, None, nat_eq, nat_lt, nat_le}
+use Rattle.std.specs.Prelude.{ℕ, suc, ◌+◌, ◌-◌, Bool, true, false, not, cond, ◌&&◌, ◌||◌, List, [], ◌∷◌, ◌++◌, length, drop, Some, None, nat_lt, nat_le}
 use Rattle.lat_base.specs.declared.item.Item as base_item
-use Rattle.lat_base.specs.declared.item.Item.TheVariants as kept_items
 use Rattle.lat_base.specs.declared.state.SessionState.{SessionState}
 use Rattle.lat_base.specs.declared.state.SessionState.TheVariants.{Free, Calling, Asked, Live, Closing, Left}
 use Rattle.lat_base.specs.declared.state.SessionEnd.TheVariants as ends
@@ -82,7 +81,7 @@ closed k = ended_if_done (record k {
 abbrev pub turned_away : ℕ → Kept → Kept
 turned_away reason k = record k { state = Free; start = None; unframed = []; end = Some (ends.Rejected reason) }
 
--- a slot with n items came, which is held unless the session closed
+-- a slot with n items came, for a credit; it is held unless the session closed
 abbrev pub held_more : ℕ → Kept → Kept
 held_more n k = record k {
   credits = record k.credits {
@@ -92,17 +91,17 @@ held_more n k = record k {
   held = cond k.closed k.held (k.held ++ n ∷ []);
 }
 
--- with these items
-abbrev pub brought : List base_item.Item → Kept → Kept
-brought xs k = record (held_more (length xs) k) { heard = cond k.closed k.heard (k.heard ++ xs) }
+-- with these items, which are dropped where it closed
+abbrev pub kept_more : List base_item.Item → Kept → Kept
+kept_more xs k = record k { heard = cond k.closed k.heard (k.heard ++ xs) }
 
 -- credits are granted
 abbrev pub granted : ℕ → Kept → Kept
 granted n k = record k { credits = record k.credits { unused = k.credits.unused + n } }
 
--- a data slot may come: it has a credit where it has items, and the credits that it brings are not too many
-abbrev pub can_pay : (has_items : Bool) → (credits : ℕ) → Kept → Bool
-can_pay has_items credits k = (not has_items || nat_lt 0 k.credits.outstanding) && nat_le (k.credits.unused + credits) 255
+-- a data slot with items may come: a credit is outstanding, and the n credits that it brings are not too many
+abbrev pub can_pay : ℕ → Kept → Bool
+can_pay n k = nat_lt 0 k.credits.outstanding && nat_le (k.credits.unused + n) 255
 
 -- a session that heard the peer's stop sends no more items
 abbrev pub silent : Kept → Kept

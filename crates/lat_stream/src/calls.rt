@@ -28,7 +28,8 @@ impl Stream {
     /// Answers an ask: both ends have the session now.
     pub fn answer(&mut self)
         requires { self.old.state ≡ kept_states.Asked }
-        ensures { (ceiling : ℕ) (s : Session) → Sound false ceiling s → self.old ≡ kept_of false ceiling s → self.new ≡ kept_of false ceiling (record s { accepted = true }) }
+        ensures { (ceiling : ℕ) (s : Session) → Sound false ceiling s → self.old ≡ kept_of false ceiling s →
+            self.new ≡ kept_of false ceiling (record s { accepted = true }) }
     {
         self.run();
     }
@@ -47,7 +48,8 @@ impl Stream {
     /// Rejects an ask: the session is free.
     pub fn refuse(&mut self, reason: u8)
         requires { self.old.state ≡ kept_states.Asked }
-        ensures { (ceiling : ℕ) (s : Session) → Sound false ceiling s → self.old ≡ kept_of false ceiling s → self.new ≡ kept_of false ceiling (record s { refused = true; reason = reason }) }
+        ensures { (ceiling : ℕ) (s : Session) → Sound false ceiling s → self.old ≡ kept_of false ceiling s →
+            self.new ≡ kept_of false ceiling (record s { refused = true; reason = reason }) }
     {
         self.turn_away(reason);
     }
@@ -65,8 +67,14 @@ impl Stream {
     /// Takes as many of the bytes as there is room for, and tells how many. Refused `Closed` where the session is neither
     /// Calling nor Live, and where close was called.
     pub fn put(&mut self, bytes: &[u8]) -> Result<usize, SessionFault>
-        ensures answer { (master : Bool) (ceiling : ℕ) (s : Session) → Sound master ceiling s → self.old ≡ kept_of master ceiling s → result ≡ (if put_open s then Ok (put_count s (length bytes.now)) else Err Closed) }
-        ensures state { (master : Bool) (ceiling : ℕ) (s : Session) → Sound master ceiling s → self.old ≡ kept_of master ceiling s → self.new ≡ (if put_open s then kept_of master ceiling (put_items s (map Byte (take (put_count s (length bytes.now)) bytes.now))) else self.old) }
+        ensures answer { (master : Bool) (ceiling : ℕ) (s : Session) →
+            Sound master ceiling s → self.old ≡ kept_of master ceiling s →
+            result ≡ (if put_open s then Ok (put_count s (length bytes.now)) else Err Closed) }
+        ensures state { (master : Bool) (ceiling : ℕ) (s : Session) →
+            Sound master ceiling s → self.old ≡ kept_of master ceiling s →
+            self.new ≡ (if put_open s
+            then kept_of master ceiling (put_items s (map Byte (take (put_count s (length bytes.now)) bytes.now)))
+            else self.old) }
         ensures most { IfOk result (λ n. n ≤ length bytes.now) }
     {
         if !self.takes_items() {
@@ -84,8 +92,13 @@ impl Stream {
 
     /// Takes a setting. Refused `Closed` where `put` is, else `Full` where 4,096 items wait to be framed.
     pub fn set(&mut self, setting: [u8; 5]) -> Result<(), SessionFault>
-        ensures answer { (master : Bool) (ceiling : ℕ) (s : Session) → Sound master ceiling s → self.old ≡ kept_of master ceiling s → result ≡ (if put_open s then (if nat_lt (length (unframed s)) 4096 then Ok tt else Err Full) else Err Closed) }
-        ensures state { (master : Bool) (ceiling : ℕ) (s : Session) → Sound master ceiling s → self.old ≡ kept_of master ceiling s → OnOk result (self.new ≡ kept_of master ceiling (put_items s (Setting setting ∷ []))) }
+        ensures answer { (master : Bool) (ceiling : ℕ) (s : Session) →
+            Sound master ceiling s → self.old ≡ kept_of master ceiling s →
+            result ≡ (if put_open s then (if nat_lt (length (unframed s)) 4096 then Ok tt else Err Full)
+            else Err Closed) }
+        ensures state { (master : Bool) (ceiling : ℕ) (s : Session) →
+            Sound master ceiling s → self.old ≡ kept_of master ceiling s →
+            OnOk result (self.new ≡ kept_of master ceiling (put_items s (Setting setting ∷ []))) }
         ensures err { OnErr result (self.new ≡ self.old) }
     {
         if !self.takes_items() {
@@ -113,8 +126,11 @@ impl Stream {
 
     /// Asks for an attention with this flag, in place of one that still waits. Refused `Closed` where `put` is.
     pub fn attend(&mut self, flag: u8) -> Result<(), SessionFault>
-        ensures answer { (master : Bool) (ceiling : ℕ) (s : Session) → Sound master ceiling s → self.old ≡ kept_of master ceiling s → result ≡ (if put_open s then Ok tt else Err Closed) }
-        ensures state { (master : Bool) (ceiling : ℕ) (s : Session) → self.old ≡ kept_of master ceiling s → OnOk result (self.new ≡ kept_of master ceiling (record s { attention = Some flag })) }
+        ensures answer { (master : Bool) (ceiling : ℕ) (s : Session) →
+            Sound master ceiling s → self.old ≡ kept_of master ceiling s →
+            result ≡ (if put_open s then Ok tt else Err Closed) }
+        ensures state { (master : Bool) (ceiling : ℕ) (s : Session) → self.old ≡ kept_of master ceiling s →
+            OnOk result (self.new ≡ kept_of master ceiling (record s { attention = Some flag })) }
         ensures err { OnErr result (self.new ≡ self.old) }
     {
         if !self.takes_items() {
@@ -127,9 +143,19 @@ impl Stream {
     /// Gives heard items, as many as there are and as `out` has places, and tells how many. The places behind them stay as
     /// they were. Refused `Closed` in the states Free and Asked, and where close was called.
     pub fn take(&mut self, out: &mut [Item]) -> Result<usize, SessionFault>
-        ensures answer { (master : Bool) (ceiling : ℕ) (s : Session) → Sound master ceiling s → self.old ≡ kept_of master ceiling s → result ≡ (if take_open s then Ok (take_count s (length out.old)) else Err Closed) }
-        ensures state { (master : Bool) (ceiling : ℕ) (s : Session) → Sound master ceiling s → self.old ≡ kept_of master ceiling s → self.new ≡ (if take_open s then kept_of master ceiling (record s { taken = s.taken + take_count s (length out.old) }) else self.old) }
-        ensures items { (master : Bool) (ceiling : ℕ) (s : Session) → Sound master ceiling s → self.old ≡ kept_of master ceiling s → out.new ≡ (if take_open s then map item_shown (take (take_count s (length out.old)) (drop s.taken (items s.came))) ++ drop (take_count s (length out.old)) out.old else out.old) }
+        ensures answer { (master : Bool) (ceiling : ℕ) (s : Session) →
+            Sound master ceiling s → self.old ≡ kept_of master ceiling s →
+            result ≡ (if take_open s then Ok (take_count s (length out.old)) else Err Closed) }
+        ensures state { (master : Bool) (ceiling : ℕ) (s : Session) →
+            Sound master ceiling s → self.old ≡ kept_of master ceiling s →
+            self.new ≡ (if take_open s
+            then kept_of master ceiling (record s { taken = s.taken + take_count s (length out.old) })
+            else self.old) }
+        ensures items { (master : Bool) (ceiling : ℕ) (s : Session) →
+            Sound master ceiling s → self.old ≡ kept_of master ceiling s →
+            out.new ≡ (if take_open s
+            then map item_shown (take (take_count s (length out.old)) (drop s.taken (items s.came))) ++ drop (take_count s (length out.old)) out.old
+            else out.old) }
         ensures most { IfOk result (λ n. n ≤ length out.old) }
         ensures places { length out.new ≡ length out.old }
     {
@@ -152,8 +178,12 @@ impl Stream {
 
     /// Closes it: heard items are dropped, and those that were put still go out. Refused `Closed` where `take` is.
     pub fn close(&mut self) -> Result<(), SessionFault>
-        ensures answer { (master : Bool) (ceiling : ℕ) (s : Session) → Sound master ceiling s → self.old ≡ kept_of master ceiling s → result ≡ (if take_open s then Ok tt else Err Closed) }
-        ensures state { (master : Bool) (ceiling : ℕ) (s : Session) → Sound master ceiling s → self.old ≡ kept_of master ceiling s → OnOk result (self.new ≡ kept_of master ceiling (record s { closed = true })) }
+        ensures answer { (master : Bool) (ceiling : ℕ) (s : Session) →
+            Sound master ceiling s → self.old ≡ kept_of master ceiling s →
+            result ≡ (if take_open s then Ok tt else Err Closed) }
+        ensures state { (master : Bool) (ceiling : ℕ) (s : Session) →
+            Sound master ceiling s → self.old ≡ kept_of master ceiling s →
+            OnOk result (self.new ≡ kept_of master ceiling (record s { closed = true })) }
         ensures err { OnErr result (self.new ≡ self.old) }
     {
         if !self.gives_items() {

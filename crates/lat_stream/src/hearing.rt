@@ -8,16 +8,29 @@ ghost use Rattle.lat_model.specs.sessions.Session.{Session};
 ghost use Rattle.lat_model.specs.sessions.Hearing.{heard, behind_fits};
 ghost use Rattle.lat_stream.specs.Kept.{kept_of};
 ghost use Rattle.lat_stream.specs.Sound.{Sound};
-ghost use Rattle.lat_stream.specs.Steps.{can_hear, can_pay, is_left, ended_if_done, state_running, turned_away, brought, held_more, granted, silent};
+ghost use Rattle.lat_stream.specs.Steps.{can_hear, can_pay, is_left, ended_if_done, state_running, turned_away, held_more, kept_more, granted, silent};
 ghost use Rattle.lat_model.specs.Lists.{is_empty};
 
 use crate::rings::push_bytes;
 use crate::stream::Stream;
 use lat_base::{Item, SessionEnd, SessionState};
+use lat_credit::{NoCredit, TooMany};
 
 /// A slot that breaks its circuit. See "Bad slots" in docs/PROTOCOL.md.
 #[derive(Clone, Copy, Debug, PartialEq, Eq)]
 pub struct BadSlot;
+
+impl From<NoCredit> for BadSlot {
+    fn from(_e: NoCredit) -> BadSlot {
+        BadSlot
+    }
+}
+
+impl From<TooMany> for BadSlot {
+    fn from(_e: TooMany) -> BadSlot {
+        BadSlot
+    }
+}
 
 impl Stream {
     /// A reply start, from the peer's id `from`, at a session of a master that is Calling. `credits`, at most 15, are those
@@ -25,8 +38,11 @@ impl Stream {
     /// no credit was granted to it before.
     pub fn hear_start(&mut self, from: u8, credits: u8, size: u8) -> Result<(), BadSlot>
         requires { (self.old.state ≡ kept_states.Calling) × (credits ≤ 15) }
-        ensures answer { (ceiling : ℕ) (s : Session) → Sound true ceiling s → self.old ≡ kept_of true ceiling s → is_ok result ≡ true }
-        ensures state { (ceiling : ℕ) (s : Session) (to : ℕ) (service : List ℕ) (request : Option ℕ) → Sound true ceiling s → self.old ≡ kept_of true ceiling s → OnOk result (self.new ≡ kept_of true ceiling (heard s (slots.Start to from credits size service request))) }
+        ensures answer { (ceiling : ℕ) (s : Session) → Sound true ceiling s → self.old ≡ kept_of true ceiling s →
+            is_ok result ≡ true }
+        ensures state { (ceiling : ℕ) (s : Session) (to : ℕ) (service : List ℕ) (request : Option ℕ) →
+            Sound true ceiling s → self.old ≡ kept_of true ceiling s →
+            OnOk result (self.new ≡ kept_of true ceiling (heard s (slots.Start to from credits size service request))) }
         ensures err { OnErr result (self.new ≡ self.old) }
     {
         self.grant(credits)?;
@@ -40,13 +56,15 @@ impl Stream {
         ensures state { OnOk result (self.new ≡ granted credits self.old) }
         ensures err { OnErr result (self.new ≡ self.old) }
     {
-        self.credits.heard(credits).map_err(|_| BadSlot)
+        self.credits.heard(credits)?;
+        Ok(())
     }
 
     /// A reject, at a session of a master that is Calling.
     pub fn hear_reject(&mut self, reason: u8)
         requires { self.old.state ≡ kept_states.Calling }
-        ensures { (ceiling : ℕ) (s : Session) (to from : ℕ) → Sound true ceiling s → self.old ≡ kept_of true ceiling s → self.new ≡ kept_of true ceiling (heard s (slots.Reject to from reason)) }
+        ensures { (ceiling : ℕ) (s : Session) (to from : ℕ) → Sound true ceiling s → self.old ≡ kept_of true ceiling s →
+            self.new ≡ kept_of true ceiling (heard s (slots.Reject to from reason)) }
     {
         self.turn_away(reason);
     }
@@ -54,8 +72,12 @@ impl Stream {
     /// A data slot of at most 255 bytes. Refused exactly where it is bad, and nothing has changed then.
     pub fn hear_bytes(&mut self, from: u8, credits: u8, bytes: &[u8]) -> Result<(), BadSlot>
         requires { length bytes.now ≤ 255 }
-        ensures answer { (master : Bool) (ceiling : ℕ) (s : Session) (to : ℕ) → Sound master ceiling s → self.old ≡ kept_of master ceiling s → is_ok result ≡ behind_fits s (slots.DataA to from credits bytes.now) }
-        ensures state { (master : Bool) (ceiling : ℕ) (s : Session) (to : ℕ) → Sound master ceiling s → self.old ≡ kept_of master ceiling s → OnOk result (self.new ≡ kept_of master ceiling (heard s (slots.DataA to from credits bytes.now))) }
+        ensures answer { (master : Bool) (ceiling : ℕ) (s : Session) (to : ℕ) →
+            Sound master ceiling s → self.old ≡ kept_of master ceiling s →
+            is_ok result ≡ behind_fits s (slots.DataA to from credits bytes.now) }
+        ensures state { (master : Bool) (ceiling : ℕ) (s : Session) (to : ℕ) →
+            Sound master ceiling s → self.old ≡ kept_of master ceiling s →
+            OnOk result (self.new ≡ kept_of master ceiling (heard s (slots.DataA to from credits bytes.now))) }
         ensures err { OnErr result (self.new ≡ self.old) }
     {
         if !self.hears_from(from) {
@@ -64,29 +86,37 @@ impl Stream {
         if bytes.is_empty() {
             return self.grant(credits);
         }
-        self.pay(credits)?;
-        self.bring_bytes(bytes);
+        self.pay(credits, bytes.len() as u8)?;
+        self.keep_bytes(bytes);
         Ok(())
     }
 
     /// A data slot with a setting. Refused exactly where it is bad, and nothing has changed then.
     pub fn hear_setting(&mut self, from: u8, credits: u8, setting: [u8; 5]) -> Result<(), BadSlot>
-        ensures answer { (master : Bool) (ceiling : ℕ) (s : Session) (to : ℕ) → Sound master ceiling s → self.old ≡ kept_of master ceiling s → is_ok result ≡ behind_fits s (slots.DataB to from credits setting) }
-        ensures state { (master : Bool) (ceiling : ℕ) (s : Session) (to : ℕ) → Sound master ceiling s → self.old ≡ kept_of master ceiling s → OnOk result (self.new ≡ kept_of master ceiling (heard s (slots.DataB to from credits setting))) }
+        ensures answer { (master : Bool) (ceiling : ℕ) (s : Session) (to : ℕ) →
+            Sound master ceiling s → self.old ≡ kept_of master ceiling s →
+            is_ok result ≡ behind_fits s (slots.DataB to from credits setting) }
+        ensures state { (master : Bool) (ceiling : ℕ) (s : Session) (to : ℕ) →
+            Sound master ceiling s → self.old ≡ kept_of master ceiling s →
+            OnOk result (self.new ≡ kept_of master ceiling (heard s (slots.DataB to from credits setting))) }
         ensures err { OnErr result (self.new ≡ self.old) }
     {
         if !self.hears_from(from) {
             return Err(BadSlot);
         }
-        self.pay(credits)?;
-        self.bring_setting(setting);
+        self.pay(credits, 1)?;
+        self.keep_setting(setting);
         Ok(())
     }
 
     /// An attention, whose flag is the mark now. Refused exactly where it is bad, and nothing has changed then.
     pub fn hear_attention(&mut self, from: u8, flag: u8) -> Result<(), BadSlot>
-        ensures answer { (master : Bool) (ceiling : ℕ) (s : Session) (to : ℕ) → Sound master ceiling s → self.old ≡ kept_of master ceiling s → is_ok result ≡ behind_fits s (slots.Attention to from flag) }
-        ensures state { (master : Bool) (ceiling : ℕ) (s : Session) (to : ℕ) → Sound master ceiling s → self.old ≡ kept_of master ceiling s → OnOk result (self.new ≡ kept_of master ceiling (heard s (slots.Attention to from flag))) }
+        ensures answer { (master : Bool) (ceiling : ℕ) (s : Session) (to : ℕ) →
+            Sound master ceiling s → self.old ≡ kept_of master ceiling s →
+            is_ok result ≡ behind_fits s (slots.Attention to from flag) }
+        ensures state { (master : Bool) (ceiling : ℕ) (s : Session) (to : ℕ) →
+            Sound master ceiling s → self.old ≡ kept_of master ceiling s →
+            OnOk result (self.new ≡ kept_of master ceiling (heard s (slots.Attention to from flag))) }
         ensures err { OnErr result (self.new ≡ self.old) }
     {
         if !self.hears_from(from) {
@@ -99,8 +129,12 @@ impl Stream {
     /// A stop, from the peer's id or from 0. Refused exactly where it is bad, and nothing has changed then. Unframed items
     /// are dropped; where the own stop was formed the session is over.
     pub fn hear_stop(&mut self, from: u8) -> Result<(), BadSlot>
-        ensures answer { (master : Bool) (ceiling : ℕ) (s : Session) (to reason : ℕ) → Sound master ceiling s → self.old ≡ kept_of master ceiling s → is_ok result ≡ behind_fits s (slots.Stop to from reason) }
-        ensures state { (master : Bool) (ceiling : ℕ) (s : Session) (to reason : ℕ) → Sound master ceiling s → self.old ≡ kept_of master ceiling s → OnOk result (self.new ≡ kept_of master ceiling (heard s (slots.Stop to from reason))) }
+        ensures answer { (master : Bool) (ceiling : ℕ) (s : Session) (to reason : ℕ) →
+            Sound master ceiling s → self.old ≡ kept_of master ceiling s →
+            is_ok result ≡ behind_fits s (slots.Stop to from reason) }
+        ensures state { (master : Bool) (ceiling : ℕ) (s : Session) (to reason : ℕ) →
+            Sound master ceiling s → self.old ≡ kept_of master ceiling s →
+            OnOk result (self.new ≡ kept_of master ceiling (heard s (slots.Stop to from reason))) }
         ensures err { OnErr result (self.new ≡ self.old) }
     {
         if !self.hears_stop_from(from) {
@@ -115,7 +149,6 @@ impl Stream {
         ensures value { result ≡ (can_hear self.now && nat_eq from self.now.peer) }
         ensures most { self.now.credits.ceiling ≤ 15 }
     {
-        let _ = &self.credits;
         self.hears() && from == self.peer
     }
 
@@ -125,53 +158,37 @@ impl Stream {
         self.hears() && (from == self.peer || from == 0)
     }
 
-    // A slot that costs a credit and brings so many.
-    fn pay(&mut self, credits: u8) -> Result<(), BadSlot>
-        ensures answer { is_ok result ≡ can_pay true credits self.old }
-        ensures state { OnOk result (self.new ≡ granted credits self.old) }
+    // A slot with so many items: it costs a credit, gives so many, and is held unless the session closed.
+    fn pay(&mut self, credits: u8, items: u8) -> Result<(), BadSlot>
+        ensures answer { is_ok result ≡ can_pay credits self.old }
+        ensures state { OnOk result (self.new ≡ held_more items (granted credits self.old)) }
         ensures err { OnErr result (self.new ≡ self.old) }
     {
-        if !self.has_credit() {
-            return Err(BadSlot);
+        let mut after = self.credits;
+        after.slot_in(!self.closed)?;
+        after.heard(credits)?;
+        self.credits = after;
+        if !self.closed {
+            self.held.push_back(items);
         }
-        self.grant(credits)
+        Ok(())
     }
 
-    fn has_credit(&self) -> bool
-        ensures { result ≡ nat_lt 0 self.now.credits.outstanding }
+    // The items of a slot, which are dropped where the session closed. There is room for those of the slots held.
+    fn keep_bytes(&mut self, bytes: &[u8])
+        ensures { length self.old.heard + length bytes.now ≤ 3825 →
+            self.new ≡ kept_more (map kept_items.Byte bytes.now) self.old }
     {
-        let mut credits = self.credits;
-        credits.slot_in(false).is_ok()
-    }
-
-    fn bring_bytes(&mut self, bytes: &[u8])
-        requires { (length bytes.now ≤ 255) × (0 < self.old.credits.outstanding) }
-        ensures { length self.old.heard + length bytes.now ≤ 3825 → self.new ≡ brought (map kept_items.Byte bytes.now) self.old }
-    {
-        self.hold(bytes.len() as u8);
         if !self.closed {
             push_bytes(&mut self.heard, bytes);
         }
     }
 
-    fn bring_setting(&mut self, setting: [u8; 5])
-        requires { 0 < self.old.credits.outstanding }
-        ensures { length self.old.heard + 1 ≤ 3825 → self.new ≡ brought (kept_items.Set setting ∷ []) self.old }
+    fn keep_setting(&mut self, setting: [u8; 5])
+        ensures { length self.old.heard + 1 ≤ 3825 → self.new ≡ kept_more (kept_items.Set setting ∷ []) self.old }
     {
-        self.hold(1);
         if !self.closed {
             self.heard.push_back(Item::Set(setting));
-        }
-    }
-
-    // A slot with so many items came, which is held unless the session closed.
-    fn hold(&mut self, items: u8)
-        requires { 0 < self.old.credits.outstanding }
-        ensures { self.new ≡ held_more items self.old }
-    {
-        let _ = self.credits.slot_in(!self.closed);
-        if !self.closed {
-            self.held.push_back(items);
         }
     }
 

@@ -9,6 +9,8 @@ mod hearing;
 mod opening;
 mod rings;
 mod stream;
+#[cfg(test)]
+mod tests;
 mod write;
 
 pub use calls::SessionFault;

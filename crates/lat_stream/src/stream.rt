@@ -73,7 +73,10 @@ impl Model for Stream {
       end = a.end;
     } };
 
-    ghost invariant = { λ a. (a.unframed.capacity ≡ 4096) × (a.heard.capacity ≡ 3825) × (a.held.capacity ≡ 15) × (length a.held.items ≡ a.credits.held) × (a.ceiling ≡ a.credits.ceiling) × (1 ≤ a.ceiling) × (a.ceiling ≤ 15) };
+    ghost invariant = { λ a.
+        (a.unframed.capacity ≡ 4096) × (a.heard.capacity ≡ 3825) × (a.held.capacity ≡ 15)
+        × (length a.held.items ≡ a.credits.held)
+        × (a.ceiling ≡ a.credits.ceiling) × (1 ≤ a.ceiling) × (a.ceiling ≤ 15) };
 }
 
 impl Stream {
@@ -145,7 +148,8 @@ impl Stream {
     /// are those that the ask gives, `size` is the most bytes of a data slot that the peer takes.
     pub fn ask(&mut self, from: u8, credits: u8, size: u8, opening: Opening)
         requires { credits ≤ 15 }
-        ensures { (id generation : ℕ) → id ≢ 0 → self.new ≡ kept_of false self.old.credits.ceiling (asked id generation from credits size opening) }
+        ensures { (id generation : ℕ) → id ≢ 0 →
+            self.new ≡ kept_of false self.old.credits.ceiling (asked id generation from credits size opening) }
     {
         self.forget();
         self.wait(SessionState::Asked, opening);
@@ -177,7 +181,8 @@ impl Stream {
     /// Its state.
     pub fn state(&self) -> SessionState
         ensures value { result ≡ self.now.state }
-        ensures model { (master : Bool) (ceiling : ℕ) (s : Session) → self.now ≡ kept_of master ceiling s → result ≡ state_shown (state master s) }
+        ensures model { (master : Bool) (ceiling : ℕ) (s : Session) → self.now ≡ kept_of master ceiling s →
+            result ≡ state_shown (state master s) }
     {
         self.state
     }
@@ -185,7 +190,8 @@ impl Stream {
     /// The flag of the attention that was heard last.
     pub fn mark(&self) -> Option<u8>
         ensures value { result ≡ self.now.mark }
-        ensures model { (master : Bool) (ceiling : ℕ) (s : Session) → self.now ≡ kept_of master ceiling s → result ≡ s.mark }
+        ensures model { (master : Bool) (ceiling : ℕ) (s : Session) → self.now ≡ kept_of master ceiling s →
+            result ≡ s.mark }
     {
         self.mark
     }
@@ -193,7 +199,8 @@ impl Stream {
     /// The peer's id, 0 where it isn't known.
     pub fn peer(&self) -> u8
         ensures value { result ≡ self.now.peer }
-        ensures model { (master : Bool) (ceiling : ℕ) (s : Session) → self.now ≡ kept_of master ceiling s → result ≡ peer s }
+        ensures model { (master : Bool) (ceiling : ℕ) (s : Session) → self.now ≡ kept_of master ceiling s →
+            result ≡ peer s }
     {
         self.peer
     }
@@ -201,7 +208,8 @@ impl Stream {
     /// The credits that this end gave, and those that it used. Either stops at the greatest number of 64 bits.
     pub fn totals(&self) -> (u64, u64)
         ensures value { result ≡ (self.now.given, self.now.used) }
-        ensures model { (master : Bool) (ceiling : ℕ) (s : Session) → self.now ≡ kept_of master ceiling s → result ≡ (told_total (credits s.out), told_total (costs s.out)) }
+        ensures model { (master : Bool) (ceiling : ℕ) (s : Session) → self.now ≡ kept_of master ceiling s →
+            result ≡ (told_total (credits s.out), told_total (costs s.out)) }
     {
         (self.given, self.used)
     }
@@ -209,7 +217,8 @@ impl Stream {
     /// How it ended. `None` while it isn't over, and where there was none.
     pub fn end(&self) -> Option<SessionEnd>
         ensures value { result ≡ self.now.end }
-        ensures model { (master : Bool) (ceiling : ℕ) (s : Session) → self.now ≡ kept_of master ceiling s → result ≡ end_of s }
+        ensures model { (master : Bool) (ceiling : ℕ) (s : Session) → self.now ≡ kept_of master ceiling s →
+            result ≡ end_of s }
     {
         self.end
     }
@@ -217,7 +226,8 @@ impl Stream {
     /// What its start says, while that waits to be formed.
     pub fn start(&self) -> Option<Opening>
         ensures value { result ≡ self.now.start }
-        ensures model { (master : Bool) (ceiling : ℕ) (s : Session) → self.now ≡ kept_of master ceiling s → result ≡ start_left s }
+        ensures model { (master : Bool) (ceiling : ℕ) (s : Session) → self.now ≡ kept_of master ceiling s →
+            result ≡ start_left s }
     {
         self.start
     }
@@ -225,7 +235,9 @@ impl Stream {
     /// How many items `take` could give now: at most 3,825, and 0 where it is refused.
     pub fn waiting(&self) -> u16
         ensures value { result ≡ cond (can_take self.now) (length self.now.heard) 0 }
-        ensures model { (master : Bool) (ceiling : ℕ) (s : Session) → Sound master ceiling s → self.now ≡ kept_of master ceiling s → result ≡ cond (take_open s) (length (items s.came) - s.taken) 0 }
+        ensures model { (master : Bool) (ceiling : ℕ) (s : Session) →
+            Sound master ceiling s → self.now ≡ kept_of master ceiling s →
+            result ≡ cond (take_open s) (length (items s.came) - s.taken) 0 }
     {
         self.count_waiting()
     }

@@ -1,5 +1,4 @@
-use Rattle.std.proofs.Common.{◌≡◌, ◌≤◌, ◌+◌, ℕ, Bool, false, true, Some, Result, Ok, Err, is_ok, OnOk, ap, sym, ◌∙◌, subst, arith, nat_le, le-leb}
-use Rattle.std.proofs.lemmas.Bool.{false≢true}
+use Rattle.std.proofs.Common.{◌≡◌, ◌≤◌, ◌+◌, false, Some, ap, ◌∙◌, arith, le-leb}
 use Rattle.lat_base.specs.declared.state.SessionState.TheVariants as kept_states
 use Rattle.lat_stream.specs.Kept.{Kept, kept_of}
 use Rattle.lat_stream.specs.Steps.{granted}

@@ -1,4 +1,4 @@
-use Rattle.std.proofs.Common.{◌≡◌, true, Some, ap, ◌∙◌}
+use Rattle.std.proofs.Common.{true, Some, ap, ◌∙◌}
 use Rattle.lat_base.specs.declared.state.SessionState.TheVariants as kept_states
 use Rattle.lat_stream.specs.Kept.{Kept}
 use Rattle.lat_stream.proofs.Begun.{called_is}

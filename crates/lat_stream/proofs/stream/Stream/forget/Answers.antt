@@ -1,4 +1,4 @@
-use Rattle.std.proofs.Common.{◌≡◌, ap, ◌∙◌, ℕ}
+use Rattle.std.proofs.Common.{ap, ◌∙◌, ℕ}
 use Rattle.lat_stream.specs.Kept.{Kept, kept_of}
 use Rattle.lat_model.specs.sessions.Session.{blank}
 use Rattle.lat_stream.proofs.stream.Stream.forget.Goals as goal

@@ -1,7 +1,6 @@
-use Rattle.std.proofs.Common.{◌≡◌, ◌+◌, ◌-◌, ℕ, Bool, true, false, Some, ap, sym, ◌∙◌, refl, arith, nat_eq}
-use Rattle.lat_model.specs.sessions.Slots.{Attention, has_stop}
-use Rattle.lat_stream.specs.Kept.{Kept, kept_of}
-use Rattle.lat_stream.specs.Steps.{can_hear}
+use Rattle.std.proofs.Common.{◌≡◌, false, Some, ap, sym, ◌∙◌, nat_eq}
+use Rattle.lat_model.specs.sessions.Slots.{has_stop}
+use Rattle.lat_stream.specs.Kept.{Kept}
 use Rattle.lat_stream.proofs.Running.{Runs, hears_here}
 use Rattle.lat_stream.proofs.Heard.{attention_is}
 use Rattle.lat_stream.proofs.stream.Stream.hear_attention.Goals as goal

@@ -1,7 +1,7 @@
-use Rattle.std.proofs.Common.{◌≡◌, ◌+◌, ◌-◌, ℕ, Bool, true, false, ◌||◌, ap, sym, ◌∙◌, nat_eq, arith}
+use Rattle.std.proofs.Common.{◌≡◌, true, false, ◌||◌, ap, sym, ◌∙◌, nat_eq}
 use Rattle.lat_model.specs.sessions.Slots.{has_stop}
-use Rattle.lat_stream.specs.Kept.{Kept, kept_of}
-use Rattle.lat_stream.specs.Steps.{can_hear, silent}
+use Rattle.lat_stream.specs.Kept.{Kept}
+use Rattle.lat_stream.specs.Steps.{silent}
 use Rattle.lat_stream.proofs.Running.{Runs, hears_here}
 use Rattle.lat_stream.proofs.Stopped.{stop_is}
 use Rattle.lat_stream.proofs.stream.Stream.hear_stop.Goals as goal

@@ -1,4 +1,4 @@
-use Rattle.std.proofs.Common.{◌≡◌, ◌++◌, ℕ, Bool, true, false, cond, length, map, take, min, ◌-◌, ap, sym, ◌∙◌}
+use Rattle.std.proofs.Common.{◌≡◌, ◌++◌, ℕ, true, cond, length, map, take, min, ◌-◌, ap, sym, ◌∙◌}
 use Rattle.lat_base.specs.declared.item.Item.TheVariants as kept_items
 use Rattle.lat_model.specs.sessions.Slots.{Byte}
 use Rattle.lat_model.specs.sessions.Session.{put_open}

@@ -1,7 +1,6 @@
-use Rattle.std.proofs.Common.{◌≡◌, ◌+◌, ◌-◌, ◌++◌, ℕ, Bool, true, false, cond, length, map, take, drop, min, ap, ap₂, sym, ◌∙◌, List}
-use Rattle.lat_base.specs.declared.item.Item as base_item
+use Rattle.std.proofs.Common.{◌≡◌, ◌+◌, ◌++◌, ℕ, true, cond, length, map, take, drop, min, ap, ap₂, sym, ◌∙◌}
 use Rattle.lat_model.specs.sessions.Slots.{items}
-use Rattle.lat_model.specs.sessions.Session.{Session, take_open}
+use Rattle.lat_model.specs.sessions.Session.{take_open}
 use Rattle.lat_model.specs.sessions.Calls.{take_count}
 use Rattle.lat_stream.specs.Kept.{Kept, kept_of, item_shown}
 use Rattle.lat_stream.specs.Steps.{can_take, took}

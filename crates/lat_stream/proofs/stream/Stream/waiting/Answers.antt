@@ -1,5 +1,5 @@
-use Rattle.std.proofs.Common.{◌≡◌, ◌-◌, ℕ, Bool, true, false, cond, length, map, drop, ap, sym, ◌∙◌, arith}
-use Rattle.lat_stream.specs.Kept.{Kept, kept_of}
+use Rattle.std.proofs.Common.{cond, length, ap, ◌∙◌}
+use Rattle.lat_stream.specs.Kept.{Kept}
 use Rattle.lat_stream.specs.Steps.{can_take}
 use Rattle.lat_stream.proofs.Taken.{waiting_is}
 use Rattle.lat_stream.proofs.stream.Stream.waiting.Goals as goal
