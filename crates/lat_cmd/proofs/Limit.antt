@@ -1,6 +1,6 @@
 -- An input past the limit.
 use Rattle.std.proofs.Common.{◌≡◌, ℕ, ◌<◌, ◌⊎◌, inr, true, ltb, List, length, Option, None, Some, subst, sym, arith}
-use Rattle.std.specs.Prelude.{IfSome, codes, nat_lt}
+use Rattle.std.specs.Prelude.{IfSome, codes}
 use Rattle.std.proofs.lemmas.Bool.Decides.{nat_tests}
 use Rattle.lat_cmd.specs.declared.command.Command.{Command}
 use Rattle.lat_cmd.specs.Answers.{answer_of, IsTold, IsEarly}

@@ -1,4 +1,3 @@
-use Rattle.std.proofs.Common.{◌≡◌}
 use Rattle.lat_cmd.proofs.Limit.{limit_told}
 use Rattle.lat_cmd.proofs.top.run.Goals as goal
 
