@@ -11,3 +11,4 @@ pub mod Texts
 pub mod Forms
 pub mod FormsAfter
 pub mod FormsTurns
+pub mod FormsLength

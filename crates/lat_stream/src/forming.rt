@@ -1,11 +1,12 @@
 //! The slots that a session forms.
 
-ghost use Rattle.std.specs.Prelude.{◌≡◌, ℕ, ◌+◌, ◌<◌, ◌≤◌, false, ◌++◌, ◌||◌, ◌&&◌, length, take, drop, min, nat_lt, nat_le, slice_get, None};
+ghost use Rattle.std.specs.Prelude.{◌≡◌, ℕ, List, ◌+◌, ◌<◌, ◌≤◌, false, ◌++◌, ◌||◌, ◌&&◌, length, take, drop, min, nat_lt, nat_le, slice_get, None};
 ghost use Rattle.circular_buffer.specs.Buffer.{buffer};
 ghost use Rattle.lat_model.specs.Lists.{is_empty};
 ghost use Rattle.lat_model.specs.sessions.Offers as offers;
 ghost use Rattle.lat_model.specs.sessions.Slots as sessions;
 ghost use Rattle.lat_model.specs.sessions.Session.{Session};
+ghost use Rattle.lat_stream.specs.declared.forming.Turn.TheVariants as turns;
 ghost use Rattle.lat_stream.specs.Does.{Does, reject_due};
 ghost use Rattle.lat_stream.specs.Kept.{kept_of};
 ghost use Rattle.lat_stream.specs.Sound.{Sound};
@@ -52,7 +53,13 @@ impl Stream {
     /// end's id of the session. A waiting reject is formed elsewhere. See "Packing" in docs/PROTOCOL.md.
     pub fn form(&mut self, master: bool, id: u8, room: u16, out: &mut Payload) -> Formed
         requires { length out.old + room ≤ 1500 }
-        ensures does { (ceiling : ℕ) (s : Session) → Sound master ceiling s → self.old ≡ kept_of master ceiling s → s.id ≡ id → reject_due s ≡ false → Does master ceiling s (offers.offer master ceiling room s) self.old self.new out.old out.new result }
+        ensures does { (ceiling : ℕ) (s : Session) → Sound master ceiling s → self.old ≡ kept_of master ceiling s →
+            s.id ≡ id → reject_due s ≡ false →
+            Does master ceiling s (offers.offer master ceiling room s) self.old self.new out.old out.new result }
+        ensures len { (ceiling : ℕ) (s : Session) (x : sessions.Slot) →
+            Sound master ceiling s → self.old ≡ kept_of master ceiling s →
+            s.id ≡ id → reject_due s ≡ false → offers.offer master ceiling room s ≡ offers.Offers x →
+            length out.new ≡ length out.old + sessions.slot_len x }
         ensures room { (length out.old ≤ length out.new) × (length out.new ≤ length out.old + room) }
     {
         self.form_turn(master, id, room, out)
@@ -62,6 +69,7 @@ impl Stream {
         requires { length out.old + room ≤ 1500 }
         ensures meets { Meets (offer_at master id room self.old (turn_of self.old)) (kept_after room self.old (turn_of self.old)) self.old self.new out.old out.new result }
         ensures room { (length out.old ≤ length out.new) × (length out.new ≤ length out.old + room) }
+        ensures whole { (t : List ℕ) → turn_of self.old ≡ turns.Setting t → length t ≡ 5 }
     {
         match self.turn() {
             Turn::Nothing => Formed::Nothing,
