@@ -1,0 +1,6 @@
+use Rattle.std.proofs.Common.{◌∙◌}
+use Rattle.lat_session.proofs.Counts.{held_is}
+use Rattle.lat_session.proofs.table.Sessions.held.Goals as goal
+
+pub returns : goal.returns
+returns c = λ e st. c.count_held.ensures ∙ held_is c.args.self.now e st

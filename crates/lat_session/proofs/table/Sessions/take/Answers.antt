@@ -1,0 +1,43 @@
+use Rattle.std.proofs.Common.{◌≡◌, ◌+◌, ◌∙◌, sym, ap, refl, true, if◌then◌else◌, Ok, Err, length, map, take, drop, ◌++◌, slice_set}
+use Rattle.std.proofs.lemmas.Bool.{false≢true}
+use Rattle.lat_model.specs.sessions.Slots.{items}
+use Rattle.lat_stream.specs.Kept.{item_shown}
+use Rattle.lat_model.specs.sessions.Session.{Session, take_open}
+use Rattle.lat_model.specs.sessions.Sessions.{named}
+use Rattle.lat_model.specs.sessions.Calls as calls
+use Rattle.lat_stream.specs.Kept.{kept_of}
+use Rattle.lat_stream.specs.declared.calls.SessionFault.TheVariants.{Closed}
+use Rattle.lat_session.specs.Table.{Table}
+use Rattle.lat_session.proofs.Touch.{kept_is, nothing_here, used}
+use Rattle.lat_session.proofs.Stays.{sound_at, touched_stands, nothing_stands}
+use Rattle.lat_session.proofs.table.Sessions.take.Goals as goal
+
+pub returns-in-Some-clause-answer : goal.returns-in-Some-clause-answer
+returns-in-Some-clause-answer c = λ e st.
+    let was = kept_is c.args.self.now c.self.inside.sessions.items e c.in-Some.at c.args.id c.index_mut-session.result.now (ap (λ (t : Table). t.sessions) c.self.view_is) c.in-Some.ensures.0 c.in-Some.ensures.1 c.index_mut-session.ensures.value st in
+    c.take.ensures.answer e.master e.ceiling (named e c.args.id) (sound_at c.args.self.now e (e.at_id c.args.id) st) was
+
+pub returns-in-Some-clause-items : goal.returns-in-Some-clause-items
+returns-in-Some-clause-items c = λ e st.
+    let was = kept_is c.args.self.now c.self.inside.sessions.items e c.in-Some.at c.args.id c.index_mut-session.result.now (ap (λ (t : Table). t.sessions) c.self.view_is) c.in-Some.ensures.0 c.in-Some.ensures.1 c.index_mut-session.ensures.value st in
+    c.take.ensures.items e.master e.ceiling (named e c.args.id) (sound_at c.args.self.now e (e.at_id c.args.id) st) was
+
+pub returns-in-None-clause-items : goal.returns-in-None-clause-items
+returns-in-None-clause-items c = λ e st. ap (λ (s : Session). if take_open s then map item_shown (take (calls.take_count s (length c.args.out.now)) (drop s.taken (items s.came))) ++ drop (calls.take_count s (length c.args.out.now)) c.args.out.now else c.args.out.now) (sym (nothing_here c.args.self.now e c.args.id st c.in-None.ensures))
+
+pub returns-in-Some-clause-state : goal.returns-in-Some-clause-state
+returns-in-Some-clause-state c = λ e st.
+    let s : Session = named e c.args.id in
+    let next : Session = record s { taken = s.taken + calls.take_count s (length c.args.out.now) } in
+    let was = kept_is c.args.self.now c.self.inside.sessions.items e c.in-Some.at c.args.id c.index_mut-session.result.now (ap (λ (t : Table). t.sessions) c.self.view_is) c.in-Some.ensures.0 c.in-Some.ensures.1 c.index_mut-session.ensures.value st in
+    let is = c.take.ensures.state e.master e.ceiling s (sound_at c.args.self.now e (e.at_id c.args.id) st) was in
+    touched_stands c.args.self.now _ e (calls.Take c.args.id (length c.args.out.now)) c.in-Some.at c.args.id c.take.new.self (take_open s) next st c.in-Some.ensures.0 c.in-Some.ensures.1 refl
+    (λ h. used e c.args.id (λ (z : Session). take_open z ≡ true) false≢true st.good h) refl refl
+    (λ h. is ∙ ap (λ b. if b then kept_of e.master e.ceiling next else c.index_mut-session.result.now) h) (λ h. is ∙ ap (λ b. if b then kept_of e.master e.ceiling next else c.index_mut-session.result.now) h ∙ was)
+    (ap (λ (t : Table). record t { sessions = slice_set t.sessions c.in-Some.at c.take.new.self }) c.self.view_is)
+
+pub returns-in-None-clause-answer : goal.returns-in-None-clause-answer
+returns-in-None-clause-answer c = λ e st. ap (λ (s : Session). if take_open s then Ok (calls.take_count s (length c.args.out.now)) else Err Closed) (sym (nothing_here c.args.self.now e c.args.id st c.in-None.ensures))
+
+pub returns-in-None-clause-state : goal.returns-in-None-clause-state
+returns-in-None-clause-state c = λ e st. nothing_stands c.args.self.now e _ _ (ap (λ (s : Session). take_open s) (nothing_here c.args.self.now e c.args.id st c.in-None.ensures)) st

@@ -1,0 +1,4 @@
+pub mod Table
+pub mod States
+pub mod Stands
+pub mod Packed

@@ -1,0 +1,201 @@
+//! The local calls. After a refusal nothing has changed, and none takes memory.
+
+ghost use Rattle.std.specs.Prelude.{◌≡◌, ◌≤◌, ◌++◌, ◌&&◌, cond, true, map, length, drop, nat_lt, not, filter, vec_capacity, IfOk, if◌then◌else◌};
+ghost use Rattle.lat_base.specs.declared.state.SessionState.TheVariants as states;
+ghost use Rattle.lat_model.specs.sessions.Calls.{call, put_count, take_count, took, Connect, Put, Set, Attend, Take, Close, Answer, Refuse};
+ghost use Rattle.lat_model.specs.sessions.Session.{put_open, take_open, unframed};
+ghost use Rattle.lat_model.specs.sessions.Sessions.{Sessions as States, named, held, least_free};
+ghost use Rattle.lat_stream.specs.Kept.{item_shown};
+ghost use Rattle.lat_session.specs.Stands.{Stands};
+ghost use Rattle.lat_session.specs.Table.{state_at, waits_as, SameEnd};
+
+use crate::ask::Ask;
+use crate::table::Sessions;
+use lat_base::{Item, Name};
+use lat_stream::SessionFault;
+
+impl Sessions {
+    /// Asks the peer for a session with a service, which may answer a request, and gives its id: the least that is free.
+    /// `Full` exactly where the agreed number of sessions is held. At a master alone.
+    pub fn connect(&mut self, service: &Name, request: Option<u16>) -> Result<u8, SessionFault>
+        requires { self.old.master ≡ true }
+        ensures answer { (e : States) →
+            Stands self.old e →
+            result ≡ (if nat_lt (held e) e.agreed then Ok (least_free e) else Err SessionFault.Full) }
+        ensures state { (e : States) → Stands self.old e → Stands self.new (call e (Connect service.now request)) }
+        ensures same { SameEnd self.old self.new }
+    {
+        if self.held() >= self.agreed {
+            return Err(SessionFault::Full);
+        }
+        match self.first_free() {
+            Some(at) => {
+                let session = &mut self.sessions[at];
+                session.call(service, request);
+                Ok(at as u8 + 1)
+            }
+            None => Err(SessionFault::Full),
+        }
+    }
+
+    /// Accepts an asked session, which is live at once.
+    pub fn answer(&mut self, id: u8)
+        requires { state_at self.old id ≡ states.Asked }
+        ensures state { (e : States) → Stands self.old e → Stands self.new (call e (Answer id)) }
+        ensures same { SameEnd self.old self.new }
+    {
+        if let Some(at) = self.place(id) {
+            let session = &mut self.sessions[at];
+            session.answer();
+            let_go(&mut self.asks, id);
+        }
+    }
+
+    /// Rejects an asked session for a reason, 0 to 15. Its id is free at once, and its reject waits to be sent.
+    pub fn reject(&mut self, id: u8, reason: u8)
+        requires asked { state_at self.old id ≡ states.Asked }
+        requires reason { reason ≤ 15 }
+        ensures state { (e : States) → Stands self.old e → Stands self.new (call e (Refuse id reason)) }
+        ensures same { SameEnd self.old self.new }
+    {
+        if let Some(at) = self.place(id) {
+            let session = &mut self.sessions[at];
+            let peer = session.peer();
+            session.refuse(reason);
+            turn_away(&mut self.asks, id, Ask::Rejected { peer, reason });
+        }
+    }
+
+    /// Takes the first bytes, as many as there is room for: 4,096 items wait to be framed at most. `Closed` exactly where
+    /// the session is neither calling nor live, or `close` was called.
+    pub fn put(&mut self, id: u8, bytes: &[u8]) -> Result<usize, SessionFault>
+        ensures answer { (e : States) →
+            Stands self.old e →
+            result ≡ (if put_open (named e id) then Ok (put_count (named e id) (length bytes.now))
+            else Err SessionFault.Closed) }
+        ensures state { (e : States) → Stands self.old e → Stands self.new (call e (Put id bytes.now)) }
+        ensures same { SameEnd self.old self.new }
+        ensures most { IfOk result (λ n. n ≤ length bytes.now) }
+    {
+        match self.place(id) {
+            Some(at) => {
+                let session = &mut self.sessions[at];
+                session.put(bytes)
+            }
+            None => Err(SessionFault::Closed),
+        }
+    }
+
+    /// Takes a setting. `Closed` where `put` is, else `Full` exactly where 4,096 items wait to be framed.
+    pub fn set(&mut self, id: u8, setting: [u8; 5]) -> Result<(), SessionFault>
+        ensures answer { (e : States) →
+            Stands self.old e →
+            result ≡ (if put_open (named e id)
+            then (if nat_lt (length (unframed (named e id))) 4096 then Ok tt else Err SessionFault.Full)
+            else Err SessionFault.Closed) }
+        ensures state { (e : States) → Stands self.old e → Stands self.new (call e (Set id setting)) }
+        ensures same { SameEnd self.old self.new }
+    {
+        match self.place(id) {
+            Some(at) => {
+                let session = &mut self.sessions[at];
+                session.set(setting)
+            }
+            None => Err(SessionFault::Closed),
+        }
+    }
+
+    /// Takes an attention, which goes out before all items, in place of one that still waits. `Closed` where `put` is.
+    pub fn attend(&mut self, id: u8, flag: u8) -> Result<(), SessionFault>
+        ensures answer { (e : States) →
+            Stands self.old e →
+            result ≡ (if put_open (named e id) then Ok tt else Err SessionFault.Closed) }
+        ensures state { (e : States) → Stands self.old e → Stands self.new (call e (Attend id flag)) }
+        ensures same { SameEnd self.old self.new }
+    {
+        match self.place(id) {
+            Some(at) => {
+                let session = &mut self.sessions[at];
+                session.attend(flag)
+            }
+            None => Err(SessionFault::Closed),
+        }
+    }
+
+    /// Moves the first heard items to the front of `out`, as many as there are places and items. `Closed` exactly where
+    /// the session is free or asked, or `close` was called; then `out` is as it was.
+    pub fn take(&mut self, id: u8, out: &mut [Item]) -> Result<usize, SessionFault>
+        ensures answer { (e : States) →
+            Stands self.old e →
+            result ≡ (if take_open (named e id) then Ok (take_count (named e id) (length out.old))
+            else Err SessionFault.Closed) }
+        ensures items { (e : States) →
+            Stands self.old e →
+            out.new ≡ (if take_open (named e id)
+            then map item_shown (took e id (length out.old)) ++ drop (take_count (named e id) (length out.old)) out.old
+            else out.old) }
+        ensures state { (e : States) → Stands self.old e → Stands self.new (call e (Take id (length out.old))) }
+        ensures same { SameEnd self.old self.new }
+        ensures most { IfOk result (λ n. n ≤ length out.old) }
+    {
+        match self.place(id) {
+            Some(at) => {
+                let session = &mut self.sessions[at];
+                session.take(out)
+            }
+            None => Err(SessionFault::Closed),
+        }
+    }
+
+    /// Closes the session: what it heard is dropped, and its stop goes out behind its items. `Closed` where `take` is.
+    pub fn close(&mut self, id: u8) -> Result<(), SessionFault>
+        ensures answer { (e : States) →
+            Stands self.old e →
+            result ≡ (if take_open (named e id) then Ok tt else Err SessionFault.Closed) }
+        ensures state { (e : States) → Stands self.old e → Stands self.new (call e (Close id)) }
+        ensures same { SameEnd self.old self.new }
+    {
+        match self.place(id) {
+            Some(at) => {
+                let session = &mut self.sessions[at];
+                session.close()
+            }
+            None => Err(SessionFault::Closed),
+        }
+    }
+}
+
+// The ask waits for an answer to the session of this id.
+fn waits_as(ask: Ask, id: u8) -> bool
+    ensures { result ≡ waits_as id ask }
+{
+    match ask {
+        Ask::Waits(waiting) => waiting == id,
+        Ask::Rejected { .. } => false,
+    }
+}
+
+// Takes out the ask of the session of this id.
+fn let_go(asks: &mut Vec<Ask>, id: u8)
+    ensures items { asks.new.items ≡ filter (λ a. not (waits_as id a)) asks.old.items }
+    ensures fewer { length asks.new.items ≤ length asks.old.items }
+    ensures room { vec_capacity asks.new ≡ vec_capacity asks.old }
+{
+    asks.retain(|ask| !waits_as(*ask, id));
+}
+
+// The ask as it is once that of the session of this id is rejected.
+fn turned_away(ask: Ask, id: u8, rejected: Ask) -> Ask
+    ensures { result ≡ cond (waits_as id ask) rejected ask }
+{
+    if waits_as(ask, id) { rejected } else { ask }
+}
+
+// Puts `rejected` in the place of the ask of the session of this id.
+fn turn_away(asks: &mut [Ask], id: u8, rejected: Ask)
+    ensures { asks.new ≡ map (λ a. cond (waits_as id a) rejected a) asks.old }
+{
+    for ask in asks.iter_mut() {
+        *ask = turned_away(*ask, id, rejected);
+    }
+}

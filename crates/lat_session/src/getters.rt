@@ -1,0 +1,184 @@
+//! What the table tells of its sessions. No call takes memory. Of an id that no session had, each tells that there is
+//! none.
+
+ghost use Rattle.std.specs.Prelude.{◌≡◌, ◌+◌, ◌-◌, ◌<◌, ◌≤◌, cond, true, length, position, count_by, not, MatchOption};
+ghost use Rattle.lat_model.specs.sessions.Session.{state, peer, take_open};
+ghost use Rattle.lat_model.specs.sessions.Sessions.{Sessions as States, named, held};
+ghost use Rattle.lat_model.specs.sessions.Slots.{items, credits, costs};
+ghost use Rattle.lat_stream.specs.Kept.{Kept, state_shown, told_total, end_of};
+ghost use Rattle.lat_session.specs.Stands.{Stands};
+ghost use Rattle.lat_session.specs.States.{is_free, is_asked, asked_at, asked_of};
+ghost use Rattle.lat_session.specs.Table.{session_at, state_at};
+
+use crate::table::Sessions;
+use lat_base::{Name, SessionEnd, SessionState};
+use lat_stream::Stream;
+
+/// A session that the peer asks for.
+#[derive(Clone, Copy, Debug)]
+pub struct Asked {
+    /// This end's id of it.
+    pub id: u8,
+    pub service: Name,
+    /// The request that it answers, where it has one.
+    pub request: Option<u16>,
+}
+
+fn is_free(session: &Stream) -> bool
+    ensures { result ≡ is_free session.now.state }
+{
+    matches!(session.state(), SessionState::Free)
+}
+
+fn is_asked(session: &Stream) -> bool
+    ensures { result ≡ is_asked session.now.state }
+{
+    matches!(session.state(), SessionState::Asked)
+}
+
+impl Sessions {
+    /// The state of the present or last session of an id.
+    pub fn state(&self, id: u8) -> SessionState
+        ensures value { result ≡ state_at self.now id }
+        ensures model { (e : States) → Stands self.now e → result ≡ state_shown (state e.master (named e id)) }
+    {
+        match self.place(id) {
+            Some(at) => self.sessions[at].state(),
+            None => SessionState::Free,
+        }
+    }
+
+    /// The flag of the attention that it heard last, `None` where it heard none.
+    pub fn mark(&self, id: u8) -> Option<u8>
+        ensures { (e : States) → Stands self.now e → result ≡ (named e id).mark }
+    {
+        match self.place(id) {
+            Some(at) => self.sessions[at].mark(),
+            None => None,
+        }
+    }
+
+    /// How many sessions aren't free.
+    pub fn held(&self) -> u8
+        ensures { (e : States) → Stands self.now e → result ≡ held e }
+    {
+        self.count_held()
+    }
+
+    /// How many items `take` could give now, 0 where it is refused.
+    pub fn waiting(&self, id: u8) -> u16
+        ensures { (e : States) →
+            Stands self.now e →
+            result ≡ cond (take_open (named e id)) (length (items (named e id).came) - (named e id).taken) 0 }
+    {
+        match self.place(id) {
+            Some(at) => self.sessions[at].waiting(),
+            None => 0,
+        }
+    }
+
+    /// The credits that this end gave in it, and those that it used. Either stops at the greatest number of 64 bits.
+    pub fn totals(&self, id: u8) -> (u64, u64)
+        ensures { (e : States) →
+            Stands self.now e →
+            result ≡ (told_total (credits (named e id).out), told_total (costs (named e id).out)) }
+    {
+        match self.place(id) {
+            Some(at) => self.sessions[at].totals(),
+            None => (0, 0),
+        }
+    }
+
+    /// How it ended, `None` while it isn't over.
+    pub fn ended(&self, id: u8) -> Option<SessionEnd>
+        ensures { (e : States) → Stands self.now e → result ≡ end_of (named e id) }
+    {
+        match self.place(id) {
+            Some(at) => self.sessions[at].end(),
+            None => None,
+        }
+    }
+
+    /// The peer's id of it, 0 where it isn't known.
+    pub fn peer(&self, id: u8) -> u8
+        ensures { (e : States) → Stands self.now e → result ≡ peer (named e id) }
+    {
+        match self.place(id) {
+            Some(at) => self.sessions[at].peer(),
+            None => 0,
+        }
+    }
+
+    /// The number of sessions that may be held.
+    pub fn agreed(&self) -> u8
+        ensures value { result ≡ self.now.agreed }
+        ensures least { 1 ≤ result }
+        ensures model { (e : States) → Stands self.now e → result ≡ e.agreed }
+    {
+        self.agreed
+    }
+
+    /// The asked session with the least id, `None` where none is asked for.
+    pub fn asked(&self) -> Option<Asked>
+        ensures { (e : States) → Stands self.now e → result ≡ asked_of e }
+    {
+        match self.first_asked() {
+            Some(at) => self.asked_at(at),
+            None => None,
+        }
+    }
+
+    // The asked session at a place.
+    fn asked_at(&self, at: usize) -> Option<Asked>
+        requires { at < length self.now.sessions }
+        ensures { (e : States) →
+            Stands self.now e →
+            is_asked (state_shown (state e.master (named e (at + 1)))) ≡ true →
+            result ≡ Some (asked_at e (at + 1)) }
+    {
+        match self.sessions[at].start() {
+            Some(opening) => Some(Asked {
+                id: at as u8 + 1,
+                service: opening.service,
+                request: opening.request,
+            }),
+            None => None,
+        }
+    }
+
+    fn count_held(&self) -> u8
+        ensures { result ≡ count_by (λ (k : Kept). not (is_free k.state)) self.now.sessions }
+    {
+        self.sessions
+            .iter()
+            .filter(|session| !is_free(session))
+            .count() as u8
+    }
+
+    // Where the session of an id stands, `None` of an id that no session has.
+    pub(crate) fn place(&self, id: u8) -> Option<usize>
+        ensures { MatchOption result
+            (session_at self.now id ≡ None)
+            (λ i. (i + 1 ≡ id) × (i < length self.now.sessions)) }
+    {
+        let at = (id as usize).checked_sub(1)?;
+        if at < self.sessions.len() {
+            Some(at)
+        } else {
+            None
+        }
+    }
+
+    fn first_asked(&self) -> Option<usize>
+        ensures { result ≡ position (λ (k : Kept). is_asked k.state) self.now.sessions }
+    {
+        self.sessions.iter().position(|session| is_asked(session))
+    }
+
+    // Where the first place is whose session is free.
+    pub(crate) fn first_free(&self) -> Option<usize>
+        ensures { result ≡ position (λ (k : Kept). is_free k.state) self.now.sessions }
+    {
+        self.sessions.iter().position(|session| is_free(session))
+    }
+}

@@ -1,0 +1,15 @@
+//! The sessions of one end of a circuit: their table, their ids, and the slots of a message.
+#![tactic(auto)]
+
+mod ask;
+mod calls;
+mod getters;
+mod packing;
+mod table;
+#[cfg(test)]
+mod tests;
+
+pub use ask::Ask;
+pub use getters::Asked;
+pub use lat_stream::SessionFault;
+pub use table::Sessions;
