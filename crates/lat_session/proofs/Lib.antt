@@ -17,3 +17,10 @@ pub mod Asking
 pub mod Results
 pub mod Reasons
 pub mod Begins
+pub mod HearAt
+pub mod HearNames
+pub mod HearAsk
+pub mod HearRoom
+pub mod HearReply
+pub mod HearStart
+pub mod HearAsked

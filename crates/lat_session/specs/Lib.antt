@@ -2,3 +2,4 @@ pub mod Table
 pub mod States
 pub mod Stands
 pub mod Packed
+pub mod Hears

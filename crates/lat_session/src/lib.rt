@@ -4,6 +4,7 @@
 mod ask;
 mod calls;
 mod getters;
+mod hearing;
 mod packing;
 mod table;
 #[cfg(test)]
@@ -11,5 +12,5 @@ mod tests;
 
 pub use ask::Ask;
 pub use getters::Asked;
-pub use lat_stream::SessionFault;
+pub use lat_stream::{BadSlot, SessionFault};
 pub use table::Sessions;

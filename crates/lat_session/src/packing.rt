@@ -77,7 +77,9 @@ impl Sessions {
     pub fn pack(&mut self, room: u16, out: &mut Payload) -> u8
         requires { (room ≤ 1492) × (length out.old + room ≤ 1500) }
         ensures state { (e : States) → Stands self.old e → Stands self.new (pack room e).after }
-        ensures text { (e : States) → Stands self.old e → out.new ≡ out.old ++ slots_text (wire_of (pack room e).slots) }
+        ensures text { (e : States) →
+            Stands self.old e →
+            out.new ≡ out.old ++ slots_text (wire_of (pack room e).slots) }
         ensures count { (e : States) → Stands self.old e → result ≡ length (pack room e).slots }
         ensures room { (length out.old ≤ length out.new) × (length out.new ≤ length out.old + room) }
         ensures same { SameEnd self.old self.new }
@@ -104,7 +106,8 @@ impl Sessions {
         ensures sent { (before : List ℕ) (p : Packing) →
             Packed before self.old progress.old out.old p →
             NoRejects (turn_all (waiting_rejects p.after) p) }
-        ensures room { (length out.old ≤ length out.new) × (length out.new + progress.new.room ≡ length out.old + progress.old.room) }
+        ensures room { (length out.old ≤ length out.new)
+            × (length out.new + progress.new.room ≡ length out.old + progress.old.room) }
         ensures same { SameEnd self.old self.new }
     {
         let mut at = 0;
@@ -124,9 +127,11 @@ impl Sessions {
             Packed before self.new progress.new out.new (turn p (slice_index_or (open_serials p.after) at 0)) }
         ensures open { (before : List ℕ) (p : Packing) →
             Packed before self.old progress.old out.old p →
-            open_serials (turn p (slice_index_or (open_serials p.after) at 0)).after ≡ cond result (remove (open_serials p.after) at) (open_serials p.after) }
+            open_serials (turn p (slice_index_or (open_serials p.after) at 0)).after
+            ≡ cond result (remove (open_serials p.after) at) (open_serials p.after) }
         ensures count { length self.old.asks ≡ length self.new.asks + cond result 1 0 }
-        ensures room { (length out.old ≤ length out.new) × (length out.new + progress.new.room ≡ length out.old + progress.old.room) }
+        ensures room { (length out.old ≤ length out.new)
+            × (length out.new + progress.new.room ≡ length out.old + progress.old.room) }
         ensures same { SameEnd self.old self.new }
     {
         let Ask::Rejected { peer, reason } = self.asks[at] else {
@@ -153,8 +158,11 @@ impl Sessions {
             Packed before self.old progress.old out.old p →
             NoRejects p →
             Packed before self.new progress.new out.new (turn_all (map p.after.at_id (upwards from (to - from))) p) }
-        ensures sent { (p : Packing) → NoRejects p → NoRejects (turn_all (map p.after.at_id (upwards from (to - from))) p) }
-        ensures room { (length out.old ≤ length out.new) × (length out.new + progress.new.room ≡ length out.old + progress.old.room) }
+        ensures sent { (p : Packing) →
+            NoRejects p →
+            NoRejects (turn_all (map p.after.at_id (upwards from (to - from))) p) }
+        ensures room { (length out.old ≤ length out.new)
+            × (length out.new + progress.new.room ≡ length out.old + progress.old.room) }
         ensures same { SameEnd self.old self.new }
     {
         for at in from..to {
@@ -170,7 +178,8 @@ impl Sessions {
             Packed before self.old progress.old out.old p →
             NoRejects p →
             Packed before self.new progress.new out.new (turn p (p.after.at_id id)) }
-        ensures room { (length out.old ≤ length out.new) × (length out.new + progress.new.room ≡ length out.old + progress.old.room) }
+        ensures room { (length out.old ≤ length out.new)
+            × (length out.new + progress.new.room ≡ length out.old + progress.old.room) }
         ensures same { SameEnd self.old self.new }
     {
         if progress.goes() && self.is_held(id) {
@@ -194,7 +203,8 @@ impl Sessions {
         ensures packed { (before : List ℕ) (p : Packing) →
             Packed before self.old progress.old out.old p →
             Packed before self.new progress.new out.new (turn p (p.after.at_id id)) }
-        ensures room { (length out.old ≤ length out.new) × (length out.new + progress.new.room ≡ length out.old + progress.old.room) }
+        ensures room { (length out.old ≤ length out.new)
+            × (length out.new + progress.new.room ≡ length out.old + progress.old.room) }
         ensures same { SameEnd self.old self.new }
     {
         let start = out.len();
