@@ -1,23 +1,21 @@
 -- A slave hears an ask.
-use Rattle.std.proofs.Common.{◌≡◌, ◌≢◌, ◌⊎◌, ℕ, zero, suc, ◌+◌, ◌-◌, ◌<◌, ◌≤◌, le_trans, sym, ap, ◌∙◌, refl, subst, arith, Bool, true, false, not, cond, ◌&&◌, ◌||◌, List, [], ◌∷◌, ◌++◌, length, map, set, get_or, Option, Some, None, nat_eq, nat_lt, nat_le, ⊎_elim, inl, inr, length-set, length-append, eqb-true, eq-eqb, ne_eqb}
-use Rattle.std.proofs.lemmas.List.{map-append, length-map}
-use Rattle.std.proofs.lemmas.Bool.{true≢false, false≢true, and_parts, and_from, or_parts, or_left, or_right, or_cases, cases_lt, not-true, eqb-false, false_from_ne_true}
+use Rattle.std.proofs.Common.{◌≡◌, ◌≢◌, ℕ, zero, suc, ◌+◌, ◌-◌, ◌<◌, ◌≤◌, sym, ap, ◌∙◌, refl, arith, Bool, true, false, not, cond, ◌&&◌, ◌||◌, List, [], ◌∷◌, ◌++◌, length, map, set, Option, Some, None}
+use Rattle.std.proofs.lemmas.List.{map-append}
 use Rattle.lat_model.specs.Lists.{updated, upwards, keep, is_empty, any_up_to}
 use Rattle.lat_model.specs.sessions.Slots.{Slot, Start, starts, turned}
-use Rattle.lat_model.specs.sessions.Session.{Session, answered, peer, gone, free, waits, rejecting, blank}
-use Rattle.lat_model.specs.sessions.Sessions.{Sessions, named, held, least_free}
-use Rattle.lat_model.specs.sessions.Hearing.{names, is_full, asked_session, ask_in, hear_slot}
+use Rattle.lat_model.specs.sessions.Session.{Session, free, waits, rejecting}
+use Rattle.lat_model.specs.sessions.Sessions.{Sessions, least_free}
+use Rattle.lat_model.specs.sessions.Hearing.{names, is_full, asked_session, ask_in}
 use Rattle.lat_model.specs.sessions.EndOk.{EndOk}
-use Rattle.lat_model.specs.sessions.PeersApart.{Apart, PeersApart}
-use Rattle.lat_model.proofs.sessions.Words.{upd_same, upd_other, upd_all, not_blank}
-use Rattle.lat_stream.specs.Kept.{Kept, kept_of}
+use Rattle.lat_model.proofs.sessions.Words.{upd_same, upd_other, upd_all}
+use Rattle.lat_stream.specs.Kept.{kept_of}
 use Rattle.lat_session.specs.declared.ask.Ask.{Ask}
 use Rattle.lat_session.specs.declared.ask.Ask.TheVariants.{Waits, Rejected}
 use Rattle.lat_session.specs.Table.{Table, table_of, ask_is_open, ask_of, open_asks}
 use Rattle.lat_session.specs.Stands.{Stands}
 use Rattle.lat_session.proofs.PackTable.{kept_at, map_same, map_set}
 use Rattle.lat_session.proofs.PackAll.{upwards-append}
-use Rattle.lat_session.proofs.HearAt.{Fair, hear_stands}
+use Rattle.lat_session.proofs.HearAt.{hear_stands}
 
 -- one more at the end of what is kept
 

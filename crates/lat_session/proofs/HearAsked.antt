@@ -1,16 +1,12 @@
 -- Whether an ask is bad, as the table tells.
-use Rattle.std.proofs.Common.{◌≡◌, ◌≢◌, ℕ, zero, suc, ◌+◌, ◌-◌, ◌<◌, ◌≤◌, sym, ap, ◌∙◌, refl, subst, arith, Bool, true, false, not, cond, ◌&&◌, ◌||◌, List, [], ◌∷◌, ◌++◌, length, map, set, Option, Some, None, Result, is_ok, nat_lt, nat_le, ltb-false, leb-false, ltb-true, length-append}
+use Rattle.std.proofs.Common.{◌≡◌, ◌≢◌, ℕ, zero, suc, ◌+◌, ◌-◌, ◌<◌, ◌≤◌, sym, ap, ◌∙◌, refl, arith, Bool, true, false, cond, ◌||◌, List, [], ◌∷◌, ◌++◌, length, set, Some, None, Result, is_ok, nat_lt, nat_le, ltb-false, leb-false, ltb-true, length-append}
 use Rattle.std.specs.List.{list_any, All}
 use Rattle.std.proofs.lemmas.List.Elements.{All-push}
 use Rattle.std.proofs.lemmas.Bool.Decides.{nat_tests}
-use Rattle.std.proofs.lemmas.Bool.{true≢false, false≢true, or_left, or_right, cases_lt}
-use Rattle.lat_base.specs.declared.state.SessionState.TheVariants as kept_states
+use Rattle.std.proofs.lemmas.Bool.{true≢false, or_left, or_right}
 use Rattle.lat_model.specs.Lists.{any_up_to}
-use Rattle.lat_model.specs.sessions.Slots.{Slot, Start}
-use Rattle.lat_model.specs.sessions.Session.{Session, free}
-use Rattle.lat_model.specs.sessions.Sessions.{Sessions, named, held, least_free}
+use Rattle.lat_model.specs.sessions.Sessions.{Sessions, held, least_free}
 use Rattle.lat_model.specs.sessions.Hearing.{names, is_full, asked_session, ask_in, hear_slot}
-use Rattle.lat_model.specs.sessions.EndOk.{EndOk}
 use Rattle.lat_model.proofs.sessions.Made.{least_some}
 use Rattle.lat_model.proofs.sessions.Alone.{least_free_low}
 use Rattle.lat_stream.specs.Begins.{asked}

@@ -1,20 +1,20 @@
 -- A session of the table hears a slot.
-use Rattle.std.proofs.Common.{◌≡◌, ◌≢◌, ◌⊎◌, ℕ, zero, suc, ◌+◌, ◌-◌, ◌<◌, ◌≤◌, sym, ap, ◌∙◌, refl, subst, arith, Bool, true, false, not, cond, ◌&&◌, ◌||◌, List, [], ◌∷◌, ◌++◌, length, map, set, get_or, Option, Some, None, Result, Ok, Err, OnOk, is_ok, nat_eq, nat_le, ⊎_elim, inl, inr, length-set}
+use Rattle.std.proofs.Common.{◌≡◌, ◌≢◌, ℕ, ◌+◌, ◌-◌, ◌<◌, ◌≤◌, sym, ap, ◌∙◌, refl, subst, arith, Bool, true, false, not, cond, ◌&&◌, ◌||◌, List, [], ◌∷◌, ◌++◌, length, map, set, Option, Some, None, Result, Ok, Err, OnOk, is_ok, nat_eq, nat_le, length-set}
 use Rattle.std.proofs.lemmas.Bool.{true≢false, false≢true, and_parts, or_parts, not-true}
 use Rattle.std.specs.Option.{is_some}
-use Rattle.lat_model.specs.Lists.{updated, upwards, keep, is_empty}
-use Rattle.lat_model.specs.sessions.Slots.{Slot, Start, DataA, DataB, Attention, Reject, Stop, destination, source, is_start, is_reject, is_stop, items_of, starts, turned, has_stop, credits, costs, credits_of, cost_of}
-use Rattle.lat_model.specs.sessions.Session.{Session, answered, peer, rejected, stopped, gone, free, runs, waits, rejecting, blank}
+use Rattle.lat_model.specs.Lists.{upwards, is_empty}
+use Rattle.lat_model.specs.sessions.Slots.{Slot, destination, source, is_start, is_reject, is_stop, items_of, starts, turned, has_stop, credits, costs, cost_of}
+use Rattle.lat_model.specs.sessions.Session.{Session, answered, peer, rejected, stopped, gone, runs, waits, rejecting, blank}
 use Rattle.lat_model.specs.sessions.Sessions.{Sessions, named}
 use Rattle.lat_model.specs.sessions.Hearing.{heard, hear_at, hear_behind, behind_fits, hear_slot}
-use Rattle.lat_model.specs.sessions.EndOk.{EndOk, IdsWithin}
+use Rattle.lat_model.specs.sessions.EndOk.{IdsWithin}
 use Rattle.lat_model.proofs.sessions.Words.{upd_same, upd_other, upd_all}
 use Rattle.lat_model.proofs.sessions.Alone.{hear_alone}
 use Rattle.lat_model.proofs.sessions.Smalls.{hear_small}
 use Rattle.lat_model.proofs.sessions.Peers.{hear_apart}
 use Rattle.lat_model.proofs.sessions.Low.{hear_within}
 use Rattle.lat_stream.specs.Kept.{Kept, kept_of}
-use Rattle.lat_session.specs.Table.{Table, table_of, ask_is_open, ask_of, open_asks}
+use Rattle.lat_session.specs.Table.{Table, table_of, ask_is_open, open_asks}
 use Rattle.lat_session.specs.Stands.{Stands, AllOpen, AllBegun}
 use Rattle.lat_session.specs.Hears.{Hears}
 use Rattle.lat_session.proofs.PackTable.{Changed, kept_at, changed_sessions, changed_asks}

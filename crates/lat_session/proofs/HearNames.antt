@@ -1,19 +1,16 @@
 -- Which sessions name a peer's id.
-use Rattle.std.proofs.Common.{◌≡◌, ◌≢◌, ◌⊎◌, ℕ, zero, suc, ◌+◌, ◌-◌, ◌<◌, ◌≤◌, sym, ap, ◌∙◌, refl, subst, arith, Bool, true, false, not, cond, ◌&&◌, ◌||◌, List, [], ◌∷◌, ◌++◌, length, map, get_or, nat_eq, ⊎_elim, inl, inr, eqb-true, eq-eqb}
+use Rattle.std.proofs.Common.{◌≡◌, ◌≢◌, ◌⊎◌, ℕ, zero, suc, ◌+◌, ◌<◌, ◌≤◌, sym, ap, ◌∙◌, refl, arith, Bool, true, false, not, cond, ◌&&◌, ◌||◌, List, [], ◌∷◌, length, map, nat_eq, ⊎_elim, inl, inr, eqb-true}
 use Rattle.std.specs.List.{list_any}
-use Rattle.std.proofs.lemmas.Bool.{true≢false, false≢true, and_parts, and_from, or_parts, or_left, or_right, or_cases, cases_lt, not-true, false_from_ne_true, both_ways}
-use Rattle.lat_base.specs.declared.state.SessionState.TheVariants as kept_states
-use Rattle.lat_model.specs.Lists.{upwards, keep, any_up_to, is_empty}
+use Rattle.std.proofs.lemmas.Bool.{true≢false, false≢true, and_parts, and_from, or_left, or_right, or_cases, cases_lt, not-true}
+use Rattle.lat_model.specs.Lists.{upwards, keep, any_up_to}
 use Rattle.lat_model.specs.sessions.Slots.{Slot, Start, DataA, DataB, Attention, Reject, Stop, starts, starter, has_stop}
-use Rattle.lat_model.specs.sessions.Session.{Session, SessionState, Free, Calling, Asked, Live, Closing, Left, state, answered, gone, free, peer, waits, rejecting, blank}
+use Rattle.lat_model.specs.sessions.Session.{Session, Free, Calling, Asked, Live, Closing, Left, state, answered, gone, free, peer, waits, rejecting}
 use Rattle.lat_model.specs.sessions.Sessions.{Sessions, named}
 use Rattle.lat_model.specs.sessions.Hearing.{names, names_running}
-use Rattle.lat_model.specs.sessions.EndOk.{EndOk}
 use Rattle.lat_model.proofs.sessions.Starts.{free_goes}
-use Rattle.lat_stream.specs.Kept.{Kept, kept_of, state_shown}
-use Rattle.lat_session.specs.declared.ask.Ask.{Ask}
+use Rattle.lat_stream.specs.Kept.{state_shown}
 use Rattle.lat_session.specs.declared.ask.Ask.TheVariants.{Waits, Rejected}
-use Rattle.lat_session.specs.Table.{Table, table_of, ask_is_open, ask_of, open_asks}
+use Rattle.lat_session.specs.Table.{Table, ask_is_open, ask_of, open_asks}
 use Rattle.lat_session.specs.Stands.{Stands}
 use Rattle.lat_session.specs.Hears.{is_there, has_peer, rejects_peer}
 use Rattle.lat_session.proofs.PackTable.{kept_at}

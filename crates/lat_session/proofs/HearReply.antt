@@ -1,15 +1,15 @@
 -- A master hears a reply start or a reject.
-use Rattle.std.proofs.Common.{◌≡◌, ◌≢◌, ◌⊎◌, ℕ, zero, suc, ◌+◌, ◌<◌, ◌≤◌, sym, ap, ◌∙◌, refl, subst, arith, Bool, true, false, not, cond, ◌&&◌, ◌||◌, List, [], ◌∷◌, ◌++◌, length, set, Option, Some, None, Result, is_ok, nat_le}
-use Rattle.std.proofs.lemmas.Bool.{true≢false, false≢true, and_parts, or_parts, not-true}
+use Rattle.std.proofs.Common.{◌≡◌, ◌≢◌, ℕ, zero, suc, ◌+◌, ◌<◌, sym, ap, ◌∙◌, refl, arith, Bool, true, false, not, cond, ◌&&◌, ◌||◌, List, length, set, Option, Some, None, Result, is_ok, nat_le}
+use Rattle.std.proofs.lemmas.Bool.{true≢false, false≢true, and_parts}
 use Rattle.lat_base.specs.declared.state.SessionState as SessionStates
 use Rattle.lat_base.specs.declared.state.SessionState.TheVariants as kept_states
-use Rattle.lat_model.specs.Lists.{any_up_to, is_empty}
-use Rattle.lat_model.specs.sessions.Slots.{Slot, Start, Reject, starts, turned, has_stop, items, is_start, is_reject}
-use Rattle.lat_model.specs.sessions.Session.{Session, SessionState, Free, Calling, Asked, Live, Closing, Left, state, answered, peer, rejected, stopped, gone, free, waits, rejecting, blank}
+use Rattle.lat_model.specs.Lists.{any_up_to}
+use Rattle.lat_model.specs.sessions.Slots.{Slot, Start, Reject, has_stop, items, is_start, is_reject}
+use Rattle.lat_model.specs.sessions.Session.{Session, Free, Calling, Asked, Live, Closing, Left, state, answered, rejected, stopped, gone, waits, rejecting}
 use Rattle.lat_model.specs.sessions.Sessions.{Sessions, named}
 use Rattle.lat_model.specs.sessions.Hearing.{heard, hear_at, hear_slot, names_running}
 use Rattle.lat_stream.specs.Kept.{Kept, kept_of, state_shown}
-use Rattle.lat_session.specs.Table.{Table, ask_is_open}
+use Rattle.lat_session.specs.Table.{Table}
 use Rattle.lat_session.specs.Stands.{Stands}
 use Rattle.lat_session.specs.Hears.{Hears, is_calling}
 use Rattle.lat_session.proofs.HearAt.{Fair, Goes, goes, at_stands, heard_to, heard_bad}

@@ -1,5 +1,5 @@
 -- A slave has room for one more ask, where no session names its source.
-use Rattle.std.proofs.Common.{◌≡◌, ◌≢◌, ℕ, zero, suc, ◌+◌, ◌-◌, ◌<◌, ◌≤◌, ⊎_elim, le_trans, sym, ap, ◌∙◌, refl, subst, arith, Bool, true, false, not, cond, ◌&&◌, ◌||◌, List, [], ◌∷◌, ◌++◌, length, map, Option, Some, None, nat_eq, eqb-true, eq-eqb, ne_eqb, length-append}
+use Rattle.std.proofs.Common.{◌≡◌, ◌≢◌, ℕ, zero, suc, ◌+◌, ◌-◌, ◌<◌, ◌≤◌, ⊎_elim, le_trans, sym, ap, ◌∙◌, refl, subst, arith, Bool, true, false, not, cond, ◌&&◌, ◌||◌, List, [], ◌∷◌, length, Option, Some, None, nat_eq, eqb-true, eq-eqb, ne_eqb, length-append}
 use Rattle.std.proofs.lemmas.List.{length-map}
 use Rattle.std.proofs.lemmas.Bool.{cases_lt, and_parts, and_from, or_left, or_right, or_cases, true≢false, false≢true, not-true, false_from_ne_true, eqb-false}
 use Rattle.lat_model.specs.Lists.{upwards, keep, any_up_to}
@@ -8,7 +8,7 @@ use Rattle.lat_model.specs.sessions.Session.{Session, gone, answered, waits, rej
 use Rattle.lat_model.specs.sessions.Sessions.{Sessions}
 use Rattle.lat_model.specs.sessions.Hearing.{names, hear_slot, ask_in, asked_session}
 use Rattle.lat_model.specs.sessions.EndOk.{EndOk}
-use Rattle.lat_model.specs.sessions.PeersApart.{Apart, PeersApart}
+use Rattle.lat_model.specs.sessions.PeersApart.{PeersApart}
 use Rattle.lat_model.proofs.sessions.Words.{not_blank}
 use Rattle.lat_model.proofs.sessions.Alone.{hear_alone}
 use Rattle.lat_model.proofs.sessions.Peers.{hear_apart}

@@ -1,5 +1,5 @@
 -- What a start says.
-use Rattle.std.proofs.Common.{◌≡◌, ℕ, zero, suc, ◌+◌, ◌*◌, arith, refl, List, [], ◌∷◌, length, get_or}
+use Rattle.std.proofs.Common.{◌≡◌, ℕ, ◌+◌, ◌*◌, arith, refl, List, [], ◌∷◌, length, get_or}
 use Rattle.lat_stream.specs.Wire.{number_in}
 
 pub number_two : (xs : List ℕ) (d : ℕ) → length xs ≡ 2 → number_in xs ≡ get_or xs 0 d + 256 * get_or xs 1 d

@@ -1,18 +1,16 @@
 -- Turns one after the other.
-use Rattle.std.proofs.Common.{◌≡◌, ◌≢◌, ◌⊎◌, ℕ, zero, suc, ◌+◌, ◌-◌, ◌<◌, ◌≤◌, sym, ap, ◌∙◌, refl, subst, arith, Bool, true, false, not, cond, ◌&&◌, ◌||◌, List, [], ◌∷◌, ◌++◌, length, map, nat_eq, nat_lt, nat_le, ⊎_elim, inl, inr}
-use Rattle.std.proofs.lemmas.Bool.{true≢false, false≢true, and_parts, or_parts, both_ways, cases_lt, cases_eq, not-true, false_from_ne_true}
-use Rattle.lat_model.specs.Lists.{upwards, keep, is_empty}
+use Rattle.std.proofs.Common.{◌≡◌, ◌≢◌, ℕ, zero, suc, ◌+◌, sym, ap, ◌∙◌, refl, arith, Bool, true, false, not, cond, ◌&&◌, List, [], ◌∷◌, ◌++◌, map, nat_le, ⊎_elim}
+use Rattle.std.proofs.lemmas.Bool.{false≢true, and_parts, cases_eq, false_from_ne_true}
+use Rattle.lat_model.specs.Lists.{upwards, is_empty}
 use Rattle.lat_model.specs.sessions.Slots.{Slot, Reject, slot_len}
 use Rattle.lat_model.specs.sessions.Session.{Session, rejecting, peer}
-use Rattle.lat_model.specs.sessions.Sessions.{Sessions, named}
-use Rattle.lat_model.specs.sessions.Offers.{Offer, Nothing, Unfit, Offers, fit, offer, reject_offer, start_offer, later_offer}
-use Rattle.lat_model.specs.sessions.Packing.{Packing, turn_by, turn, turn_all, form}
-use Rattle.lat_model.specs.sessions.EndOk.{IdsWithin}
+use Rattle.lat_model.specs.sessions.Offers.{Offer, Nothing, Unfit, Offers, fit, offer}
+use Rattle.lat_model.specs.sessions.Packing.{Packing, turn_by, turn, turn_all}
 use Rattle.lat_model.proofs.sessions.Forms.{formed_as}
 use Rattle.lat_session.specs.Packed.{NoRejects}
 use Rattle.lat_stream.specs.Does.{reject_due}
-use Rattle.lat_session.proofs.PackForm.{Forms, forms}
-use Rattle.lat_session.proofs.PackTurn.{turn_turned, Turned}
+use Rattle.lat_session.proofs.PackForm.{forms}
+use Rattle.lat_session.proofs.PackTurn.{turn_turned}
 
 pub turn_all-append : (xs ys : List ℕ) (p : Packing) → turn_all (xs ++ ys) p ≡ turn_all ys (turn_all xs p)
 turn_all-append [] ys p = refl

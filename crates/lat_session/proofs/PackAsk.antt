@@ -1,17 +1,17 @@
 -- The turn of the ask at one place.
-use Rattle.std.proofs.Common.{◌≡◌, ◌≢◌, ◌⊎◌, ℕ, zero, suc, ◌+◌, ◌-◌, ◌<◌, ◌≤◌, sym, ap, ◌∙◌, refl, subst, arith, Bool, true, false, not, cond, ◌&&◌, ◌||◌, List, [], ◌∷◌, ◌++◌, length, map, get_or, nat_eq, nat_lt, nat_le, ⊎_elim}
+use Rattle.std.proofs.Common.{◌≡◌, ◌≢◌, ℕ, ◌+◌, ◌-◌, ◌<◌, ◌≤◌, sym, ap, ◌∙◌, refl, subst, arith, Bool, true, false, not, cond, ◌&&◌, ◌||◌, List, [], ◌∷◌, ◌++◌, length, map, get_or, nat_lt, nat_le, ⊎_elim}
 use Rattle.std.specs.List.{remove, All}
 use Rattle.std.proofs.lemmas.List.Elements.{All-map}
 use Rattle.std.proofs.lemmas.List.{length-map, get_or-map}
-use Rattle.std.proofs.lemmas.Bool.{true≢false, false≢true, and_parts, or_parts, both_ways, cases_eq, not-true, false_from_ne_true}
+use Rattle.std.proofs.lemmas.Bool.{true≢false, false≢true, and_parts, cases_eq, not-true}
 use Rattle.std.proofs.lemmas.Bool.Decides.{nat_tests}
 use Rattle.lat_model.specs.Lists.{upwards, keep, is_empty}
-use Rattle.lat_model.specs.sessions.Slots.{Slot, Reject, slot_len, starts}
-use Rattle.lat_model.specs.sessions.Session.{Session, rejecting, waits, answered, gone, peer}
+use Rattle.lat_model.specs.sessions.Slots.{Slot, Reject}
+use Rattle.lat_model.specs.sessions.Session.{Session, rejecting, waits, answered, peer}
 use Rattle.lat_model.specs.sessions.Sessions.{Sessions, named}
-use Rattle.lat_model.specs.sessions.Offers.{Offer, Nothing, Unfit, Offers, fit, offer}
-use Rattle.lat_model.specs.sessions.Packing.{Packing, turn_by, turn, form}
-use Rattle.lat_model.specs.sessions.EndOk.{EndOk, SessionOk}
+use Rattle.lat_model.specs.sessions.Offers.{Unfit, Offers, fit, offer}
+use Rattle.lat_model.specs.sessions.Packing.{Packing, turn, form}
+use Rattle.lat_model.specs.sessions.EndOk.{EndOk}
 use Rattle.lat_model.proofs.sessions.Forms.{formed_as}
 use Rattle.lat_slots.specs.Layout.{slot_text}
 use Rattle.lat_stream.specs.Kept.{kept_of}
@@ -22,7 +22,6 @@ use Rattle.lat_session.specs.declared.packing.Progress.{Progress}
 use Rattle.lat_session.specs.Table.{Table, table_of, ask_is_open, ask_of, open_asks, waits_as, reason_of}
 use Rattle.lat_session.specs.Stands.{Stands}
 use Rattle.lat_session.specs.Packed.{Packed, open_serials}
-use Rattle.lat_stream.specs.Does.{reject_due}
 use Rattle.lat_session.proofs.PackTable.{Changed, kept_at, map_same, map_keep}
 use Rattle.lat_session.proofs.PackForm.{Forms, forms}
 use Rattle.lat_session.proofs.PackIds.{turn_over, formed_turn, going_turn, unfit_packed}

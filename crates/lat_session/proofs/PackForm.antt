@@ -1,17 +1,13 @@
 -- What forming a slot changes at an end.
-use Rattle.std.proofs.Common.{◌≡◌, ◌≢◌, ◌⊎◌, ℕ, zero, suc, ◌+◌, ◌-◌, ◌<◌, ◌≤◌, sym, ap, ◌∙◌, refl, subst, arith, Bool, true, false, not, cond, ◌&&◌, ◌||◌, List, [], ◌∷◌, ◌++◌, length, map, nat_eq, nat_lt, nat_le, ⊎_elim, inr}
-use Rattle.std.proofs.lemmas.Bool.{true≢false, false≢true, and_parts, or_parts, both_ways, cases_lt, cases_eq, not-true, or_left}
-use Rattle.lat_model.specs.Lists.{updated, upwards, keep, is_empty}
-use Rattle.lat_model.specs.sessions.Slots.{Slot, Reject, has_stop, starts, turned, is_stop}
-use Rattle.lat_model.specs.sessions.Session.{Session, answered, peer, rejected, stopped, gone, free, waits, rejecting, blank}
-use Rattle.lat_model.specs.sessions.Sessions.{Sessions, named}
-use Rattle.lat_model.specs.sessions.Offers.{Offer, Nothing, Unfit, Offers, fit, offer, reject_offer, start_offer, later_offer, live_offer}
-use Rattle.lat_model.specs.sessions.Packing.{Packing, turn_by, turn, form, formed, first_form, next_form, served_after}
-use Rattle.lat_model.specs.sessions.EndOk.{SessionOk, EndOk}
+use Rattle.std.proofs.Common.{◌≡◌, ℕ, suc, sym, ap, ◌∙◌, refl, subst, Bool, true, false, cond, nat_eq}
+use Rattle.lat_model.specs.Lists.{updated}
+use Rattle.lat_model.specs.sessions.Slots.{Slot}
+use Rattle.lat_model.specs.sessions.Session.{Session}
+use Rattle.lat_model.specs.sessions.Sessions.{Sessions}
+use Rattle.lat_model.specs.sessions.Packing.{form, formed, first_form, next_form, served_after}
 use Rattle.lat_model.proofs.sessions.Words.{upd_same, upd_other}
 use Rattle.lat_model.proofs.sessions.Forms.{formed_as}
-use Rattle.lat_stream.specs.Kept.{Kept, kept_of}
-use Rattle.lat_session.specs.Table.{ask_is_open, ask_of}
+use Rattle.lat_stream.specs.Kept.{kept_of}
 use Rattle.lat_session.proofs.PackTable.{Changed}
 
 -- the session after it formed the slot, whatever its generation

@@ -1,35 +1,32 @@
 -- One id's turn in a packing.
-use Rattle.std.proofs.Common.{◌≡◌, ◌≢◌, ◌⊎◌, ℕ, zero, suc, ◌+◌, ◌-◌, ◌<◌, ◌≤◌, sym, ap, ◌∙◌, refl, subst, arith, Bool, true, false, not, cond, ◌&&◌, ◌||◌, List, [], ◌∷◌, ◌++◌, length, map, set, get_or, nat_eq, nat_lt, nat_le, ⊎_elim, inl, inr, append_assoc, append-nil, length-append, length-set, ltb-true}
+use Rattle.std.proofs.Common.{◌≡◌, ◌≢◌, ℕ, ◌+◌, ◌-◌, ◌<◌, ◌≤◌, sym, ap, ◌∙◌, refl, subst, arith, Bool, true, false, not, cond, ◌&&◌, ◌||◌, List, [], ◌∷◌, ◌++◌, length, set, get_or, nat_lt, append_assoc, append-nil, length-append, length-set, ltb-true}
 use Rattle.std.proofs.lemmas.List.{set-get_or}
-use Rattle.std.specs.List.{flat_map}
-use Rattle.std.proofs.lemmas.Bool.{true≢false, false≢true, and_parts, or_parts, both_ways, cases_lt, cases_eq, not-true}
+use Rattle.std.proofs.lemmas.Bool.{true≢false, false≢true, and_parts, not-true}
 use Rattle.std.proofs.lemmas.Bool.Decides.{nat_tests}
 use Rattle.lat_base.specs.declared.state.SessionState as base_state
 use Rattle.lat_base.specs.declared.state.SessionState.TheVariants as kept_states
-use Rattle.lat_model.specs.Lists.{updated, upwards, keep, is_empty}
+use Rattle.lat_model.specs.Lists.{is_empty}
 use Rattle.lat_model.specs.ends.End.{wire_of}
 use Rattle.lat_model.specs.sessions.Slots as sessions
-use Rattle.lat_model.specs.sessions.Session.{Session, SessionState, Free, Calling, Asked, Live, Closing, Left, state, answered, gone, free, rejecting, blank}
+use Rattle.lat_model.specs.sessions.Session.{Session, Free, Calling, Asked, Live, Closing, Left, state, answered, gone, free}
 use Rattle.lat_model.specs.sessions.Sessions.{Sessions, named}
 use Rattle.lat_model.specs.sessions.Offers.{Offer, offer}
 use Rattle.lat_model.specs.sessions.Offers as offers
-use Rattle.lat_model.specs.sessions.Packing.{Packing, TaggedSlot, turn_by, turn, turn_all, form, formed, formed as after_slot, served_after, tagged}
-use Rattle.lat_model.specs.sessions.EndOk.{SessionOk, EndOk, AllSmall, IdsWithin}
+use Rattle.lat_model.specs.sessions.Packing.{Packing, TaggedSlot, turn_by, turn, form, formed, formed as after_slot, tagged}
 use Rattle.lat_model.proofs.sessions.Forms.{formed_as}
 use Rattle.lat_slots.specs.Layout.{slot_text}
 use Rattle.lat_stream.specs.Kept.{Kept, kept_of, state_shown}
 use Rattle.lat_stream.specs.Sound.{Sound}
 use Rattle.lat_stream.specs.Wire.{formed_as as wire_slot}
 use Rattle.lat_stream.specs.declared.forming.Formed.{Formed}
-use Rattle.lat_stream.specs.declared.forming.Formed.TheVariants as answers
 use Rattle.lat_session.specs.declared.packing.Progress.{Progress}
-use Rattle.lat_session.specs.Table.{Table, table_of, ask_is_open, ask_of}
+use Rattle.lat_session.specs.Table.{Table, table_of, ask_is_open}
 use Rattle.lat_session.specs.Stands.{Stands}
 use Rattle.lat_session.specs.Packed.{Packed, NoRejects, is_held, counted, served_next, slots_text}
 use Rattle.lat_stream.specs.Does.{Does, reject_due}
-use Rattle.lat_session.proofs.PackTable.{Changed, kept_at, kept_here, changed_sessions, changed_asks, length-upwards}
+use Rattle.lat_session.proofs.PackTable.{kept_at, kept_here, changed_sessions, changed_asks}
 use Rattle.lat_session.proofs.PackForm.{Forms, forms}
-use Rattle.lat_session.proofs.PackTurn.{free_offers_nothing, unfree_unrefused, form_asks, turn_stands, turn_turned, Turned}
+use Rattle.lat_session.proofs.PackTurn.{free_offers_nothing, unfree_unrefused, form_asks, turn_stands}
 
 -- states
 

@@ -1,5 +1,5 @@
 -- The steps of the loops of packing.
-use Rattle.std.proofs.Common.{◌≡◌, ℕ, zero, suc, ◌+◌, ◌-◌, ◌<◌, ◌≤◌, sym, ap, ◌∙◌, refl, subst, arith, Bool, true, false, cond, List, [], ◌∷◌, ◌++◌, length, map, get_or, take, drop, length-drop, length-take-le}
+use Rattle.std.proofs.Common.{◌≡◌, ℕ, suc, ◌+◌, ◌-◌, ◌<◌, ◌≤◌, sym, ap, ◌∙◌, arith, Bool, true, false, cond, List, [], ◌∷◌, length, map, get_or, take, drop, length-drop, length-take-le}
 use Rattle.std.specs.List.{remove}
 use Rattle.std.proofs.lemmas.List.{take_more, drop-drop, drop_at, get_or-drop}
 use Rattle.lat_model.specs.Lists.{upwards}

@@ -1,22 +1,21 @@
 -- The turns of the rejects that wait, in the order of the open asks.
-use Rattle.std.proofs.Common.{◌≡◌, ◌≢◌, ◌⊎◌, ℕ, zero, suc, ◌+◌, ◌-◌, ◌<◌, ◌≤◌, sym, ap, ◌∙◌, refl, subst, arith, Bool, true, false, not, cond, ◌&&◌, ◌||◌, List, [], ◌∷◌, ◌++◌, length, map, get_or, take, drop, nat_eq, nat_lt, nat_le, ⊎_elim, inl, inr, length-append, append-nil}
+use Rattle.std.proofs.Common.{◌≡◌, ◌≢◌, ℕ, zero, suc, ◌+◌, ◌<◌, ◌≤◌, sym, ap, ◌∙◌, refl, subst, arith, Bool, true, false, not, cond, ◌&&◌, ◌||◌, List, [], ◌∷◌, ◌++◌, length, map, get_or, take, drop, ⊎_elim}
 use Rattle.std.specs.List.{remove}
-use Rattle.std.proofs.lemmas.List.{map-append, take-map, drop-map, length-map, get_or-map}
-use Rattle.std.proofs.lemmas.Bool.{true≢false, false≢true, and_parts, or_parts, or_left, or_right, both_ways, cases_lt, cases_eq, not-true, false_from_ne_true}
+use Rattle.std.proofs.lemmas.List.{map-append, take-map, drop-map}
+use Rattle.std.proofs.lemmas.Bool.{true≢false, false≢true, and_parts, or_right, cases_lt, cases_eq, not-true, false_from_ne_true}
 use Rattle.lat_model.specs.Lists.{upwards, keep, is_empty}
-use Rattle.lat_model.specs.sessions.Slots.{Slot, Reject, slot_len, starts, turned, has_stop}
-use Rattle.lat_model.specs.sessions.Session.{Session, rejecting, waits, answered, gone, rejected, stopped, peer}
-use Rattle.lat_model.specs.sessions.Sessions.{Sessions, named}
-use Rattle.lat_model.specs.sessions.Offers.{Offer, Nothing, Unfit, Offers, fit, offer, reject_offer, start_offer, later_offer, start_of, live_offer}
-use Rattle.lat_model.specs.sessions.Packing.{Packing, turn_by, turn, turn_all, form, waiting_rejects}
-use Rattle.lat_model.specs.sessions.EndOk.{EndOk, SessionOk}
-use Rattle.lat_model.proofs.sessions.Forms.{formed_as}
+use Rattle.lat_model.specs.sessions.Slots.{Slot, starts, turned, has_stop}
+use Rattle.lat_model.specs.sessions.Session.{Session, rejecting, waits, stopped}
+use Rattle.lat_model.specs.sessions.Sessions.{Sessions}
+use Rattle.lat_model.specs.sessions.Offers.{Nothing, fit, offer, reject_offer, start_of, live_offer}
+use Rattle.lat_model.specs.sessions.Packing.{Packing, turn, turn_all, waiting_rejects}
+use Rattle.lat_model.specs.sessions.EndOk.{EndOk}
 use Rattle.lat_session.specs.Table.{ask_is_open}
 use Rattle.lat_session.specs.Stands.{AllBegun}
 use Rattle.lat_session.specs.Packed.{NoRejects, open_serials}
 use Rattle.lat_stream.specs.Does.{reject_due}
 use Rattle.lat_session.proofs.PackIds.{turn_nothing}
-use Rattle.lat_session.proofs.PackTurn.{turn_turned, Turned}
+use Rattle.lat_session.proofs.PackTurn.{turn_turned}
 use Rattle.lat_session.proofs.PackAll.{turn_other, turn_tells, turn_going}
 
 -- lists of numbers that pass a test

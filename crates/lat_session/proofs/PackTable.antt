@@ -1,14 +1,12 @@
 -- The lists of a table, over all ids and over all serials, where one session of the end changes.
-use Rattle.std.proofs.Common.{◌≡◌, ◌≢◌, ◌⊎◌, ℕ, zero, suc, ◌+◌, ◌-◌, ◌<◌, ◌≤◌, sym, ap, ◌∙◌, refl, subst, arith, Bool, true, false, not, cond, ◌&&◌, ◌||◌, List, [], ◌∷◌, ◌++◌, length, map, take, drop, get_or, set, nat_eq, ⊎_elim, eqb-true}
-use Rattle.std.proofs.lemmas.Bool.{true≢false, false≢true, cases_eq}
-use Rattle.lat_model.specs.Lists.{updated, upwards, keep}
-use Rattle.lat_model.specs.sessions.Session.{Session, waits, rejecting}
+use Rattle.std.proofs.Common.{◌≡◌, ◌≢◌, ◌⊎◌, ℕ, zero, suc, ◌+◌, ◌-◌, ◌<◌, ◌≤◌, sym, ap, ◌∙◌, refl, subst, arith, Bool, true, false, cond, ◌∷◌, length, map, get_or, set, ⊎_elim}
+use Rattle.std.proofs.lemmas.Bool.{true≢false, cases_eq}
+use Rattle.lat_model.specs.Lists.{upwards, keep}
+use Rattle.lat_model.specs.sessions.Session.{Session}
 use Rattle.lat_model.specs.sessions.Sessions.{Sessions, named}
 use Rattle.lat_model.specs.sessions.EndOk.{EndOk}
-use Rattle.lat_model.proofs.sessions.Words.{upd_same, upd_other}
 use Rattle.lat_stream.specs.Kept.{Kept, kept_of}
-use Rattle.lat_session.specs.declared.ask.Ask.{Ask}
-use Rattle.lat_session.specs.Table.{Table, table_of, ask_is_open, ask_of, open_asks}
+use Rattle.lat_session.specs.Table.{ask_is_open, ask_of, open_asks}
 
 -- lists over numbers from a + 1 on
 

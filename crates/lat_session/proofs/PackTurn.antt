@@ -1,27 +1,25 @@
 -- What the turns of packing keep of an end.
-use Rattle.std.proofs.Common.{◌≡◌, ◌≢◌, ◌⊎◌, ℕ, zero, suc, ◌+◌, ◌-◌, ◌<◌, ◌≤◌, sym, ap, ◌∙◌, refl, subst, arith, Bool, true, false, not, cond, ◌&&◌, ◌||◌, List, [], ◌∷◌, ◌++◌, length, map, nat_eq, nat_lt, nat_le, ⊎_elim, inr}
-use Rattle.std.proofs.lemmas.Bool.{true≢false, false≢true, and_parts, or_parts, both_ways, cases_lt, cases_eq, not-true}
-use Rattle.lat_model.specs.Lists.{updated, upwards, keep, is_empty}
-use Rattle.lat_model.specs.sessions.Slots.{Slot, Reject, has_stop, starts, turned, is_stop, items}
-use Rattle.lat_model.specs.sessions.Session.{Session, answered, peer, rejected, stopped, gone, free, waits, rejecting, blank}
-use Rattle.lat_model.specs.sessions.Sessions.{Sessions, named}
-use Rattle.lat_model.specs.sessions.Offers.{Offer, Nothing, Unfit, Offers, fit, offer, reject_offer, start_offer, start_of, later_offer, live_offer}
-use Rattle.lat_model.specs.sessions.Packing.{Packing, turn_by, turn, turn_all, form, formed, served_after}
-use Rattle.lat_model.specs.sessions.EndOk.{SessionOk, EndOk, AllSmall, IdsWithin}
+use Rattle.std.proofs.Common.{◌≡◌, ℕ, ◌≤◌, sym, ap, ◌∙◌, refl, subst, Bool, true, false, not, cond, ◌&&◌, ◌||◌, List, [], ◌∷◌, length, nat_le, ⊎_elim}
+use Rattle.std.proofs.lemmas.Bool.{true≢false, false≢true, or_parts, cases_eq}
+use Rattle.lat_model.specs.Lists.{is_empty}
+use Rattle.lat_model.specs.sessions.Slots.{Slot, Reject, has_stop, starts, turned, items}
+use Rattle.lat_model.specs.sessions.Session.{Session, answered, peer, rejected, stopped, free, waits, rejecting}
+use Rattle.lat_model.specs.sessions.Sessions.{Sessions}
+use Rattle.lat_model.specs.sessions.Offers.{Offer, Nothing, Unfit, Offers, fit, offer, start_of, live_offer}
+use Rattle.lat_model.specs.sessions.Packing.{Packing, turn_by, turn, form}
+use Rattle.lat_model.specs.sessions.EndOk.{EndOk, IdsWithin}
 use Rattle.lat_model.specs.sessions.MayForm.{MayForm, Starts, Rejects, Follows}
-use Rattle.lat_model.specs.sessions.PeersApart.{PeersApart}
 use Rattle.lat_model.proofs.sessions.Forms.{formed_as}
 use Rattle.lat_model.proofs.sessions.Starts.{turned_not_starts}
 use Rattle.lat_model.proofs.sessions.Alone.{turn_alone}
 use Rattle.lat_model.proofs.sessions.Smalls.{turn_small}
 use Rattle.lat_model.proofs.sessions.Peers.{turn_apart}
 use Rattle.lat_model.proofs.sessions.Low.{turn_within}
-use Rattle.lat_model.proofs.sessions.Offers.{Fine, offer_fine}
+use Rattle.lat_model.proofs.sessions.Offers.{offer_fine}
 use Rattle.lat_model.proofs.sessions.Packs.{accepted_named}
-use Rattle.lat_session.specs.Table.{Table, table_of, ask_is_open, ask_of}
+use Rattle.lat_session.specs.Table.{Table, table_of, ask_is_open}
 use Rattle.lat_session.specs.Stands.{Stands}
 use Rattle.lat_stream.specs.Does.{reject_due}
-use Rattle.lat_session.proofs.PackTable.{Changed}
 use Rattle.lat_session.proofs.PackForm.{Forms, forms}
 
 -- a free session with no reject to tell has nothing to send

@@ -1,10 +1,10 @@
 -- A whole packing: the rejects, and the ids once round.
-use Rattle.std.proofs.Common.{◌≡◌, ◌⊎◌, ℕ, zero, suc, ◌+◌, ◌-◌, ◌<◌, ◌≤◌, inr, sym, ap, ◌∙◌, refl, subst, arith, Bool, true, false, List, [], ◌∷◌, ◌++◌, length, map, append-nil}
+use Rattle.std.proofs.Common.{◌≡◌, ℕ, zero, suc, ◌+◌, ◌-◌, ◌<◌, ◌≤◌, inr, sym, ap, ◌∙◌, refl, arith, true, false, List, [], ◌++◌, map, append-nil}
 use Rattle.std.proofs.lemmas.List.{map-append}
 use Rattle.lat_model.specs.Lists.{upwards}
-use Rattle.lat_model.specs.sessions.Session.{Session, free, blank}
+use Rattle.lat_model.specs.sessions.Session.{free, blank}
 use Rattle.lat_model.specs.sessions.Sessions.{Sessions}
-use Rattle.lat_model.specs.sessions.Packing.{Packing, turn, turn_all, pack, turns, waiting_rejects, once_round}
+use Rattle.lat_model.specs.sessions.Packing.{Packing, turn, turn_all, pack, waiting_rejects}
 use Rattle.lat_model.specs.sessions.EndOk.{IdsWithin}
 use Rattle.lat_session.specs.declared.packing.Progress.{Progress}
 use Rattle.lat_session.specs.Table.{Table}

@@ -7,7 +7,6 @@ ghost use Rattle.lat_model.specs.sessions.Session.{waits};
 ghost use Rattle.lat_model.specs.sessions.Sessions.{Sessions as States, named, least_free};
 ghost use Rattle.lat_model.specs.sessions.Slots as sessions;
 ghost use Rattle.lat_slots.specs.Layout.{IsWritable};
-ghost use Rattle.lat_stream.specs.Kept.{Kept};
 ghost use Rattle.lat_stream.specs.Wire.{told, request_in, number_in};
 ghost use Rattle.lat_session.specs.Hears.{Hears, has_peer, rejects_peer, is_calling};
 ghost use Rattle.lat_session.specs.Stands.{Stands};

@@ -6,6 +6,8 @@ mod calls;
 mod getters;
 mod hearing;
 mod packing;
+#[cfg(test)]
+mod slot_tests;
 mod table;
 #[cfg(test)]
 mod tests;

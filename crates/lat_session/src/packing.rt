@@ -1,19 +1,14 @@
 //! The slots of a message. It takes no memory.
 
-ghost use Rattle.std.specs.Prelude.{◌≡◌, ◌≢◌, ◌+◌, ◌-◌, ◌*◌, ◌<◌, ◌≤◌, ◌++◌, ◌∷◌, [], ◌&&◌, not, true, false, ℕ, List, cond, map, length, nat_lt, slice_index_or};
+ghost use Rattle.std.specs.Prelude.{◌≡◌, ◌+◌, ◌-◌, ◌*◌, ◌<◌, ◌≤◌, ◌++◌, ◌&&◌, not, true, false, ℕ, List, cond, map, length, nat_lt, slice_index_or};
 ghost use Rattle.std.specs.List.{remove};
-ghost use Rattle.lat_base.specs.declared.state.SessionState.TheVariants as states;
 ghost use Rattle.lat_model.specs.Lists.{upwards};
 ghost use Rattle.lat_model.specs.ends.End.{wire_of};
 ghost use Rattle.lat_model.specs.sessions.Packing.{Packing, turn, turn_all, waiting_rejects, pack};
-ghost use Rattle.lat_model.specs.sessions.Session.{Session, rejecting};
 ghost use Rattle.lat_model.specs.sessions.Sessions.{Sessions as States};
 ghost use Rattle.lat_model.specs.sessions.Slots as sessions;
-ghost use Rattle.lat_model.specs.sessions.Offers.{offer};
 ghost use Rattle.lat_slots.specs.Layout.{slot_text};
-ghost use Rattle.lat_stream.specs.Does.{Does};
 ghost use Rattle.lat_stream.specs.Kept.{Kept};
-ghost use Rattle.lat_stream.specs.Sound.{Sound};
 ghost use Rattle.lat_stream.specs.Wire.{formed_as};
 ghost use Rattle.lat_session.specs.Packed.{Packed, NoRejects, is_held, counted, served_next, open_serials, slots_text};
 ghost use Rattle.lat_session.specs.Stands.{Stands};

@@ -1,4 +1,4 @@
-use Rattle.std.proofs.Common.{◌≡◌, ◌-◌, ◌<◌, ◌∙◌, sym, ap, arith, true, false, cond, Some, None, nat_le}
+use Rattle.std.proofs.Common.{◌≡◌, ◌-◌, ◌<◌, ◌∙◌, sym, ap, arith, true, false, cond, Some, None}
 use Rattle.lat_model.specs.sessions.Hearing.{is_full}
 use Rattle.lat_model.specs.sessions.Sessions.{held, least_free}
 use Rattle.lat_session.specs.Table.{Table}

@@ -1,4 +1,4 @@
-use Rattle.std.proofs.Common.{◌≡◌, ◌≤◌, ◌++◌, ◌∷◌, [], ◌∙◌, sym, ap, refl, subst, arith, rules, true, false, length, nat_lt}
+use Rattle.std.proofs.Common.{◌≡◌, ◌≤◌, ◌++◌, ◌∷◌, [], ◌∙◌, sym, ap, refl, subst, rules, true, length, nat_lt}
 use Rattle.std.specs.List.{All}
 use Rattle.lat_session.specs.contracts.table.Sessions.{the_view}
 use Rattle.lat_session.specs.Table.{Table, reason_of}

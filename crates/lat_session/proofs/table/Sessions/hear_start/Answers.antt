@@ -1,4 +1,4 @@
-use Rattle.std.proofs.Common.{◌≡◌, sym, subst}
+use Rattle.std.proofs.Common.{sym, subst}
 use Rattle.lat_model.specs.sessions.Hearing.{hear_slot}
 use Rattle.lat_model.specs.sessions.Slots as sessions
 use Rattle.lat_session.specs.Hears.{Hears}

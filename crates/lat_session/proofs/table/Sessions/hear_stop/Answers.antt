@@ -1,7 +1,6 @@
-use Rattle.std.proofs.Common.{◌≡◌, ◌≢◌, ◌<◌, ◌≤◌, ◌∙◌, sym, ap, refl, subst, arith, true, false, ◌∷◌, length, slice_set, OnOk, is_ok, Result}
+use Rattle.std.proofs.Common.{ap, refl, arith, slice_set}
 use Rattle.std.proofs.lemmas.Bool.{false≢true}
-use Rattle.lat_model.specs.sessions.Session.{Session}
-use Rattle.lat_model.specs.sessions.Sessions.{Sessions, named}
+use Rattle.lat_model.specs.sessions.Sessions.{named}
 use Rattle.lat_model.specs.sessions.Slots as sessions
 use Rattle.lat_session.specs.Table.{Table}
 use Rattle.lat_session.proofs.Touch.{kept_is, nothing_here}

@@ -1,5 +1,4 @@
-use Rattle.std.proofs.Common.{◌≡◌, ◌+◌, ◌++◌, ◌∷◌, [], ◌∙◌, sym, ap, refl, set}
-use Rattle.lat_model.specs.sessions.Sessions.{named}
+use Rattle.std.proofs.Common.{◌+◌, ◌++◌, ◌∷◌, [], ◌∙◌, ap, refl, set}
 use Rattle.lat_stream.specs.Kept.{Kept}
 use Rattle.lat_session.specs.declared.ask.Ask.TheVariants.{Waits}
 use Rattle.lat_session.specs.Table.{Table}

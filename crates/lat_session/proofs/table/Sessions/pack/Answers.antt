@@ -1,4 +1,4 @@
-use Rattle.std.proofs.Common.{◌≡◌, ◌≤◌, ◌++◌, ℕ, sym, ap, ◌∙◌, refl, subst, arith, length}
+use Rattle.std.proofs.Common.{◌≡◌, ◌≤◌, sym, ap, ◌∙◌, subst, arith, length}
 use Rattle.lat_model.specs.sessions.Packing.{Packing, pack}
 use Rattle.lat_model.specs.sessions.EndOk.{IdsWithin}
 use Rattle.lat_session.specs.Packed.{Packed, NoRejects}

@@ -1,4 +1,4 @@
-use Rattle.std.proofs.Common.{◌≡◌, ℕ, sym, ◌∙◌, true}
+use Rattle.std.proofs.Common.{sym, ◌∙◌, true}
 use Rattle.lat_model.specs.sessions.Session.{blank}
 use Rattle.lat_stream.specs.Kept.{kept_of}
 use Rattle.lat_session.proofs.PackIds.{idle_packed, over_packed}

@@ -1,6 +1,6 @@
-use Rattle.std.proofs.Common.{◌≡◌, ◌+◌, ◌-◌, ◌≤◌, ℕ, sym, ap, ◌∙◌, refl, subst, arith, length, map, le_refl, rules}
+use Rattle.std.proofs.Common.{◌≡◌, ◌-◌, refl, subst, arith, map, le_refl, rules}
 use Rattle.lat_model.specs.Lists.{upwards}
-use Rattle.lat_model.specs.sessions.Packing.{Packing, turn_all}
+use Rattle.lat_model.specs.sessions.Packing.{turn_all}
 use Rattle.lat_session.specs.Packed.{Packed}
 use Rattle.lat_session.proofs.PackAll.{turns_no_rejects}
 use Rattle.lat_session.proofs.PackLoops.{ids_more}

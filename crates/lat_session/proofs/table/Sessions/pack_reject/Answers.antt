@@ -1,13 +1,12 @@
-use Rattle.std.proofs.Common.{◌≡◌, ◌-◌, ◌<◌, ◌≤◌, ◌++◌, true, false, not, ◌&&◌, ℕ, sym, ap, ◌∙◌, refl, subst, arith, length, get_or, nat_lt, rules}
+use Rattle.std.proofs.Common.{◌≡◌, ◌-◌, true, not, ◌&&◌, sym, ap, ◌∙◌, refl, subst, arith, get_or, nat_lt, rules}
 use Rattle.std.specs.List.{remove}
-use Rattle.lat_model.specs.sessions.Packing.{turn}
 use Rattle.lat_session.specs.contracts.table.Sessions.{the_view}
 use Rattle.lat_session.specs.declared.ask.Ask.{Ask}
 use Rattle.lat_session.specs.declared.ask.Ask.TheVariants.{Waits, Rejected}
 use Rattle.lat_session.specs.declared.packing.Progress.{Progress}
 use Rattle.lat_session.specs.Packed.{Packed, open_serials}
 use Rattle.lat_session.specs.Table.{Table}
-use Rattle.lat_session.proofs.PackAsk.{serial_at, waits_turn, over_turn, unfit_reject, sent_reject}
+use Rattle.lat_session.proofs.PackAsk.{waits_turn, unfit_reject, sent_reject}
 use Rattle.lat_session.proofs.table.Sessions.pack_reject.Goals as goal
 
 pub returns-in_default-clause-packed : goal.returns-in_default-clause-packed

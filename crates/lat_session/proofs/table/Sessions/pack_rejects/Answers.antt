@@ -1,7 +1,7 @@
-use Rattle.std.proofs.Common.{◌≡◌, ◌+◌, ◌-◌, ◌<◌, ◌≤◌, ℕ, List, not, cond, true, false, sym, ap, ◌∙◌, refl, subst, arith, length, take, drop, get_or, rules}
+use Rattle.std.proofs.Common.{◌≡◌, ◌+◌, ◌<◌, ℕ, List, cond, sym, ap, ◌∙◌, subst, arith, length, take, drop, get_or, rules}
 use Rattle.std.specs.List.{remove}
 use Rattle.std.proofs.lemmas.List.{take_all}
-use Rattle.lat_model.specs.sessions.Packing.{Packing, turn, turn_all, waiting_rejects}
+use Rattle.lat_model.specs.sessions.Packing.{Packing, turn, turn_all}
 use Rattle.lat_session.specs.Packed.{Packed, open_serials}
 use Rattle.lat_session.proofs.PackAsk.{asks_count}
 use Rattle.lat_session.proofs.PackLoops.{asks_more, asks_left}

@@ -1,7 +1,5 @@
-use Rattle.std.proofs.Common.{◌≡◌, ◌≢◌, ◌∙◌, sym, ap, refl, subst, arith, rules, Bool, true, false, not, ◌&&◌, slice_set}
-use Rattle.std.proofs.lemmas.Bool.{and_parts, false≢true}
-use Rattle.lat_base.specs.declared.state.SessionState.{SessionState}
-use Rattle.lat_base.specs.declared.state.SessionState.TheVariants as states
+use Rattle.std.proofs.Common.{◌≡◌, ◌≢◌, ◌∙◌, sym, ap, subst, arith, true, ◌&&◌, slice_set}
+use Rattle.std.proofs.lemmas.Bool.{and_parts}
 use Rattle.lat_model.specs.sessions.Hearing.{heard}
 use Rattle.lat_model.specs.sessions.Session.{Session, waits}
 use Rattle.lat_model.specs.sessions.Sessions.{named}
@@ -14,7 +12,7 @@ use Rattle.lat_session.proofs.Touch.{kept_is, read_here}
 use Rattle.lat_session.proofs.Stays.{sound_at}
 use Rattle.lat_session.proofs.HearAt.{on_ok}
 use Rattle.lat_session.proofs.HearNames.{names_running_is}
-use Rattle.lat_session.proofs.HearReply.{start_hears, start_refused, any_running, only_calling, and_none}
+use Rattle.lat_session.proofs.HearReply.{start_hears, only_calling}
 use Rattle.lat_session.proofs.HearReply.{calling_shown}
 use Rattle.lat_session.proofs.table.Sessions.start_calling.Goals as goal
 
