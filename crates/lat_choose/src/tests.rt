@@ -50,7 +50,14 @@ const CHOSEN: [(&str, &str); 9] = [
 ];
 
 // The first wrong line of an input.
-const WRONG: [(&str, &str); 26] = [
+const WRONG: [(&str, &str); 30] = [
+    ("best 0 X\nzz\n", "line 2 form\n"),
+    ("groups 08", "line 1 form\n"),
+    (
+        "groups 000000000000000000000000000000000000000000000000000000000000000000\n",
+        "line 1 form\n",
+    ),
+    ("best 5 \u{e9}\n", "line 1 form\n"),
     ("best 5 X\nbest 4 X\n", "line 2 form\n"),
     ("best 5 X\nbest 5 X", "line 2 form\n"),
     ("\n", "line 1 form\n"),
