@@ -1,0 +1,24 @@
+-- What a START tells, and what is noted of sessions.
+use Rattle.std.proofs.Common.{◌≡◌, ℕ, zero, suc, ◌<◌, Bool, true, false, not, ◌&&◌, cond, nat_eq, List, [], ◌∷◌, length, map, drop, get_or, min, refl, sym, ap, ◌∙◌, arith}
+use Rattle.lat_fields.specs.declared.params.Param.{Param as ReadParam}
+use Rattle.lat_machines.specs.values.Timing.{is_wide}
+use Rattle.lat_circuit.specs.Frames.{param_shown}
+
+-- the entry at a place decides where its code is 200
+pub wide_at : (ps : List ReadParam) (i : ℕ) (p : ReadParam) → i < length ps → p ≡ get_or ps i p
+    → is_wide (map param_shown (drop i ps)) ≡ cond (nat_eq p.code 200) (is_wide (record { code = 200; bytes = p.bytes } ∷ [])) (is_wide (map param_shown (drop (suc i) ps)))
+wide_at [] i p lt is = absurd (omega (arith, lt))
+wide_at (q ∷ ps) zero p lt is =
+    ap (λ (z : ReadParam). cond (nat_eq z.code 200) (is_wide (record { code = 200; bytes = z.bytes } ∷ [])) (is_wide (map param_shown ps))) (sym is)
+wide_at (q ∷ ps) (suc i) p lt is = wide_at ps i p (omega (arith, lt)) is
+
+pub min_again : (stated r a b : ℕ) → r ≡ min stated a → a ≡ b → min r b ≡ min stated b
+min_again stated r a b e f = omega (arith, e, f)
+
+-- what was and no longer is
+pub is_lost : (w i x y : Bool) → w ≡ x → i ≡ not y → (w && not i) ≡ (x && y)
+is_lost w i x y was is = ap (λ z. z && not i) was ∙ ap (λ z. x && not z) is ∙ ap (λ z. x && z) (twice y)
+  where
+    twice : (y : Bool) → not (not y) ≡ y
+    twice true = refl
+    twice false = refl

@@ -1,0 +1,30 @@
+use Rattle.std.proofs.Common.{sym, ap, subst, ◌∙◌}
+use Rattle.lat_base.specs.declared.heard.Heard.TheVariants as answers
+use Rattle.lat_circuit.specs.Kept.{Kept}
+use Rattle.lat_circuit.specs.Shown.{shown}
+use Rattle.lat_circuit.specs.Stands.{Stands}
+use Rattle.lat_circuit.specs.Hears.{hears_start, DidHear}
+use Rattle.lat_circuit.proofs.HeardStarts.{noted_at, replied_at, again_noted, again_replied}
+use Rattle.lat_circuit.proofs.circuit.Circuit.hear_start.Goals as goal
+
+pub returns-else-not-self-clause-did : goal.returns-else-not-self-clause-did
+returns-else-not-self-clause-did c =
+    let after = shown (noted_at c.self.inside c.args.now) in
+    subst (λ k. DidHear (hears_start c.args.from c.args.now) answers.Again k after c.args.out.now c.args.out.now) c.self.view_is (
+    again_noted c.self.inside c.args.from c.args.now c.args.out.now
+    (ap (λ (k : Kept). k.ended) c.self.view_is ∙ c.requires.lives)
+    c.if-not-self.false
+    (λ e st. sym (c.is_slave_of.ensures e (subst (λ k. Stands k e) c.self.view_is st)) ∙ c.if-not-is_slave_of.false)
+    )
+
+pub returns-then-not-self-clause-did : goal.returns-then-not-self-clause-did
+returns-then-not-self-clause-did c =
+    let after = shown (replied_at c.self.inside c.args.now) in
+    subst (λ k. DidHear (hears_start c.args.from c.args.now) answers.Again k after c.args.out.now c.push_start.new.out) c.self.view_is (
+    again_replied c.self.inside c.args.from c.args.now _ c.args.out.now c.push_start.new.out
+    (ap (λ (k : Kept). k.ended) c.self.view_is ∙ c.requires.lives)
+    c.if-not-self.true
+    (λ e st. sym (c.is_slave_of.ensures e (subst (λ k. Stands k e) c.self.view_is st)) ∙ c.if-not-is_slave_of.false)
+    c.reply_start.ensures
+    c.push_start.ensures
+    )

@@ -1,0 +1,33 @@
+use Rattle.std.proofs.Common.{true, ◌++◌, sym, ap, subst, ◌∙◌}
+use Rattle.lat_model.specs.ends.End.{wire_of, occasion}
+use Rattle.lat_model.specs.sessions.Packing.{pack}
+use Rattle.lat_link.specs.Payloads.{slots_as_text}
+use Rattle.lat_circuit.specs.Kept.{Kept}
+use Rattle.lat_circuit.specs.Stands.{Did}
+use Rattle.lat_circuit.proofs.Packs.{length_wire, texts_are}
+use Rattle.lat_circuit.proofs.Sends.{window_is, idle_did, busy_did}
+use Rattle.lat_circuit.proofs.circuit.Circuit.occasion.Goals as goal
+
+pub returns-then-slots-eq0-clause-did : goal.returns-then-slots-eq0-clause-did
+returns-then-slots-eq0-clause-did c =
+    let after = c.settle-then-slots-eq0.new in
+    let run = ap (λ (k : Kept). k.running) c.self.view_is ∙ c.requires.running in
+    subst (λ k. Did occasion k after.self c.args.out.now after.out) c.self.view_is (
+    idle_did c.self.inside c.pack-slots.new.self c.pack-slots.result after.self c.args.out.now after.out
+    (window_is c.self.inside true c.is_open.result run c.is_open.ensures.state c.if-not-is_open.false)
+    c.pack-slots.ensures.state c.pack-slots.ensures.count c.if-slots-eq0.true c.settle-then-slots-eq0.ensures.did
+    )
+
+pub returns-clause-did : goal.returns-clause-did
+returns-clause-did c =
+    let run = ap (λ (k : Kept). k.running) c.self.view_is ∙ c.requires.running in
+    subst (λ k. Did occasion k c.send_message.new.self c.args.out.now c.send_message.new.out) c.self.view_is (
+    busy_did c.self.inside c.pack-slots.new.self c.pack-slots.result c.send_message.new.self c.args.out.now c.send_message.new.out
+    (window_is c.self.inside true c.is_open.result run c.is_open.ensures.state c.if-not-is_open.false)
+    c.pack-slots.ensures.state c.pack-slots.ensures.count c.if-slots-eq0.false
+    (λ e st there.
+    let m = wire_of (pack c.self.inside.room e.half.sessions).slots in
+    c.send_message.ensures.did _ m there
+    (c.pack-slots.ensures.text e.half.sessions st.sessions ∙ ap (λ z. c.begin.new.payload ++ z) (texts_are m) ∙ ap (λ z. z ++ slots_as_text m) (c.begin.ensures.text e.half.link m st.link))
+    (length_wire (pack c.self.inside.room e.half.sessions).slots ∙ sym (c.pack-slots.ensures.count e.half.sessions st.sessions)))
+    )

@@ -1,0 +1,32 @@
+-- How a circuit begins.
+use Rattle.std.specs.Prelude.{◌≡◌, ℕ, ◌++◌, true, false, List, map, length}
+use Rattle.lat_base.specs.declared.outbox.OutFrame.{OutFrame}
+use Rattle.lat_model.specs.ends.End.{Step}
+use Rattle.lat_machines.specs.values.Messages.{StartInfo}
+use Rattle.lat_machines.specs.values.Timing.{agreed_by}
+use Rattle.lat_circuit.specs.declared.config.CircuitConfig.{CircuitConfig}
+use Rattle.lat_circuit.specs.Kept.{Facts, Kept}
+use Rattle.lat_circuit.specs.Frames.{timing_shown, frame_sent}
+use Rattle.lat_circuit.specs.Stands.{Stands}
+
+-- the facts of a master that was called, and of a slave that was made by this START
+abbrev pub facts_called : CircuitConfig → ℕ → Facts
+facts_called config id = record { config = config; id = id; master = true; peer = 0; wide = false }
+
+abbrev pub facts_answered : CircuitConfig → (id from : ℕ) → StartInfo → Facts
+facts_answered config id from info = record {
+  config = config;
+  id = id;
+  master = false;
+  peer = from;
+  wide = (agreed_by (timing_shown config.timing) info).wide;
+}
+
+-- The circuit stands for the end of this step, and the frames of the step went out. It has so many places for sessions
+pub record Begins (step : Step) (facts : Facts) (places now : ℕ) (k : Kept) (before after : List OutFrame) : Type 0 where
+  pub state : Stands k step.end
+  pub out : after ≡ before ++ map (frame_sent facts) step.sent
+  pub is : k.facts ≡ facts
+  pub side : k.sessions.master ≡ facts.master
+  pub room : length k.sessions.sessions ≡ places
+  pub moment : k.moments.now ≡ now

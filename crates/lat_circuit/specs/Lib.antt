@@ -1,0 +1,11 @@
+pub mod Kept
+pub mod Frames
+pub mod Stands
+pub mod Steps
+pub mod Shown
+pub mod Hears
+pub mod Applies
+pub mod Agrees
+pub mod Begins
+pub mod Told
+pub mod Times

@@ -1,0 +1,182 @@
+//! The STARTs and STOPs of a circuit. They are written without taking memory.
+
+ghost use Rattle.std.specs.Prelude.{◌≡◌, ◌+◌, ◌<◌, ◌≤◌, ◌++◌, [], ◌∷◌, length, map, false};
+ghost use Rattle.lat_base.specs.declared.outbox.Mark.TheVariants as marks;
+ghost use Rattle.lat_fields.specs.Params.{params_text};
+ghost use Rattle.lat_fields.specs.Payloads.{padded};
+ghost use Rattle.lat_frames.specs.Written.{message_text};
+ghost use Rattle.lat_frames.specs.MessageText.{numbers_text};
+ghost use Rattle.lat_link.specs.Payloads.{message_of, info_of, param_of};
+ghost use Rattle.lat_machines.specs.values.Timing.{wide_params};
+ghost use Rattle.lat_machines.specs.values.Messages.{StopMessage};
+ghost use Rattle.lat_model.specs.ends.End.{CallStart, ReplyStart, Stopped};
+ghost use Rattle.lat_circuit.specs.Frames.{start_info, start_message, message_sent};
+
+use crate::circuit::Circuit;
+use lat_base::{Mark, Name, OutBox, Payload};
+use lat_fields::{write_counted, write_number, write_padding};
+use lat_frames::write_plain_head;
+use lat_seq::Span;
+
+/// The types of circuit messages; see "Circuit messages" in docs/FORMATS.md.
+const START: u8 = 1;
+
+const STOP: u8 = 2;
+
+/// The greatest frame that an end takes.
+pub(crate) const FRAME_SIZE: u16 = 1500;
+
+/// The version of the protocol, and its change order.
+const VERSION: u8 = 5;
+
+const ECO: u8 = 1;
+
+/// The parameter that says that message numbers have two bytes, and its byte.
+pub(crate) const SPAN: u8 = 200;
+
+pub(crate) const WIDE: u8 = 2;
+
+/// A START of this program: what it states beside the size, the version and what is always 0.
+#[derive(Clone, Copy, Debug)]
+pub(crate) struct Start {
+    pub(crate) master: bool,
+    /// The circuit's id at the peer, 0 where it isn't known.
+    pub(crate) to: u16,
+    /// The circuit's id at this end.
+    pub(crate) from: u16,
+    pub(crate) sessions: u8,
+    pub(crate) extra: u8,
+    /// In 10 ms.
+    pub(crate) timer: u8,
+    /// In seconds.
+    pub(crate) keepalive: u8,
+    /// The node's name.
+    pub(crate) slave: Name,
+    /// The server's name.
+    pub(crate) name: Name,
+    /// Whether message numbers are to have two bytes.
+    pub(crate) wide: bool,
+}
+
+impl Start {
+    /// Writes it into an empty payload, with zeros up to 46 bytes.
+    pub(crate) fn write(&self, out: &mut Payload)
+        requires { out.old ≡ [] }
+        ensures { out.new ≡ padded (message_text (message_of (start_message self.now))) }
+    {
+        write_plain_head(START, self.master, false, self.to, self.from, out);
+        self.write_numbers(out);
+        write_counted(out, self.slave.bytes());
+        write_counted(out, self.name.bytes());
+        write_counted(out, &[]);
+        write_span(self.wide, out);
+        write_padding(out);
+    }
+
+    fn write_numbers(&self, out: &mut Payload)
+        requires { length out.old + 12 ≤ 1500 }
+        ensures { out.new ≡ out.old ++ numbers_text (info_of (start_info self.now)) }
+    {
+        write_number(out, FRAME_SIZE);
+        out.append(&[
+            VERSION,
+            ECO,
+            self.sessions,
+            self.extra,
+            self.timer,
+            self.keepalive,
+        ]);
+        out.append(&[0, 0, 0, 0]);
+    }
+}
+
+// The parameters of a START: the span of a wide circuit, and no other.
+fn write_span(wide: bool, out: &mut Payload)
+    requires { length out.old + 4 ≤ 1500 }
+    ensures { out.new ≡ out.old ++ params_text (map param_of (wide_params wide)) }
+{
+    if wide {
+        out.push(SPAN);
+        write_counted(out, &[WIDE]);
+    }
+    out.push(0);
+}
+
+/// Writes a STOP without text into an empty payload, with zeros up to 46 bytes.
+fn write_stop(master: bool, to: u16, from: u16, reason: u8, out: &mut Payload)
+    requires { out.old ≡ [] }
+    ensures { out.new ≡ padded (message_text (message_of (StopMessage master false to from reason []))) }
+{
+    write_plain_head(STOP, master, false, to, from, out);
+    out.push(reason);
+    write_counted(out, &[]);
+    write_padding(out);
+}
+
+impl Circuit {
+    /// The START of a master.
+    pub(crate) fn call_start(&self) -> Start
+        ensures { start_message result ≡ message_sent self.now.facts CallStart }
+    {
+        let ids = self.link.ids();
+        let timing = self.config.timing;
+        Start {
+            master: true,
+            to: ids.to,
+            from: ids.from,
+            sessions: timing.sessions,
+            extra: timing.extra,
+            timer: timing.timer,
+            keepalive: timing.keepalive,
+            slave: self.config.peer_name,
+            name: self.config.name,
+            wide: timing.wide,
+        }
+    }
+
+    /// The reply of a slave, which states no times.
+    pub(crate) fn reply_start(&self) -> Start
+        ensures { start_message result ≡ message_sent self.now.facts ReplyStart }
+    {
+        let ids = self.link.ids();
+        let timing = self.config.timing;
+        Start {
+            master: false,
+            to: ids.to,
+            from: ids.from,
+            sessions: timing.sessions,
+            extra: timing.extra,
+            timer: 0,
+            keepalive: 0,
+            slave: self.config.name,
+            name: self.config.peer_name,
+            wide: self.is_wide(),
+        }
+    }
+
+    /// Writes the STOP of this end into an empty payload.
+    pub(crate) fn write_stop(&self, reason: u8, out: &mut Payload)
+        requires { out.old ≡ [] }
+        ensures { out.new ≡ padded (message_text (message_of (message_sent self.now.facts (Stopped reason)))) }
+    {
+        let ids = self.link.ids();
+        write_stop(ids.master, ids.to, ids.from, reason, out);
+    }
+
+    /// Sends a START to the peer.
+    pub(crate) fn push_start(&self, start: Start, out: &mut OutBox)
+        requires { length out.old < 256 }
+        ensures { out.new ≡ out.old ++ record { to = self.now.facts.config.peer; payload = padded (message_text (message_of (start_message start))); circuit = self.now.facts.id; mark = marks.Plain } ∷ [] }
+    {
+        let mut payload = Payload::empty();
+        start.write(&mut payload);
+        self.push(payload, Mark::Plain, out);
+    }
+
+    /// Whether its message numbers have two bytes.
+    pub(crate) fn is_wide(&self) -> bool
+        ensures { result ≡ self.now.facts.wide }
+    {
+        matches!(self.link.span(), Span::Word)
+    }
+}

@@ -1,0 +1,156 @@
+//! What an end does at a time event or a RUN: it forms messages, sends them again, acknowledges, or ends.
+
+ghost use Rattle.std.specs.Prelude.{◌≡◌, ◌+◌, ◌<◌, ◌≤◌, ◌++◌, true, false, cond, List, length, map};
+ghost use Rattle.lat_model.specs.ends.End.{End, send_bare, settle, occasion, send_again, marked, send_start, finish, all_known};
+ghost use Rattle.lat_model.specs.numbers.Link.{again_frames, formed_frame};
+ghost use Rattle.lat_model.specs.sessions.Slots.{Slot};
+ghost use Rattle.lat_link.specs.Payloads.{head_size, frame_head, slots_as_text};
+ghost use Rattle.lat_circuit.specs.Frames.{frame_sent};
+ghost use Rattle.lat_circuit.specs.Stands.{Stands, Did};
+ghost use Rattle.lat_circuit.specs.Steps.{Keeps, form_slots};
+
+use crate::circuit::Circuit;
+use lat_base::{Mark, OutBox, Payload};
+
+impl Circuit {
+    /// Whether no message is unacknowledged.
+    pub(crate) fn all_known(&self) -> bool
+        ensures { (e : End) → Stands self.now e → result ≡ all_known e }
+    {
+        self.link.unacknowledged() == 0
+    }
+
+    /// Sends a RUN without slots, whose bit 0 is `ask`.
+    pub(crate) fn send_bare(&mut self, ask: bool, out: &mut OutBox)
+        requires { length out.old < 256 }
+        ensures did { Did (send_bare ask) self.old self.new out.old out.new }
+        ensures keeps { Keeps self.old self.new }
+        ensures most { length out.new ≤ length out.old + 1 }
+    {
+        let mut payload = Payload::empty();
+        self.link.bare(ask, &mut payload);
+        self.push(payload, Mark::Bare, out);
+        self.owed = false;
+        self.moments.sent_at = self.moments.now;
+    }
+
+    /// Sends the acknowledgement that is owed.
+    pub(crate) fn settle(&mut self, out: &mut OutBox)
+        requires { length out.old < 256 }
+        ensures did { Did settle self.old self.new out.old out.new }
+        ensures keeps { Keeps self.old self.new }
+        ensures most { length out.new ≤ length out.old + 1 }
+    {
+        if self.owed {
+            self.send_bare(false, out);
+        }
+    }
+
+    // The moment from which the second for repeats counts after a message is formed.
+    fn since_forming(&self) -> u64
+        ensures model { (e : End) → Stands self.now e → result ≡ cond (all_known e) e.moment e.since }
+        ensures past { result ≤ self.now.moments.now }
+    {
+        if self.all_known() {
+            self.moments.now
+        } else {
+            self.moments.since
+        }
+    }
+
+    // Forms the message whose slots stand in the payload behind its head, and sends it.
+    fn send_message(&mut self, slots: u8, mut payload: Payload, out: &mut OutBox)
+        requires room { length out.old < 256 }
+        requires running { self.old.running ≡ true }
+        requires open { self.old.link.sending.unacknowledged < self.old.link.sending.window }
+        requires head { head_size self.old.link.sending.span ≤ length payload }
+        ensures did { (e : End) (m : List Slot) → Stands self.old e → payload ≡ frame_head self.old.link.ids self.old.link.sending.span false (formed_frame e.half.link m) 0 ++ slots_as_text m → length m ≡ slots → Stands self.new (form_slots m e).end × (out.new ≡ out.old ++ map (frame_sent self.new.facts) (form_slots m e).sent) }
+        ensures keeps { Keeps self.old self.new }
+        ensures most { length out.new ≤ length out.old + 1 }
+    {
+        self.moments.since = self.since_forming();
+        self.link.form(&mut payload, slots);
+        self.push(payload, Mark::Fresh, out);
+        self.owed = false;
+        self.moments.sent_at = self.moments.now;
+    }
+
+    /// Forms a message where fewer than the window are unacknowledged and a slot is packed; else sends the acknowledgement that
+    /// is owed. The circuit must run. See "Occasions" in docs/PROTOCOL.md.
+    pub(crate) fn occasion(&mut self, out: &mut OutBox)
+        requires room { length out.old < 256 }
+        requires running { self.old.running ≡ true }
+        ensures did { Did occasion self.old self.new out.old out.new }
+        ensures keeps { Keeps self.old self.new }
+        ensures most { length out.new ≤ length out.old + 1 }
+    {
+        if !self.link.is_open() {
+            return self.settle(out);
+        }
+        let mut payload = Payload::empty();
+        self.link.begin(&mut payload);
+        let slots = self.sessions.pack(self.room, &mut payload);
+        if slots == 0 {
+            return self.settle(out);
+        }
+        self.send_message(slots, payload, out);
+    }
+
+    // Sends all unacknowledged messages again, oldest first.
+    fn repeat_all(&self, out: &mut OutBox)
+        requires { length out.old + 8 ≤ 256 }
+        ensures frames { (e : End) → Stands self.now e → out.new ≡ out.old ++ map (frame_sent self.now.facts) (marked (again_frames e.half.link)) }
+        ensures most { length out.new ≤ length out.old + 8 }
+    {
+        let count = self.link.unacknowledged();
+        for place in 0..count {
+            let mut payload = Payload::empty();
+            self.link.repeat(place as usize, &mut payload);
+            self.push(payload, Mark::Again(count - 1 - place), out);
+        }
+    }
+
+    /// A round: all unacknowledged messages go out again.
+    pub(crate) fn send_again(&mut self, out: &mut OutBox)
+        requires room { length out.old + 8 ≤ 256 }
+        requires rounds { self.old.rounds < 8 }
+        ensures did { Did send_again self.old self.new out.old out.new }
+        ensures keeps { Keeps self.old self.new }
+        ensures most { length out.new ≤ length out.old + 8 }
+    {
+        self.repeat_all(out);
+        self.owed = false;
+        self.moments.sent_at = self.moments.now;
+        self.moments.since = self.moments.now;
+        self.rounds += 1;
+    }
+
+    /// A round of a master that heard no reply: its START goes out again.
+    pub(crate) fn send_start(&mut self, out: &mut OutBox)
+        requires room { length out.old < 256 }
+        requires rounds { self.old.rounds < 8 }
+        ensures did { Did send_start self.old self.new out.old out.new }
+        ensures keeps { Keeps self.old self.new }
+        ensures most { length out.new ≤ length out.old + 1 }
+    {
+        self.push_start(self.call_start(), out);
+        self.moments.start_at = self.moments.now;
+        self.moments.sent_at = self.moments.now;
+        self.rounds += 1;
+    }
+
+    /// The circuit ends by this end itself, for this reason. The peer is told where its id is known.
+    pub(crate) fn finish(&mut self, reason: u8, out: &mut OutBox)
+        requires { length out.old < 256 }
+        ensures did { Did (finish reason) self.old self.new out.old out.new }
+        ensures keeps { Keeps self.old self.new }
+        ensures most { length out.new ≤ length out.old + 1 }
+    {
+        self.ended = Some(reason);
+        if self.link.ids().to != 0 {
+            let mut payload = Payload::empty();
+            self.write_stop(reason, &mut payload);
+            self.push(payload, Mark::Plain, out);
+        }
+    }
+}
