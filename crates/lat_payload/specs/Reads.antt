@@ -10,16 +10,11 @@ use Rattle.lat_frames.specs.Reading.{is_kind, message_read}
 use Rattle.lat_frames.specs.Written.{IsWritable as MessageIsWritable}
 use Rattle.lat_notices.specs.Reading.{is_notice, notice_read}
 use Rattle.lat_notices.specs.Texts.{NoticeText, IsWritable as NoticeIsWritable}
-use Rattle.lat_machines.specs.values.Frames as machines
-use Rattle.lat_machines.specs.values.Frames.{OfCircuit, OfNotice, Reading, Whole, Malformed}
+use Rattle.lat_machines.specs.values.Frames.{Reading, Whole, Malformed}
 use Rattle.lat_payload.specs.declared.value.Value.{Value}
 use Rattle.lat_payload.specs.declared.value.Value.TheVariants.{Circuit, Notice}
 use Rattle.lat_payload.specs.FieldNumbers.{field_number}
-use Rattle.lat_payload.specs.Shown.{message_shown, notice_shown}
-
-abbrev pub value_shown : Value → machines.Value
-value_shown (Circuit message) = OfCircuit (message_shown message)
-value_shown (Notice notice) = OfNotice (notice_shown notice)
+use Rattle.lat_payload.specs.Shown.{value_shown}
 
 -- a payload whose first bad field is this one
 abbrev pub malformed : Bad → Reading

@@ -15,6 +15,9 @@ use Rattle.lat_dir.specs.Stands.{announcement_shown}
 use Rattle.lat_queue.specs.Histories.{kept_in}
 use Rattle.lat_machines.specs.values.Messages.{Param, Head, StartInfo, Message, RunMessage, WideMessage, StartMessage, StopMessage}
 use Rattle.lat_machines.specs.values.Notices.{Action, Ask, Cancel, Outcome, KeptAs, Unknown, Command, Status, Solicit, Response, Notice, AnnouncementNotice, CommandNotice, StatusNotice, SolicitNotice, ResponseNotice}
+use Rattle.lat_machines.specs.values.Frames.{Value, OfCircuit, OfNotice}
+use Rattle.lat_payload.specs.declared.value.Value.{Value as ReadValue}
+use Rattle.lat_payload.specs.declared.value.Value.TheVariants as values
 
 abbrev pub param_shown : ReadParam → Param
 param_shown p = record { code = p.code; bytes = p.bytes }
@@ -82,3 +85,7 @@ notice_shown (read.Command c) = CommandNotice (command_shown c)
 notice_shown (read.Status s) = StatusNotice (status_shown s)
 notice_shown (read.Solicit s) = SolicitNotice (solicit_shown s)
 notice_shown (read.Response r) = ResponseNotice (response_shown r)
+
+abbrev pub value_shown : ReadValue → Value
+value_shown (values.Circuit message) = OfCircuit (message_shown message)
+value_shown (values.Notice notice) = OfNotice (notice_shown notice)
