@@ -30,7 +30,7 @@ pub record Kept : Type 0 where
   pub link : link.Kept
   pub sessions : Table
 
--- no moment lies behind the latest
+-- no moment is later than the latest one given
 pub record InTime (m : Moments) : Type 0 where
   pub due_at : m.due_at ≤ m.now
   pub heard_at : m.heard_at ≤ m.now

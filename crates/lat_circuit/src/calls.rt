@@ -43,7 +43,8 @@ impl Circuit {
     }
 
     /// Asks the peer for a session with a service, which may answer a request, and gives its id: the least that is free. `Full`
-    /// exactly where the agreed number of sessions is held. At a master alone. The circuit must live, here and below.
+    /// exactly where at least the agreed number of sessions is held. At a master alone. The circuit must live, here and below. See
+    /// "Sessions" in docs/PROTOCOL.md.
     pub fn connect(&mut self, service: &Name, request: Option<u16>) -> Result<u8, SessionFault>
         requires lives { self.old.ended ≡ None }
         requires master { self.old.sessions.master ≡ true }

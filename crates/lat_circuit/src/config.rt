@@ -23,8 +23,10 @@ pub struct Timing {
 /// The two ends of a circuit, by address and name, and the numbers of its own end.
 #[derive(Clone, Copy, Debug)]
 pub struct CircuitConfig {
+    /// The addresses of this end and of the other.
     pub own: Addr,
     pub peer: Addr,
+    /// The names that STARTs state: of this end and of the other.
     pub name: Name,
     pub peer_name: Name,
     pub timing: Timing,

@@ -2,7 +2,7 @@
 
 ghost use Rattle.std.specs.Prelude.{◌≡◌};
 
-/// Moments of one end of a circuit, in milliseconds. None lies behind `now`, the latest that it was given.
+/// Moments of one end of a circuit, in milliseconds. None is later than `now`, the latest that it was given.
 #[derive(Clone, Copy, Debug)]
 pub struct Moments {
     pub now: u64,

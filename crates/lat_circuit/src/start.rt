@@ -18,22 +18,25 @@ use lat_fields::{write_counted, write_number, write_padding};
 use lat_frames::write_plain_head;
 use lat_seq::Span;
 
-/// The types of circuit messages; see "Circuit messages" in docs/FORMATS.md.
+/// The type of a START; see "Circuit messages" in docs/FORMATS.md.
 const START: u8 = 1;
 
+/// The type of a STOP.
 const STOP: u8 = 2;
 
 /// The greatest frame that an end takes.
 pub(crate) const FRAME_SIZE: u16 = 1500;
 
-/// The version of the protocol, and its change order.
+/// The version of the protocol.
 const VERSION: u8 = 5;
 
+/// Its change order.
 const ECO: u8 = 1;
 
-/// The parameter that says that message numbers have two bytes, and its byte.
+/// The code of the parameter that says how many bytes message numbers have.
 pub(crate) const SPAN: u8 = 200;
 
+/// Its byte where they have two.
 pub(crate) const WIDE: u8 = 2;
 
 /// A START of this program: what it states beside the size, the version and what is always 0.

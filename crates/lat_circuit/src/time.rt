@@ -14,9 +14,10 @@ use lat_base::OutBox;
 /// How many rounds of repeats there are without progress. In place of one more the circuit ends.
 const ROUNDS: u8 = 8;
 
-/// The reasons for which an end ends its circuit at a time event.
+/// The reason of a circuit that ends since it carries no session.
 const NO_USE: u8 = 3;
 
+/// The reason of one that ends since the peer no longer answers.
 const NO_ANSWER: u8 = 6;
 
 /// What a circuit did at a time event.
