@@ -1,0 +1,201 @@
+//! One end of a circuit, and its calls in words.
+
+ghost use Rattle.std.specs.Prelude.{◌≡◌};
+
+use crate::print::{
+    count_onto, done_onto, due_onto, end_onto, fault_word, heard_onto, items_onto, life_onto,
+    maybe_onto, state_word,
+};
+use crate::words::{byte, bytes, number, short, word};
+use lat_base::{Item, Memory, Name, OutBox, SessionState};
+use lat_circuit::Circuit;
+use lat_frames::{Message, message_ok};
+use std::alloc::{AllocError, Global};
+
+/// A circuit whose sessions are on its own side.
+#[derive(Drop)]
+pub struct End {
+    pub circuit: Circuit,
+    ghost side: { circuit.sessions.master ≡ circuit.facts.master },
+}
+
+const NOT_NOW: &str = "not now\n";
+
+impl End {
+    /// Gives it a moment.
+    pub fn time(
+        &mut self,
+        now: u64,
+        out: &mut OutBox,
+        text: &mut String,
+    ) -> Result<(), AllocError> {
+        if out.len() > 240 || !self.circuit.lives() || now < self.circuit.moment() {
+            return text.push_str(NOT_NOW);
+        }
+        let due = self.circuit.time(now, out);
+        due_onto(text, due)
+    }
+
+    /// Hears a message.
+    pub fn hear(
+        &mut self,
+        message: &Message,
+        now: u64,
+        out: &mut OutBox,
+        text: &mut String,
+    ) -> Result<(), AllocError> {
+        if out.len() > 240 || !self.circuit.lives() || now < self.circuit.moment() {
+            return text.push_str(NOT_NOW);
+        }
+        if !message_ok(message) {
+            return text.push_str("not writable\n");
+        }
+        let heard = self.circuit.heard(message, now, out);
+        heard_onto(text, heard)
+    }
+
+    fn connect(&mut self, line: &str, text: &mut String) -> Result<(), AllocError> {
+        let Ok(service) = Name::read(word(line, 1).as_bytes()) else {
+            return text.push_str("no name\n");
+        };
+        if !self.circuit.lives() || !self.circuit.is_master() {
+            return text.push_str(NOT_NOW);
+        }
+        match self.circuit.connect(&service, None) {
+            Ok(id) => write!(text, "connected {id}\n"),
+            Err(fault) => text.push_str(fault_word(fault)),
+        }
+    }
+
+    fn answer(&mut self, id: u8, text: &mut String) -> Result<(), AllocError> {
+        if !self.circuit.lives() || self.circuit.state(id) != SessionState::Asked {
+            return text.push_str(NOT_NOW);
+        }
+        self.circuit.answer_session(id);
+        text.push_str("done\n")
+    }
+
+    fn reject(&mut self, id: u8, reason: u8, text: &mut String) -> Result<(), AllocError> {
+        if reason > 15 || !self.circuit.lives() || self.circuit.state(id) != SessionState::Asked {
+            return text.push_str(NOT_NOW);
+        }
+        self.circuit.reject(id, reason);
+        text.push_str("done\n")
+    }
+
+    fn put(&mut self, id: u8, bytes: &[u8], text: &mut String) -> Result<(), AllocError> {
+        if !self.circuit.lives() {
+            return text.push_str(NOT_NOW);
+        }
+        let answer = self.circuit.put(id, bytes);
+        count_onto(text, "put", answer)
+    }
+
+    fn set(&mut self, id: u8, bytes: &[u8], text: &mut String) -> Result<(), AllocError> {
+        let [flag, a, b, c, d] = *bytes else {
+            return text.push_str("no setting\n");
+        };
+        if !self.circuit.lives() {
+            return text.push_str(NOT_NOW);
+        }
+        let answer = self.circuit.set(id, [flag, a, b, c, d]);
+        done_onto(text, answer)
+    }
+
+    fn take(&mut self, alloc: Global, id: u8, most: u16, text: &mut String) -> Result<(), Memory> {
+        let mut items = vec![in alloc; Item::Byte(0); usize::from(most)]?;
+        if !self.circuit.lives() {
+            return Ok(text.push_str(NOT_NOW)?);
+        }
+        match self.circuit.take(id, &mut items) {
+            Ok(count) => {
+                write!(text, "took {count}")?;
+                items_onto(alloc, text, &items[..count])?;
+            }
+            Err(fault) => text.push_str(fault_word(fault))?,
+        }
+        Ok(())
+    }
+
+    fn attend(&mut self, id: u8, flag: u8, text: &mut String) -> Result<(), AllocError> {
+        if !self.circuit.lives() {
+            return text.push_str(NOT_NOW);
+        }
+        let answer = self.circuit.attend(id, flag);
+        done_onto(text, answer)
+    }
+
+    fn close(&mut self, id: u8, text: &mut String) -> Result<(), AllocError> {
+        if !self.circuit.lives() {
+            return text.push_str(NOT_NOW);
+        }
+        let answer = self.circuit.close(id);
+        done_onto(text, answer)
+    }
+
+    // The ask of the least id.
+    fn asked(&self, text: &mut String) -> Result<(), AllocError> {
+        match self.circuit.asked() {
+            Some(asked) => {
+                let id = asked.id;
+                write!(text, "asked {id}\n")
+            }
+            None => text.push_str("none\n"),
+        }
+    }
+
+    /// What it answers to a command that names no end: the calls that one end alone has.
+    pub fn own_call(&mut self, line: &str, text: &mut String) -> Result<(), AllocError> {
+        let id = byte(line, 1);
+        match word(line, 0) {
+            "connect" => self.connect(line, text),
+            "answer" => self.answer(id, text),
+            "reject" => self.reject(id, byte(line, 2), text),
+            _ => self.asked(text),
+        }
+    }
+
+    /// What it answers to a command that names it and a session.
+    pub fn session_call(
+        &mut self,
+        alloc: Global,
+        line: &str,
+        text: &mut String,
+    ) -> Result<(), Memory> {
+        let id = byte(line, 2);
+        match word(line, 0) {
+            "put" => self.put(id, &bytes(alloc, line, 3)?, text)?,
+            "fill" => {
+                let filling = vec![in alloc; 0x61; usize::from(short(line, 3))]?;
+                self.put(id, &filling, text)?;
+            }
+            "set" => self.set(id, &bytes(alloc, line, 3)?, text)?,
+            "attend" => self.attend(id, byte(line, 3), text)?,
+            "take" => self.take(alloc, id, short(line, 3), text)?,
+            "close" => self.close(id, text)?,
+            _ => self.tell(line, id, text)?,
+        }
+        Ok(())
+    }
+
+    // What it tells of a session, or of itself.
+    fn tell(&self, line: &str, id: u8, text: &mut String) -> Result<(), AllocError> {
+        match word(line, 0) {
+            "state" => text.push_str(state_word(self.circuit.state(id))),
+            "mark" => maybe_onto(text, self.circuit.mark(id)),
+            "waiting" => {
+                let waiting = self.circuit.waiting(id);
+                write!(text, "{waiting}\n")
+            }
+            "totals" => {
+                let (given, used) = self.circuit.totals(id);
+                write!(text, "given {given} used {used}\n")
+            }
+            "ended" => end_onto(text, self.circuit.ended(id)),
+            "peer" => maybe_onto(text, Some(self.circuit.peer(id))),
+            "held" => maybe_onto(text, Some(self.circuit.held())),
+            "lives" => life_onto(text, self.circuit.ended_by()),
+            _ => text.push_str("no command\n"),
+        }
+    }
+}

@@ -1,0 +1,64 @@
+//! Runs a written script over the two ends of a circuit, and prints what each call answers. Its stored run (`stdin`, `stdout`)
+//! is how the worked examples of circuits and sessions are seen to hold: what stands in `stdout` was worked out by hand from
+//! the rules in docs/PROTOCOL.md.
+//!
+//! A line of the script is a command, words with a blank between them. A line without a word and a line that begins with `#`
+//! are printed as they are; of a command the line itself is printed behind `> `, and then what it answers. The ends are `m`,
+//! the master, and `s`, the slave. Moments are milliseconds. A word that isn't there or isn't a number counts as 0, a number
+//! that is too large as the greatest one.
+//!
+//! | Command | Does |
+//! |---|---|
+//! | `ends TIMER KEEPALIVE SESSIONS EXTRA CEILING byte` (or `word`) | forgets all, and says what both ends state in their STARTs |
+//! | `call ID` | makes the master, with this id of the circuit, at moment 0 |
+//! | `room N` | a circuit that is called connects so many sessions; its memory goes into a new call, which tells how many it holds |
+//! | `deliver N [T]` | hands frame N to the end that it was not made by, at that end's moment or at T |
+//! | `hear E HEX [T]` | hands this payload to an end as from its peer |
+//! | `time E T` | gives an end a moment |
+//! | `connect NAME`, `asked`, `answer ID`, `reject ID R` | the calls of the master, and of the slave |
+//! | `put E ID HEX`, `fill E ID N`, `set E ID HEX`, `attend E ID FLAG`, `take E ID N`, `close E ID` | the calls of both; `fill` puts N bytes 61 hex |
+//! | `state E ID`, `mark E ID`, `waiting E ID`, `totals E ID`, `ended E ID`, `peer E ID`, `held E`, `lives E` | what an end tells |
+//! | `rounds N SIZE TAKE` | so many times: the master puts SIZE bytes at session 1, both ends are given a moment 80 ms on, each frame is delivered twice, and the slave takes TAKE items of its session 1; tells how many messages and items came, and whether the items are the bytes that were put, in order |
+//!
+//! A START that the slave's place hears, while no slave lives there, makes a slave of id 1. Frames are numbered from 0 in the
+//! order in which they are made, at either end; those of `rounds` aren't kept. Of each the program prints its number and its
+//! mark (`fresh`, `again` with how far its number lies below the newest, `bare`, `plain`), and then what `lat show` prints of it.
+//! A call whose conditions don't hold is answered `not now`, one of an end that isn't there `no circuit`.
+#![tactic(auto)]
+
+mod end;
+mod make;
+mod print;
+mod rounds;
+mod script;
+mod words;
+
+use lat_base::{Memory, StdSink, StdSource, read_all, write_all};
+use script::played;
+use std::alloc::Global;
+use std::io;
+use std::process::ExitCode;
+
+const INPUT_BYTES: usize = 16_777_216;
+
+fn text_of(alloc: Global, input: &[u8]) -> Result<String, Memory> {
+    match str::from_utf8(input) {
+        Ok(script) => played(alloc, script),
+        Err(_) => Ok(String::from_str(alloc, "no text\n")?),
+    }
+}
+
+fn main(rt: HostRuntime) -> ExitCode {
+    let mut source = StdSource::new(rt.stdin());
+    let Ok(input) = read_all(rt.alloc(), &mut source, INPUT_BYTES) else {
+        return ExitCode::from(4);
+    };
+    let Ok(text) = text_of(rt.alloc(), &input) else {
+        return ExitCode::from(9);
+    };
+    let mut sink = StdSink::new(io::writer(&rt));
+    match write_all(&mut sink, text.as_bytes()) {
+        Ok(()) => ExitCode::from(0),
+        Err(_) => ExitCode::from(5),
+    }
+}

@@ -1,0 +1,160 @@
+//! Rounds of data from the master to the slave, in which each frame is delivered twice.
+
+use crate::end::End;
+use lat_base::{Heard, Item, Memory, OutBox};
+use lat_frames::{FrameFault, message_ok, read_message};
+use std::alloc::Global;
+
+/// How many bytes are put in a round, and how many items are taken.
+#[derive(Clone, Copy)]
+pub struct Round {
+    pub size: u8,
+    pub take: u16,
+}
+
+// What came so far.
+#[derive(Clone, Copy)]
+struct Came {
+    put: u64,
+    messages: u64,
+    items: u64,
+    // Items that weren't the bytes that were put, in order.
+    wrong: u64,
+}
+
+// The byte that is put as the one of this number.
+fn byte_of(number: u64) -> u8 {
+    (number % 251) as u8
+}
+
+// Puts the next bytes at the master's session 1.
+fn put_next(master: &mut End, size: u8, came: &mut Came) {
+    let mut bytes = [0; 255];
+    for i in 0..size {
+        bytes[usize::from(i)] = byte_of(came.put.wrapping_add(u64::from(i)));
+    }
+    if !master.circuit.lives() {
+        return;
+    }
+    if let Ok(count) = master.circuit.put(1, &bytes[..usize::from(size)]) {
+        came.put = came.put.wrapping_add(count as u64);
+    }
+}
+
+// Takes items of the slave's session 1, and looks at each.
+fn take_next(slave: &mut End, items: &mut [Item], came: &mut Came) {
+    if !slave.circuit.lives() {
+        return;
+    }
+    let Ok(count) = slave.circuit.take(1, items) else {
+        return;
+    };
+    for item in &items[..count] {
+        if *item != Item::Byte(byte_of(came.items)) {
+            came.wrong = came.wrong.saturating_add(1);
+        }
+        came.items = came.items.wrapping_add(1);
+    }
+}
+
+// Gives an end a moment.
+fn pass(end: &mut End, now: u64, out: &mut OutBox) {
+    if out.len() <= 240 && end.circuit.lives() && end.circuit.moment() <= now {
+        let _ = end.circuit.time(now, out);
+    }
+}
+
+// Hands one payload to an end.
+fn hand(
+    alloc: Global,
+    payload: &[u8],
+    end: &mut End,
+    now: u64,
+    back: &mut OutBox,
+) -> Result<bool, Memory> {
+    let message = match read_message(alloc, payload) {
+        Ok(message) => message,
+        Err(FrameFault::Bad(_)) => return Ok(false),
+        Err(FrameFault::Memory) => return Err(Memory),
+    };
+    if back.len() > 240
+        || !message_ok(&message)
+        || !end.circuit.lives()
+        || now < end.circuit.moment()
+    {
+        return Ok(false);
+    }
+    Ok(matches!(end.circuit.heard(&message, now, back), Heard::Taken(_)))
+}
+
+// Hands all frames to an end, each twice, and tells how many messages were taken.
+fn hand_all(
+    alloc: Global,
+    frames: &OutBox,
+    end: &mut End,
+    now: u64,
+    back: &mut OutBox,
+) -> Result<u64, Memory> {
+    let mut taken = 0u64;
+    for frame in frames.frames() {
+        for _ in 0..2 {
+            if hand(alloc, frame.payload.bytes(), end, now, back)? {
+                taken = taken.saturating_add(1);
+            }
+        }
+    }
+    Ok(taken)
+}
+
+// The later of two ends' moments, and 80 ms more.
+fn next_moment(master: &End, slave: &End) -> u64 {
+    master
+        .circuit
+        .moment()
+        .max(slave.circuit.moment())
+        .saturating_add(80)
+}
+
+/// Runs so many rounds and tells what came.
+pub fn rounds_onto(
+    alloc: Global,
+    master: &mut End,
+    slave: &mut End,
+    rounds: u64,
+    round: Round,
+    text: &mut String,
+) -> Result<(), Memory> {
+    let mut there = OutBox::make(alloc)?;
+    let mut back = OutBox::make(alloc)?;
+    let mut items = vec![in alloc; Item::Byte(0); usize::from(round.take)]?;
+    let mut came = Came {
+        put: 0,
+        messages: 0,
+        items: 0,
+        wrong: 0,
+    };
+    for _ in 0..rounds {
+        let now = next_moment(master, slave);
+        put_next(master, round.size, &mut came);
+        there.clear();
+        back.clear();
+        pass(master, now, &mut there);
+        let taken = hand_all(alloc, &there, slave, now, &mut back)?;
+        came.messages = came.messages.saturating_add(taken);
+        pass(slave, now, &mut back);
+        there.clear();
+        hand_all(alloc, &back, master, now, &mut there)?;
+        take_next(slave, &mut items, &mut came);
+    }
+    let Came {
+        put,
+        messages,
+        items,
+        wrong,
+    } = came;
+    write!(
+        text,
+        "put {put} messages {messages} items {items} wrong {wrong}\n"
+    )?;
+    Ok(())
+}
