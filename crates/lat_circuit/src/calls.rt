@@ -1,7 +1,7 @@
 //! The local calls on the sessions of a circuit. They are applied at the latest moment that it was given, and make no frame.
 //! After a refusal nothing has changed, and none takes memory.
 
-ghost use Rattle.std.specs.Prelude.{◌≡◌, ◌≤◌, ◌++◌, ◌&&◌, not, true, cond, map, length, drop, nat_eq, nat_lt, None, IfOk, if◌then◌else◌};
+ghost use Rattle.std.specs.Prelude.{◌≡◌, ◌≤◌, ◌++◌, ◌&&◌, not, true, cond, map, length, drop, min, nat_eq, nat_lt, None, IfOk, if◌then◌else◌};
 ghost use Rattle.lat_base.specs.declared.state.SessionState.TheVariants as states;
 ghost use Rattle.lat_model.specs.ends.End.{End, still, call_end};
 ghost use Rattle.lat_model.specs.ends.Timers.{note_empty};
@@ -9,7 +9,7 @@ ghost use Rattle.lat_model.specs.sessions.Calls.{put_count, take_count, took, Co
 ghost use Rattle.lat_model.specs.sessions.Session.{put_open, take_open, unframed};
 ghost use Rattle.lat_model.specs.sessions.Sessions.{named, held, least_free};
 ghost use Rattle.lat_stream.specs.Kept.{item_shown};
-ghost use Rattle.lat_session.specs.Table.{state_at};
+ghost use Rattle.lat_session.specs.Table.{state_at, waiting_at};
 ghost use Rattle.lat_circuit.specs.Stands.{Stands};
 ghost use Rattle.lat_circuit.specs.Steps.{Keeps};
 
@@ -148,7 +148,9 @@ impl Circuit {
         ensures items { (e : End) →
             Stands self.old e →
             out.new ≡ (if take_open (named e.half.sessions id) then map item_shown (took e.half.sessions id (length out.old)) ++ drop (take_count (named e.half.sessions id) (length out.old)) out.old else out.old) }
+        ensures count { IfOk result (λ n. n ≡ min (length out.old) (waiting_at self.old.sessions id)) }
         ensures most { IfOk result (λ n. n ≤ length out.old) }
+        ensures places { length out.new ≡ length out.old }
         ensures state { (e : End) → Stands self.old e → Stands self.new (note_empty e (still (call_end (Take id (length out.old)) e))).end }
         ensures keeps { Keeps self.old self.new }
         ensures ended { self.new.ended ≡ self.old.ended }

@@ -1,13 +1,16 @@
 //! What a circuit tells. No call takes memory.
 
-ghost use Rattle.std.specs.Prelude.{◌≡◌, ◌-◌, cond, length, is_none};
+ghost use Rattle.std.specs.Prelude.{◌≡◌, ◌-◌, cond, length, filter, false, is_none, None, Some, IfSome};
+ghost use Rattle.std.specs.Option.{is_some};
+ghost use Rattle.lat_base.specs.declared.state.SessionState.TheVariants as states;
+ghost use Rattle.lat_model.specs.Lists.{upwards};
 ghost use Rattle.lat_model.specs.ends.End.{End, lives};
-ghost use Rattle.lat_model.specs.sessions.Session.{peer, take_open};
+ghost use Rattle.lat_model.specs.sessions.Session.{state, peer, take_open, waits};
 ghost use Rattle.lat_model.specs.sessions.Sessions.{named, held};
 ghost use Rattle.lat_model.specs.sessions.Slots.{items, credits, costs};
-ghost use Rattle.lat_stream.specs.Kept.{told_total};
-ghost use Rattle.lat_session.specs.States.{asked_of};
-ghost use Rattle.lat_session.specs.Table.{state_at};
+ghost use Rattle.lat_stream.specs.Kept.{told_total, state_shown};
+ghost use Rattle.lat_session.specs.States.{asked_of, asked_at, is_asked};
+ghost use Rattle.lat_session.specs.Table.{state_at, waiting_at};
 ghost use Rattle.lat_circuit.specs.Agrees.{span_of};
 ghost use Rattle.lat_circuit.specs.Stands.{Stands};
 ghost use Rattle.lat_circuit.specs.Told.{session_state, session_end, circuit_end};
@@ -103,9 +106,38 @@ impl Circuit {
 
     /// The asked session with the least id, `None` where none is asked for.
     pub fn asked(&self) -> Option<Asked>
-        ensures { (e : End) → Stands self.now e → result ≡ asked_of e.half.sessions }
+        ensures model { (e : End) → Stands self.now e → result ≡ asked_of e.half.sessions }
+        ensures state { IfSome result (λ a. state_at self.now.sessions a.id ≡ states.Asked) }
     {
         self.sessions.asked()
+    }
+
+    /// How many sessions are asked for, also after the end of the circuit those that were.
+    pub fn asked_count(&self) -> u8
+        ensures model { (e : End) →
+            Stands self.now e →
+            result ≡ length (filter (λ id. is_asked (state_shown (state e.half.sessions.master (named e.half.sessions id)))) (upwards 0 64)) }
+        ensures slave { (e : End) →
+            Stands self.now e →
+            e.half.sessions.master ≡ false →
+            result ≡ length (filter (λ id. waits (named e.half.sessions id)) (upwards 0 64)) }
+    {
+        self.sessions.asked_count()
+    }
+
+    /// The session of an id where it is asked for, also after the end of the circuit where it was; else `None`.
+    pub fn asked_at(&self, id: u8) -> Option<Asked>
+        ensures value { is_some result ≡ is_asked (state_at self.now.sessions id) }
+        ensures id { IfSome result (λ a. a.id ≡ id) }
+        ensures model { (e : End) →
+            Stands self.now e →
+            result ≡ cond (is_asked (state_shown (state e.half.sessions.master (named e.half.sessions id)))) (Some (asked_at e.half.sessions id)) None }
+        ensures slave { (e : End) →
+            Stands self.now e →
+            e.half.sessions.master ≡ false →
+            is_some result ≡ waits (named e.half.sessions id) }
+    {
+        self.sessions.asked_at(id)
     }
 
     /// The state of the present or last session of an id; free after the end of the circuit.
@@ -150,7 +182,8 @@ impl Circuit {
 
     /// How many items `take` could give now, 0 where it would be refused, and after the end of the circuit.
     pub fn waiting(&self, id: u8) -> u16
-        ensures { (e : End) →
+        ensures value { result ≡ cond (is_none self.now.ended) (waiting_at self.now.sessions id) 0 }
+        ensures model { (e : End) →
             Stands self.now e →
             result ≡ cond (lives e) (cond (take_open (named e.half.sessions id)) (length (items (named e.half.sessions id).came) - (named e.half.sessions id).taken) 0) 0 }
     {

@@ -8,15 +8,11 @@ mod config;
 mod getters;
 mod heard;
 mod heard_run;
-#[cfg(test)]
-mod heard_tests;
 mod making;
 mod moments;
 mod room;
 mod start;
 mod steps;
-#[cfg(test)]
-mod tests;
 mod time;
 mod timers;
 
@@ -24,4 +20,5 @@ pub use circuit::Circuit;
 pub use config::{CircuitConfig, Timing};
 pub use lat_session::{Asked, SessionFault};
 pub use room::CircuitRoom;
+pub use start::refusal;
 pub use time::Due;

@@ -13,7 +13,7 @@ ghost use Rattle.lat_model.specs.ends.End.{CallStart, ReplyStart, Stopped};
 ghost use Rattle.lat_circuit.specs.Frames.{start_info, start_message, message_sent};
 
 use crate::circuit::Circuit;
-use lat_base::{Mark, Name, OutBox, Payload};
+use lat_base::{Addr, Mark, Name, OutBox, OutFrame, Payload};
 use lat_fields::{write_counted, write_number, write_padding};
 use lat_frames::write_plain_head;
 use lat_seq::Span;
@@ -38,6 +38,9 @@ pub(crate) const SPAN: u8 = 200;
 
 /// Its byte where they have two.
 pub(crate) const WIDE: u8 = 2;
+
+/// The reason of a STOP where resources are insufficient.
+const NO_RESOURCES: u8 = 7;
 
 /// A START of this program: what it states beside the size, the version and what is always 0.
 #[derive(Clone, Copy, Debug)]
@@ -114,6 +117,21 @@ fn write_stop(master: bool, to: u16, from: u16, reason: u8, out: &mut Payload)
     out.push(reason);
     write_counted(out, &[]);
     write_padding(out);
+}
+
+/// The STOP with which a node turns away a START that finds no circuit left. It goes to the sender's address, for the
+/// circuit's id there, and states no id of its own.
+pub fn refusal(to: Addr, circuit: u16) -> OutFrame
+    ensures { result ≡ record { to = to; payload = padded (message_text (message_of (StopMessage false false circuit 0 7 []))); circuit = 0; mark = marks.Plain } }
+{
+    let mut payload = Payload::empty();
+    write_stop(false, circuit, 0, NO_RESOURCES, &mut payload);
+    OutFrame {
+        to,
+        payload,
+        circuit: 0,
+        mark: Mark::Plain,
+    }
 }
 
 impl Circuit {

@@ -46,11 +46,11 @@ while_asked m s h =
     go false false false d false h = (refl, refl, refl, refl)
 
 -- ids past the table
-past_blank : (t : Table) (e : Sessions) (i : ℕ) → Stands t e → length t.sessions < i → named e i ≡ blank
+pub past_blank : (t : Table) (e : Sessions) (i : ℕ) → Stands t e → length t.sessions < i → named e i ≡ blank
 past_blank t e i st l = ap e.session (st.within i (inr l)) ∙ st.good.none
 
 -- what is counted or sought among the kept sessions, among those of the state
-here : (t : Table) (e : Sessions) → Stands t e → t.sessions ≡ map (λ id. kept_of e.master e.ceiling (named e id)) (upwards 0 (length t.sessions))
+pub here : (t : Table) (e : Sessions) → Stands t e → t.sessions ≡ map (λ id. kept_of e.master e.ceiling (named e id)) (upwards 0 (length t.sessions))
 here t e st = ap (λ (z : Table). z.sessions) st.is
 
 pub held_is : (t : Table) (e : Sessions) → Stands t e → count_by (λ (k : Kept). not (is_free k.state)) t.sessions ≡ held e

@@ -24,3 +24,4 @@ pub mod HearRoom
 pub mod HearReply
 pub mod HearStart
 pub mod HearAsked
+pub mod AskedIds

@@ -6,6 +6,7 @@ use Rattle.lat_model.specs.Lists.{upwards, keep}
 use Rattle.lat_model.specs.sessions.Session.{Session, peer, waits, rejecting}
 use Rattle.lat_model.specs.sessions.Sessions.{Sessions, named}
 use Rattle.lat_stream.specs.Kept.{Kept, kept_of}
+use Rattle.lat_stream.specs.Steps.{can_take}
 use Rattle.lat_session.specs.declared.ask.Ask.{Ask}
 use Rattle.lat_session.specs.declared.ask.Ask.TheVariants.{Waits, Rejected}
 
@@ -28,6 +29,14 @@ state_in (Some k) = k.state
 
 abbrev pub state_at : Table → ℕ → SessionState
 state_at t id = state_in (session_at t id)
+
+-- how many items may be taken; 0 where no take is
+abbrev pub waiting_in : Option Kept → ℕ
+waiting_in None = 0
+waiting_in (Some k) = cond (can_take k) (length k.heard) 0
+
+abbrev pub waiting_at : Table → ℕ → ℕ
+waiting_at t id = waiting_in (session_at t id)
 
 -- the same side, ceiling and number of ids
 abbrev pub SameEnd : (old new : Table) → Type 0

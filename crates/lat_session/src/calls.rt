@@ -1,13 +1,13 @@
 //! The local calls. After a refusal nothing has changed, and none takes memory.
 
-ghost use Rattle.std.specs.Prelude.{◌≡◌, ◌≤◌, ◌++◌, ◌&&◌, cond, true, map, length, drop, nat_lt, not, filter, vec_capacity, IfOk, if◌then◌else◌};
+ghost use Rattle.std.specs.Prelude.{◌≡◌, ◌≤◌, ◌++◌, ◌&&◌, cond, true, map, length, drop, min, nat_lt, not, filter, vec_capacity, IfOk, if◌then◌else◌};
 ghost use Rattle.lat_base.specs.declared.state.SessionState.TheVariants as states;
 ghost use Rattle.lat_model.specs.sessions.Calls.{call, put_count, take_count, took, Connect, Put, Set, Attend, Take, Close, Answer, Refuse};
 ghost use Rattle.lat_model.specs.sessions.Session.{put_open, take_open, unframed};
 ghost use Rattle.lat_model.specs.sessions.Sessions.{Sessions as States, named, held, least_free};
 ghost use Rattle.lat_stream.specs.Kept.{item_shown};
 ghost use Rattle.lat_session.specs.Stands.{Stands};
-ghost use Rattle.lat_session.specs.Table.{state_at, waits_as, SameEnd};
+ghost use Rattle.lat_session.specs.Table.{state_at, waiting_at, waits_as, SameEnd};
 
 use crate::ask::Ask;
 use crate::table::Sessions;
@@ -16,7 +16,7 @@ use lat_stream::SessionFault;
 
 impl Sessions {
     /// Asks the peer for a session with a service, which may answer a request, and gives its id: the least that is free.
-    /// `Full` exactly where the agreed number of sessions is held. At a master alone.
+    /// `Full` exactly where at least the agreed number of sessions is held. At a master alone.
     pub fn connect(&mut self, service: &Name, request: Option<u16>) -> Result<u8, SessionFault>
         requires { self.old.master ≡ true }
         ensures answer { (e : States) →
@@ -136,7 +136,9 @@ impl Sessions {
             else out.old) }
         ensures state { (e : States) → Stands self.old e → Stands self.new (call e (Take id (length out.old))) }
         ensures same { SameEnd self.old self.new }
+        ensures count { IfOk result (λ n. n ≡ min (length out.old) (waiting_at self.old id)) }
         ensures most { IfOk result (λ n. n ≤ length out.old) }
+        ensures places { length out.new ≡ length out.old }
     {
         match self.place(id) {
             Some(at) => {

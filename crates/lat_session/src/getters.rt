@@ -1,14 +1,17 @@
 //! What the table tells of its sessions. No call takes memory. Of an id that no session had, each tells that there is
 //! none.
 
-ghost use Rattle.std.specs.Prelude.{◌≡◌, ◌+◌, ◌-◌, ◌<◌, ◌≤◌, cond, true, length, position, count_by, not, MatchOption};
-ghost use Rattle.lat_model.specs.sessions.Session.{state, peer, take_open};
+ghost use Rattle.std.specs.Prelude.{◌≡◌, ◌+◌, ◌-◌, ◌<◌, ◌≤◌, cond, true, length, position, count_by, filter, false, not, MatchOption, IfSome};
+ghost use Rattle.std.specs.Option.{is_some};
+ghost use Rattle.lat_base.specs.declared.state.SessionState.TheVariants as states;
+ghost use Rattle.lat_model.specs.Lists.{upwards};
+ghost use Rattle.lat_model.specs.sessions.Session.{state, peer, take_open, waits};
 ghost use Rattle.lat_model.specs.sessions.Sessions.{Sessions as States, named, held};
 ghost use Rattle.lat_model.specs.sessions.Slots.{items, credits, costs};
 ghost use Rattle.lat_stream.specs.Kept.{Kept, state_shown, told_total, end_of};
 ghost use Rattle.lat_session.specs.Stands.{Stands};
 ghost use Rattle.lat_session.specs.States.{is_free, is_asked, asked_at, asked_of};
-ghost use Rattle.lat_session.specs.Table.{session_at, state_at};
+ghost use Rattle.lat_session.specs.Table.{session_at, state_at, waiting_at};
 
 use crate::table::Sessions;
 use lat_base::{Name, SessionEnd, SessionState};
@@ -67,7 +70,8 @@ impl Sessions {
 
     /// How many items `take` could give now, 0 where it is refused.
     pub fn waiting(&self, id: u8) -> u16
-        ensures { (e : States) →
+        ensures value { result ≡ waiting_at self.now id }
+        ensures model { (e : States) →
             Stands self.now e →
             result ≡ cond (take_open (named e id)) (length (items (named e id).came) - (named e id).taken) 0 }
     {
@@ -120,18 +124,51 @@ impl Sessions {
 
     /// The asked session with the least id, `None` where none is asked for.
     pub fn asked(&self) -> Option<Asked>
-        ensures { (e : States) → Stands self.now e → result ≡ asked_of e }
+        ensures model { (e : States) → Stands self.now e → result ≡ asked_of e }
+        ensures state { IfSome result (λ a. state_at self.now a.id ≡ states.Asked) }
     {
         match self.first_asked() {
-            Some(at) => self.asked_at(at),
+            Some(at) => self.asked_here(at),
             None => None,
         }
     }
 
+    /// How many sessions are asked for.
+    pub fn asked_count(&self) -> u8
+        ensures model { (e : States) →
+            Stands self.now e →
+            result ≡ length (filter (λ id. is_asked (state_shown (state e.master (named e id)))) (upwards 0 64)) }
+        ensures slave { (e : States) →
+            Stands self.now e →
+            e.master ≡ false →
+            result ≡ length (filter (λ id. waits (named e id)) (upwards 0 64)) }
+    {
+        self.count_asked()
+    }
+
+    /// The session of an id where it is asked for, else `None`.
+    pub fn asked_at(&self, id: u8) -> Option<Asked>
+        ensures value { is_some result ≡ is_asked (state_at self.now id) }
+        ensures id { IfSome result (λ a. a.id ≡ id) }
+        ensures model { (e : States) →
+            Stands self.now e →
+            result ≡ cond (is_asked (state_shown (state e.master (named e id)))) (Some (asked_at e id)) None }
+        ensures slave { (e : States) → Stands self.now e → e.master ≡ false → is_some result ≡ waits (named e id) }
+    {
+        let at = self.place(id)?;
+        if is_asked(&self.sessions[at]) {
+            self.asked_here(at)
+        } else {
+            None
+        }
+    }
+
     // The asked session at a place.
-    fn asked_at(&self, at: usize) -> Option<Asked>
+    fn asked_here(&self, at: usize) -> Option<Asked>
         requires { at < length self.now.sessions }
-        ensures { (e : States) →
+        ensures value { state_at self.now (at + 1) ≡ states.Asked → is_some result ≡ true }
+        ensures id { IfSome result (λ a. a.id ≡ at + 1) }
+        ensures model { (e : States) →
             Stands self.now e →
             is_asked (state_shown (state e.master (named e (at + 1)))) ≡ true →
             result ≡ Some (asked_at e (at + 1)) }
@@ -152,6 +189,15 @@ impl Sessions {
         self.sessions
             .iter()
             .filter(|session| !is_free(session))
+            .count() as u8
+    }
+
+    fn count_asked(&self) -> u8
+        ensures { result ≡ count_by (λ (k : Kept). is_asked k.state) self.now.sessions }
+    {
+        self.sessions
+            .iter()
+            .filter(|session| is_asked(session))
             .count() as u8
     }
 

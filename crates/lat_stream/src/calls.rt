@@ -156,6 +156,7 @@ impl Stream {
             out.new ≡ (if take_open s
             then map item_shown (take (take_count s (length out.old)) (drop s.taken (items s.came))) ++ drop (take_count s (length out.old)) out.old
             else out.old) }
+        ensures count { IfOk result (λ n. n ≡ min (length out.old) (cond (can_take self.old) (length self.old.heard) 0)) }
         ensures most { IfOk result (λ n. n ≤ length out.old) }
         ensures places { length out.new ≡ length out.old }
     {

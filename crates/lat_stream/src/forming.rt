@@ -1,12 +1,14 @@
 //! The slots that a session forms.
 
-ghost use Rattle.std.specs.Prelude.{◌≡◌, ℕ, List, ◌+◌, ◌<◌, ◌≤◌, false, ◌++◌, ◌||◌, ◌&&◌, length, take, drop, min, nat_lt, nat_le, slice_get, None};
+ghost use Rattle.std.specs.Prelude.{◌≡◌, ◌≢◌, ℕ, List, ◌+◌, ◌<◌, ◌≤◌, false, ◌++◌, ◌||◌, ◌&&◌, length, take, drop, min, nat_lt, nat_le, slice_get, None};
 ghost use Rattle.circular_buffer.specs.Buffer.{buffer};
+ghost use Rattle.lat_base.specs.declared.state.SessionState.TheVariants as states;
 ghost use Rattle.lat_model.specs.Lists.{is_empty};
 ghost use Rattle.lat_model.specs.sessions.Offers as offers;
 ghost use Rattle.lat_model.specs.sessions.Slots as sessions;
 ghost use Rattle.lat_model.specs.sessions.Session.{Session};
 ghost use Rattle.lat_stream.specs.declared.forming.Turn.TheVariants as turns;
+ghost use Rattle.lat_stream.specs.declared.opening.Opening.{Opening};
 ghost use Rattle.lat_stream.specs.Does.{Does, reject_due};
 ghost use Rattle.lat_stream.specs.Kept.{kept_of};
 ghost use Rattle.lat_stream.specs.Sound.{Sound};
@@ -84,7 +86,8 @@ impl Stream {
 
     // What it sends next.
     fn turn(&self) -> Turn
-        ensures { result ≡ turn_of self.now }
+        ensures value { result ≡ turn_of self.now }
+        ensures start { (opening : Opening) → result ≡ turns.Start opening → self.now.state ≢ states.Asked }
     {
         match (self.state, self.start) {
             (SessionState::Calling | SessionState::Live | SessionState::Closing, Some(opening)) =>
@@ -147,7 +150,8 @@ impl Stream {
         room: u16,
         out: &mut Payload,
     ) -> Formed
-        requires { length out.old + room ≤ 1500 }
+        requires room { length out.old + room ≤ 1500 }
+        requires answered { self.old.state ≢ states.Asked }
         ensures meets { Meets (offers.fit room (start_slot master id self.old opening.now)) (record (gave self.old) { start = None }) self.old self.new out.old out.new result }
         ensures room { (length out.old ≤ length out.new) × (length out.new ≤ length out.old + room) }
     {

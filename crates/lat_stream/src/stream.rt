@@ -1,6 +1,8 @@
 //! What one end keeps of one session.
 
 ghost use Rattle.std.specs.Prelude.{◌≡◌, ◌≢◌, ◌≤◌, ◌-◌, Bool, true, false, ℕ, Some, length, cond, IfOk};
+ghost use Rattle.std.specs.Option.{is_some};
+ghost use Rattle.lat_base.specs.declared.state.SessionState.TheVariants as states;
 ghost use Rattle.lat_model.specs.sessions.Session.{Session, blank, state, peer, take_open};
 ghost use Rattle.lat_model.specs.sessions.Slots.{items, credits, costs};
 ghost use Rattle.lat_stream.specs.Begins.{called, asked};
@@ -49,7 +51,9 @@ pub struct Stream {
 }
 
 impl Model for Stream {
-    ghost use Rattle.std.specs.Prelude.{◌≡◌, ◌≤◌, length};
+    ghost use Rattle.std.specs.Prelude.{◌≡◌, ◌≤◌, length, true};
+    ghost use Rattle.std.specs.Option.{is_some};
+    ghost use Rattle.lat_base.specs.declared.state.SessionState.TheVariants as states;
     ghost use Rattle.lat_stream.specs.Kept.{Kept};
 
     ghost Value = { Kept };
@@ -76,7 +80,8 @@ impl Model for Stream {
     ghost invariant = { λ a.
         (a.unframed.capacity ≡ 4096) × (a.heard.capacity ≡ 3825) × (a.held.capacity ≡ 15)
         × (length a.held.items ≡ a.credits.held)
-        × (a.ceiling ≡ a.credits.ceiling) × (1 ≤ a.ceiling) × (a.ceiling ≤ 15) };
+        × (a.ceiling ≡ a.credits.ceiling) × (1 ≤ a.ceiling) × (a.ceiling ≤ 15)
+        × (a.state ≡ states.Asked → is_some a.start ≡ true) };
 }
 
 impl Stream {
@@ -223,9 +228,10 @@ impl Stream {
         self.end
     }
 
-    /// What its start says, while that waits to be formed.
+    /// What its start says, while that waits to be formed: also while it is asked for.
     pub fn start(&self) -> Option<Opening>
         ensures value { result ≡ self.now.start }
+        ensures asked { self.now.state ≡ states.Asked → is_some result ≡ true }
         ensures model { (master : Bool) (ceiling : ℕ) (s : Session) → self.now ≡ kept_of master ceiling s →
             result ≡ start_left s }
     {

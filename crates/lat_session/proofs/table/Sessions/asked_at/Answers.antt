@@ -1,23 +1,40 @@
-use Rattle.std.proofs.Common.{◌+◌, ◌∙◌, sym, ap, refl, Some}
-use Rattle.std.proofs.lemmas.Option.{same_Some, none-some}
-use Rattle.lat_model.specs.sessions.Sessions.{named}
-use Rattle.lat_stream.specs.declared.opening.Opening.{Opening}
-use Rattle.lat_session.specs.Table.{Table}
-use Rattle.lat_session.proofs.Asking.{is_asked_here, asked_start}
-use Rattle.lat_session.proofs.Touch.{kept_is}
+use Rattle.std.proofs.Common.{◌≡◌, ◌∙◌, sym, ap, subst, true, None}
+use Rattle.std.specs.Option.{is_some}
+use Rattle.lat_base.specs.declared.state.SessionState.TheVariants as states
+use Rattle.lat_stream.specs.Kept.{Kept}
+use Rattle.lat_session.specs.States.{is_asked}
+use Rattle.lat_session.specs.Table.{Table, state_in, state_at}
+use Rattle.lat_session.proofs.AskedIds.{is_asked_is, told_here, told_none, told_waits}
+use Rattle.lat_session.proofs.Touch.{kept_is, read_here}
 use Rattle.lat_session.proofs.table.Sessions.asked_at.Goals as goal
 
-pub returns-in-None : goal.returns-in-None
-returns-in-None c = λ e st h.
-    let id = c.args.at + 1 in
-    let was = kept_is c.args.self.now c.self.inside.sessions.items e c.args.at id c.index.result.now (ap (λ (t : Table). t.sessions) c.self.view_is) refl c.requires c.index.ensures st in
-    let opening : Opening = record { service = (named e id).service; request = (named e id).request } in
-    absurd (none-some opening (sym c.in-None.is ∙ c.start.ensures.model e.master e.ceiling (named e id) was ∙ asked_start e id (is_asked_here c.args.self.now e id st h)))
+pub returns-then-is_asked-clause-model : goal.returns-then-is_asked-clause-model
+returns-then-is_asked-clause-model c = λ e st.
+    let was = kept_is c.args.self.now c.self.inside.sessions.items e c.in_ok-at.at c.args.id c.index.result.now (ap (λ (t : Table). t.sessions) c.self.view_is) c.in_ok-at.ensures.0 c.in_ok-at.ensures.1 c.index.ensures st in
+    told_here e c.in_ok-at.at c.args.id c.index.result.now c.asked_here.result c.in_ok-at.ensures.0 was (sym c.is_asked.ensures ∙ c.if-is_asked.true) (c.asked_here.ensures.model e st)
 
-pub returns-in-Some : goal.returns-in-Some
-returns-in-Some c = λ e st h.
-    let id = c.args.at + 1 in
-    let was = kept_is c.args.self.now c.self.inside.sessions.items e c.args.at id c.index.result.now (ap (λ (t : Table). t.sessions) c.self.view_is) refl c.requires c.index.ensures st in
-    let opening : Opening = record { service = (named e id).service; request = (named e id).request } in
-    let told = sym c.in-Some.is ∙ c.start.ensures.model e.master e.ceiling (named e id) was ∙ asked_start e id (is_asked_here c.args.self.now e id st h) in
-    ap (λ (o : Opening). Some (record { id = id; service = o.service; request = o.request })) (same_Some c.in-Some.opening opening told)
+pub returns-then-is_asked-clause-slave : goal.returns-then-is_asked-clause-slave
+returns-then-is_asked-clause-slave c = λ e st slave.
+    let was = kept_is c.args.self.now c.self.inside.sessions.items e c.in_ok-at.at c.args.id c.index.result.now (ap (λ (t : Table). t.sessions) c.self.view_is) c.in_ok-at.ensures.0 c.in_ok-at.ensures.1 c.index.ensures st in
+    told_waits e c.args.id c.asked_here.result slave (told_here e c.in_ok-at.at c.args.id c.index.result.now c.asked_here.result c.in_ok-at.ensures.0 was (sym c.is_asked.ensures ∙ c.if-is_asked.true) (c.asked_here.ensures.model e st))
+
+pub returns-else-is_asked-clause-model : goal.returns-else-is_asked-clause-model
+returns-else-is_asked-clause-model c = λ e st.
+    let was = kept_is c.args.self.now c.self.inside.sessions.items e c.in_ok-at.at c.args.id c.index.result.now (ap (λ (t : Table). t.sessions) c.self.view_is) c.in_ok-at.ensures.0 c.in_ok-at.ensures.1 c.index.ensures st in
+    told_none e c.args.id c.index.result.now was (sym c.is_asked.ensures ∙ c.if-is_asked.false)
+
+pub returns-else-is_asked-clause-slave : goal.returns-else-is_asked-clause-slave
+returns-else-is_asked-clause-slave c = λ e st slave.
+    let was = kept_is c.args.self.now c.self.inside.sessions.items e c.in_ok-at.at c.args.id c.index.result.now (ap (λ (t : Table). t.sessions) c.self.view_is) c.in_ok-at.ensures.0 c.in_ok-at.ensures.1 c.index.ensures st in
+    told_waits e c.args.id None slave (told_none e c.args.id c.index.result.now was (sym c.is_asked.ensures ∙ c.if-is_asked.false))
+
+pub returns-then-is_asked-clause-value : goal.returns-then-is_asked-clause-value
+returns-then-is_asked-clause-value c =
+    let here = ap state_in (read_here c.args.self.now c.self.inside.sessions.items c.in_ok-at.at c.args.id c.index.result.now (ap (λ (t : Table). t.sessions) c.self.view_is) c.in_ok-at.ensures.0 c.in_ok-at.ensures.1 c.index.ensures) in
+    let asks : is_asked (state_at c.args.self.now c.args.id) ≡ true = ap is_asked here ∙ sym c.is_asked.ensures ∙ c.if-is_asked.true in
+    subst (λ i. state_at c.args.self.now i ≡ states.Asked → is_some c.asked_here.result ≡ true) c.in_ok-at.ensures.0 c.asked_here.ensures.value (is_asked_is (state_at c.args.self.now c.args.id) asks) ∙ sym asks
+
+pub returns-else-is_asked-clause-value : goal.returns-else-is_asked-clause-value
+returns-else-is_asked-clause-value c =
+    let here = ap state_in (read_here c.args.self.now c.self.inside.sessions.items c.in_ok-at.at c.args.id c.index.result.now (ap (λ (t : Table). t.sessions) c.self.view_is) c.in_ok-at.ensures.0 c.in_ok-at.ensures.1 c.index.ensures) in
+    sym (ap is_asked here ∙ sym c.is_asked.ensures ∙ c.if-is_asked.false)

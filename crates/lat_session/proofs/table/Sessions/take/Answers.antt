@@ -1,4 +1,4 @@
-use Rattle.std.proofs.Common.{◌≡◌, ◌+◌, ◌∙◌, sym, ap, refl, true, if◌then◌else◌, Ok, Err, length, map, take, drop, ◌++◌, slice_set}
+use Rattle.std.proofs.Common.{◌≡◌, ◌+◌, ◌∙◌, sym, ap, refl, subst, min, IfOk, true, if◌then◌else◌, Ok, Err, length, map, take, drop, ◌++◌, slice_set}
 use Rattle.std.proofs.lemmas.Bool.{false≢true}
 use Rattle.lat_model.specs.sessions.Slots.{items}
 use Rattle.lat_stream.specs.Kept.{item_shown}
@@ -7,8 +7,8 @@ use Rattle.lat_model.specs.sessions.Sessions.{named}
 use Rattle.lat_model.specs.sessions.Calls as calls
 use Rattle.lat_stream.specs.Kept.{kept_of}
 use Rattle.lat_stream.specs.declared.calls.SessionFault.TheVariants.{Closed}
-use Rattle.lat_session.specs.Table.{Table}
-use Rattle.lat_session.proofs.Touch.{kept_is, nothing_here, used}
+use Rattle.lat_session.specs.Table.{Table, waiting_in}
+use Rattle.lat_session.proofs.Touch.{kept_is, read_here, nothing_here, used}
 use Rattle.lat_session.proofs.Stays.{sound_at, touched_stands, nothing_stands}
 use Rattle.lat_session.proofs.table.Sessions.take.Goals as goal
 
@@ -41,3 +41,8 @@ returns-in-None-clause-answer c = λ e st. ap (λ (s : Session). if take_open s 
 
 pub returns-in-None-clause-state : goal.returns-in-None-clause-state
 returns-in-None-clause-state c = λ e st. nothing_stands c.args.self.now e _ _ (ap (λ (s : Session). take_open s) (nothing_here c.args.self.now e c.args.id st c.in-None.ensures)) st
+
+pub returns-in-Some-clause-count : goal.returns-in-Some-clause-count
+returns-in-Some-clause-count c =
+    let here = read_here c.args.self.now c.self.inside.sessions.items c.in-Some.at c.args.id c.index_mut-session.result.now (ap (λ (t : Table). t.sessions) c.self.view_is) c.in-Some.ensures.0 c.in-Some.ensures.1 c.index_mut-session.ensures.value in
+    subst (λ w. IfOk c.take.result (λ n. n ≡ min (length c.args.out.now) w)) (sym (ap waiting_in here)) c.take.ensures.count

@@ -1,0 +1,13 @@
+use Rattle.std.proofs.Common.{sym, subst}
+use Rattle.lat_circuit.specs.Stands.{Stands}
+use Rattle.lat_circuit.proofs.circuit.Circuit.asked_at.Goals as goal
+
+pub returns-clause-model : goal.returns-clause-model
+returns-clause-model c = λ e st.
+    let here = subst (λ k. Stands k e) (sym c.self.view_is) st in
+    c.asked_at.ensures.model e.half.sessions here.sessions
+
+pub returns-clause-slave : goal.returns-clause-slave
+returns-clause-slave c = λ e st slave.
+    let here = subst (λ k. Stands k e) (sym c.self.view_is) st in
+    c.asked_at.ensures.slave e.half.sessions here.sessions slave
