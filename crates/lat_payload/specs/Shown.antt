@@ -1,56 +1,15 @@
 -- What payloads are read as, in the machines' values.
-use Rattle.std.specs.Prelude.{map}
-use Rattle.lat_fields.specs.declared.params.Param.{Param as ReadParam}
-use Rattle.lat_frames.specs.declared.message.Message.{Message as ReadMessage}
-use Rattle.lat_frames.specs.declared.message.Message.TheVariants as frames
-use Rattle.lat_frames.specs.declared.message.Head.{Head as ReadHead}
-use Rattle.lat_frames.specs.declared.message.WideHead.{WideHead as ReadWideHead}
-use Rattle.lat_frames.specs.declared.message.StartInfo.{StartInfo as ReadInfo}
 use Rattle.lat_notices.specs.declared.notice as notices
 use Rattle.lat_notices.specs.declared.notice.Notice.TheVariants as read
 use Rattle.lat_notices.specs.declared.notice.Action.TheVariants as actions
 use Rattle.lat_notices.specs.declared.notice.Outcome.TheVariants as outcomes
-use Rattle.lat_stream.specs.Wire.{told}
 use Rattle.lat_dir.specs.Stands.{announcement_shown}
 use Rattle.lat_queue.specs.Histories.{kept_in}
-use Rattle.lat_machines.specs.values.Messages.{Param, Head, StartInfo, Message, RunMessage, WideMessage, StartMessage, StopMessage}
+use Rattle.lat_circuit.specs.Frames.{message_shown}
 use Rattle.lat_machines.specs.values.Notices.{Action, Ask, Cancel, Outcome, KeptAs, Unknown, Command, Status, Solicit, Response, Notice, AnnouncementNotice, CommandNotice, StatusNotice, SolicitNotice, ResponseNotice}
 use Rattle.lat_machines.specs.values.Frames.{Value, OfCircuit, OfNotice}
 use Rattle.lat_payload.specs.declared.value.Value.{Value as ReadValue}
 use Rattle.lat_payload.specs.declared.value.Value.TheVariants as values
-
-abbrev pub param_shown : ReadParam → Param
-param_shown p = record { code = p.code; bytes = p.bytes }
-
-abbrev pub head_shown : ReadHead → Head
-head_shown h = record { master = h.master; ask = h.ask; to = h.to; from = h.from; seq = h.seq; ack = h.ack }
-
-abbrev pub wide_head_shown : ReadWideHead → Head
-wide_head_shown h = record { master = h.master; ask = h.ask; to = h.to; from = h.from; seq = h.seq; ack = h.ack }
-
-abbrev pub info_shown : ReadInfo → StartInfo
-info_shown i = record {
-  size = i.size;
-  eco = i.eco;
-  sessions = i.sessions;
-  extra = i.extra;
-  timer = i.timer;
-  keepalive = i.keepalive;
-  facility = i.facility;
-  product = i.product;
-  product_version = i.product_version;
-  slave = i.slave;
-  name = i.name;
-  location = i.location;
-  params = map param_shown i.params;
-}
-
--- a circuit message
-abbrev pub message_shown : ReadMessage → Message
-message_shown (frames.Run head slots) = RunMessage (head_shown head) (map told slots)
-message_shown (frames.Wide head slots) = WideMessage (wide_head_shown head) (map told slots)
-message_shown (frames.Start master ask to from info) = StartMessage master ask to from (info_shown info)
-message_shown (frames.Stop master ask to from reason text) = StopMessage master ask to from reason text
 
 abbrev pub action_shown : notices.Action.Action → Action
 action_shown actions.Ask = Ask

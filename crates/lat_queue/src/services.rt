@@ -51,6 +51,14 @@ impl Services16 {
         self.names.len()
     }
 
+    /// The names, first to last.
+    pub fn as_slice(&self) -> &[Name]
+        ensures value { result.now ≡ self.now }
+        ensures most { length self.now ≤ 32 }
+    {
+        self.names.as_slice()
+    }
+
     /// Where the name first stands, counted from 0, without regard to case.
     pub fn place_of(&self, name: &Name) -> Option<usize>
         ensures { result ≡ position (λ n. same name.now n) self.now }

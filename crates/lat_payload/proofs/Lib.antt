@@ -1,0 +1,2 @@
+pub mod NoticesBack
+pub mod Frames

@@ -1,0 +1,41 @@
+-- Frames as they go out, and as the machines know them.
+use Rattle.std.specs.Prelude.{◌≡◌, ℕ, List, ◌++◌, map}
+use Rattle.lat_base.specs.declared.outbox.OutFrame.{OutFrame}
+use Rattle.lat_base.specs.declared.outbox.Mark.{Mark}
+use Rattle.lat_base.specs.declared.outbox.Mark.TheVariants as marks
+use Rattle.lat_fields.specs.Payloads.{padded}
+use Rattle.lat_frames.specs.Written.{message_text}
+use Rattle.lat_notices.specs.Texts.{notice_text}
+use Rattle.lat_machines.specs.values.Addresses.{address}
+use Rattle.lat_machines.specs.values.Frames as machines
+use Rattle.lat_link.specs.Payloads.{message_of}
+use Rattle.lat_circuit.specs.Frames.{mark_shown}
+use Rattle.lat_payload.specs.NoticesOf.{notice_of}
+
+-- a frame, whichever way it is known
+pub record Seen : Type 0 where
+  pub to : ℕ
+  pub circuit : ℕ
+  pub mark : Mark
+  pub payload : List ℕ
+
+-- the payload that is written of a value
+abbrev pub payload_of : machines.Value → List ℕ
+payload_of (machines.OfCircuit m) = padded (message_text (message_of m))
+payload_of (machines.OfNotice n) = padded (notice_text (notice_of n))
+
+abbrev pub mark_of : machines.FrameMark → Mark
+mark_of (machines.OfRun m) = mark_shown m
+mark_of machines.Plain = marks.Plain
+
+-- a frame of the machines, as it is to go out
+abbrev pub expected : machines.OutFrame → Seen
+expected f = record { to = f.to; circuit = f.circuit; mark = mark_of f.mark; payload = payload_of f.value }
+
+-- a frame as it goes out
+abbrev pub seen : OutFrame → Seen
+seen f = record { to = address f.to.0; circuit = f.circuit; mark = f.mark; payload = f.payload }
+
+-- the machines' frames have gone out behind those before
+abbrev pub Adds : List machines.OutFrame → (before after : List OutFrame) → Type 0
+Adds frames before after = map seen after ≡ map seen before ++ map expected frames
