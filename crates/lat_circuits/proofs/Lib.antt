@@ -1,0 +1,16 @@
+pub mod Held
+pub mod Wires
+pub mod Places
+pub mod Ids
+pub mod Passing
+pub mod Begun
+pub mod Addresses
+pub mod Messages
+pub mod Found
+pub mod Calling
+pub mod Cleared
+pub mod Heard
+pub mod Called
+pub mod Named
+pub mod Answered
+pub mod Starts

@@ -1,0 +1,56 @@
+use Rattle.std.proofs.Common.{◌∙◌, sym, ap, subst, arith, ◌+◌, ◌≤◌, ◌++◌, [], ◌∷◌, length, length-append}
+use Rattle.lat_model.specs.Lists.{Each}
+use Rattle.lat_machines.specs.values.Addresses.{address}
+use Rattle.lat_machines.specs.cores.Acts.{called}
+use Rattle.lat_machines.specs.cores.Cores.{setup_of}
+use Rattle.lat_circuit.specs.declared.config.CircuitConfig.{CircuitConfig}
+use Rattle.lat_circuit.specs.Begins.{Begins, facts_called}
+use Rattle.lat_circuit.specs.Frames.{timing_shown}
+use Rattle.lat_circuits.specs.Kept.{Kept, Holds, side_of}
+use Rattle.lat_circuits.specs.Shown.{shown}
+use Rattle.lat_circuits.specs.Stands.{Did}
+use Rattle.lat_circuits.specs.Opens.{called_core}
+use Rattle.lat_circuits.proofs.Called.{Calls, config_of, call_holds, call_did, held_now, each_last}
+use Rattle.lat_circuits.proofs.circuits.Circuits.call.Goals as goal
+
+pub invariant_of-self : goal.invariant_of-self
+invariant_of-self c =
+    let k = c.args.self.now in
+    let node = c.args.node.now in
+    let id = c.self.inside.drawn + 1 in
+    let q = c.call_in-circuit.result in
+    let left = c.pop.new.self.items in
+    let rooms = each_last (λ n. k.timing.sessions ≤ n) left c.in-Some.room (subst (Each (λ n. k.timing.sessions ≤ n)) (ap (λ (z : Kept). z.rooms) (sym c.self.view_is) ∙ c.in-Some.ensures.items) (subst Holds c.self.view_is c.self.invariant.0).rooms) in
+    let P : Kept → CircuitConfig → Type 0 = λ z g. Begins (called (setup_of (timing_shown g.timing)) z.moment) (facts_called g id) c.in-Some.room z.moment q c.args.out.now c.call_in-circuit.new.out in
+    let b : Calls k c.args.peer node id c.in-Some.room left q c.args.out.now c.call_in-circuit.new.out = record {
+      holds = subst Holds c.self.view_is c.self.invariant.0;
+      server = c.requires.server;
+      next = omega (arith, ap (λ (z : Kept). z.drawn) c.self.view_is);
+      places = rooms.1;
+      begins = subst (λ z. P z (config_of k c.args.peer node)) c.self.view_is (subst (P (shown c.self.inside)) c.config_to-config.ensures c.call_in-circuit.ensures.begins);
+    } in
+    let is = held_now k q left id c.push_reserved.new.self.items b.next (c.push_reserved.ensures.items ∙ ap (λ (z : Kept). z.held ++ q ∷ []) c.self.view_is) ∙ ap (λ (z : Kept). record z { drawn = id; held = c.push_reserved.new.self.items; rooms = left }) (sym c.self.view_is) in (
+      subst Holds is (call_holds k c.args.peer node id c.in-Some.room left q c.args.out.now c.call_in-circuit.new.out b (omega (arith, length-append left (c.in-Some.room ∷ []), ap length c.in-Some.ensures.items, ap (λ (z : Kept). length z.rooms) c.self.view_is)) rooms.0),
+      omega (arith, c.push_reserved.ensures.capacity, c.self.invariant.1),
+      omega (arith, c.in-Some.ensures.capacity, c.self.invariant.2),
+    )
+
+pub returns-in-Some-clause-did : goal.returns-in-Some-clause-did
+returns-in-Some-clause-did c =
+    let k = c.args.self.now in
+    let node = c.args.node.now in
+    let id = c.self.inside.drawn + 1 in
+    let q = c.call_in-circuit.result in
+    let left = c.pop.new.self.items in
+    let rooms = each_last (λ n. k.timing.sessions ≤ n) left c.in-Some.room (subst (Each (λ n. k.timing.sessions ≤ n)) (ap (λ (z : Kept). z.rooms) (sym c.self.view_is) ∙ c.in-Some.ensures.items) (subst Holds c.self.view_is c.self.invariant.0).rooms) in
+    let P : Kept → CircuitConfig → Type 0 = λ z g. Begins (called (setup_of (timing_shown g.timing)) z.moment) (facts_called g id) c.in-Some.room z.moment q c.args.out.now c.call_in-circuit.new.out in
+    let b : Calls k c.args.peer node id c.in-Some.room left q c.args.out.now c.call_in-circuit.new.out = record {
+      holds = subst Holds c.self.view_is c.self.invariant.0;
+      server = c.requires.server;
+      next = omega (arith, ap (λ (z : Kept). z.drawn) c.self.view_is);
+      places = rooms.1;
+      begins = subst (λ z. P z (config_of k c.args.peer node)) c.self.view_is (subst (P (shown c.self.inside)) c.config_to-config.ensures c.call_in-circuit.ensures.begins);
+    } in
+    let is = held_now k q left id c.push_reserved.new.self.items b.next (c.push_reserved.ensures.items ∙ ap (λ (z : Kept). z.held ++ q ∷ []) c.self.view_is) ∙ ap (λ (z : Kept). record z { drawn = id; held = c.push_reserved.new.self.items; rooms = left }) (sym c.self.view_is) in
+    subst (λ l. Did (called_core (side_of k) (address c.args.peer.0) node) k l c.args.out.now c.call_in-circuit.new.out) is
+    (call_did k c.args.peer node id c.in-Some.room left q c.args.out.now c.call_in-circuit.new.out b)

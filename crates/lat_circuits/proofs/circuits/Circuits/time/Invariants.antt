@@ -1,0 +1,13 @@
+use Rattle.std.proofs.Common.{◌≡◌, ◌+◌, ◌*◌, ◌≤◌, length, take}
+use Rattle.lat_machines.specs.cores.Cores.{time_each, rests}
+use Rattle.lat_circuits.specs.Kept.{side_of, ids, SameCircuits}
+use Rattle.lat_circuits.specs.Stands.{Did}
+use Rattle.lat_circuits.proofs.circuits.Circuits.time.Given as goal
+
+abbrev pub invariant-loop-at : goal.invariant-loop-at
+invariant-loop-at l = record {
+  same : SameCircuits l.initial.self l.self;
+  end : l.at-end ≡ length l.initial.self.held;
+  most : length l.out ≤ length l.initial.out + 16 * l.at;
+  did : Did (λ c. time_each (side_of l.initial.self) (take l.at (ids l.initial.self)) (rests c)) l.initial.self l.self l.initial.out l.out;
+}

@@ -1,0 +1,8 @@
+pub mod Kept
+pub mod Stands
+pub mod Hears
+pub mod Told
+pub mod Living
+pub mod Shown
+pub mod Opens
+pub mod Times

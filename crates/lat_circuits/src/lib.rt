@@ -1,0 +1,15 @@
+//! The circuits of one core: at most eight that live, found by the peer's address and by ids.
+#![tactic(auto)]
+
+mod calls;
+mod circuits;
+mod getters;
+mod hearing;
+mod opening;
+mod time;
+mod told;
+
+pub use circuits::Circuits;
+pub use hearing::Hearing;
+pub use lat_circuit::{Asked, SessionFault, Timing};
+pub use told::Told;
