@@ -1,0 +1,40 @@
+-- Lines settle after an act of their circuits.
+use Rattle.std.proofs.Common.{◌≡◌, ℕ, true, nat_eq, map, sym, ap, subst, ◌∙◌}
+use Rattle.std.specs.List.{list_any}
+use Rattle.lat_machines.specs.cores.Cores.{Core}
+use Rattle.lat_queue.specs.Histories.{key_in}
+use Rattle.lat_circuits.specs.Kept as circuits
+use Rattle.lat_circuits.specs.Stands as stands
+use Rattle.lat_lines.specs.Kept.{Kept}
+use Rattle.lat_lines.specs.Cores.{CoreLater, Covers}
+use Rattle.lat_lines.specs.Stands.{Seated, Stands, freed_between}
+use Rattle.lat_lines.proofs.CoresLater.{CoreOk, core_ok, none_later}
+use Rattle.lat_lines.proofs.Covered.{covers, covers_still}
+use Rattle.lat_lines.proofs.Standing.{seated_as}
+
+-- what `settle` promises
+abbrev pub Settles : Kept → Kept → Type 0
+Settles old new = (c d : Core) → Seated old c → Covers old → stands.Stands old.circuits d → CoreLater c d → Seated new d × (map key_in new.freed ≡ freed_between c d)
+
+-- the circuits that are held stay held
+abbrev pub StayHeld : circuits.Kept → circuits.Kept → Type 0
+StayHeld old new = (x : ℕ) → circuits.has_id x old ≡ true → circuits.has_id x new ≡ true
+
+pub same_held : (old new : circuits.Kept) → circuits.ids new ≡ circuits.ids old → StayHeld old new
+same_held old new e x h = ap (list_any (nat_eq x)) e ∙ h
+
+pub ok_of : (k : Kept) (c : Core) → Stands k c → CoreOk c
+ok_of k c st = core_ok k.circuits c st.circuits st.seated.unheard
+
+-- what the lines stand for then, and the requests whose sessions became free
+pub record Acted (c d : Core) (new : Kept) : Type 0 where
+  pub state : Stands new d
+  pub freed : map key_in new.freed ≡ freed_between c d
+
+pub acted : (k : Kept) (q : circuits.Kept) (new : Kept) (c d : Core) → Stands k c → StayHeld k.circuits q → stands.Stands q d → CoreLater c d → Settles (record k { circuits = q }) new → new.circuits ≡ q → Acted c d new
+acted k q new c d st held h later settles same =
+    let done = settles c d (seated_as k q k.freed c st.seated) (covers_still k q held (covers k c st)) h later in
+    record {
+      state = record { circuits = subst (λ z. stands.Stands z d) (sym same) h; seated = done.0; none = none_later c d later st.none };
+      freed = done.1;
+    }

@@ -1,0 +1,286 @@
+-- A local call on the session of a line, as the circuits do it and as the machines do.
+use Rattle.std.proofs.Common.{◌≡◌, ℕ, ◌+◌, ◌-◌, Bool, true, false, not, cond, ◌&&◌, nat_eq, nat_lt, eqb-true, List, [], ◌∷◌, ◌++◌, append-nil, drop_of_length-le, map, length, take, drop, min, le_of_eq, Result, Ok, Err, if◌then◌else◌, refl, sym, ap, ap₂, subst₂, ◌∙◌, arith}
+use Rattle.std.proofs.Math.Path.{fun_ext}
+use Rattle.lat_base.specs.declared.item.Item as base_item
+use Rattle.lat_model.specs.Lists.{updated}
+use Rattle.lat_model.specs.sessions.Slots.{Item, Byte, Setting, items}
+use Rattle.lat_model.specs.sessions.Session.{Session, put_open, take_open, unframed}
+use Rattle.lat_model.specs.sessions.Sessions.{Sessions, named, held}
+use Rattle.lat_model.specs.sessions.Calls.{Call, Put, Set, Attend, Take, Close, call, touch, put_count, take_count, took}
+use Rattle.lat_model.specs.ends.End.{End, lives, still}
+use Rattle.lat_model.specs.ends.Timers.{note_empty}
+use Rattle.lat_model.specs.circuits.World.{CircuitEntry}
+use Rattle.lat_machines.specs.values.Answers.{Answer, Accepted, Took, Done, Full as Filled, Closed as Refused}
+use Rattle.lat_machines.specs.cores.Acts.{steps_at, idle}
+use Rattle.lat_machines.specs.cores.Cores.{Seat, Core, Side, with_circuits}
+use Rattle.lat_machines.specs.cores.Lines.{sessions_of, session_of}
+use Rattle.lat_machines.specs.cores.LineCalls.{Said, says, put_on, set_on, attend_on, take_on, close_on}
+use Rattle.lat_stream.specs.Kept.{item_shown}
+use Rattle.lat_stream.specs.declared.calls.SessionFault.{SessionFault}
+use Rattle.lat_stream.specs.declared.calls.SessionFault.TheVariants.{Full, Closed}
+use Rattle.lat_circuits.specs.Stands.{calling}
+use Rattle.lat_lines.specs.Answers.{answer_shown, item_in, put_answer, done_answer, took_answer}
+use Rattle.lat_lines.proofs.HeldSeats.{IsHeld}
+use Rattle.lat_lines.proofs.Telling.{takes_at}
+
+-- a call that does nothing leaves the core as it is
+
+updated_same : {X : Type 0} (f : ℕ → X) (x : ℕ) → updated f x (f x) ≡ f
+updated_same {X} f x = fun_ext at
+  where
+    at : (j : ℕ) → updated f x (f x) j ≡ f j
+    at j = by (nat_eq j x) refl
+      where
+        by : (b : Bool) → nat_eq j x ≡ b → cond b (f x) (f j) ≡ f j
+        by true e = ap f (sym (eqb-true j x e))
+        by false e = refl
+
+note_still : (e : End) → (note_empty e (still e)).end ≡ e
+note_still e = by (nat_eq (held e.half.sessions) 0)
+  where
+    by : (b : Bool) → record e { empty_at = cond (not b && b) e.moment e.empty_at } ≡ e
+    by true = refl
+    by false = refl
+
+-- the sessions of the circuit x become these, where it lives
+abbrev pub becomes : Side → ℕ → Core → Sessions → Core
+becomes k x c t =
+    let e : End = (c.circuits.circuit_at x).end in
+    with_circuits c (cond (lives e) (steps_at k.server c.circuits x (still (record e { half = record (e.half) { sessions = t } }))) (idle c.circuits)).table
+
+becomes_same : (k : Side) (x : ℕ) (c : Core) → becomes k x c (c.circuits.circuit_at x).end.half.sessions ≡ c
+becomes_same k x c = by (lives (c.circuits.circuit_at x).end)
+  where
+    e : End
+    e = (c.circuits.circuit_at x).end
+
+    entry : End → CircuitEntry
+    entry f = record { address = (c.circuits.circuit_at x).address; end = f }
+
+    by : (b : Bool) → with_circuits c (cond b (steps_at k.server c.circuits x (still e)) (idle c.circuits)).table ≡ c
+    by true =
+        ap (λ f. with_circuits c (record (c.circuits) { circuit_at = updated c.circuits.circuit_at x (entry f) })) (note_still e)
+        ∙ ap (λ f. with_circuits c (record (c.circuits) { circuit_at = f })) (updated_same c.circuits.circuit_at x)
+    by false = refl
+
+calls_alike : (k : Side) (x : ℕ) (c : Core) (a b : Call) → call (c.circuits.circuit_at x).end.half.sessions a ≡ call (c.circuits.circuit_at x).end.half.sessions b → calling k x a c ≡ calling k x b c
+calls_alike k x c a b e = ap (becomes k x c) e
+
+calls_nothing : (k : Side) (x : ℕ) (c : Core) (a : Call) → call (c.circuits.circuit_at x).end.half.sessions a ≡ (c.circuits.circuit_at x).end.half.sessions → calling k x a c ≡ c
+calls_nothing k x c a e = ap (becomes k x c) e ∙ becomes_same k x c
+
+-- the core after a call, and its answer
+pub record Agrees (d : Core) (a : Answer) (s : Said) : Type 0 where
+  pub core : s.core ≡ d
+  pub answer : a ≡ s.answer
+
+agrees_either : (c d : Core) (b : Bool) (taken refused : Answer) → (b ≡ false → c ≡ d) → Agrees d (cond b taken refused) (cond b (says d taken) (says c refused))
+agrees_either c d true taken refused e = record { core = refl; answer = refl }
+agrees_either c d false taken refused e = record { core = e refl; answer = refl }
+
+agrees_both : (c d : Core) (a b : Bool) (taken filled refused : Answer) → (a && b ≡ false → c ≡ d)
+    → Agrees d (cond a (cond b taken filled) refused) (cond a (cond b (says d taken) (says c filled)) (says c refused))
+agrees_both c d true b taken filled refused e = agrees_either c d b taken filled e
+agrees_both c d false b taken filled refused e = record { core = e refl; answer = refl }
+
+agrees_as : (d : Core) (x y : Answer) (s : Said) → x ≡ y → Agrees d y s → Agrees d x s
+agrees_as d x y s e g = record { core = g.core; answer = e ∙ g.answer }
+
+-- with the ids that are kept in place of the session's own
+pub agrees_at : (D : ℕ → ℕ → Core) (A : ℕ → ℕ → Answer) (x id : ℕ) (t : Seat) (a : Answer) (s : Said) → x ≡ t.circuit → id ≡ t.id → a ≡ A x id → Agrees (D t.circuit t.id) (A t.circuit t.id) s → Agrees (D x id) a s
+agrees_at D A x id t a s p q e g = agrees_as (D x id) a (A x id) s e (subst₂ (λ z i. Agrees (D z i) (A z i) s) (sym p) (sym q) g)
+
+no_call : (b : Bool) (x e : Sessions) → b ≡ false → cond b x e ≡ e
+no_call b x e f = ap (λ z. cond z x e) f
+
+done_shown : (b : Bool) → answer_shown (done_answer (if b then Ok tt else Err Closed)) ≡ cond b Done Refused
+done_shown true = refl
+done_shown false = refl
+
+abbrev has_space : Session → Bool
+has_space u = nat_lt (length (unframed u)) 4096
+
+-- what the circuits answer
+
+abbrev pub putting : Core → ℕ → ℕ → ℕ → Result ℕ SessionFault
+putting c x id n =
+    if lives (c.circuits.circuit_at x).end && put_open (named (c.circuits.circuit_at x).end.half.sessions id)
+    then Ok (put_count (named (c.circuits.circuit_at x).end.half.sessions id) n) else Err Closed
+
+abbrev pub setting_at : Core → ℕ → ℕ → Result (Unit {0}) SessionFault
+setting_at c x id =
+    if lives (c.circuits.circuit_at x).end && put_open (named (c.circuits.circuit_at x).end.half.sessions id)
+    then (if nat_lt (length (unframed (named (c.circuits.circuit_at x).end.half.sessions id))) 4096 then Ok tt else Err Full) else Err Closed
+
+abbrev pub attending : Core → ℕ → ℕ → Result (Unit {0}) SessionFault
+attending c x id =
+    if lives (c.circuits.circuit_at x).end && put_open (named (c.circuits.circuit_at x).end.half.sessions id) then Ok tt else Err Closed
+
+abbrev pub closing : Core → ℕ → ℕ → Result (Unit {0}) SessionFault
+closing c x id =
+    if lives (c.circuits.circuit_at x).end && take_open (named (c.circuits.circuit_at x).end.half.sessions id) then Ok tt else Err Closed
+
+abbrev pub taking : Core → ℕ → ℕ → ℕ → Result ℕ SessionFault
+taking c x id n =
+    if lives (c.circuits.circuit_at x).end && take_open (named (c.circuits.circuit_at x).end.half.sessions id)
+    then Ok (take_count (named (c.circuits.circuit_at x).end.half.sessions id) n) else Err Closed
+
+-- each call
+
+pub put_agrees : (k : Side) (c : Core) (lines : ℕ) (t : Seat) (bytes : List ℕ) → IsHeld lines c t
+    → Agrees (calling k t.circuit (Put t.id bytes) c) (answer_shown (put_answer (putting c t.circuit t.id (length bytes)))) (put_on k c t bytes)
+put_agrees k c lines t bytes h =
+    agrees_as d (answer_shown (put_answer (putting c t.circuit t.id (length bytes)))) (cond (put_open s) (Accepted (put_count s (length bytes))) Refused) (put_on k c t bytes) (told ∙ by (put_open s))
+    (agrees_either c d (put_open s) (Accepted (put_count s (length bytes))) Refused (λ f. sym (calls_nothing k t.circuit c (Put t.id bytes) (no_call _ _ _ (ap put_open h.named ∙ f)))))
+  where
+    s : Session
+    s = session_of c t
+
+    d : Core
+    d = calling k t.circuit (Put t.id bytes) c
+
+    told : answer_shown (put_answer (putting c t.circuit t.id (length bytes))) ≡ answer_shown (put_answer (if put_open s then Ok (put_count s (length bytes)) else Err Closed))
+    told = ap₂ (λ b (u : Session). answer_shown (put_answer (if b && put_open u then Ok (put_count u (length bytes)) else Err Closed))) h.lives h.named
+
+    few : min (put_count s (length bytes)) 4096 ≡ put_count s (length bytes)
+    few = omega arith
+
+    by : (b : Bool) → answer_shown (put_answer (if b then Ok (put_count s (length bytes)) else Err Closed)) ≡ cond b (Accepted (put_count s (length bytes))) Refused
+    by true = ap Accepted few
+    by false = refl
+
+pub set_agrees : (k : Side) (c : Core) (lines : ℕ) (t : Seat) (setting : List ℕ) → IsHeld lines c t
+    → Agrees (calling k t.circuit (Set t.id setting) c) (answer_shown (done_answer (setting_at c t.circuit t.id))) (set_on k c t setting)
+set_agrees k c lines t setting h =
+    agrees_as d (answer_shown (done_answer (setting_at c t.circuit t.id))) (cond (put_open s) (cond (has_space s) Done Filled) Refused) (set_on k c t setting) (told ∙ by (put_open s) (has_space s))
+    (agrees_both c d (put_open s) (has_space s) Done Filled Refused (λ f. sym (calls_nothing k t.circuit c (Set t.id setting) (no_call _ _ _ (ap (λ (u : Session). put_open u && has_space u) h.named ∙ f)))))
+  where
+    s : Session
+    s = session_of c t
+
+    d : Core
+    d = calling k t.circuit (Set t.id setting) c
+
+    told : answer_shown (done_answer (setting_at c t.circuit t.id)) ≡ answer_shown (done_answer (if put_open s then (if has_space s then Ok tt else Err Full) else Err Closed))
+    told = ap₂ (λ b (u : Session). answer_shown (done_answer (if b && put_open u then (if has_space u then Ok tt else Err Full) else Err Closed))) h.lives h.named
+
+    by : (a b : Bool) → answer_shown (done_answer (if a then (if b then Ok tt else Err Full) else Err Closed)) ≡ cond a (cond b Done Filled) Refused
+    by true true = refl
+    by true false = refl
+    by false b = refl
+
+pub attend_agrees : (k : Side) (c : Core) (lines : ℕ) (t : Seat) (flag : ℕ) → IsHeld lines c t
+    → Agrees (calling k t.circuit (Attend t.id flag) c) (answer_shown (done_answer (attending c t.circuit t.id))) (attend_on k c t flag)
+attend_agrees k c lines t flag h =
+    agrees_as d (answer_shown (done_answer (attending c t.circuit t.id))) (cond (put_open s) Done Refused) (attend_on k c t flag) (told ∙ done_shown (put_open s))
+    (agrees_either c d (put_open s) Done Refused (λ f. sym (calls_nothing k t.circuit c (Attend t.id flag) (no_call _ _ _ (ap put_open h.named ∙ f)))))
+  where
+    s : Session
+    s = session_of c t
+
+    d : Core
+    d = calling k t.circuit (Attend t.id flag) c
+
+    told : answer_shown (done_answer (attending c t.circuit t.id)) ≡ answer_shown (done_answer (if put_open s then Ok tt else Err Closed))
+    told = ap₂ (λ b (u : Session). answer_shown (done_answer (if b && put_open u then Ok tt else Err Closed))) h.lives h.named
+
+pub close_agrees : (k : Side) (c : Core) (lines : ℕ) (t : Seat) → IsHeld lines c t
+    → Agrees (calling k t.circuit (Close t.id) c) (answer_shown (done_answer (closing c t.circuit t.id))) (close_on k c t)
+close_agrees k c lines t h =
+    agrees_as d (answer_shown (done_answer (closing c t.circuit t.id))) (cond (take_open s) Done Refused) (close_on k c t) (told ∙ done_shown (take_open s))
+    (agrees_either c d (take_open s) Done Refused (λ f. sym (calls_nothing k t.circuit c (Close t.id) (no_call _ _ _ (ap take_open h.named ∙ f)))))
+  where
+    s : Session
+    s = session_of c t
+
+    d : Core
+    d = calling k t.circuit (Close t.id) c
+
+    told : answer_shown (done_answer (closing c t.circuit t.id)) ≡ answer_shown (done_answer (if take_open s then Ok tt else Err Closed))
+    told = ap₂ (λ b (u : Session). answer_shown (done_answer (if b && take_open u then Ok tt else Err Closed))) h.lives h.named
+
+-- a take of as many items as there are, at most
+
+item_back : (xs : List Item) → map item_in (map item_shown xs) ≡ xs
+item_back [] = refl
+item_back (Byte b ∷ xs) = ap (λ z. Byte b ∷ z) (item_back xs)
+item_back (Setting t ∷ xs) = ap (λ z. Setting t ∷ z) (item_back xs)
+
+abbrev pub giving : Core → ℕ → ℕ → List base_item.Item → List base_item.Item
+giving c x id given =
+    if lives (c.circuits.circuit_at x).end && take_open (named (c.circuits.circuit_at x).end.half.sessions id)
+    then map item_shown (took (c.circuits.circuit_at x).end.half.sessions id (length given)) ++ drop (take_count (named (c.circuits.circuit_at x).end.half.sessions id) (length given)) given else given
+
+take_alike : (k : Side) (c : Core) (x id m n : ℕ) → (take_open (named (c.circuits.circuit_at x).end.half.sessions id) ≡ true → take_count (named (c.circuits.circuit_at x).end.half.sessions id) m ≡ take_count (named (c.circuits.circuit_at x).end.half.sessions id) n)
+    → calling k x (Take id m) c ≡ calling k x (Take id n) c
+take_alike k c x id m n same = calls_alike k x c (Take id m) (Take id n) (by (take_open u) refl)
+  where
+    e : Sessions
+    e = (c.circuits.circuit_at x).end.half.sessions
+
+    u : Session
+    u = named e id
+
+    more : ℕ → Sessions
+    more j = touch e (e.at_id id) (record u { taken = u.taken + j })
+
+    by : (b : Bool) → take_open u ≡ b → cond (take_open u) (more (take_count u m)) e ≡ cond (take_open u) (more (take_count u n)) e
+    by true f = ap (λ j. cond (take_open u) (more j) e) (same f)
+    by false f = no_call (take_open u) (more (take_count u m)) e f ∙ sym (no_call (take_open u) (more (take_count u n)) e f)
+
+pub take_agrees : (k : Side) (c : Core) (lines : ℕ) (t : Seat) (n : ℕ) (given : List base_item.Item) → IsHeld lines c t
+    → length given ≡ min (takes_at c t.circuit t.id) n
+    → Agrees (calling k t.circuit (Take t.id (length given)) c) (answer_shown (took_answer (taking c t.circuit t.id (length given)) (giving c t.circuit t.id given))) (take_on k c t n)
+take_agrees k c lines t n given h long = record { core = inner.core ∙ sym alike; answer = told ∙ by (take_open s) refl ∙ inner.answer }
+  where
+    e : Sessions
+    e = sessions_of c t
+
+    s : Session
+    s = session_of c t
+
+    m : ℕ
+    m = length given
+
+    d : Core
+    d = calling k t.circuit (Take t.id n) c
+
+    ready : takes_at c t.circuit t.id ≡ cond (take_open s) (length (items s.came) - s.taken) 0
+    ready = ap₂ (λ b (u : Session). cond (b && take_open u) (length (items u.came) - u.taken) 0) h.lives h.named
+
+    count : take_open s ≡ true → take_count s m ≡ m
+    count f = let w = ready ∙ ap (λ b. cond b (length (items s.came) - s.taken) 0) f in omega (arith, long, w)
+
+    counts : take_open s ≡ true → take_count s m ≡ take_count s n
+    counts f = let w = ready ∙ ap (λ b. cond b (length (items s.came) - s.taken) 0) f in omega (arith, long, w)
+
+    alike : calling k t.circuit (Take t.id m) c ≡ d
+    alike = take_alike k c t.circuit t.id m n (λ f. ap (λ u. take_count u m) h.named ∙ counts (sym (ap take_open h.named) ∙ f) ∙ sym (ap (λ u. take_count u n) h.named))
+
+    inner : Agrees d (cond (take_open s) (Took (took e t.id n)) Refused) (take_on k c t n)
+    inner = agrees_either c d (take_open s) (Took (took e t.id n)) Refused (λ f. sym (calls_nothing k t.circuit c (Take t.id n) (no_call _ _ _ (ap take_open h.named ∙ f))))
+
+    given_of : Bool → Session → List base_item.Item
+    given_of b u = if b && take_open u then map item_shown (take (take_count u m) (drop u.taken (items u.came))) ++ drop (take_count u m) given else given
+
+    answer_of : Bool → Session → Answer
+    answer_of b u = answer_shown (took_answer (if b && take_open u then Ok (take_count u m) else Err Closed) (given_of b u))
+
+    told : answer_shown (took_answer (taking c t.circuit t.id m) (giving c t.circuit t.id given)) ≡ answer_of true s
+    told = ap₂ answer_of h.lives h.named
+
+    front : ℕ → Session → List Item
+    front j u = take j (drop u.taken (items u.came))
+
+    shown_of : Bool → Answer
+    shown_of b = answer_shown (took_answer (if b then Ok (take_count s m) else Err Closed) (if b then map item_shown (front (take_count s m) s) ++ drop (take_count s m) given else given))
+
+    by : (b : Bool) → take_open s ≡ b → shown_of (take_open s) ≡ cond (take_open s) (Took (took e t.id n)) Refused
+    by true f =
+        let none : drop (take_count s m) given ≡ [] = drop_of_length-le given (le_of_eq (sym (count f))) in
+        ap shown_of f
+        ∙ ap (λ z. Took (map item_in (map item_shown (front (take_count s m) s) ++ z))) none
+        ∙ ap (λ z. Took (map item_in z)) (append-nil (map item_shown (front (take_count s m) s)))
+        ∙ ap Took (item_back (front (take_count s m) s) ∙ ap (λ j. front j s) (counts f) ∙ ap (λ u. front (take_count u n) u) (sym h.named))
+        ∙ sym (ap (λ b. cond b (Took (took e t.id n)) Refused) f)
+    by false f = ap shown_of f ∙ sym (ap (λ b. cond b (Took (took e t.id n)) Refused) f)

@@ -1,0 +1,243 @@
+-- What became of a core in one act of its circuits.
+use Rattle.std.proofs.Common.{◌≡◌, ℕ, zero, suc, ◌<◌, ◌≤◌, Bool, true, false, not, cond, ◌&&◌, ◌||◌, nat_eq, nat_lt, eqb-true, List, [], None, le_refl, refl, sym, ap, subst, ◌∙◌, arith}
+use Rattle.std.proofs.lemmas.Bool.{both_ways, and_parts, cond_both, eqb-false}
+use Rattle.lat_model.specs.Lists.{updated, upwards}
+use Rattle.lat_model.specs.sessions.Slots.{Slot}
+use Rattle.lat_model.specs.sessions.Calls.{Call}
+use Rattle.lat_model.specs.numbers.Link.{Frame}
+use Rattle.lat_model.specs.ends.End.{End, Step, still, lives, call_end}
+use Rattle.lat_model.specs.ends.Timers.{note_empty, time_step}
+use Rattle.lat_model.specs.ends.Run.{run_end}
+use Rattle.lat_model.specs.ends.Starting.{Agreed, make_slave, hear_reply, hear_stop, again_start}
+use Rattle.lat_model.specs.circuits.World.{CircuitEntry, Table, first_end}
+use Rattle.lat_model.specs.circuits.Arriving.{is_of, living, slave_of}
+use Rattle.lat_machines.specs.values.Names.{Name}
+use Rattle.lat_machines.specs.values.Messages.{Head, Message, RunMessage, WideMessage, StartMessage, StopMessage}
+use Rattle.lat_machines.specs.values.Timing.{agreed_by}
+use Rattle.lat_machines.specs.values.Answers.{Running, Again, Ended}
+use Rattle.lat_machines.specs.cores.Acts.{Acted, idle, steps_at, time_at, called}
+use Rattle.lat_machines.specs.cores.Hearing.{HeardAct, foreign, names, fits_kind, numbers_at, run_frame, run_at, hear_run, hear_stop_at, hear_reply_at, StartFact, Repeats, Makes, Refuses, start_fact, start_at}
+use Rattle.lat_machines.specs.cores.Cores.{Core, Side, Doing, setup_of, with_circuits, acts, at_moment, then_doing, time_each, passes_time}
+use Rattle.lat_machines.specs.node.Node.{names_for}
+use Rattle.lat_machines.proofs.queue.Rooms.{least_true}
+use Rattle.lat_circuits.specs.Kept as circuits
+use Rattle.lat_circuits.specs.Stands as stands
+use Rattle.lat_circuits.specs.Stands.{calling}
+use Rattle.lat_circuits.specs.Hears.{HeardCore, of_act, untouched, start_core, heard_core}
+use Rattle.lat_circuits.specs.Opens.{called_core}
+use Rattle.lat_lines.specs.Later.{EndLater, Unheard}
+use Rattle.lat_lines.specs.Cores.{CoreLater}
+use Rattle.lat_lines.proofs.later.Known.{end_later_refl}
+use Rattle.lat_lines.proofs.later.Calls.{call_later, call_unheard}
+use Rattle.lat_lines.proofs.later.Ends.{time_later, time_unheard, move_later, move_unheard, again_later, again_unheard, stop_later, stop_unheard, reply_later, reply_unheard, run_later, run_unheard}
+use Rattle.lat_lines.proofs.settling.Held.{IsStood, stood_at}
+
+-- what is known of the circuits of a core that others stand for
+pub record CoreOk (c : Core) : Type 0 where
+  pub stood : (x : ℕ) → lives (c.circuits.circuit_at x).end ≡ true → IsStood (c.circuits.circuit_at x).end
+  pub unheard : (x : ℕ) → Unheard (c.circuits.circuit_at x).end
+
+pub core_ok : (k : circuits.Kept) (c : Core) → stands.Stands k c → ((x : ℕ) → Unheard (c.circuits.circuit_at x).end) → CoreOk c
+core_ok k c st u = record { stood = λ x h. stood_at k c x st (st.all x h); unheard = u }
+
+-- its circuits do nothing
+
+pub circuits_still : (c : Core) (moment : ℕ) (names : ℕ → Name) → CoreOk c → CoreLater c (record c { moment = moment; names = names })
+circuits_still c moment names ok = record {
+  seats = refl;
+  drawn = le_refl c.circuits.drawn;
+  address = λ x l. refl;
+  living = λ x l h. end_later_refl (c.circuits.circuit_at x).end (ok.stood x h).good;
+  dead = λ x l h. refl;
+  unheard = ok.unheard;
+}
+
+pub core_still : (c : Core) → CoreOk c → CoreLater c c
+core_still c ok = circuits_still c c.moment c.names ok
+
+pub moment_later : (now : ℕ) (c : Core) → CoreOk c → CoreLater c (at_moment now c)
+moment_later now c ok = circuits_still c (at_moment now c).moment c.names ok
+
+-- a circuit 0 that doesn't live goes on not to live
+pub none_later : (c d : Core) → CoreLater c d → lives (c.circuits.circuit_at 0).end ≡ false → lives (d.circuits.circuit_at 0).end ≡ false
+none_later c d l h = ap lives (l.dead 0 (omega arith) h) ∙ h
+
+-- One circuit does something
+
+updated_at : (P : CircuitEntry → Type 0) (f : ℕ → CircuitEntry) (x y : ℕ) (e : CircuitEntry) → (y ≡ x → P e) → P (f y) → P (updated f x e y)
+updated_at P f x y e here there = cond_both (nat_eq y x) e (f y) P (λ h. here (eqb-true y x h)) (λ h. there)
+
+-- what the circuit was that became f: one of c that lives, or none yet
+abbrev Was : Core → ℕ → ℕ → End → Type 0
+Was c x address f = x ≤ c.circuits.drawn → (address ≡ (c.circuits.circuit_at x).address) × (lives (c.circuits.circuit_at x).end ≡ true) × EndLater (c.circuits.circuit_at x).end f
+
+touched_later : (c d : Core) (x drawn address : ℕ) (f : End) → CoreLater c d → d.circuits.drawn ≤ drawn → Was c x address f → Unheard f
+    → CoreLater c (with_circuits d (record (d.circuits) { drawn = drawn; circuit_at = updated d.circuits.circuit_at x (record { address = address; end = f }) }))
+touched_later c d x drawn address f later more was u = record {
+  seats = later.seats;
+  drawn = omega (arith, later.drawn, more);
+  address = λ y l. updated_at (λ z. z.address ≡ (c.circuits.circuit_at y).address) d.circuits.circuit_at x y entry (λ e. (was (subst (λ z. z ≤ c.circuits.drawn) e l)).0 ∙ ap (λ z. (c.circuits.circuit_at z).address) (sym e)) (later.address y l);
+  living = λ y l h. updated_at (λ z. EndLater (c.circuits.circuit_at y).end z.end) d.circuits.circuit_at x y entry (λ e. subst (λ z. EndLater (c.circuits.circuit_at z).end f) (sym e) (was (subst (λ z. z ≤ c.circuits.drawn) e l)).2) (later.living y l h);
+  dead = λ y l h. updated_at (λ z. z.end ≡ (c.circuits.circuit_at y).end) d.circuits.circuit_at x y entry (λ e. absurd (both_ways (lives (c.circuits.circuit_at x).end) (subst (λ z. lives (c.circuits.circuit_at z).end ≡ false) e h) (was (subst (λ z. z ≤ c.circuits.drawn) e l)).1)) (later.dead y l h);
+  unheard = λ y. updated_at (λ z. Unheard z.end) d.circuits.circuit_at x y entry (λ e. u) (later.unheard y);
+}
+  where
+    entry : CircuitEntry
+    entry = record { address = address; end = f }
+
+-- a step of a circuit that lives
+step_later : (b : Bool) (c : Core) (x : ℕ) (s : Step) → CoreOk c → lives (c.circuits.circuit_at x).end ≡ true
+    → EndLater (c.circuits.circuit_at x).end (note_empty (c.circuits.circuit_at x).end s).end → Unheard (note_empty (c.circuits.circuit_at x).end s).end
+    → CoreLater c (with_circuits c (steps_at b c.circuits x s).table)
+step_later b c x s ok h later u = touched_later c c x c.circuits.drawn (c.circuits.circuit_at x).address (note_empty (c.circuits.circuit_at x).end s).end (core_still c ok) (le_refl c.circuits.drawn) (λ l. (refl, h, later)) u
+
+abbrev Acts : Core → Acted → Type 0
+Acts c a = CoreLater c (with_circuits c a.table)
+
+-- local calls
+
+pub calling_later : (k : Side) (x : ℕ) (call : Call) (c : Core) → CoreOk c → CoreLater c (calling k x call c)
+calling_later k x call c ok =
+    let e : End = (c.circuits.circuit_at x).end in
+    let s : Step = record { end = call_end call e; sent = [] } in
+    cond_both (lives e) (steps_at k.server c.circuits x s) (idle c.circuits) (Acts c)
+    (λ h. step_later k.server c x s ok h (call_later call e (ok.stood x h).good (ok.stood x h).begun) (call_unheard call e (ok.unheard x)))
+    (λ h. core_still c ok)
+
+-- one on a circuit that is new since c
+pub calling_new : (k : Side) (x : ℕ) (call : Call) (c d : Core) → CoreLater c d → c.circuits.drawn < x → CoreLater c (calling k x call d)
+calling_new k x call c d later new =
+    let e : End = (d.circuits.circuit_at x).end in
+    let s : Step = record { end = call_end call e; sent = [] } in
+    cond_both (lives e) (steps_at k.server d.circuits x s) (idle d.circuits) (λ a. CoreLater c (with_circuits d a.table))
+    (λ h. touched_later c d x d.circuits.drawn (d.circuits.circuit_at x).address (note_empty e s).end later (le_refl d.circuits.drawn) (λ l. absurd (omega (arith, l, new))) (call_unheard call e (later.unheard x)))
+    (λ h. later)
+
+-- a circuit is called
+pub called_later : (k : Side) (address : ℕ) (node : Name) (c : Core) → CoreOk c → CoreLater c (called_core k address node c).core
+called_later k address node c ok =
+    let d : Core = record c { names = updated c.names (suc c.circuits.drawn) node } in
+    touched_later c d (suc c.circuits.drawn) (suc c.circuits.drawn) address (called (setup_of k.timing) c.moment).end (circuits_still c c.moment d.names ok) (omega arith) (λ l. absurd (omega (arith, l))) (λ r y. refl)
+
+-- the time of each circuit
+
+-- the circuits up to the n-th have had their time
+record Passed (c d : Core) (n : ℕ) : Type 0 where
+  later : CoreLater c d
+  rest : (x : ℕ) → n < x → d.circuits.circuit_at x ≡ c.circuits.circuit_at x
+
+passed_one : (k : Side) (c d : Core) (n : ℕ) → CoreOk c → Passed c d n → Passed c (acts k d (time_at k.server d.circuits (suc n) d.moment)).core (suc n)
+passed_one k c d n ok p =
+    let x : ℕ = suc n in
+    cond_both (lives (d.circuits.circuit_at x).end) (steps_at k.server d.circuits x (time_step d.moment (d.circuits.circuit_at x).end)) (idle d.circuits) (λ a. Passed c (with_circuits d a.table) x) step
+    (λ h. record { later = p.later; rest = λ y l. p.rest y (omega arith) })
+  where
+    e : End
+    e = (c.circuits.circuit_at (suc n)).end
+
+    ends : CircuitEntry → End
+    ends z = (note_empty z.end (time_step d.moment z.end)).end
+
+    same : d.circuits.circuit_at (suc n) ≡ c.circuits.circuit_at (suc n)
+    same = p.rest (suc n) (omega arith)
+
+    step : lives (d.circuits.circuit_at (suc n)).end ≡ true → Passed c (with_circuits d (steps_at k.server d.circuits (suc n) (time_step d.moment (d.circuits.circuit_at (suc n)).end)).table) (suc n)
+    step h =
+        let l : lives e ≡ true = subst (λ z. lives z.end ≡ true) same h in
+        record {
+          later = touched_later c d (suc n) d.circuits.drawn (d.circuits.circuit_at (suc n)).address (ends (d.circuits.circuit_at (suc n))) p.later (le_refl d.circuits.drawn)
+              (λ q. (ap (λ z. z.address) same, l, subst (λ z. EndLater e (ends z)) (sym same) (time_later d.moment e (ok.stood (suc n) l).good (ok.stood (suc n) l).begun)))
+              (subst (λ z. Unheard (ends z)) (sym same) (time_unheard d.moment e (ok.unheard (suc n))));
+          rest = λ y m. updated_at (λ z. z ≡ c.circuits.circuit_at y) d.circuits.circuit_at (suc n) y (record { address = (d.circuits.circuit_at (suc n)).address; end = ends (d.circuits.circuit_at (suc n)) }) (λ q. absurd (omega (arith, m, q))) (p.rest y (omega arith));
+        }
+
+passed_each : (k : Side) (c : Core) (n m : ℕ) (d : Doing) → CoreOk c → Passed c d.core n → CoreLater c (time_each k (upwards n m) d).core
+passed_each k c n zero d ok p = p.later
+passed_each k c n (suc m) d ok p = passed_each k c (suc n) m (then_doing d (λ z. acts k z (time_at k.server z.circuits (suc n) z.moment))) ok (passed_one k c d.core n ok p)
+
+pub time_passes_later : (k : Side) (c : Core) → CoreOk c → CoreLater c (passes_time k c).core
+time_passes_later k c ok = passed_each k c 0 c.circuits.drawn (record { core = c; frames = [] }) ok (record { later = core_still c ok; rest = λ x l. refl })
+
+-- messages
+
+abbrev Hears : Core → HeardAct → Type 0
+Hears c h = Acts c h.act
+
+run_at_later : (b : Bool) (c : Core) (x : ℕ) (fits : Bool) (now : ℕ) (ask : Bool) (f : Frame (List Slot)) → CoreOk c → lives (c.circuits.circuit_at x).end ≡ true → (c.circuits.circuit_at x).end.running ≡ true → Hears c (run_at b c.circuits x fits now ask f)
+run_at_later b c x fits now ask f ok h r = by fits
+  where
+    e : End
+    e = (c.circuits.circuit_at x).end
+
+    by : (t : Bool) → Hears c (run_at b c.circuits x t now ask f)
+    by true = step_later b c x (run_end now ask f e).step ok h (run_later now ask f e (ok.stood x h).good (ok.stood x h).begun) (run_unheard now ask f e (ok.stood x h).good (ok.stood x h).begun r)
+    by false =
+        cond_both (lives e) (steps_at b c.circuits x (record { end = record e { moment = now }; sent = [] })) (idle c.circuits) (Acts c)
+        (λ g. step_later b c x (still (record e { moment = now })) ok g (move_later now e (ok.stood x g).good (ok.stood x g).begun) (move_unheard now e (ok.unheard x)))
+        (λ g. core_still c ok)
+
+run_heard : (b : Bool) (c : Core) (from : ℕ) (wide : Bool) (h : Head) (slots : List Slot) → CoreOk c → Hears c (hear_run b c.circuits from wide h slots None c.moment)
+run_heard b c from wide h slots ok =
+    let t : Table = c.circuits in
+    let e : End = (t.circuit_at h.to).end in
+    let f : Frame (List Slot) = run_frame (numbers_at e h None) slots in
+    cond_both (names t from h.to h.from) (run_at b t h.to (fits_kind e h.master wide) c.moment h.ask f) (foreign t) (Hears c)
+    (λ q. let p = and_parts (is_of (t.circuit_at h.to) from h.from && lives e) e.running q in
+    run_at_later b c h.to (fits_kind e h.master wide) c.moment h.ask f ok (and_parts (is_of (t.circuit_at h.to) from h.from) (lives e) p.0).1 p.1)
+    (λ q. core_still c ok)
+
+stop_heard : (b : Bool) (c : Core) (from to source r : ℕ) → CoreOk c → Hears c (hear_stop_at b c.circuits from to source c.moment r)
+stop_heard b c from to source r ok =
+    let t : Table = c.circuits in
+    let e : End = (t.circuit_at to).end in
+    cond_both (nat_eq (t.circuit_at to).address from && (nat_eq e.peer source || nat_eq source 0) && lives e) (record { act = steps_at b t to (hear_stop c.moment r e); answer = Ended r }) (foreign t) (Hears c)
+    (λ q. let h = (and_parts (nat_eq (t.circuit_at to).address from && (nat_eq e.peer source || nat_eq source 0)) (lives e) q).1 in
+    step_later b c to (hear_stop c.moment r e) ok h (stop_later c.moment r e (ok.stood to h).good (ok.stood to h).begun) (stop_unheard c.moment r e (ok.unheard to)))
+    (λ q. core_still c ok)
+
+reply_heard : (c : Core) (from to source : ℕ) (g : Agreed) → CoreOk c → Hears c (hear_reply_at c.circuits from to source c.moment g)
+reply_heard c from to source g ok =
+    let t : Table = c.circuits in
+    let e : End = (t.circuit_at to).end in
+    cond_both (nat_eq (t.circuit_at to).address from && lives e && (not e.running || nat_eq e.peer source)) (record { act = steps_at true t to (hear_reply c.moment source g e); answer = cond e.running Again Running }) (foreign t) (Hears c)
+    (λ q. let h = (and_parts (nat_eq (t.circuit_at to).address from) (lives e) (and_parts (nat_eq (t.circuit_at to).address from && lives e) (not e.running || nat_eq e.peer source) q).0).1 in
+    step_later true c to (hear_reply c.moment source g e) ok h (reply_later c.moment source g e (ok.stood to h).good (ok.stood to h).begun) (reply_unheard c.moment source g e (ok.unheard to)))
+    (λ q. core_still c ok)
+
+-- a START at a node
+
+-- which circuit a START is for
+abbrev IsFact : Table → StartFact → Type 0
+IsFact t (Repeats x) = lives (t.circuit_at x).end ≡ true
+IsFact t (Makes x) = x ≡ suc t.drawn
+IsFact t Refuses = Unit {0}
+
+is_fact : (t : Table) (from source : ℕ) → IsFact t (start_fact t from source)
+is_fact t from source =
+    cond_both (nat_eq (slave_of t from source) 0) (cond (nat_lt (living t) 8 && nat_lt t.drawn 65535) (Makes (suc t.drawn)) Refuses) (Repeats (slave_of t from source)) (IsFact t)
+    (λ h. cond_both (nat_lt (living t) 8 && nat_lt t.drawn 65535) (Makes (suc t.drawn)) Refuses (IsFact t) (λ m. refl) (λ m. tt))
+    (λ h. let x : ℕ = slave_of t from source in
+    (and_parts (is_of (t.circuit_at x) from source) (lives (t.circuit_at x).end) (least_true (λ i. is_of (t.circuit_at i) from source && lives (t.circuit_at i).end) 0 t.drawn (eqb-false x 0 h))).1)
+
+start_heard : (k : Side) (c : Core) (from source : ℕ) (name : Name) (g : Agreed) (fact : StartFact) → CoreOk c → IsFact c.circuits fact
+    → CoreLater c (acts k (names_for fact name c) (start_at (setup_of k.timing) (names_for fact name c).circuits from source (names_for fact name c).moment g fact)).core
+start_heard k c from source name g (Repeats x) ok h =
+    let e : End = (c.circuits.circuit_at x).end in
+    step_later false c x (again_start c.moment e) ok h (again_later c.moment e (ok.stood x h).good (ok.stood x h).begun) (again_unheard c.moment e (ok.unheard x))
+start_heard k c from source name g (Makes x) ok h =
+    touched_later c (names_for (Makes x) name c) x x from (make_slave c.moment source g (first_end false false (setup_of k.timing))).end (circuits_still c c.moment (updated c.names x name) ok) (omega (arith, h)) (λ l. absurd (omega (arith, h, l))) (λ r y. refl)
+start_heard k c from source name g Refuses ok h = core_still c ok
+
+abbrev HearsIn : Core → HeardCore → Type 0
+HearsIn c h = CoreLater c h.doing.core
+
+pub heard_later : (k : Side) (from : ℕ) (m : Message) (c : Core) → CoreOk c → CoreLater c (heard_core k from m c).doing.core
+heard_later k from (RunMessage h slots) c ok = run_heard k.server c from false h slots ok
+heard_later k from (WideMessage h slots) c ok = run_heard k.server c from true h slots ok
+heard_later k from (StartMessage true ask to source info) c ok =
+    cond_both k.server (untouched c) (start_core k c from source info (start_fact c.circuits from source)) (HearsIn c) (λ h. core_still c ok)
+    (λ h. start_heard k c from source info.name (agreed_by k.timing info) (start_fact c.circuits from source) ok (is_fact c.circuits from source))
+heard_later k from (StartMessage false ask to source info) c ok =
+    cond_both k.server (of_act k c (hear_reply_at c.circuits from to source c.moment (agreed_by k.timing info))) (untouched c) (HearsIn c) (λ h. reply_heard c from to source (agreed_by k.timing info) ok)
+    (λ h. core_still c ok)
+heard_later k from (StopMessage master ask to source reason text) c ok = stop_heard k.server c from to source reason ok

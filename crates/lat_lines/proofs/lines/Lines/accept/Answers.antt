@@ -1,0 +1,30 @@
+use Rattle.std.proofs.Common.{◌≡◌, true, false, sym, ap, subst, ◌∙◌}
+use Rattle.lat_model.specs.sessions.Calls.{Answer}
+use Rattle.lat_model.specs.ends.End.{lives}
+use Rattle.lat_machines.specs.cores.Cores.{Core}
+use Rattle.lat_circuits.specs.Stands.{calling}
+use Rattle.lat_lines.specs.Kept.{Kept, side_of}
+use Rattle.lat_lines.specs.Stands.{Stands}
+use Rattle.lat_lines.specs.Opens.{accepted_core}
+use Rattle.lat_lines.specs.Shown.{shown}
+use Rattle.lat_lines.proofs.Says.{acted_calling}
+use Rattle.lat_lines.proofs.Acting.{ok_of}
+use Rattle.lat_lines.proofs.CoresLater.{calling_later}
+use Rattle.lat_lines.proofs.Accepting.{none_still, called_lives, accepted_leads}
+use Rattle.lat_lines.proofs.lines.Lines.accept.Goals as goal
+
+pub returns-clause-state : goal.returns-clause-state
+returns-clause-state c = λ d st none l w.
+    let k = shown c.self.inside in
+    let x = c.args.circuit in
+    let call = Answer c.args.id in
+    let e : Core = calling (side_of k) x call d in
+    let st2 : Stands k d = subst (λ z. Stands z d) (sym c.self.view_is) st in
+    let did = c.answer.ensures.state d st2.circuits in
+    let done : Stands c.settle.new.self e = (acted_calling k c.settle.new.self c.answer.new.self x call d st2 c.answer.ensures.same.ids did c.settle.ensures.state c.settle.ensures.circuits).state in
+    let going : lives (e.circuits.circuit_at x).end ≡ true = called_lives (side_of k) x call d l in
+    let node : c.settle.new.self.circuits.server ≡ false = ap (λ z. z.server) c.settle.ensures.circuits ∙ c.answer.ensures.same.core.server ∙ ap (λ (z : Kept). z.circuits.server) c.self.view_is ∙ c.requires.node in
+    let free_still = none_still k c.answer.new.self d e c.args.line st2 did (calling_later (side_of k) x call d (ok_of k d st2)) none in
+    let leads = accepted_leads k (side_of k) x c.args.id d st2 l w (c.seat.ensures.side e done free_still going ∙ node) in
+    subst (λ (z : Kept). Stands c.seat.new.self (accepted_core (side_of z) c.args.line x c.args.id d)) c.self.view_is
+    (c.seat.ensures.state e ((e.circuits.circuit_at x).end.half.sessions.at_id c.args.id) done free_still going leads)

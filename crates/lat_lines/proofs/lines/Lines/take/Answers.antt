@@ -1,0 +1,33 @@
+use Rattle.std.proofs.Common.{◌≡◌, [], length, min, sym, ap, ap₂, subst, ◌∙◌, rules}
+use Rattle.lat_model.specs.sessions.Calls.{Take}
+use Rattle.lat_machines.specs.cores.LineCalls.{take_on, on_line}
+use Rattle.lat_circuits.specs.Stands.{calling}
+use Rattle.lat_lines.specs.Kept.{Kept, side_of}
+use Rattle.lat_lines.specs.Answers.{Says, answer_shown, seat_or, took_answer}
+use Rattle.lat_lines.specs.Shown.{shown}
+use Rattle.lat_lines.proofs.Standing.{refilled}
+use Rattle.lat_lines.proofs.Telling.{takes_at}
+use Rattle.lat_lines.proofs.Calling.{taking, giving, take_agrees, agrees_at}
+use Rattle.lat_lines.proofs.Says.{says_called, refused, is_seat}
+use Rattle.lat_lines.proofs.lines.Lines.take.Goals as goal
+
+pub returns-in_ok-items-in-Ok-clause-says : goal.returns-in_ok-items-in-Ok-clause-says
+returns-in_ok-items-in-Ok-clause-says c =
+    let k = shown c.self.inside in
+    let s = c.in-Ok.seat in
+    let given = c.as_mut_slice.result.now in
+    let is = is_seat k c.args.line s (ap (λ z. seat_or z c.args.line) c.self.view_is ∙ sym c.seat_on.ensures ∙ c.in-Ok.is) in
+    let long : length given ≡ min c.waiting.result c.args.n = search rules in
+    let out = c.take-answer.new.out in
+    let whole = refilled c.in_ok-items-in-Ok.items.len out c.in_ok-items-in-Ok.items.items (c.take-answer.ensures.places ∙ c.as_mut_slice.ensures.len) (sym c.in_ok-items-in-Ok.items.ok.0) in
+    subst (λ (z : Kept). Says (λ d. on_line z.lines d c.args.line (λ t. take_on (side_of z) d t c.args.n)) z c.settle.new.self c.took_told.result) c.self.view_is
+    (says_called k c.settle.new.self c.take-answer.new.self c.args.line s (λ d t. take_on (side_of k) d t c.args.n) (Take s.session.session (length given)) c.took_told.result is c.take-answer.ensures.same.ids c.take-answer.ensures.state c.settle.ensures.state c.settle.ensures.circuits (λ d t st h p q.
+    agrees_at (λ x i. calling (side_of k) x (Take i (length given)) d) (λ x i. answer_shown (took_answer (taking d x i (length given)) (giving d x i given))) s.session.circuit s.session.session t (answer_shown c.took_told.result) (take_on (side_of k) d t c.args.n) p q
+    (ap answer_shown (c.took_told.ensures ∙ ap₂ took_answer (c.take-answer.ensures.answer d st.circuits) (whole ∙ c.take-answer.ensures.items d st.circuits)))
+    (take_agrees (side_of k) d k.lines t c.args.n given h (long ∙ ap (λ w. min w c.args.n) (c.waiting.ensures.model d st.circuits ∙ ap₂ (takes_at d) p q)))))
+
+pub returns-in-Err-clause-says : goal.returns-in-Err-clause-says
+returns-in-Err-clause-says c =
+    let r = refused c.args.self.now c.args.line (λ d t. take_on (side_of c.args.self.now) d t c.args.n) c.in-Err.answer (sym c.seat_on.ensures ∙ c.in-Err.is) in
+    subst (λ z. Says (λ d. on_line c.args.self.now.lines d c.args.line (λ t. take_on (side_of c.args.self.now) d t c.args.n)) c.args.self.now z c.refused.result) (sym c.refused.ensures.kept)
+    (subst (Says (λ d. on_line c.args.self.now.lines d c.args.line (λ t. take_on (side_of c.args.self.now) d t c.args.n)) c.args.self.now (record (c.args.self.now) { freed = [] })) (sym c.refused.ensures.answer) r)

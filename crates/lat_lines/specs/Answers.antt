@@ -1,0 +1,97 @@
+-- Answers to line calls, as the machines know them.
+use Rattle.std.specs.Prelude.{◌≡◌, ℕ, cond, min, List, map, Option, Some, None, Result, Ok, Err, find, nat_eq}
+use Rattle.std.specs.Option.{ok_or}
+use Rattle.lat_base.specs.declared.answer.Answer as base
+use Rattle.lat_base.specs.declared.answer.Answer.TheVariants as answers
+use Rattle.lat_base.specs.declared.item.Item as base_item
+use Rattle.lat_base.specs.declared.item.Item.TheVariants as items
+use Rattle.lat_model.specs.sessions.Slots.{Item, Byte, Setting}
+use Rattle.lat_machines.specs.values.Answers.{Answer, Circuit, Started, StartRefused, Announced, DirectoryFull, KeptIs, NotKept, Noted, Apart, Solicited, Ignored, Bad, Done, Connected, Accepted, Took, NoLine, Busy, NoService, SessionsFull, CircuitsFull, IdsOut, Closed, Full, IdUsed, NotHere}
+use Rattle.lat_machines.specs.cores.Cores.{Core}
+use Rattle.lat_machines.specs.cores.LineCalls.{Said}
+use Rattle.lat_machines.specs.cores.Lines.{line_exists}
+use Rattle.lat_payload.specs.FieldNumbers.{field_number}
+use Rattle.lat_queue.specs.Histories.{kept_in}
+use Rattle.lat_stream.specs.declared.calls.SessionFault.{SessionFault}
+use Rattle.lat_stream.specs.declared.calls.SessionFault.TheVariants as faults
+use Rattle.lat_circuit.specs.Hears.{heard_shown}
+use Rattle.lat_circuits.specs.Told as circuits
+use Rattle.lat_lines.specs.declared.seat.Seat.{Seat}
+use Rattle.lat_lines.specs.Kept.{Kept}
+use Rattle.lat_lines.specs.Stands.{Stands, freed_between}
+use Rattle.lat_queue.specs.Histories.{key_in}
+
+abbrev pub item_in : base_item.Item → Item
+item_in (items.Byte b) = Byte b
+item_in (items.Set t) = Setting t
+
+-- an answer, as the machines know it
+abbrev pub answer_shown : base.Answer → Answer
+answer_shown (answers.Circuit heard) = Circuit (heard_shown heard)
+answer_shown (answers.Started id) = Started id
+answer_shown answers.StartRefused = StartRefused
+answer_shown answers.Announced = Announced
+answer_shown answers.DirectoryFull = DirectoryFull
+answer_shown (answers.Kept kept) = KeptIs (kept_in kept)
+answer_shown answers.NotKept = NotKept
+answer_shown answers.Noted = Noted
+answer_shown answers.Apart = Apart
+answer_shown answers.Solicited = Solicited
+answer_shown answers.Ignored = Ignored
+answer_shown (answers.Bad bad) = Bad (field_number bad.field) bad.at
+answer_shown (answers.Connected circuit session) = Connected circuit session
+answer_shown (answers.Put n) = Accepted n
+answer_shown (answers.Took given) = Took (map item_in given)
+answer_shown answers.Done = Done
+answer_shown answers.NoLine = NoLine
+answer_shown answers.Busy = Busy
+answer_shown answers.NoService = NoService
+answer_shown answers.SessionsFull = SessionsFull
+answer_shown answers.CircuitsFull = CircuitsFull
+answer_shown answers.IdsOut = IdsOut
+answer_shown answers.Closed = Closed
+answer_shown answers.Full = Full
+answer_shown answers.IdUsed = IdUsed
+answer_shown answers.NotHere = NotHere
+
+-- the call was done and answered so, and the requests whose sessions became free are known
+pub record SaidTo (c : Core) (s : Said) (new : Kept) (answer : base.Answer) : Type 0 where
+  pub state : Stands new s.core
+  pub answered : answer_shown answer ≡ s.answer
+  pub freed : map key_in new.freed ≡ freed_between c s.core
+
+abbrev pub Says : (Core → Said) → (old new : Kept) → base.Answer → Type 0
+Says call old new answer = (c : Core) → Stands old c → SaidTo c (call c) new answer
+
+-- the session of a line, or what a call on it is answered
+abbrev pub seat_or : Kept → ℕ → Result Seat base.Answer
+seat_or k line =
+    cond (line_exists k.lines line)
+    (ok_or (find (λ (s : Seat). nat_eq s.line line) k.seats) answers.Closed)
+    (Err answers.NoLine)
+
+-- what a session says of a call is answered
+
+abbrev pub fault_answer : SessionFault → base.Answer
+fault_answer faults.Full = answers.Full
+fault_answer faults.Closed = answers.Closed
+
+abbrev pub put_answer : Result ℕ SessionFault → base.Answer
+put_answer (Ok n) = answers.Put (min n 4096)
+put_answer (Err fault) = fault_answer fault
+
+abbrev pub done_answer : Result (Unit {0}) SessionFault → base.Answer
+done_answer (Ok u) = answers.Done
+done_answer (Err fault) = fault_answer fault
+
+abbrev pub took_answer : Result ℕ SessionFault → List base_item.Item → base.Answer
+took_answer (Ok n) given = answers.Took given
+took_answer (Err fault) given = fault_answer fault
+
+-- how many items a take on a line could get
+abbrev pub ready_at : Kept → Option Seat → ℕ
+ready_at k None = 0
+ready_at k (Some s) = circuits.ready k.circuits s.session.circuit s.session.session
+
+abbrev pub ready : Kept → ℕ → ℕ
+ready k line = ready_at k (find (λ (s : Seat). nat_eq s.line line) k.seats)

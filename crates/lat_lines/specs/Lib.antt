@@ -1,0 +1,10 @@
+pub mod Later
+pub mod Kept
+pub mod Stands
+pub mod Looks
+pub mod Cores
+pub mod Answers
+pub mod Opens
+pub mod Shown
+pub mod Events
+pub mod Back

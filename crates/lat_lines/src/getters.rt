@@ -1,0 +1,174 @@
+//! What lines tell. No call takes memory.
+
+ghost use Rattle.std.specs.Prelude.{◌≡◌, ◌≤◌, ◌&&◌, true, false, not, cond, length, filter, find, nat_eq, Some, None, IfSome};
+ghost use Rattle.lat_model.specs.Lists.{least, upwards};
+ghost use Rattle.lat_model.specs.ends.End.{lives};
+ghost use Rattle.lat_model.specs.sessions.Session.{waits};
+ghost use Rattle.lat_model.specs.sessions.Sessions.{named};
+ghost use Rattle.lat_machines.specs.values.Addresses.{address};
+ghost use Rattle.lat_machines.specs.cores.Books.{book};
+ghost use Rattle.lat_machines.specs.cores.Cores.{Core, span};
+ghost use Rattle.lat_machines.specs.cores.Hearing.{names};
+ghost use Rattle.lat_machines.specs.cores.Lines.{holds, used, ended, told_count, line_exists, line_state, waiting_at};
+ghost use Rattle.lat_session.specs.States.{asked_at};
+ghost use Rattle.lat_stream.specs.Kept.{state_shown};
+ghost use Rattle.lat_circuits.specs.Kept.{has_id};
+ghost use Rattle.lat_circuits.specs.Told.{span_told, is_asked_at};
+ghost use Rattle.lat_circuits.specs.Opens.{id_told};
+ghost use Rattle.lat_lines.specs.Kept.{side_of, IsLine};
+ghost use Rattle.lat_lines.specs.Answers.{ready};
+ghost use Rattle.lat_lines.specs.Stands.{Stands, book_shown, book_told};
+ghost use Rattle.lat_lines.specs.declared.seat.Seat.{Seat};
+
+use crate::lines::Lines;
+use crate::seat::Seat;
+use lat_base::{Addr, LineBook, Name, SessionState};
+use lat_circuits::Asked;
+use lat_seq::Span;
+
+impl Lines {
+    /// The core's moment, in milliseconds.
+    pub fn moment(&self) -> u64
+        ensures value { result ≡ self.now.circuits.moment }
+        ensures model { (c : Core) → Stands self.now c → result ≡ c.moment }
+    {
+        self.circuits.moment()
+    }
+
+    /// The core's name.
+    pub fn name(&self) -> Name
+        ensures { result ≡ self.now.circuits.name }
+    {
+        self.circuits.name()
+    }
+
+    /// How many lines there are, 1 to 64.
+    pub fn count(&self) -> u8
+        ensures value { result ≡ self.now.lines }
+        ensures some { (1 ≤ result) × (result ≤ 64) }
+    {
+        self.count
+    }
+
+    /// Whether there is a line of this number: they are numbered from 1.
+    pub fn exists(&self, line: u8) -> bool
+        ensures value { result ≡ line_exists self.now.lines line }
+    {
+        line >= 1 && line <= self.count
+    }
+
+    /// Whether the line has a session.
+    pub fn holds(&self, line: u8) -> bool
+        ensures { (c : Core) → Stands self.now c → result ≡ holds c line }
+    {
+        seat_of(self.seats.as_slice(), line).is_some()
+    }
+
+    /// How many lines have a session.
+    pub fn used(&self) -> u16
+        ensures value { result ≤ self.now.lines }
+        ensures model { (c : Core) → Stands self.now c → result ≡ used c }
+    {
+        self.seats.len() as u16
+    }
+
+    /// How many line sessions are over. It stops at the greatest number of 32 bits.
+    pub fn finished(&self) -> u32
+        ensures { (c : Core) → Stands self.now c → result ≡ told_count (ended c) }
+    {
+        self.finished
+    }
+
+    /// The state of the line's session: `Free` where it has none.
+    pub fn state(&self, line: u8) -> SessionState
+        ensures { (c : Core) → Stands self.now c → result ≡ state_shown (line_state (side_of self.now) c line) }
+    {
+        match seat_of(self.seats.as_slice(), line) {
+            Some(seat) => self
+                .circuits
+                .state(seat.session.circuit, seat.session.session),
+            None => SessionState::Free,
+        }
+    }
+
+    /// How many heard items a take on this line could give now, 0 where it would be refused.
+    pub fn waiting(&self, line: u8) -> u16
+        ensures value { result ≡ ready self.now line }
+        ensures model { (c : Core) → Stands self.now c → result ≡ waiting_at c line }
+    {
+        match seat_of(self.seats.as_slice(), line) {
+            Some(seat) => self
+                .circuits
+                .waiting(seat.session.circuit, seat.session.session),
+            None => 0,
+        }
+    }
+
+    /// The last two sessions of a line, which must exist.
+    pub fn book(&self, line: u8) -> LineBook
+        requires { IsLine self.now.lines line }
+        ensures { (c : Core) → Stands self.now c → book_shown result ≡ book_told (book c line) }
+    {
+        LineBook {
+            present: seat_of(self.seats.as_slice(), line).map(|seat| seat.session),
+            last: self.last[line as usize - 1],
+        }
+    }
+
+    /// The least line without a session, `None` where each has one.
+    pub fn free_line(&self) -> Option<u8>
+        ensures model { (c : Core) → Stands self.now c → id_told result ≡ least (λ line. not (holds c line)) (upwards 0 self.now.lines) }
+        ensures line { IfSome result (λ line. IsLine self.now.lines line) }
+    {
+        (1..self.count + 1).find(|line| !self.holds(*line))
+    }
+
+    /// Whether a RUN from a station with these ids names a living circuit whose reply was heard.
+    pub fn names(&self, from: Addr, to: u16, source: u16) -> bool
+        ensures { (c : Core) → Stands self.now c → result ≡ names c.circuits (address from.0) to source }
+    {
+        self.circuits.names(from, to, source)
+    }
+
+    /// How far the message numbers of a circuit count, `None` exactly where no circuit of this id lives.
+    pub fn span(&self, circuit: u16) -> Option<Span>
+        ensures { (c : Core) → Stands self.now c → result ≡ span_told (span c circuit) }
+    {
+        self.circuits.span(circuit)
+    }
+
+    /// Whether a circuit of this id lives.
+    pub fn lives(&self, circuit: u16) -> bool
+        ensures { (c : Core) → Stands self.now c → result ≡ lives (c.circuits.circuit_at circuit).end }
+    {
+        self.circuits.lives(circuit)
+    }
+
+    /// The session of an id where it waits for this end's answer on a living circuit, at a node.
+    pub fn asked_at(&self, circuit: u16, id: u8) -> Option<Asked>
+        ensures { (c : Core) →
+            Stands self.now c →
+            self.now.circuits.server ≡ false →
+            result ≡ cond (lives (c.circuits.circuit_at circuit).end && waits (named (c.circuits.circuit_at circuit).end.half.sessions id)) (Some (asked_at (c.circuits.circuit_at circuit).end.half.sessions id)) None }
+    {
+        self.circuits.asked_at(circuit, id)
+    }
+
+    /// How many sessions of a held circuit wait for this end's answer, or did when it ended, at a node.
+    pub fn asked_count(&self, circuit: u16) -> u8
+        ensures { (c : Core) →
+            Stands self.now c →
+            self.now.circuits.server ≡ false →
+            has_id circuit self.now.circuits ≡ true →
+            result ≡ length (filter (λ id. waits (named (c.circuits.circuit_at circuit).end.half.sessions id)) (upwards 0 64)) }
+    {
+        self.circuits.asked_count(circuit)
+    }
+}
+
+// The session of a line, as it is kept.
+pub(crate) fn seat_of(seats: &[Seat], line: u8) -> Option<Seat>
+    ensures { result ≡ find (λ (s : Seat). nat_eq s.line line) seats.now }
+{
+    seats.iter().find(|seat| seat.line == line).copied()
+}

@@ -1,0 +1,120 @@
+//! The lines of a core.
+
+ghost use Rattle.std.specs.Prelude.{◌≡◌, ◌≤◌, [], length, replicate, None, IfOk};
+ghost use Rattle.lat_machines.specs.values.Addresses.{address};
+ghost use Rattle.lat_machines.specs.cores.Cores.{open_core, Core, at_moment};
+ghost use Rattle.lat_circuit.specs.Agrees.{IsTiming};
+ghost use Rattle.lat_circuits.specs.Kept.{IsClear};
+ghost use Rattle.lat_lines.specs.Kept.{side_of, SameLines};
+ghost use Rattle.lat_lines.specs.Stands.{Stands};
+
+use crate::seat::Seat;
+use lat_base::{Addr, LineSession, Memory, Name};
+use lat_circuits::{Circuits, Timing};
+use lat_queue::Key;
+use std::alloc::Global;
+use std::marker::Model;
+
+/// The lines of one core, a server or a node, the sessions that they have and had, and the circuits that carry them.
+/// Contracts say for every core of the model that it stands for (`Stands`) what it stands for afterwards. See "Lines and
+/// their sessions" in docs/PROTOCOL.md.
+#[derive(Drop)]
+pub struct Lines {
+    /// How many there are, 1 to 64.
+    pub(crate) count: u8,
+    pub(crate) circuits: Circuits,
+    /// The sessions that lines have, in the order of connecting or accepting.
+    pub(crate) seats: Vec<Seat>,
+    /// By line, the last session that is over.
+    pub(crate) last: Vec<Option<LineSession>>,
+    /// How many line sessions there ever were.
+    pub(crate) made: u64,
+    /// How many of them are over.
+    pub(crate) finished: u32,
+    /// The requests whose sessions became free in the last act, in the order of the sessions.
+    pub(crate) freed: Vec<Key>,
+}
+
+impl Model for Lines {
+    ghost use Rattle.std.specs.Prelude.{◌≤◌, vec_capacity};
+    ghost use Rattle.lat_lines.specs.Kept.{Kept, Holds};
+    ghost use Rattle.lat_lines.specs.Shown.{shown};
+
+    ghost Value = { Kept };
+
+    ghost view = { shown };
+
+    ghost invariant = { λ a. Holds (shown a) × (a.count ≤ vec_capacity a.seats) × (a.count ≤ vec_capacity a.freed) };
+}
+
+fn no_last(alloc: Global, count: u8) -> Result<Vec<Option<LineSession>>, Memory>
+    ensures { IfOk result (λ v. v.items ≡ replicate count None) }
+{
+    let mut last = Vec::with_capacity(alloc, count as usize)?;
+    for _ in 0..count {
+        last.push(None)?;
+    }
+    Ok(last)
+}
+
+impl Lines {
+    /// So many lines without a session, 1 to 64, of a core with this address and name at moment 0; a server's or a node's. The
+    /// timing must be valid. Takes all the memory that lines and circuits will need; `Memory` where none is found.
+    pub fn make(
+        alloc: Global,
+        own: Addr,
+        name: Name,
+        timing: Timing,
+        server: bool,
+        count: u8,
+    ) -> Result<Lines, Memory>
+        requires timing { IsTiming timing }
+        requires count { (1 ≤ count) × (count ≤ 64) }
+        ensures stands { IfOk result (λ k. Stands k (open_core (side_of k) (address own.0))) }
+        ensures own { IfOk result (λ k. (k.circuits.own ≡ own) × (k.circuits.name ≡ name) × (k.circuits.timing ≡ timing) × (k.circuits.server ≡ server)) }
+        ensures clear { IfOk result (λ k. IsClear k.circuits) }
+        ensures lines { IfOk result (λ k. k.lines ≡ count) }
+        ensures freed { IfOk result (λ k. k.freed ≡ []) }
+    {
+        Ok(Lines {
+            count,
+            circuits: Circuits::make(alloc, own, name, timing, server)?,
+            seats: Vec::with_capacity(alloc, count as usize)?,
+            last: no_last(alloc, count)?,
+            made: 0,
+            finished: 0,
+            freed: Vec::with_capacity(alloc, count as usize)?,
+        })
+    }
+
+    /// Moves the core's moment on; one below the last counts as the last.
+    pub fn pass(&mut self, now: u64)
+        ensures state { (c : Core) → Stands self.old c → Stands self.new (at_moment now c) }
+        ensures same { SameLines self.old self.new }
+        ensures clear { IsClear self.old.circuits → IsClear self.new.circuits }
+        ensures later { (now ≤ self.new.circuits.moment) × (self.old.circuits.moment ≤ self.new.circuits.moment) }
+        ensures seats { self.new.seats ≡ self.old.seats }
+        ensures freed { self.new.freed ≡ self.old.freed }
+    {
+        self.circuits.pass(now);
+    }
+
+    /// Lets go of the circuits that have ended, as `Circuits::clear` does, and of the requests that `freed` told.
+    pub fn clear(&mut self)
+        ensures state { (c : Core) → Stands self.old c → Stands self.new c }
+        ensures same { SameLines self.old self.new }
+        ensures clear { IsClear self.new.circuits }
+        ensures freed { self.new.freed ≡ [] }
+        ensures moment { self.new.circuits.moment ≡ self.old.circuits.moment }
+    {
+        self.circuits.clear();
+        self.freed.clear();
+    }
+
+    /// The requests whose sessions became free in the last act, in the order of the sessions.
+    pub fn freed(&self) -> &[Key]
+        ensures { result.now ≡ self.now.freed }
+    {
+        self.freed.as_slice()
+    }
+}
