@@ -1,0 +1,202 @@
+-- What a server makes of what it hears, and of time.
+use Rattle.std.proofs.Common.{◌≡◌, ◌≢◌, ℕ, refl, sym, ap, ◌∙◌, subst, Bool, true, false, cond, List, [], ◌∷◌, ◌++◌, map, Option, Some, None, max}
+use Rattle.std.specs.Prelude.{Result, Ok, Err, if◌then◌else◌, IfOk, IfSome}
+use Rattle.lat_base.specs.declared.answer.Answer as base
+use Rattle.lat_base.specs.declared.answer.Answer.TheVariants as answers
+use Rattle.lat_base.specs.declared.kept.Kept as base_kept
+use Rattle.lat_base.specs.declared.outbox.OutFrame.{OutFrame}
+use Rattle.lat_machines.specs.values.Names.{Name}
+use Rattle.lat_machines.specs.values.Messages.{Message, RunMessage, WideMessage, StartMessage, StopMessage}
+use Rattle.lat_machines.specs.values.Notices.{Kept as Known, Outcome, KeptAs, Unknown, Action, Ask, Cancel, Announcement, Command}
+use Rattle.lat_machines.specs.values.Answers.{Answer, Announced, Apart, DirectoryFull, KeptIs, NotKept, Done}
+use Rattle.lat_machines.specs.server.Directory.{meets, refuses, hear}
+use Rattle.lat_machines.specs.server.Queue.{QueueEvent, Asks, Cancels}
+use Rattle.lat_machines.specs.server.Records.{ask_answer, kept_of}
+use Rattle.lat_machines.specs.cores.Cores.{Seat, Core, at_moment, passes_time}
+use Rattle.lat_machines.specs.cores.Lines.{over}
+use Rattle.lat_machines.specs.cores.LineCalls.{Said}
+use Rattle.lat_machines.specs.server.Server.{ServerConfig, Server, ServerStep, server_side, offered, tells, with_core, does, said, hears_message, hears_announcement, status_frame, key_of, hears_command}
+use Rattle.lat_payload.specs.Frames.{seen, expected, Adds}
+use Rattle.lat_payload.specs.NoticesOf.{IsTold}
+use Rattle.lat_payload.specs.Shown.{outcome_shown}
+use Rattle.lat_payload.proofs.Frames.{adds_none, adds_one}
+use Rattle.lat_dir.specs.declared.directory.DirFault.{DirFault}
+use Rattle.lat_dir.specs.declared.directory.DirFault.TheVariants as faults
+use Rattle.lat_dir.specs.Stands as dir
+use Rattle.lat_dir.specs.Stands.{UnlessMemory}
+use Rattle.lat_queue.specs.Tables.{Table, HasPlace}
+use Rattle.lat_queue.specs.Histories.{key_in, some_kept}
+use Rattle.lat_queue.proofs.RecordLemmas.{map_twice}
+use Rattle.lat_circuit.specs.Frames.{timing_shown}
+use Rattle.lat_circuits.specs.Hears.{HeardCore, heard_core}
+use Rattle.lat_lines.specs.Answers.{answer_shown, SaidTo}
+use Rattle.lat_lines.specs.Kept as lines
+use Rattle.lat_lines.specs.Stands as stands
+use Rattle.lat_lines.specs.Stands.{freed_key, freed_from}
+use Rattle.lat_server.specs.declared.config.Offer.{Offer}
+use Rattle.lat_server.specs.Config.{offer_shown}
+use Rattle.lat_server.specs.Commands.{Noted, noted, HasNoted, answer_told, outcome_told, announced_answer}
+use Rattle.lat_server.specs.Kept.{Kept, config_of, AtRest}
+use Rattle.lat_server.specs.Settled.{Settled}
+use Rattle.lat_server.specs.Stands.{Stands}
+use Rattle.lat_server.specs.Events.{DidTo}
+use Rattle.lat_server.proofs.SettledLemmas.{settled_more}
+
+-- what follows from a result where there is one
+pub if_ok : {A E : Type 0} (r : Result A E) (P Q : A → Type 0) → ((a : A) → P a → Q a) → IfOk r P → IfOk r Q
+if_ok (Ok a) P Q f p = f a p
+if_ok (Err e) P Q f p = tt
+
+-- the moment frees no session
+
+moved_freed : (now : ℕ) (c d : Core) (ss : List Seat) → freed_from (at_moment now c) d ss ≡ freed_from c d ss
+moved_freed now c d [] = refl
+moved_freed now c d (s ∷ ss) = ap (λ z. cond (over c s) z (cond (over d s) (freed_key s.key z) z)) (moved_freed now c d ss)
+
+none_moved : (now : ℕ) (c : Core) (ss : List Seat) → freed_from c (at_moment now c) ss ≡ []
+none_moved now c [] = refl
+none_moved now c (s ∷ ss) = by (over c s) (none_moved now c ss)
+  where
+    by : (b : Bool) → freed_from c (at_moment now c) ss ≡ [] → cond b (freed_from c (at_moment now c) ss) (cond b (freed_key s.key (freed_from c (at_moment now c) ss)) (freed_from c (at_moment now c) ss)) ≡ []
+    by true r = r
+    by false r = r
+
+abbrev at : ℕ → Server → Server
+at now s = with_core s (at_moment now s.core)
+
+-- nothing but the moment moves on
+pub did_pass : (k : Kept) (s : Server) (now : ℕ) (l : lines.Kept) (a : base.Answer) (out : List OutFrame) → AtRest k → Stands k s → stands.Stands l (at_moment now s.core) → l.freed ≡ k.lines.freed → DidTo s (tells (at now s) (answer_shown a)) (record k { lines = l }) a out out
+did_pass k s now l a out rest st m f = record {
+  state = record { core = m; directory = st.directory; waiting = st.queue; solicits = st.solicits; settled = st.settled; freed = ap (map key_in) (f ∙ rest.freed) ∙ sym (none_moved now s.core s.core.seats); frames = adds_none out };
+  answered = refl;
+}
+
+-- time
+pub did_time : (k : Kept) (s : Server) (now : ℕ) (l : lines.Kept) (d : dir.Kept) (before after : List OutFrame) → Stands k s → stands.DidTo (at_moment now s.core) (passes_time (server_side (config_of k)) (at_moment now s.core)) l before after → dir.Stands d s.heard
+    → DidTo s (does s Done (passes_time (server_side (config_of k)) (at_moment now s.core))) (record k { lines = l; directory = d }) answers.Done before after
+did_time k s now l d before after st t h = record {
+  state = record { core = t.state; directory = h; waiting = st.queue; solicits = st.solicits; settled = st.settled; freed = t.freed ∙ moved_freed now s.core (passes_time (server_side (config_of k)) (at_moment now s.core)).core s.core.seats; frames = t.frames };
+  answered = refl;
+}
+
+-- a call on a line
+pub did_call : (k : Kept) (s : Server) (l : lines.Kept) (a : base.Answer) (x : Said) (out : List OutFrame) → Stands k s → SaidTo s.core x l a → DidTo s (said s x) (record k { lines = l }) a out out
+did_call k s l a x out st t = record {
+  state = record { core = t.state; directory = st.directory; waiting = st.queue; solicits = st.solicits; settled = st.settled; freed = t.freed; frames = adds_none out };
+  answered = t.answered;
+}
+
+-- circuit messages
+
+message_is : (config : ServerConfig) (s : Server) (from : ℕ) (m : Message) → hears_message config s from m None ≡ does s (heard_core (server_side config) from m s.core).answer (heard_core (server_side config) from m s.core).doing
+message_is config s from (RunMessage h slots) = refl
+message_is config s from (WideMessage h slots) = refl
+message_is config s from (StartMessage true ask to source info) = refl
+message_is config s from (StartMessage false ask to source info) = refl
+message_is config s from (StopMessage master ask to source reason text) = refl
+
+pub did_message : (k : Kept) (s : Server) (now from : ℕ) (m : Message) (l : lines.Kept) (a : base.Answer) (before after : List OutFrame) → Stands k s → stands.DidTo (at_moment now s.core) (heard_core (server_side (config_of k)) from m (at_moment now s.core)).doing l before after
+    → answer_shown a ≡ (heard_core (server_side (config_of k)) from m (at_moment now s.core)).answer → DidTo s (hears_message (config_of k) (at now s) from m None) (record k { lines = l }) a before after
+did_message k s now from m l a before after st t e =
+    let h : HeardCore = heard_core (server_side (config_of k)) from m (at_moment now s.core) in
+    subst (λ z. DidTo s z (record k { lines = l }) a before after) (sym (message_is (config_of k) (at now s) from m))
+    (record {
+      state = record { core = t.state; directory = st.directory; waiting = st.queue; solicits = st.solicits; settled = st.settled; freed = t.freed ∙ moved_freed now s.core h.doing.core s.core.seats; frames = t.frames };
+      answered = e;
+    })
+
+-- announcements
+
+pub unless_out : (r : Result Bool DirFault) (P : Type 0) → r ≢ Err faults.Memory → UnlessMemory r P → P
+unless_out (Ok b) P n p = p
+unless_out (Err faults.Full) P n p = p
+unless_out (Err faults.Memory) P n p = absurd (n refl)
+
+announced_is : (r m : Bool) → announced_answer (if r then Err faults.Full else Ok m) ≡ cond r DirectoryFull (cond m Announced Apart)
+announced_is true m = refl
+announced_is false true = refl
+announced_is false false = refl
+
+pub did_announce : (k : Kept) (s : Server) (now from : ℕ) (m : Announcement) (l : lines.Kept) (d : dir.Kept) (a : base.Answer) (out : List OutFrame) → AtRest k → Stands k s → stands.Stands l (at_moment now s.core) → l.freed ≡ k.lines.freed
+    → dir.Stands d (hear k.directory.groups (max s.core.moment now) from m s.heard)
+    → answer_shown a ≡ announced_answer (if refuses k.directory.groups (max s.core.moment now) m s.heard then Err faults.Full else Ok (meets k.directory.groups m))
+    → DidTo s (hears_announcement (config_of k) (at now s) from m) (record k { lines = l; directory = d }) a out out
+did_announce k s now from m l d a out rest st c f h e = record {
+  state = record { core = c; directory = h; waiting = st.queue; solicits = st.solicits; settled = st.settled; freed = ap (map key_in) (f ∙ rest.freed) ∙ sym (none_moved now s.core s.core.seats); frames = adds_none out };
+  answered = e ∙ announced_is (refuses k.directory.groups (max s.core.moment now) m s.heard) (meets k.directory.groups m);
+}
+
+-- commands
+
+abbrev answer_of : Option Known → Answer
+answer_of o = elim o [ None ↦ NotKept | Some k ↦ KeptIs k ]
+
+abbrev outcome_of : Option Known → Outcome
+outcome_of o = elim o [ None ↦ Unknown | Some k ↦ KeptAs k ]
+
+abbrev noting : Server → ℕ → Command → Noted → ServerStep
+noting s from m n = record { state = record s { queue = n.events }; answer = answer_of n.kept; frames = status_frame from m (outcome_of n.kept) ∷ [] }
+
+command_is : (config : ServerConfig) (s : Server) (from : ℕ) (m : Command) (a : Action) → hears_command config s from m a ≡ noting s from m (noted (offered config) from m a s.queue)
+command_is config s from m Ask = refl
+command_is config s from m Cancel = by (kept_of (key_of m) q)
+  where
+    q : List QueueEvent
+    q = s.queue ++ Cancels (key_of m) ∷ []
+
+    told : Option Known → ServerStep
+    told o = elim o [
+      | None ↦ record { state = record s { queue = q }; answer = NotKept; frames = status_frame from m Unknown ∷ [] }
+      | Some k ↦ record { state = record s { queue = q }; answer = KeptIs k; frames = status_frame from m (KeptAs k) ∷ [] }
+    ]
+
+    by : (o : Option Known) → told o ≡ noting s from m (record { events = q; kept = o })
+    by None = refl
+    by (Some k) = refl
+
+-- the services that are offered, by the queue and by the machine
+pub same_offers : (k : Kept) → k.queue.offered ≡ map (λ (o : Offer). o.service) k.offers → offered (config_of k) ≡ k.queue.offered
+same_offers k e = map_twice (λ o. o.service) offer_shown k.offers ∙ sym e
+
+noted_settled : (c : Core) (names : List Name) (from : ℕ) (m : Command) (a : Action) (q : List QueueEvent) → Settled c q → Settled c (noted names from m a q).events
+noted_settled c names from m Ask q p = settled_more c q (Asks (key_of m) from m.service (ask_answer names (key_of m) m.service q)) c.seats (λ j. refl) p
+noted_settled c names from m Cancel q p = settled_more c q (Cancels (key_of m)) c.seats (λ j. refl) p
+
+answer_is : (o : Option base_kept.Kept) → answer_shown (answer_told o) ≡ answer_of (some_kept o)
+answer_is None = refl
+answer_is (Some k) = refl
+
+outcome_is : (o : Option base_kept.Kept) → outcome_shown (outcome_told o) ≡ outcome_of (some_kept o)
+outcome_is None = refl
+outcome_is (Some k) = refl
+
+pub told_place : (o : Option base_kept.Kept) → IfSome o HasPlace → IsTold (outcome_told o)
+told_place None p = tt
+told_place (Some k) p = p
+
+pub did_command : (k : Kept) (s : Server) (now from : ℕ) (m : Command) (a : Action) (l : lines.Kept) (t : Table) (o : Option base_kept.Kept) (f : OutFrame) (before after : List OutFrame) → AtRest k → Stands k s → offered (config_of k) ≡ k.queue.offered
+    → HasNoted (noted k.queue.offered from m a s.queue) t o → seen f ≡ expected (status_frame from m (outcome_shown (outcome_told o))) → after ≡ before ++ f ∷ [] → stands.Stands l (at_moment now s.core) → l.freed ≡ k.lines.freed
+    → DidTo s (hears_command (config_of k) (at now s) from m a) (record k { lines = l; queue = t }) (answer_told o) before after
+did_command k s now from m a l t o f before after rest st same n e p c g =
+    let x : Noted = noted k.queue.offered from m a s.queue in
+    let told : outcome_shown (outcome_told o) ≡ outcome_of x.kept = outcome_is o ∙ ap outcome_of n.told in
+    subst (λ z. DidTo s z (record k { lines = l; queue = t }) (answer_told o) before after) (sym (command_is (config_of k) (at now s) from m a ∙ ap (λ ns. noting (at now s) from m (noted ns from m a s.queue)) same))
+    (record {
+      state = record {
+        core = c;
+        directory = st.directory;
+        waiting = n.state;
+        solicits = st.solicits;
+        settled = noted_settled s.core k.queue.offered from m a s.queue st.settled;
+        freed = ap (map key_in) (g ∙ rest.freed) ∙ sym (none_moved now s.core s.core.seats);
+        frames = subst (Adds (status_frame from m (outcome_of x.kept) ∷ []) before) (sym p) (adds_one (status_frame from m (outcome_of x.kept)) f before (e ∙ ap (λ y. expected (status_frame from m y)) told));
+      };
+      answered = answer_is o ∙ ap answer_of n.told;
+    })
+
+-- the same side before and after
+pub sides : (j k : lines.Kept) → lines.SameLines j k → lines.side_of k ≡ lines.side_of j
+sides j k s =
+    ap (λ b. record { server = b; timing = (lines.side_of k).timing; name = k.circuits.name }) s.core.server
+    ∙ ap (λ t. record { server = j.circuits.server; timing = timing_shown t; name = k.circuits.name }) s.core.timing
+    ∙ ap (λ n. record { server = j.circuits.server; timing = timing_shown j.circuits.timing; name = n }) s.core.name

@@ -1,0 +1,11 @@
+pub mod Connecting
+pub mod EventSeats
+pub mod Everyone
+pub mod Following
+pub mod Granting
+pub mod GrantLemmas
+pub mod Hearing
+pub mod KeptLemmas
+pub mod Openings
+pub mod SettledLemmas
+pub mod Stepping

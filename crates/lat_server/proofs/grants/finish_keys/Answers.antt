@@ -1,0 +1,19 @@
+use Rattle.std.proofs.Common.{◌≡◌, ◌+◌, [], ◌∷◌, ◌++◌, map, take, sym, ap, subst, ◌∙◌}
+use Rattle.std.proofs.lemmas.List.{map_more}
+use Rattle.lat_queue.specs.Histories as queue
+use Rattle.lat_queue.specs.Histories.{key_in}
+use Rattle.lat_server.specs.Settled.{finish_each}
+use Rattle.lat_server.proofs.SettledLemmas.{finish_more_keys}
+use Rattle.lat_server.proofs.grants.finish_keys.Goals as goal
+
+pub loop-key-preserved : goal.loop-key-preserved
+loop-key-preserved c = record {
+  stands = λ q st.
+      let keys = c.args.keys.now in
+      let i = c.loop-key.key-index in
+      let x = c.key-item.result in
+      let more : map key_in (take (i + 1) keys) ≡ map key_in (take i keys) ++ key_in x ∷ [] = map_more key_in keys i x c.loop-key-test.true ∙ ap (λ z. map key_in (take i keys) ++ key_in z ∷ []) (sym c.key-item.is) in
+      subst (queue.Stands c.finish.new.self) (sym (ap (λ z. finish_each z q) more ∙ finish_more_keys (map key_in (take i keys)) (key_in x) q))
+      (c.finish.ensures.stands (finish_each (map key_in (take i keys)) q) (c.loop-key.invariant.stands q st));
+  offered = c.finish.ensures.offered ∙ c.loop-key.invariant.offered;
+}

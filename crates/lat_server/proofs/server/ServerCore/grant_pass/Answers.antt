@@ -1,0 +1,29 @@
+use Rattle.std.proofs.Common.{◌≡◌, ◌≤◌, ◌-◌, ℕ, arith, sym, ap, subst, ◌∙◌}
+use Rattle.lat_model.specs.Lists.{upwards}
+use Rattle.lat_machines.specs.server.Server.{ServerConfig, Passing, grant_line, grant_lines}
+use Rattle.lat_server.specs.Kept.{Kept, config_of}
+use Rattle.lat_server.specs.Events.{HasPassed}
+use Rattle.lat_server.proofs.Granting.{lines_next}
+use Rattle.lat_server.proofs.server.ServerCore.grant_pass.Goals as goal
+
+pub loop-line-preserved : goal.loop-line-preserved
+loop-line-preserved c = record {
+  rest = c.grant_line.ensures.rest;
+  same = c.grant_line.ensures.same ∙ c.loop-line.invariant.same;
+  room = omega (arith, c.grant_line.ensures.most, c.loop-line.invariant.room);
+  passes = λ p start h.
+      let config : ServerConfig = config_of c.args.self.now in
+      let n : ℕ = c.loop-line.line in
+      let one : 1 ≤ n = omega arith in
+      let before : Passing = grant_lines config (upwards 0 (n - 1)) p in
+      subst (λ (z : Passing). HasPassed z c.grant_line.new.self start c.grant_line.new.out) (sym (lines_next config n p one))
+      (subst (λ (z : ServerConfig). HasPassed (grant_line z before n) c.grant_line.new.self start c.grant_line.new.out) c.loop-line.invariant.same
+      (c.grant_line.ensures.passes before start (c.loop-line.invariant.passes p start h)));
+}
+
+pub returns-clause-passes : goal.returns-clause-passes
+returns-clause-passes c = λ p start h.
+    let config : ServerConfig = config_of c.args.self.now in
+    let count : c.count-count.result ≡ config.lines = c.count-count.ensures.value ∙ ap (λ (z : Kept). z.lines.lines) c.self.view_is in
+    let all : c.loop-line.line - 1 ≡ config.lines = (let e : c.loop-line.line - 1 ≡ c.count-count.result = omega arith in e) ∙ count in
+    subst (λ n. HasPassed (grant_lines config (upwards 0 n) p) c.loop-line.self start c.loop-line.out) all (c.loop-line.invariant.passes p start h)

@@ -1,0 +1,13 @@
+use Rattle.std.proofs.Common.{sym, subst}
+use Rattle.lat_server.specs.Kept.{Kept, AtRest}
+use Rattle.lat_server.specs.Shown.{shown}
+use Rattle.lat_server.specs.Stands.{Stands}
+use Rattle.lat_server.proofs.Hearing.{did_pass}
+use Rattle.lat_server.proofs.server.ServerCore.turn_away.Goals as goal
+
+pub returns-clause-does : goal.returns-clause-does
+returns-clause-does c = λ frames s st.
+    let k : Kept = shown c.self.inside in
+    let rest : AtRest k = subst AtRest (sym c.self.view_is) c.requires.rest in
+    let in_it : Stands k s = subst (λ (z : Kept). Stands z s) (sym c.self.view_is) st in
+    did_pass k s c.args.now c.pass.new.self c.args.answer frames rest in_it (c.pass.ensures.state s.core in_it.lines) c.pass.ensures.freed

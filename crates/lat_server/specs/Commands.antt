@@ -1,0 +1,47 @@
+-- What commands and announcements are answered.
+use Rattle.std.specs.Prelude.{◌≡◌, ℕ, Bool, true, false, List, [], ◌∷◌, ◌++◌, Option, Some, None, Result, Ok, Err}
+use Rattle.lat_base.specs.declared.answer.Answer as base
+use Rattle.lat_base.specs.declared.answer.Answer.TheVariants as answers
+use Rattle.lat_base.specs.declared.kept.Kept as base_kept
+use Rattle.lat_notices.specs.declared.notice.Outcome.{Outcome}
+use Rattle.lat_notices.specs.declared.notice.Outcome.TheVariants as outcomes
+use Rattle.lat_machines.specs.values.Names.{Name}
+use Rattle.lat_machines.specs.values.Notices.{Kept, Action, Ask, Cancel, Command}
+use Rattle.lat_machines.specs.values.Answers.{Answer, Announced, Apart, DirectoryFull}
+use Rattle.lat_machines.specs.server.Queue.{QueueEvent, Asks, Cancels}
+use Rattle.lat_machines.specs.server.Records.{ask_answer, kept_of}
+use Rattle.lat_machines.specs.server.Server.{key_of}
+use Rattle.lat_dir.specs.declared.directory.DirFault.{DirFault}
+use Rattle.lat_queue.specs.Tables.{Table}
+use Rattle.lat_queue.specs.Histories.{Stands, some_kept}
+
+-- the queue's events once it was told of a command, and what is kept of the request then
+pub record Noted : Type 0 where
+  pub events : List QueueEvent
+  pub kept : Option Kept
+
+abbrev pub noted : List Name → ℕ → Command → Action → List QueueEvent → Noted
+noted offered from m Ask q =
+    let k : Kept = ask_answer offered (key_of m) m.service q in
+    record { events = q ++ Asks (key_of m) from m.service k ∷ []; kept = Some k }
+noted offered from m Cancel q =
+    let events : List QueueEvent = q ++ Cancels (key_of m) ∷ [] in
+    record { events = events; kept = kept_of (key_of m) events }
+
+pub record HasNoted (n : Noted) (new : Table) (kept : Option base_kept.Kept) : Type 0 where
+  pub state : Stands new n.events
+  pub told : some_kept kept ≡ n.kept
+
+abbrev pub answer_told : Option base_kept.Kept → base.Answer
+answer_told None = answers.NotKept
+answer_told (Some k) = answers.Kept k
+
+abbrev pub outcome_told : Option base_kept.Kept → Outcome
+outcome_told None = outcomes.Unknown
+outcome_told (Some k) = outcomes.Kept k
+
+-- an announcement that was kept, one of other groups, and one that found no room
+abbrev pub announced_answer : Result Bool DirFault → Answer
+announced_answer (Ok true) = Announced
+announced_answer (Ok false) = Apart
+announced_answer (Err fault) = DirectoryFull

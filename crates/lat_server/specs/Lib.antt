@@ -1,0 +1,8 @@
+pub mod Config
+pub mod Kept
+pub mod Settled
+pub mod Stands
+pub mod Shown
+pub mod Events
+pub mod Opened
+pub mod Commands

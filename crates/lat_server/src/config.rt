@@ -1,0 +1,73 @@
+//! What a server is made of.
+
+ghost use Rattle.std.specs.Prelude.{◌≡◌, [], ◌∷◌, ◌++◌, OnOk, OnErr};
+
+use lat_base::{Addr, Memory, Name};
+use lat_lines::Timing;
+use std::alloc::Global;
+use std::marker::Model;
+
+/// A line offers a service to the requests of nodes.
+#[derive(Clone, Copy, Debug)]
+pub struct Offer {
+    /// From 1 on.
+    pub line: u8,
+    pub service: Name,
+}
+
+/// A list of offers. Contracts see the list.
+#[derive(Debug, Drop)]
+pub struct Offers {
+    offers: Vec<Offer>,
+}
+
+impl Model for Offers {
+    ghost use Rattle.std.specs.Prelude.{List};
+    ghost use Rattle.lat_server.specs.declared.config.Offer.{Offer};
+
+    ghost Value = { List Offer };
+
+    ghost view = { λ a. a.offers.items };
+}
+
+impl Offers {
+    /// No offer. It takes no memory.
+    pub fn new(alloc: Global) -> Offers
+        ensures { result ≡ [] }
+    {
+        Offers {
+            offers: Vec::new(alloc),
+        }
+    }
+
+    /// Adds an offer at the end, for which it may take memory. `Memory` where none is found; then nothing has changed.
+    pub fn push(&mut self, offer: Offer) -> Result<(), Memory>
+        ensures ok { OnOk result (self.new ≡ self.old ++ offer ∷ []) }
+        ensures err { OnErr result (self.new ≡ self.old) }
+    {
+        self.offers.push(offer)?;
+        Ok(())
+    }
+
+    /// The offers, first to last.
+    pub fn as_slice(&self) -> &[Offer]
+        ensures { result.now ≡ self.now }
+    {
+        self.offers.as_slice()
+    }
+}
+
+/// What a server is made of. Valid where it has 1 to 32 lines, each offer names one of them, no line is in two offers, and
+/// the timing is valid.
+#[derive(Debug, Drop)]
+pub struct ServerConfig {
+    /// Its address.
+    pub own: Addr,
+    pub name: Name,
+    /// How many lines it has.
+    pub lines: u8,
+    pub offers: Offers,
+    /// The mask of the groups that it listens to: bit g mod 8 of byte g / 8 is that of group g.
+    pub groups: [u8; 32],
+    pub timing: Timing,
+}

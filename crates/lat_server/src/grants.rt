@@ -1,0 +1,134 @@
+//! Granting requests, and finishing them.
+
+ghost use Rattle.std.specs.Prelude.{◌≡◌, ◌≤◌, ◌+◌, length, map, false, true, List, Some, find, option_map, nat_eq};
+ghost use Rattle.lat_base.specs.declared.outbox.OutFrame.{OutFrame};
+ghost use Rattle.lat_machines.specs.cores.Lines.{holds};
+ghost use Rattle.lat_machines.specs.server.Queue.{QueueEvent, Request, next_request};
+ghost use Rattle.lat_machines.specs.server.Server.{Passing, can_open, fitting, grants_by, granting, grant_line};
+ghost use Rattle.lat_queue.specs.Histories as queue;
+ghost use Rattle.lat_queue.specs.Histories.{key_in, address_in};
+ghost use Rattle.lat_lines.specs.Kept.{IsLine};
+ghost use Rattle.lat_server.specs.declared.config.Offer.{Offer};
+ghost use Rattle.lat_server.specs.Events.{HasPassed, Passes, all_lines};
+ghost use Rattle.lat_server.specs.Kept.{config_of, AtRest, SameConfig, with_queue};
+ghost use Rattle.lat_server.specs.Settled.{finish_each};
+
+use crate::server::ServerCore;
+use lat_base::{Addr, Kept, Name, OutBox};
+use lat_notices::Outcome;
+use lat_payload::status_frame;
+use lat_queue::{Key, Queue};
+
+// Finishes the requests of these keys, in order.
+fn finish_keys(requests: &mut Queue, keys: &[Key])
+    ensures stands { (q : List QueueEvent) → queue.Stands requests.old q → queue.Stands requests.new (finish_each (map key_in keys.now) q) }
+    ensures offered { requests.new.offered ≡ requests.old.offered }
+{
+    for key in keys {
+        requests.finish(key);
+    }
+}
+
+impl ServerCore {
+    /// Finishes the requests whose sessions became free in the event.
+    pub(crate) fn finish(&mut self)
+        ensures stands { (q : List QueueEvent) → queue.Stands self.old.queue q → queue.Stands self.new.queue (finish_each (map key_in self.old.lines.freed) q) }
+        ensures others { self.new ≡ with_queue self.new.queue self.old }
+    {
+        let Self { lines, queue, .. } = self;
+        finish_keys(queue, lines.freed());
+    }
+
+    /// Goes over the lines by rising number: one without a session that offers a service grants the first that waits for it,
+    /// where a session to that station can be had.
+    pub(crate) fn grant_pass(&mut self, out: &mut OutBox)
+        requires rest { AtRest self.old }
+        requires room { length out.old + 80 ≤ 256 }
+        ensures passes { Passes all_lines self.old self.new out.old out.new }
+        ensures rest { AtRest self.new }
+        ensures same { SameConfig self.old self.new }
+    {
+        let count = self.lines.count();
+        for line in 1..count + 1 {
+            self.grant_line(line, out);
+        }
+    }
+
+    // The service that a line offers.
+    fn offer_on(&self, line: u8) -> Option<Name>
+        ensures { result ≡ option_map (λ (o : Offer). o.service) (find (λ (o : Offer). nat_eq o.line line) self.now.offers) }
+    {
+        self.offers
+            .as_slice()
+            .iter()
+            .find(|offer| offer.line == line)
+            .map(|offer| offer.service)
+    }
+
+    fn grant_line(&mut self, line: u8, out: &mut OutBox)
+        requires rest { AtRest self.old }
+        requires line { IsLine self.old.lines.lines line }
+        requires room { length out.old + 17 ≤ 256 }
+        ensures passes { Passes (λ config p. grant_line config p line) self.old self.new out.old out.new }
+        ensures rest { AtRest self.new }
+        ensures same { SameConfig self.old self.new }
+        ensures most { length out.new ≤ length out.old + 2 }
+    {
+        if let Some(service) = self.offer_on(line) {
+            if !self.lines.holds(line) {
+                self.grant_first(line, &service, out);
+            }
+        }
+    }
+
+    // Grants the first that waits for the service, where a session to its station can be had. The line has no session.
+    fn grant_first(&mut self, line: u8, service: &Name, out: &mut OutBox)
+        requires rest { AtRest self.old }
+        requires line { IsLine self.old.lines.lines line }
+        requires room { length out.old + 17 ≤ 256 }
+        ensures passes { (p : Passing) (start : List OutFrame) →
+            HasPassed p self.old start out.old →
+            holds p.state.core line ≡ false →
+            HasPassed (grants_by (config_of self.old) line (Some service.now) (fitting p.state.core (next_request service.now p.state.queue)) p) self.new start out.new }
+        ensures rest { AtRest self.new }
+        ensures same { SameConfig self.old self.new }
+        ensures most { length out.new ≤ length out.old + 2 }
+    {
+        if let Some((key, from)) = self.queue.first(service) {
+            if self.lines.can_open(from) {
+                self.grant(line, service, key, from, out);
+            }
+        }
+    }
+
+    // Grants the request, tells its node, and connects the line.
+    fn grant(&mut self, line: u8, service: &Name, key: Key, from: Addr, out: &mut OutBox)
+        requires rest { AtRest self.old }
+        requires line { IsLine self.old.lines.lines line }
+        requires room { length out.old + 17 ≤ 256 }
+        ensures passes { (p : Passing) (start : List OutFrame) (r : Request) →
+            HasPassed p self.old start out.old →
+            holds p.state.core line ≡ false →
+            next_request service.now p.state.queue ≡ Some r →
+            r.key ≡ key_in key →
+            r.from ≡ address_in from →
+            can_open p.state.core r.from ≡ true →
+            HasPassed (granting (config_of self.old) line service.now p r) self.new start out.new }
+        ensures rest { AtRest self.new }
+        ensures same { SameConfig self.old self.new }
+        ensures most { length out.new ≤ length out.old + 2 }
+    {
+        let request = Some(key);
+        let _ = self.queue.grant(service);
+        out.push(status_frame(
+            from,
+            key.incarnation,
+            key.request,
+            &key.node,
+            Outcome::Kept(Kept::Granted),
+        ));
+        let _ = self
+            .lines
+            .open(line, from, &key.node, service, request, out);
+    }
+}

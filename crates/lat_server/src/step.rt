@@ -1,0 +1,160 @@
+//! One event of the server.
+
+ghost use Rattle.std.specs.Prelude.{◌≡◌, ◌≤◌, [], length, IfOk, OnErr};
+ghost use Rattle.lat_base.specs.Answers.{PutFits, TookFits};
+ghost use Rattle.lat_machines.specs.cores.Cores.{at_moment, passes_time};
+ghost use Rattle.lat_machines.specs.server.Server.{does, server_side, server_event};
+ghost use Rattle.lat_machines.specs.values.Answers as answers;
+ghost use Rattle.lat_lines.specs.Answers as lines;
+ghost use Rattle.lat_lines.specs.Events.{event_shown};
+ghost use Rattle.lat_server.specs.Events.{Does, Follows, IsLocal, TakesNoMemory};
+ghost use Rattle.lat_server.specs.Kept.{AtRest, SameConfig};
+ghost use Rattle.lat_server.specs.Stands.{Machine, IsMachine, opening, next, answered, Frames};
+
+use crate::server::ServerCore;
+use lat_base::{Answer, Core, Event, Memory, OutBox, SessionState};
+use std::alloc::Global;
+
+impl Core for ServerCore {
+    ghost use Rattle.lat_lines.specs.Answers as lines;
+    ghost use Rattle.lat_server.specs.Kept.{AtRest};
+    ghost use Rattle.lat_server.specs.Stands.{Machine, IsMade, opening, IsMachine, next, answered, Frames, line_of, moment_of, waiting_of, finished_of};
+
+    ghost State = { Machine };
+
+    ghost made = { IsMade };
+
+    ghost opening = { opening };
+
+    ghost valid = { AtRest };
+
+    ghost stands = { IsMachine };
+
+    ghost next = { next };
+
+    ghost answer = { answered };
+
+    ghost frames = { Frames };
+
+    ghost line_of = { line_of };
+
+    ghost moment_of = { moment_of };
+
+    ghost waiting_of = { waiting_of };
+
+    ghost finished_of = { finished_of };
+
+    ghost ready = { λ k line. lines.ready k.lines line };
+
+    fn step(&mut self, alloc: Global, event: &Event, out: &mut OutBox) -> Result<Answer, Memory> {
+        let answer = self.apply(alloc, event, out)?;
+        self.follow(out);
+        Ok(answer)
+    }
+
+    fn line(&self, line: u8) -> SessionState {
+        self.lines.state(line)
+    }
+
+    fn moment(&self) -> u64 {
+        self.lines.moment()
+    }
+
+    fn waiting(&self, line: u8) -> u16 {
+        self.lines.waiting(line)
+    }
+
+    fn finished(&self) -> u32 {
+        self.lines.finished()
+    }
+}
+
+impl ServerCore {
+    /// Does what `step` does at an event that is `Time`, `Connect`, `Put`, `Set`, `Attend` or `Close`, and takes no memory.
+    pub fn local(&mut self, event: &Event, out: &mut OutBox) -> Answer
+        requires rest { AtRest self.old }
+        requires local { IsLocal event.now }
+        requires empty { out.old ≡ [] }
+        ensures rest { AtRest self.new }
+        ensures opening { opening self.new ≡ opening self.old }
+        ensures state { (m : Machine) → IsMachine self.old m → IsMachine self.new (next m event.now) }
+        ensures answer { (m : Machine) → IsMachine self.old m → result ≡ answered m event.now }
+        ensures frames { (m : Machine) → IsMachine self.old m → Frames m event.now out.new }
+        ensures put { PutFits result event.now }
+        ensures took { TookFits (lines.ready self.old.lines) result event.now }
+    {
+        let answer = self.act(event, out);
+        self.follow(out);
+        answer
+    }
+
+    // An event, but for what follows every event. Takes its memory first: after `Memory` nothing has changed.
+    fn apply(&mut self, alloc: Global, event: &Event, out: &mut OutBox) -> Result<Answer, Memory>
+        requires rest { AtRest self.old }
+        requires empty { out.old ≡ [] }
+        ensures does { IfOk result (λ a. Does (λ config s. server_event config s (event_shown event.now)) self.old self.new a out.old out.new) }
+        ensures same { SameConfig self.old self.new }
+        ensures put { IfOk result (λ a. PutFits a event.now) }
+        ensures took { IfOk result (λ a. TookFits (lines.ready self.old.lines) a event.now) }
+        ensures most { length out.new ≤ 128 }
+        ensures err { OnErr result ((self.new ≡ self.old) × (out.new ≡ out.old)) }
+    {
+        match event {
+            Event::Heard { from, payload, now } => {
+                self.hear(alloc, *from, payload.as_slice(), *now, out)
+            }
+            Event::Take { line, n } => self.lines.take(alloc, *line, *n),
+            _ => Ok(self.act(event, out)),
+        }
+    }
+
+    // The events that take no memory. Those that are nothing to a server are answered so.
+    fn act(&mut self, event: &Event, out: &mut OutBox) -> Answer
+        requires rest { AtRest self.old }
+        requires local { TakesNoMemory event.now }
+        requires empty { out.old ≡ [] }
+        ensures does { Does (λ config s. server_event config s (event_shown event.now)) self.old self.new result out.old out.new }
+        ensures same { SameConfig self.old self.new }
+        ensures put { PutFits result event.now }
+        ensures took { TookFits (lines.ready self.old.lines) result event.now }
+        ensures most { length out.new ≤ 128 }
+    {
+        match event {
+            Event::Time { now } => self.time(*now, out),
+            Event::Connect { line, service } => self.connect(*line, service, out),
+            Event::Put { line, bytes } => self.lines.put(*line, bytes.as_slice()),
+            Event::Set { line, setting } => self.lines.set(*line, *setting),
+            Event::Attend { line, flag } => self.lines.attend(*line, *flag),
+            Event::Close { line } => self.lines.close(*line),
+            _ => Answer::NotHere,
+        }
+    }
+
+    // Time has come to a moment: circuits do what is due, and the directory forgets what isn't live.
+    fn time(&mut self, now: u64, out: &mut OutBox) -> Answer
+        requires rest { AtRest self.old }
+        requires empty { out.old ≡ [] }
+        ensures does { Does (λ config s. does s answers.Done (passes_time (server_side config) (at_moment now s.core))) self.old self.new result out.old out.new }
+        ensures same { SameConfig self.old self.new }
+        ensures most { length out.new ≤ 128 }
+        ensures answer { result ≡ Answer.Done }
+    {
+        self.lines.pass(now);
+        self.lines.time(out);
+        self.directory.expire(self.lines.moment());
+        Answer::Done
+    }
+
+    // What follows every event: the requests of sessions that have become free are finished, and lines without a session
+    // grant those that wait.
+    fn follow(&mut self, out: &mut OutBox)
+        requires room { length out.old ≤ 128 }
+        ensures rest { AtRest self.new }
+        ensures same { SameConfig self.old self.new }
+        ensures follows { Follows self.old self.new out.old out.new }
+    {
+        self.finish();
+        self.lines.clear();
+        self.grant_pass(out);
+    }
+}
