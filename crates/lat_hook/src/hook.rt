@@ -7,7 +7,7 @@ ghost use Rattle.lat_hook.specs.Hook.{HookFact};
 /// 255. It answers 0 exactly where all are used. That is known of the closure, and tested nowhere at run time. It takes no
 /// memory.
 #[derive(Drop)]
-pub struct RateHook<F: Fn(u16, u16) -> u8> {
+pub struct RateHook<F> {
     rule: F,
 }
 

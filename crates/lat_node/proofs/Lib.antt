@@ -1,0 +1,13 @@
+pub mod AnnounceLemmas
+pub mod Applying
+pub mod AskedLemmas
+pub mod Everyone
+pub mod FrameLemmas
+pub mod Fullness
+pub mod HeardLemmas
+pub mod HearLemmas
+pub mod JudgedLemmas
+pub mod RequestLemmas
+pub mod StepLemmas
+pub mod Stepping
+pub mod VerdictLemmas

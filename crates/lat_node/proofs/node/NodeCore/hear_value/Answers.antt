@@ -1,0 +1,15 @@
+use Rattle.std.proofs.Common.{ap, sym}
+use Rattle.lat_machines.specs.values.Addresses.{address}
+use Rattle.lat_circuit.specs.Frames.{message_shown}
+use Rattle.lat_payload.specs.Shown.{value_shown}
+use Rattle.lat_node.proofs.HearLemmas.{steps_everyone, steps_message}
+use Rattle.lat_node.proofs.node.NodeCore.hear_value.Goals as goal
+
+pub returns-then-is_everyone-clause-steps : goal.returns-then-is_everyone-clause-steps
+returns-then-is_everyone-clause-steps g c =
+    steps_everyone _ c.args.self.now c.pass.new.self (address c.args.from.0) c.args.now (value_shown c.args.value.now) c.args.out.now (sym c.if-is_everyone.ensures) c.pass.ensures.state
+
+pub returns-in-Circuit-clause-steps : goal.returns-in-Circuit-clause-steps
+returns-in-Circuit-clause-steps g c =
+    steps_message _ c.args.self.now c.hear_message.new.self (address c.args.from.0) c.args.now (value_shown c.args.value.now) (message_shown c.in-Circuit.message) c.hear_message.result c.args.out.now c.hear_message.new.out
+    (ap value_shown c.in-Circuit.is) (sym c.if-is_everyone.ensures) c.hear_message.ensures.does

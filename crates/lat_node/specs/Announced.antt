@@ -1,0 +1,20 @@
+-- What a node announces.
+use Rattle.std.specs.Prelude.{◌≡◌, ℕ, List, map, length}
+use Rattle.lat_model.specs.Lists.{Each}
+use Rattle.lat_notices.specs.declared.notice.Notice.{Notice}
+use Rattle.lat_notices.specs.declared.services.Service.{Service}
+use Rattle.lat_machines.specs.values.Addresses.{everyone}
+use Rattle.lat_machines.specs.values.Frames.{plain, OfNotice}
+use Rattle.lat_machines.specs.node.Node.{announcement}
+use Rattle.lat_payload.specs.Shown.{notice_shown}
+use Rattle.lat_node.specs.Kept.{Kept, config_of}
+
+abbrev pub ratings : List Service → List ℕ
+ratings services = map (λ (s : Service). s.rating) services
+
+-- a notice is the announcement of all services, each with a rating that the rule may give where so many lines are held
+pub record IsAnnounced {F : Type 0} (post : F → ℕ → ℕ → ℕ → Type 0) (k : Kept F) (used : ℕ) (n : Notice) : Type 0 where
+  pub rates : List ℕ
+  pub count : length rates ≡ length k.services
+  pub each : Each (post k.rule used k.lines.lines) rates
+  pub is : plain everyone 0 (OfNotice (notice_shown n)) ≡ announcement (config_of k) rates

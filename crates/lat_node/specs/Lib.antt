@@ -1,0 +1,9 @@
+pub mod Config
+pub mod Kept
+pub mod Stands
+pub mod Shown
+pub mod Events
+pub mod Answering
+pub mod Hearing
+pub mod Laws
+pub mod Announced

@@ -1,0 +1,15 @@
+-- What is kept, from the fields.
+use Rattle.lat_node.specs.declared.node.NodeCore.TheInside.{Inside}
+use Rattle.lat_node.specs.Kept.{Kept}
+
+abbrev pub shown : {F : Type 0} → Inside F → Kept F
+shown a = record {
+  lines = a.lines;
+  services = a.services;
+  incarnation = a.incarnation;
+  timer = a.timer;
+  groups = a.groups;
+  requests = a.requests.entries;
+  turned_away = a.turned_away;
+  rule = a.hook.rule;
+}

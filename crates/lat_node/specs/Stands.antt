@@ -1,0 +1,89 @@
+-- Which states of the node machine a node stands for.
+use Rattle.std.specs.Prelude.{◌≡◌, ℕ, Bool, true, List, [], map, nat_eq}
+use Rattle.std.specs.List.{list_any}
+use Rattle.lat_base.specs.declared.answer.Answer.{Answer}
+use Rattle.lat_base.specs.declared.event.Event.{Event}
+use Rattle.lat_base.specs.declared.outbox.OutFrame.{OutFrame}
+use Rattle.lat_base.specs.declared.state.SessionState.{SessionState}
+use Rattle.lat_model.specs.Lists.{Each}
+use Rattle.lat_machines.specs.values.Addresses.{address}
+use Rattle.lat_machines.specs.values.Frames as machine
+use Rattle.lat_machines.specs.cores.Lines.{line_state, waiting_at, told_count}
+use Rattle.lat_machines.specs.node.Node.{NodeConfig, Requested, Node, NodeStep, NodeFrames, node_side, open_node, node_step, finished}
+use Rattle.lat_payload.specs.Frames.{seen, expected}
+use Rattle.lat_stream.specs.Kept.{state_shown}
+use Rattle.lat_lines.specs.Back.{answer_of}
+use Rattle.lat_lines.specs.Events.{event_shown}
+use Rattle.lat_lines.specs.Stands as lines
+use Rattle.lat_node.specs.declared.requests.Request.{Request}
+use Rattle.lat_node.specs.Kept.{Kept, config_of}
+
+-- a request, and whether a start was accepted for it
+pub record Noted : Type 0 where
+  pub request : Requested
+  pub accepted : Bool
+
+abbrev pub request_shown : ℕ × Request → Noted
+request_shown e = record {
+  request = record { id = e.0; to = address e.1.to.0; service = e.1.service };
+  accepted = e.1.accepted;
+}
+
+abbrev pub request_in : Node → Requested → Noted
+request_in s r = record { request = r; accepted = list_any (nat_eq r.id) s.accepted }
+
+-- a request of this id was made
+abbrev pub was_made : Node → ℕ → Bool
+was_made s id = list_any (λ (r : Requested). nat_eq r.id id) s.requests
+
+-- a node stands for a state of the machine
+pub record Stands {F : Type 0} (k : Kept F) (s : Node) : Type 0 where
+  pub lines : lines.Stands k.lines s.core
+  pub requests : map request_shown k.requests ≡ map (request_in s) s.requests
+  pub accepted : Each (λ id. was_made s id ≡ true) s.accepted
+  pub turned_away : k.turned_away ≡ told_count s.turned_away
+
+-- the machine of a configuration with a rule, and its state
+pub record Machine (F : Type 0) : Type 0 where
+  pub config : NodeConfig
+  pub rule : F
+  pub state : Node
+
+-- the machine as it is made
+abbrev pub IsMade : {F : Type 0} → Machine F → Type 0
+IsMade m = m.state ≡ open_node m.config
+
+abbrev pub opening : {F : Type 0} → Kept F → Machine F
+opening k = record { config = config_of k; rule = k.rule; state = open_node (config_of k) }
+
+pub record IsMachine {F : Type 0} (k : Kept F) (m : Machine F) : Type 0 where
+  pub config : m.config ≡ config_of k
+  pub rule : m.rule ≡ k.rule
+  pub state : Stands k m.state
+
+-- state and answer don't depend on the ratings
+abbrev pub stepped : {F : Type 0} → Machine F → Event → NodeStep
+stepped m e = node_step m.config [] m.state (event_shown e)
+
+abbrev pub next : {F : Type 0} → Machine F → Event → Machine F
+next m e = record { config = m.config; rule = m.rule; state = (stepped m e).state }
+
+abbrev pub answered : {F : Type 0} → Machine F → Event → Answer
+answered m e = answer_of (stepped m e).answer
+
+-- the frames that may go out: each rating in them is one that the rule may give at the lines then held
+abbrev pub Frames : {F : Type 0} → (F → ℕ → ℕ → ℕ → Type 0) → Machine F → Event → List OutFrame → Type 0
+Frames post m e frames =
+    (made : List machine.OutFrame) × NodeFrames (post m.rule) m.config m.state (event_shown e) made × (map seen frames ≡ map expected made)
+
+abbrev pub line_of : {F : Type 0} → Machine F → ℕ → SessionState
+line_of m line = state_shown (line_state (node_side m.config) m.state.core line)
+
+abbrev pub moment_of : {F : Type 0} → Machine F → ℕ
+moment_of m = m.state.core.moment
+
+abbrev pub waiting_of : {F : Type 0} → Machine F → ℕ → ℕ
+waiting_of m line = waiting_at m.state.core line
+
+abbrev pub finished_of : {F : Type 0} → Machine F → ℕ
+finished_of m = finished m.state

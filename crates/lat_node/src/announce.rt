@@ -1,0 +1,161 @@
+//! What a node announces.
+
+ghost use Rattle.std.specs.Prelude.{◌≡◌, ◌≤◌, ◌+◌, suc, [], find, map, length, Some, IfOk, OnOk, OnErr};
+ghost use Rattle.std.specs.List.{AllByRecursion};
+ghost use Rattle.lat_base.specs.Names.{IsName};
+ghost use Rattle.lat_base.specs.declared.answer.Answer.TheVariants as answers;
+ghost use Rattle.lat_hook.specs.Hook.{HookFact};
+ghost use Rattle.lat_notices.specs.Services.{IsService};
+ghost use Rattle.lat_notices.specs.Texts.{IsWritable};
+ghost use Rattle.lat_model.specs.Lists.{Each};
+ghost use Rattle.lat_machines.specs.node.Node as machine;
+ghost use Rattle.lat_machines.specs.values.Addresses.{address};
+ghost use Rattle.lat_machines.specs.values.Names.{same};
+ghost use Rattle.lat_dir.specs.Stands.{service_shown};
+ghost use Rattle.lat_lines.specs.Answers.{answer_shown};
+ghost use Rattle.lat_node.specs.Announced.{ratings, IsAnnounced};
+ghost use Rattle.lat_node.specs.Events.{announces, Rated, ratings_for, IsPlain};
+ghost use Rattle.lat_node.specs.Kept.{config_of};
+ghost use Rattle.lat_node.specs.Stands.{Stands};
+
+use crate::node::NodeCore;
+use lat_base::{Addr, Answer, Bytes, EVERYONE, Memory, Name, OutBox};
+use lat_notices::{Announcement, Notice, Service, Services, Solicit};
+use lat_payload::{notice_frame, response_frame};
+use std::alloc::Global;
+
+impl<F: Fn(u16, u16) -> u8> NodeCore<F> {
+    /// Announces all services to everyone, each with the rating that the rule gives at the lines held. Takes its memory first.
+    pub(crate) fn announce(&self, alloc: Global, out: &mut OutBox) -> Result<Answer, Memory>
+        requires fact { HookFact F.pre F.post self.now.rule }
+        requires room { length out.old + 16 ≤ 256 }
+        ensures answer { IfOk result (λ a. a ≡ answers.Done) }
+        ensures frames { (s : machine.Node) → Stands self.now s → OnOk result (Rated F.post self.now s (announces (config_of self.now) s) (length self.now.services) out.old out.new) }
+        ensures most { length out.new ≤ length out.old + 1 }
+        ensures err { OnErr result (out.new ≡ out.old) }
+    {
+        let announcement = self.announcement(alloc, self.lines.used())?;
+        out.push(notice_frame(EVERYONE, &announcement));
+        Ok(Answer::Done)
+    }
+
+    /// Answers a Solicit for a service that is offered with a Response, and announces all services. Takes its memory first.
+    pub(crate) fn solicited(
+        &self,
+        alloc: Global,
+        from: Addr,
+        solicit: &Solicit,
+        out: &mut OutBox,
+    ) -> Result<Answer, Memory>
+        requires fact { HookFact F.pre F.post self.now.rule }
+        requires room { length out.old + 16 ≤ 256 }
+        ensures answer { (s : machine.Node) → Stands self.now s → IfOk result (λ a. answer_shown a ≡ (machine.solicited (config_of self.now) [] s (address from.0) solicit.now.id (find (same solicit.now.service) self.now.services)).answer) }
+        ensures frames { (s : machine.Node) →
+            Stands self.now s →
+            OnOk result (Rated F.post self.now s (λ rates. machine.solicited (config_of self.now) rates s (address from.0) solicit.now.id (find (same solicit.now.service) self.now.services)) (ratings_for (config_of self.now) (find (same solicit.now.service) self.now.services)) out.old out.new) }
+        ensures plain { IfOk result IsPlain }
+        ensures most { length out.new ≤ length out.old + 2 }
+        ensures err { OnErr result (out.new ≡ out.old) }
+    {
+        match self.services.place_of(&solicit.service) {
+            Some(place) => {
+                let service = self.services.as_slice()[place];
+                self.respond(alloc, from, solicit.id, &service, out)
+            }
+            None => Ok(Answer::Ignored),
+        }
+    }
+
+    // Answers a Solicit of this id for a service that is offered. The rating of the Response is asked for first.
+    fn respond(
+        &self,
+        alloc: Global,
+        from: Addr,
+        id: u16,
+        service: &Name,
+        out: &mut OutBox,
+    ) -> Result<Answer, Memory>
+        requires fact { HookFact F.pre F.post self.now.rule }
+        requires room { length out.old + 16 ≤ 256 }
+        ensures answer { IfOk result (λ a. a ≡ answers.Solicited) }
+        ensures frames { (s : machine.Node) →
+            Stands self.now s →
+            OnOk result (Rated F.post self.now s (λ rates. machine.solicited (config_of self.now) rates s (address from.0) id (Some service.now)) (suc (length self.now.services)) out.old out.new) }
+        ensures most { length out.new ≤ length out.old + 2 }
+        ensures err { OnErr result (out.new ≡ out.old) }
+    {
+        let used = self.lines.used();
+        let rating = self.rating(used);
+        let announcement = self.announcement(alloc, used)?;
+        let name = self.lines.name();
+        out.push(response_frame(from, id, &name, service, rating, self.timer));
+        out.push(notice_frame(EVERYONE, &announcement));
+        Ok(Answer::Solicited)
+    }
+
+    // A rating where so many lines are held.
+    fn rating(&self, used: u16) -> u8
+        requires fact { HookFact F.pre F.post self.now.rule }
+        requires within { used ≤ self.now.lines.lines }
+        ensures { F.post self.now.rule used self.now.lines.lines result }
+    {
+        self.hook.rate(used, self.lines.count() as u16)
+    }
+
+    // The announcement of all services, where so many lines are held.
+    fn announcement(&self, alloc: Global, used: u16) -> Result<Notice, Memory>
+        requires fact { HookFact F.pre F.post self.now.rule }
+        requires within { used ≤ self.now.lines.lines }
+        ensures writable { IfOk result IsWritable }
+        ensures announced { IfOk result (IsAnnounced F.post self.now used) }
+    {
+        let node = self.lines.name();
+        named(&node);
+        Ok(Notice::Announcement(Announcement {
+            timer: self.timer,
+            incarnation: self.incarnation,
+            groups: Bytes::copy(alloc, self.groups.as_slice())?,
+            node,
+            description: Bytes::copy(alloc, &[])?,
+            services: self.rated(alloc, used)?,
+        }))
+    }
+
+    // The services, each with a rating.
+    fn rated(&self, alloc: Global, used: u16) -> Result<Services, Memory>
+        requires fact { HookFact F.pre F.post self.now.rule }
+        requires within { used ≤ self.now.lines.lines }
+        ensures services { IfOk result (AllByRecursion IsService) }
+        ensures names { IfOk result (λ ss. map service_shown ss ≡ machine.rated self.now.services (ratings ss)) }
+        ensures ratings { IfOk result (λ ss. Each (F.post self.now.rule used self.now.lines.lines) (ratings ss)) }
+    {
+        let mut services = Services::new(alloc);
+        for name in self.services.as_slice() {
+            services.push(self.service(alloc, name, used)?)?;
+        }
+        Ok(services)
+    }
+
+    // A service, with a rating.
+    fn service(&self, alloc: Global, name: &Name, used: u16) -> Result<Service, Memory>
+        requires fact { HookFact F.pre F.post self.now.rule }
+        requires within { used ≤ self.now.lines.lines }
+        ensures service { IfOk result IsService }
+        ensures shown { IfOk result (λ s. service_shown s ≡ record { rating = s.rating; name = name.now; description = [] }) }
+        ensures rating { IfOk result (λ s. F.post self.now.rule used self.now.lines.lines s.rating) }
+    {
+        named(name);
+        Ok(Service {
+            rating: self.rating(used),
+            name: *name,
+            description: Bytes::copy(alloc, &[])?,
+        })
+    }
+}
+
+// A name is one by its type.
+fn named(name: &Name)
+    ensures { IsName name.now }
+{
+    name.bytes();
+}

@@ -1,0 +1,25 @@
+//! What a node is made of.
+
+use lat_base::{Addr, Bytes, Name};
+use lat_lines::Timing;
+use lat_queue::Services16;
+
+/// What a node is made of. Valid where it has 1 to 64 lines, its timer is at least 1, the mask has at most 32 bytes, and the
+/// timing is valid.
+#[derive(Drop)]
+pub struct NodeConfig {
+    /// Its address.
+    pub own: Addr,
+    pub name: Name,
+    /// Which run of the node it is.
+    pub incarnation: u16,
+    /// How many lines it has.
+    pub lines: u8,
+    /// The services that it offers.
+    pub services: Services16,
+    /// After how many seconds the next announcement is due, as announcements and responses state it.
+    pub timer: u8,
+    /// The mask of its announcements: bit g mod 8 of byte g / 8 is that of group g. An empty one is for every server.
+    pub groups: Bytes,
+    pub timing: Timing,
+}

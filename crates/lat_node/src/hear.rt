@@ -1,0 +1,220 @@
+//! What the node does at a frame that it hears.
+
+ghost use Rattle.std.specs.Prelude.{◌≡◌, ℕ, ◌≤◌, ◌+◌, false, List, [], length, Err, None, nat_eq, IfOk, OnOk, OnErr};
+ghost use Rattle.lat_base.specs.declared.outbox.OutFrame.{OutFrame};
+ghost use Rattle.lat_frames.specs.Written.{IsWritable};
+ghost use Rattle.lat_hook.specs.Hook.{HookFact};
+ghost use Rattle.lat_machines.specs.cores.Cores.{at_moment};
+ghost use Rattle.lat_machines.specs.node.Node.{Node, with_core, hears_message, hears_notice};
+ghost use Rattle.lat_machines.specs.values.Addresses.{address, everyone};
+ghost use Rattle.lat_machines.specs.values.Events.{Hears};
+ghost use Rattle.lat_machines.specs.values.Frames.{Reading, Whole, OfNotice};
+ghost use Rattle.lat_circuit.specs.Frames.{message_shown};
+ghost use Rattle.lat_circuits.specs.Hears.{hearing_shown};
+ghost use Rattle.lat_lines.specs.Answers.{answer_shown};
+ghost use Rattle.lat_payload.specs.Reads as reads;
+ghost use Rattle.lat_payload.specs.Shown.{value_shown, notice_shown};
+ghost use Rattle.lat_node.specs.Events.{Does, Steps, Rated, notice_ratings, IsPlain};
+ghost use Rattle.lat_node.specs.Hearing.{named_by, AskedThen};
+ghost use Rattle.lat_node.specs.Kept.{config_of, AtRest, SameConfig};
+ghost use Rattle.lat_node.specs.Stands.{Stands};
+
+use crate::node::NodeCore;
+use lat_base::{Addr, Answer, EVERYONE, Memory, OutBox};
+use lat_fields::LayoutFault;
+use lat_frames::Message;
+use lat_lines::Hearing;
+use lat_notices::Notice;
+use lat_payload::{Value, read_value};
+use std::alloc::Global;
+
+impl<F: Fn(u16, u16) -> u8> NodeCore<F> {
+    /// Hears a payload from a station. Takes its memory first: after `Memory` nothing has changed.
+    pub(crate) fn hear(
+        &mut self,
+        alloc: Global,
+        from: Addr,
+        payload: &[u8],
+        now: u64,
+        out: &mut OutBox,
+    ) -> Result<Answer, Memory>
+        requires rest { AtRest self.old }
+        requires fact { HookFact F.pre F.post self.old.rule }
+        requires room { length out.old + 16 ≤ 256 }
+        ensures steps { IfOk result (λ a. Steps F.post (Hears (address from.0) (reads.reading_of payload.now) None now) self.old self.new a out.old out.new) }
+        ensures same { SameConfig self.old self.new }
+        ensures plain { IfOk result IsPlain }
+        ensures most { length out.new ≤ length out.old + 2 }
+        ensures err { OnErr result ((self.new ≡ self.old) × (out.new ≡ out.old)) }
+    {
+        match read_value(alloc, payload) {
+            Ok(value) => self.hear_value(alloc, from, &value, now, out),
+            Err(fault) => self.misread(fault, now),
+        }
+    }
+
+    // A payload that reads as nothing.
+    fn misread(&mut self, fault: LayoutFault, now: u64) -> Result<Answer, Memory>
+        ensures steps { (reading : Reading) (from : ℕ) (frames : List OutFrame) →
+            reads.Answers (Err fault) reading →
+            IfOk result (λ a. Steps F.post (Hears from reading None now) self.old self.new a frames frames) }
+        ensures same { SameConfig self.old self.new }
+        ensures plain { IfOk result IsPlain }
+        ensures err { OnErr result (self.new ≡ self.old) }
+    {
+        match fault {
+            LayoutFault::Bad(bad) => {
+                self.pass(now);
+                Ok(Answer::Bad(bad))
+            }
+            LayoutFault::Memory => Err(Memory),
+        }
+    }
+
+    // Its moment goes on.
+    fn pass(&mut self, now: u64)
+        ensures state { (s : Node) → Stands self.old s → Stands self.new (with_core s (at_moment now s.core)) }
+        ensures same { SameConfig self.old self.new }
+        ensures rest { AtRest self.old → AtRest self.new }
+    {
+        self.lines.pass(now);
+    }
+
+    fn hear_value(
+        &mut self,
+        alloc: Global,
+        from: Addr,
+        value: &Value,
+        now: u64,
+        out: &mut OutBox,
+    ) -> Result<Answer, Memory>
+        requires rest { AtRest self.old }
+        requires fact { HookFact F.pre F.post self.old.rule }
+        requires room { length out.old + 16 ≤ 256 }
+        requires ok { reads.IsWritable value.now }
+        ensures steps { IfOk result (λ a. Steps F.post (Hears (address from.0) (Whole (value_shown value.now)) None now) self.old self.new a out.old out.new) }
+        ensures same { SameConfig self.old self.new }
+        ensures plain { IfOk result IsPlain }
+        ensures most { length out.new ≤ length out.old + 2 }
+        ensures err { OnErr result ((self.new ≡ self.old) × (out.new ≡ out.old)) }
+    {
+        if is_everyone(&from.0) {
+            self.pass(now);
+            return Ok(Answer::Ignored);
+        }
+        match value {
+            Value::Circuit(message) => Ok(self.hear_message(from, message, now, out)),
+            Value::Notice(notice) => self.hear_notice(alloc, from, notice, now, out),
+        }
+    }
+
+    // The asked sessions of a circuit are answered behind all that a RUN of it did.
+    fn hear_message(&mut self, from: Addr, message: &Message, now: u64, out: &mut OutBox) -> Answer
+        requires rest { AtRest self.old }
+        requires ok { IsWritable message.now }
+        requires room { length out.old + 16 ≤ 256 }
+        ensures does { Does (λ config s. hears_message config (with_core s (at_moment now s.core)) (address from.0) (message_shown message.now) None) self.old self.new result out.old out.new }
+        ensures same { SameConfig self.old self.new }
+        ensures plain { IsPlain result }
+        ensures most { length out.new ≤ length out.old + 1 }
+    {
+        self.lines.pass(now);
+        let named = self.named(from, message);
+        let hearing = self.lines.heard(from, message, out);
+        self.answer_named(named);
+        hearing_told(hearing)
+    }
+
+    fn answer_named(&mut self, circuit: Option<u16>)
+        ensures asked { AskedThen circuit self.old self.new }
+        ensures same { SameConfig self.old self.new }
+    {
+        if let Some(circuit) = circuit {
+            self.answer_asked(circuit);
+        }
+    }
+
+    // The living circuit that a RUN names.
+    fn named(&self, from: Addr, message: &Message) -> Option<u16>
+        ensures { (s : Node) → Stands self.now s → result ≡ named_by s.core.circuits (address from.0) (message_shown message.now) }
+    {
+        match message {
+            Message::Run { head, .. } if self.lines.names(from, head.to, head.from) => {
+                Some(head.to)
+            }
+            Message::Wide { head, .. } if self.lines.names(from, head.to, head.from) => {
+                Some(head.to)
+            }
+            _ => None,
+        }
+    }
+
+    fn hear_notice(
+        &mut self,
+        alloc: Global,
+        from: Addr,
+        notice: &Notice,
+        now: u64,
+        out: &mut OutBox,
+    ) -> Result<Answer, Memory>
+        requires rest { AtRest self.old }
+        requires fact { HookFact F.pre F.post self.old.rule }
+        requires room { length out.old + 16 ≤ 256 }
+        requires apart { nat_eq (address from.0) everyone ≡ false }
+        ensures steps { IfOk result (λ a. Steps F.post (Hears (address from.0) (Whole (OfNotice (notice_shown notice.now))) None now) self.old self.new a out.old out.new) }
+        ensures same { SameConfig self.old self.new }
+        ensures plain { IfOk result IsPlain }
+        ensures most { length out.new ≤ length out.old + 2 }
+        ensures err { OnErr result ((self.new ≡ self.old) × (out.new ≡ out.old)) }
+    {
+        let answer = self.answer_notice(alloc, from, notice, out)?;
+        self.pass(now);
+        Ok(answer)
+    }
+
+    // What is answered to a notice, and sent.
+    fn answer_notice(
+        &self,
+        alloc: Global,
+        from: Addr,
+        notice: &Notice,
+        out: &mut OutBox,
+    ) -> Result<Answer, Memory>
+        requires fact { HookFact F.pre F.post self.now.rule }
+        requires room { length out.old + 16 ≤ 256 }
+        ensures answer { (s : Node) → Stands self.now s → IfOk result (λ a. answer_shown a ≡ (hears_notice (config_of self.now) [] s (address from.0) (notice_shown notice.now)).answer) }
+        ensures frames { (s : Node) →
+            Stands self.now s →
+            OnOk result (Rated F.post self.now s (λ rates. hears_notice (config_of self.now) rates s (address from.0) (notice_shown notice.now)) (notice_ratings (config_of self.now) (notice_shown notice.now)) out.old out.new) }
+        ensures plain { IfOk result IsPlain }
+        ensures most { length out.new ≤ length out.old + 2 }
+        ensures err { OnErr result (out.new ≡ out.old) }
+    {
+        match notice {
+            Notice::Status(_) => Ok(Answer::Noted),
+            Notice::Solicit(solicit) => self.solicited(alloc, from, solicit, out),
+            Notice::Announcement(_) | Notice::Command(_) | Notice::Response(_) => {
+                Ok(Answer::Ignored)
+            }
+        }
+    }
+}
+
+// Whether it is the address of everyone.
+fn is_everyone(station: &[u8; 6]) -> bool
+    ensures { result ≡ nat_eq (address station.now) everyone }
+{
+    *station == EVERYONE.0
+}
+
+// What is answered to a circuit message.
+fn hearing_told(hearing: Hearing) -> Answer
+    ensures value { answer_shown result ≡ hearing_shown hearing }
+    ensures plain { IsPlain result }
+{
+    match hearing {
+        Hearing::Circuit(heard) => Answer::Circuit(heard),
+        Hearing::Started(id) => Answer::Started(id),
+        Hearing::Refused => Answer::StartRefused,
+    }
+}

@@ -1,0 +1,19 @@
+//! The node core: what a service node does at each event.
+#![tactic(auto)]
+
+mod announce;
+mod answering;
+mod config;
+mod hear;
+pub mod laws;
+mod node;
+mod requests;
+mod step;
+
+pub use config::NodeConfig;
+pub use lat_hook::RateHook;
+pub use lat_lines::Timing;
+pub use node::NodeCore;
+
+#[cfg(test)]
+mod tests;

@@ -1,0 +1,132 @@
+//! The node core.
+
+ghost use Rattle.std.specs.Prelude.{◌≡◌, ◌≤◌, length, IfOk};
+ghost use Rattle.lat_hook.specs.Hook.{HookFact};
+ghost use Rattle.lat_machines.specs.cores.Books.{book};
+ghost use Rattle.lat_machines.specs.cores.Cores.{span};
+ghost use Rattle.lat_machines.specs.cores.Hearing.{names};
+ghost use Rattle.lat_machines.specs.cores.Lines.{used};
+ghost use Rattle.lat_machines.specs.node.Node.{Node};
+ghost use Rattle.lat_machines.specs.values.Addresses.{address};
+ghost use Rattle.lat_circuits.specs.Told.{span_told};
+ghost use Rattle.lat_lines.specs.Kept.{IsLine};
+ghost use Rattle.lat_lines.specs.Stands.{book_shown, book_told};
+ghost use Rattle.lat_node.specs.Config.{config_shown, IsConfig};
+ghost use Rattle.lat_node.specs.Kept.{config_of, AtRest};
+ghost use Rattle.lat_node.specs.Stands.{Stands, opening, IsMachine};
+
+use crate::config::NodeConfig;
+use crate::requests::Request;
+use indexmap::IndexMap;
+use lat_base::{Addr, Bytes, LineBook, Memory, Name};
+use lat_hook::RateHook;
+use lat_lines::Lines;
+use lat_queue::Services16;
+use lat_seq::Span;
+use std::alloc::Global;
+use std::marker::Model;
+
+/// A service node: its lines with their sessions and circuits, the services that it offers with the rule of their ratings, and
+/// its requests. Contracts say for every state of the node machine that it stands for what it stands for afterwards. See
+/// "Cores" in docs/PROTOCOL.md.
+#[derive(Drop)]
+pub struct NodeCore<F> {
+    pub(crate) lines: Lines,
+    pub(crate) services: Services16,
+    pub(crate) incarnation: u16,
+    /// In seconds.
+    pub(crate) timer: u8,
+    pub(crate) groups: Bytes,
+    /// By their ids, in the order in which they were first made.
+    pub(crate) requests: IndexMap<u16, Request>,
+    /// How many asked sessions became free without a line.
+    pub(crate) turned_away: u32,
+    pub(crate) hook: RateHook<F>,
+}
+
+impl<F> Model for NodeCore<F> {
+    ghost use Rattle.lat_node.specs.Kept.{Kept, Holds};
+    ghost use Rattle.lat_node.specs.Shown.{shown};
+
+    ghost Value = { Kept F };
+
+    ghost view = { shown };
+
+    ghost invariant = { λ a. Holds (shown a) };
+}
+
+// Services of their own with these names.
+fn copy(alloc: Global, names: &[Name]) -> Result<Services16, Memory>
+    requires { length names.now ≤ 32 }
+    ensures { IfOk result (λ copied. copied ≡ names.now) }
+{
+    let mut copied = Services16::make(alloc);
+    for name in names {
+        copied.push(name)?;
+    }
+    Ok(copied)
+}
+
+impl<F: Fn(u16, u16) -> u8> NodeCore<F> {
+    /// The node of a valid configuration at moment 0, as it is opened: no circuit, no session, no request. Its ratings are the
+    /// rule's. Takes the memory of eight circuits; `Memory` where none is found.
+    pub fn make(
+        alloc: Global,
+        config: &NodeConfig,
+        hook: RateHook<F>,
+    ) -> Result<NodeCore<F>, Memory>
+        requires config { IsConfig config.now }
+        requires fact { HookFact F.pre F.post hook.rule }
+        ensures stands { IfOk result (λ k. IsMachine k (opening k)) }
+        ensures config { IfOk result (λ k. (config_of k ≡ config_shown config.now) × (k.rule ≡ hook.rule)) }
+        ensures rest { IfOk result (λ k. AtRest k × HookFact F.pre F.post k.rule) }
+    {
+        Ok(NodeCore {
+            lines: Lines::make(
+                alloc,
+                config.own,
+                config.name,
+                config.timing,
+                false,
+                config.lines,
+            )?,
+            services: copy(alloc, config.services.as_slice())?,
+            incarnation: config.incarnation,
+            timer: config.timer,
+            groups: Bytes::copy(alloc, config.groups.as_slice())?,
+            requests: IndexMap::new(alloc),
+            turned_away: 0,
+            hook,
+        })
+    }
+
+    /// The last two sessions of a line, which must exist. It takes no memory.
+    pub fn book(&self, line: u8) -> LineBook
+        requires { IsLine self.now.lines.lines line }
+        ensures { (s : Node) → Stands self.now s → book_shown result ≡ book_told (book s.core line) }
+    {
+        self.lines.book(line)
+    }
+
+    /// Whether a RUN from this address, with this destination and this source, names a living circuit.
+    pub fn names(&self, from: Addr, to: u16, source: u16) -> bool
+        ensures { (s : Node) → Stands self.now s → result ≡ names s.core.circuits (address from.0) to source }
+    {
+        self.lines.names(from, to, source)
+    }
+
+    /// How far the message numbers of a circuit count, `None` exactly where no circuit of this id lives.
+    pub fn span(&self, circuit: u16) -> Option<Span>
+        ensures { (s : Node) → Stands self.now s → result ≡ span_told (span s.core circuit) }
+    {
+        self.lines.span(circuit)
+    }
+
+    /// How many lines have a session.
+    pub fn used(&self) -> u16
+        ensures model { (s : Node) → Stands self.now s → result ≡ used s.core }
+        ensures most { result ≤ self.now.lines.lines }
+    {
+        self.lines.used()
+    }
+}

@@ -1,0 +1,157 @@
+//! One event of the node.
+
+ghost use Rattle.std.specs.Prelude.{◌≡◌, ◌≤◌, ◌+◌, [], length, IfOk, OnErr};
+ghost use Rattle.lat_base.specs.Answers.{PutFits, TookFits};
+ghost use Rattle.lat_base.specs.declared.answer.Answer.TheVariants as answers;
+ghost use Rattle.lat_hook.specs.Hook.{HookFact};
+ghost use Rattle.lat_machines.specs.node.Node.{Node, node_step};
+ghost use Rattle.lat_machines.specs.values.Events.{Time};
+ghost use Rattle.lat_lines.specs.Answers as lines;
+ghost use Rattle.lat_lines.specs.Events.{event_shown};
+ghost use Rattle.lat_node.specs.Events.{Does, Steps, IsLocal, IsAct};
+ghost use Rattle.lat_node.specs.Kept.{AtRest, SameConfig};
+ghost use Rattle.lat_node.specs.Stands.{Stands, Machine, IsMachine, opening, next, answered, Frames};
+
+use crate::node::NodeCore;
+use lat_base::{Answer, Core, Event, Memory, OutBox, SessionState};
+use std::alloc::Global;
+
+impl<F: Fn(u16, u16) -> u8 + Drop> Core for NodeCore<F> {
+    ghost use Rattle.lat_hook.specs.Hook.{HookFact};
+    ghost use Rattle.lat_lines.specs.Answers as lines;
+    ghost use Rattle.lat_node.specs.Kept.{AtRest};
+    ghost use Rattle.lat_node.specs.Stands.{Machine, IsMade, opening, IsMachine, next, answered, Frames, line_of, moment_of, waiting_of, finished_of};
+
+    ghost State = { Machine F };
+
+    ghost made = { IsMade };
+
+    ghost opening = { opening };
+
+    ghost valid = { λ k. AtRest k × HookFact F.pre F.post k.rule };
+
+    ghost stands = { IsMachine };
+
+    ghost next = { next };
+
+    ghost answer = { answered };
+
+    ghost frames = { Frames F.post };
+
+    ghost line_of = { line_of };
+
+    ghost moment_of = { moment_of };
+
+    ghost waiting_of = { waiting_of };
+
+    ghost finished_of = { finished_of };
+
+    ghost ready = { λ k line. lines.ready k.lines line };
+
+    fn step(&mut self, alloc: Global, event: &Event, out: &mut OutBox) -> Result<Answer, Memory> {
+        let answer = self.apply(alloc, event, out)?;
+        self.clear();
+        Ok(answer)
+    }
+
+    fn line(&self, line: u8) -> SessionState {
+        self.lines.state(line)
+    }
+
+    fn moment(&self) -> u64 {
+        self.lines.moment()
+    }
+
+    fn waiting(&self, line: u8) -> u16 {
+        self.lines.waiting(line)
+    }
+
+    fn finished(&self) -> u32 {
+        self.lines.finished().saturating_add(self.turned_away)
+    }
+}
+
+impl<F: Fn(u16, u16) -> u8> NodeCore<F> {
+    /// Does what `step` does at an event that is `Time`, `Put`, `Set`, `Attend` or `Close`, and takes no memory.
+    pub fn local(&mut self, event: &Event, out: &mut OutBox) -> Answer
+        requires rest { AtRest self.old }
+        requires fact { HookFact F.pre F.post self.old.rule }
+        requires local { IsLocal event.now }
+        requires empty { out.old ≡ [] }
+        ensures rest { AtRest self.new }
+        ensures fact { HookFact F.pre F.post self.new.rule }
+        ensures opening { opening self.new ≡ opening self.old }
+        ensures state { (m : Machine F) → IsMachine self.old m → IsMachine self.new (next m event.now) }
+        ensures answer { (m : Machine F) → IsMachine self.old m → result ≡ answered m event.now }
+        ensures frames { (m : Machine F) → IsMachine self.old m → Frames F.post m event.now out.new }
+        ensures put { PutFits result event.now }
+        ensures took { TookFits (lines.ready self.old.lines) result event.now }
+    {
+        let answer = self.act(event, out);
+        self.clear();
+        answer
+    }
+
+    // What an event does. Circuits that it ends are held still.
+    fn apply(&mut self, alloc: Global, event: &Event, out: &mut OutBox) -> Result<Answer, Memory>
+        requires rest { AtRest self.old }
+        requires fact { HookFact F.pre F.post self.old.rule }
+        requires room { length out.old + 128 ≤ 256 }
+        ensures steps { IfOk result (λ a. Steps F.post (event_shown event.now) self.old self.new a out.old out.new) }
+        ensures same { SameConfig self.old self.new }
+        ensures put { IfOk result (λ a. PutFits a event.now) }
+        ensures took { IfOk result (λ a. TookFits (lines.ready self.old.lines) a event.now) }
+        ensures err { OnErr result ((self.new ≡ self.old) × (out.new ≡ out.old)) }
+    {
+        match event {
+            Event::Heard { from, payload, now } => {
+                self.hear(alloc, *from, payload.as_slice(), *now, out)
+            }
+            Event::Take { line, n } => self.lines.take(alloc, *line, *n),
+            Event::Request { to, id, service } => self.request(*to, *id, service, out),
+            Event::Announce => self.announce(alloc, out),
+            _ => Ok(self.act(event, out)),
+        }
+    }
+
+    // Circuits that have ended are held no more.
+    fn clear(&mut self)
+        ensures state { (s : Node) → Stands self.old s → Stands self.new s }
+        ensures same { SameConfig self.old self.new }
+        ensures rest { AtRest self.new }
+    {
+        self.lines.clear();
+    }
+
+    // The events that take no memory. The others are answered as if there were none of them here.
+    fn act(&mut self, event: &Event, out: &mut OutBox) -> Answer
+        requires act { IsAct event.now }
+        requires room { length out.old + 128 ≤ 256 }
+        ensures does { Does (λ config s. node_step config [] s (event_shown event.now)) self.old self.new result out.old out.new }
+        ensures same { SameConfig self.old self.new }
+        ensures put { PutFits result event.now }
+        ensures took { TookFits (lines.ready self.old.lines) result event.now }
+    {
+        match event {
+            Event::Time { now } => self.time(*now, out),
+            Event::Put { line, bytes } => self.lines.put(*line, bytes.as_slice()),
+            Event::Set { line, setting } => self.lines.set(*line, *setting),
+            Event::Attend { line, flag } => self.lines.attend(*line, *flag),
+            Event::Close { line } => self.lines.close(*line),
+            Event::Cancel { id } => self.withdraw(*id, out),
+            _ => Answer::NotHere,
+        }
+    }
+
+    // Time has come to a moment: circuits do what is due.
+    fn time(&mut self, now: u64, out: &mut OutBox) -> Answer
+        requires room { length out.old + 128 ≤ 256 }
+        ensures does { Does (λ config s. node_step config [] s (Time now)) self.old self.new result out.old out.new }
+        ensures same { SameConfig self.old self.new }
+        ensures done { result ≡ answers.Done }
+    {
+        self.lines.pass(now);
+        self.lines.time(out);
+        Answer::Done
+    }
+}
