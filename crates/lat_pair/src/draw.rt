@@ -1,0 +1,54 @@
+//! Circuit ids, drawn one after the other.
+
+use crate::hear::hand;
+use crate::play::Play;
+use crate::print::answer_onto;
+use crate::station::Station;
+use crate::words::{name, number};
+use lat_base::{Answer, Event, Memory, Name, OutBox};
+use std::alloc::Global;
+
+// A STOP of source 0 to this circuit, with reason 3.
+fn stop(circuit: u16) -> [u8; 10] {
+    let [low, high] = circuit.to_le_bytes();
+    [0x08, 0, low, high, 0, 0, 0, 0, 3, 0]
+}
+
+impl<S: Station, N: Station> Play<S, N> {
+    /// Connects line 1 so many times, and ends its circuit each time.
+    pub fn draw(&mut self, alloc: Global, line: &str, text: &mut String) -> Result<(), Memory> {
+        let Some(service) = name(line, 2) else {
+            return Ok(text.push_str("no name\n")?);
+        };
+        let mut out = OutBox::make(alloc)?;
+        let mut last = Answer::Done;
+        for _ in 0..number(line, 1) {
+            last = self.draw_one(alloc, service, &mut out)?;
+        }
+        answer_onto(alloc, text, &last)
+    }
+
+    fn draw_one(
+        &mut self,
+        alloc: Global,
+        service: Name,
+        out: &mut OutBox,
+    ) -> Result<Answer, Memory> {
+        out.clear();
+        let answer = self
+            .server
+            .step(alloc, &Event::Connect { line: 1, service }, out)?;
+        if let Answer::Connected { circuit, .. } = &answer {
+            let from = self.node.own();
+            hand(
+                alloc,
+                &mut self.server,
+                from,
+                &stop(*circuit),
+                self.latest,
+                out,
+            )?;
+        }
+        Ok(answer)
+    }
+}

@@ -1,0 +1,69 @@
+//! The events that a line tells a core.
+
+use crate::words::{address, byte, bytes, name, number, short, word};
+use lat_base::{Addr, Bytes, Event, Memory};
+use std::alloc::Global;
+
+/// The event that the words behind the core's letter say, where they say one. Requests go to this server.
+pub fn event_of(alloc: Global, line: &str, server: Addr) -> Result<Option<Event>, Memory> {
+    let place = byte(line, 2);
+    Ok(match word(line, 1) {
+        "time" => Some(Event::Time {
+            now: number(line, 2),
+        }),
+        "put" => Some(Event::Put {
+            line: place,
+            bytes: Bytes::copy(alloc, &bytes(alloc, line, 3)?)?,
+        }),
+        "fill" => Some(filling(alloc, line, place)?),
+        "set" => setting(alloc, line, place)?,
+        "take" => Some(Event::Take {
+            line: place,
+            n: short(line, 3),
+        }),
+        "attend" => Some(Event::Attend {
+            line: place,
+            flag: byte(line, 3),
+        }),
+        "close" => Some(Event::Close { line: place }),
+        "cancel" => Some(Event::Cancel { id: short(line, 2) }),
+        "announce" => Some(Event::Announce),
+        _ => named(line, server),
+    })
+}
+
+// The events that name a service.
+fn named(line: &str, server: Addr) -> Option<Event> {
+    let service = name(line, 3)?;
+    match word(line, 1) {
+        "connect" => Some(Event::Connect {
+            line: byte(line, 2),
+            service,
+        }),
+        "request" => Some(Event::Request {
+            to: address(line, 4).unwrap_or(server),
+            id: short(line, 2),
+            service,
+        }),
+        _ => None,
+    }
+}
+
+fn filling(alloc: Global, line: &str, place: u8) -> Result<Event, Memory> {
+    let filling = vec![in alloc; 0x61; usize::from(short(line, 3))]?;
+    Ok(Event::Put {
+        line: place,
+        bytes: Bytes::copy(alloc, &filling)?,
+    })
+}
+
+fn setting(alloc: Global, line: &str, place: u8) -> Result<Option<Event>, Memory> {
+    let bytes = bytes(alloc, line, 3)?;
+    let [flag, a, b, c, d] = *bytes else {
+        return Ok(None);
+    };
+    Ok(Some(Event::Set {
+        line: place,
+        setting: [flag, a, b, c, d],
+    }))
+}

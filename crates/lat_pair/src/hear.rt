@@ -1,0 +1,126 @@
+//! Frames that come to the cores.
+
+use crate::play::{Play, Side, side_at};
+use crate::post::Post;
+use crate::print::answer_onto;
+use crate::station::Station;
+use crate::words::{address, bytes, number, short, word};
+use lat_base::{Addr, Answer, Bytes, EVERYONE, Event, Memory, OutBox, Payload};
+use std::alloc::Global;
+
+/// Where the announcements of `announcers` come from.
+const ANNOUNCERS: Addr = Addr([0x02, 0x00, 0x00, 0x00, 0x00, 0x0a]);
+
+/// A core hears a payload; the box is cleared first.
+pub fn hand<C: Station>(
+    alloc: Global,
+    post: &mut Post<C>,
+    from: Addr,
+    payload: &[u8],
+    now: u64,
+    out: &mut OutBox,
+) -> Result<Answer, Memory> {
+    out.clear();
+    let event = Event::Heard {
+        from,
+        payload: Bytes::copy(alloc, payload)?,
+        now,
+    };
+    post.step(alloc, &event, out)
+}
+
+impl<S: Station, N: Station> Play<S, N> {
+    // The moment that this word is, or the latest so far.
+    fn moment_at(&mut self, line: &str, place: usize) -> u64 {
+        if word(line, place) != "" {
+            let now = number(line, place);
+            self.latest = self.latest.max(now);
+            return now;
+        }
+        self.latest
+    }
+
+    fn hear(
+        &mut self,
+        alloc: Global,
+        side: Side,
+        from: Addr,
+        payload: &[u8],
+        now: u64,
+        text: &mut String,
+    ) -> Result<(), Memory> {
+        let event = Event::Heard {
+            from,
+            payload: Bytes::copy(alloc, payload)?,
+            now,
+        };
+        self.step(alloc, side, &event, text)
+    }
+
+    // A frame of this number: the core that it comes to, its sender's address and its payload, where it is for that core.
+    fn frame_at(&self, number: usize) -> Option<(Side, Addr, Payload)> {
+        let frame = self.frames.get(number)?;
+        let (side, from, own) = match frame.by {
+            Side::Server => (Side::Node, self.server.own(), self.node.own()),
+            Side::Node => (Side::Server, self.node.own(), self.server.own()),
+        };
+        if frame.to != own && frame.to != EVERYONE {
+            return None;
+        }
+        Some((side, from, frame.payload.copy()))
+    }
+
+    /// Delivers a frame.
+    pub fn deliver(&mut self, alloc: Global, line: &str, text: &mut String) -> Result<(), Memory> {
+        match self.frame_at(number(line, 1) as usize) {
+            Some((side, from, payload)) => {
+                let now = self.moment_at(line, 2);
+                self.hear(alloc, side, from, payload.bytes(), now, text)
+            }
+            None => Ok(text.push_str("not for it\n")?),
+        }
+    }
+
+    /// Hands a payload to a core.
+    pub fn inject(&mut self, alloc: Global, line: &str, text: &mut String) -> Result<(), Memory> {
+        let Some(from) = address(line, 2) else {
+            return Ok(text.push_str("no address\n")?);
+        };
+        let payload = bytes(alloc, line, 3)?;
+        let now = self.moment_at(line, 4);
+        self.hear(alloc, side_at(line, 1), from, &payload, now, text)
+    }
+
+    /// Hands the server the announcements of nodes N1, N2 and so on.
+    pub fn announcers(
+        &mut self,
+        alloc: Global,
+        line: &str,
+        text: &mut String,
+    ) -> Result<(), Memory> {
+        let mut out = OutBox::make(alloc)?;
+        let mut last = Answer::Done;
+        for number in 0..short(line, 1) {
+            let payload = announcement(alloc, number)?;
+            last = hand(
+                alloc,
+                &mut self.server,
+                ANNOUNCERS,
+                &payload,
+                self.latest,
+                &mut out,
+            )?;
+        }
+        answer_onto(alloc, text, &last)
+    }
+}
+
+// The announcement of a service X with rating 1 by a node whose name is N and a number, counted from 1; its timer is 30.
+fn announcement(alloc: Global, number: u16) -> Result<Vec<u8>, Memory> {
+    let count = u32::from(number) + 1;
+    let name = format!(in alloc; "N{count}")?;
+    let mut payload = Vec::from_slice(alloc, &[0x28, 30, 5, 1, 0, 0, name.len().min(16) as u8])?;
+    payload.extend_from_slice(name.as_bytes())?;
+    payload.extend_from_slice(&[0, 1, 1, 1, 0x58, 0])?;
+    Ok(payload)
+}

@@ -1,0 +1,82 @@
+//! Runs a written script over one server core and one node core, event by event, and prints what each answers and every frame
+//! that it makes. Its stored run (`stdin`, `stdout`) is how the worked examples of both cores are seen to hold: what stands in
+//! `stdout` was worked out from the rules in docs/PROTOCOL.md and docs/FORMATS.md.
+//!
+//! A script is a list of blocks with an empty line between them. Each begins anew: its lines up to `go` say what both cores
+//! are made of, those behind it are events and questions. A line is words with a blank between them. A line that begins with
+//! `#` is printed as it is; of another one the line itself is printed behind `> `, and then what it answers. The cores are `s`,
+//! the server, and `n`, the node. Moments are milliseconds. A word that isn't there or isn't a number counts as 0, a number
+//! that is too large as the greatest one; an address is twelve hex digits.
+//!
+//! | Line before `go` | Says |
+//! |---|---|
+//! | `server ADDRESS NAME LINES` | the server, without an offer |
+//! | `node ADDRESS NAME LINES INCARNATION TIMER` | the node |
+//! | `circuit TIMER KEEPALIVE SESSIONS EXTRA CEILING` (and perhaps `wide`) | the timing of both |
+//! | `groups SERVER NODE` | the groups that the server listens to, and the mask of the node's announcements, in hex; without it all groups, and the empty mask |
+//! | `service NAME` | the node offers it |
+//! | `offer LINE NAME` | the server's line offers it; a line offers once |
+//!
+//! | Event | Does |
+//! |---|---|
+//! | `s EVENT`, `n EVENT` | tells the core: `time T`, `connect LINE NAME`, `put LINE HEX`, `fill LINE N` (N bytes 61 hex), `set LINE HEX`, `take LINE N`, `attend LINE FLAG`, `close LINE`, `request ID NAME` (of this server, or of the one whose address stands behind), `cancel ID`, `announce` |
+//! | `deliver I [T]` | hands frame I to the core that it was sent to, as from its sender's address, at T or at the latest moment so far |
+//! | `inject E ADDRESS HEX [T]` | hands a payload to core E as from this address |
+//! | `announcers N` | hands the server the announcements of N nodes, and prints the last answer |
+//! | `draw N NAME` | so many times connects the server's line 1 to the service and ends its circuit by a STOP from the node's address; prints the last answer |
+//! | `pump PATTERN` | puts 1,000 bytes at line 1 of both, then gives both a moment 80 ms on, delivers each frame, and takes at both, until all have come or 20,000 rounds have passed. The digits of PATTERN say in turn how often a frame is delivered. Prints the rounds, the frames made and delivered, and whether the items are the bytes that were put, in order |
+//!
+//! | Question | Tells |
+//! |---|---|
+//! | `state E LINE`, `waiting E LINE`, `book E LINE` | the session of a line, its items that wait, and its last two sessions |
+//! | `moment E`, `finished E`, `used` | a core's moment, its sessions that have become free, and the node's lines that have a session |
+//! | `names E ADDRESS TO FROM`, `span E CIRCUIT` | whether a RUN names a living circuit, and how far a circuit's numbers count |
+//! | `record I` | the server's record of a request |
+//!
+//! Frames are numbered from 0 in the order in which they are made, at either core; those of `announcers`, `draw` and `pump`
+//! aren't kept. Of each the program prints its number, its mark (`fresh`, `again` with how far its number lies below the
+//! newest, `bare`, `plain`), where it is sent and its circuit's id at the sender, and then what `lat show` prints of it.
+#![tactic(auto)]
+
+mod draw;
+mod event;
+mod hear;
+mod play;
+mod post;
+mod print;
+mod pump;
+mod script;
+mod setup;
+mod station;
+mod tell;
+mod words;
+
+use lat_base::{Memory, StdSink, StdSource, read_all, write_all};
+use script::played;
+use std::alloc::Global;
+use std::io;
+use std::process::ExitCode;
+
+const INPUT_BYTES: usize = 16_777_216;
+
+fn text_of(alloc: Global, input: &[u8]) -> Result<String, Memory> {
+    match str::from_utf8(input) {
+        Ok(script) => played(alloc, script),
+        Err(_) => Ok(String::from_str(alloc, "no text\n")?),
+    }
+}
+
+fn main(rt: HostRuntime) -> ExitCode {
+    let mut source = StdSource::new(rt.stdin());
+    let Ok(input) = read_all(rt.alloc(), &mut source, INPUT_BYTES) else {
+        return ExitCode::from(4);
+    };
+    let Ok(text) = text_of(rt.alloc(), &input) else {
+        return ExitCode::from(9);
+    };
+    let mut sink = StdSink::new(io::writer(&rt));
+    match write_all(&mut sink, text.as_bytes()) {
+        Ok(()) => ExitCode::from(0),
+        Err(_) => ExitCode::from(5),
+    }
+}

@@ -1,0 +1,223 @@
+//! Answers, frames and books in words.
+
+use lat_base::{
+    Answer, Heard, Item, Kept, LineBook, LineSession, Mark, Memory, OutFrame, SessionEnd,
+    SessionState,
+};
+use lat_queue::Record;
+use lat_seq::Span;
+use lat_show::show;
+use lat_text::{address_onto, name_onto};
+use std::alloc::{AllocError, Global};
+
+/// Adds what a core answers to the text.
+pub fn answer_onto(alloc: Global, text: &mut String, answer: &Answer) -> Result<(), Memory> {
+    match answer {
+        Answer::Circuit(heard) => heard_onto(text, *heard)?,
+        Answer::Started(id) => write!(text, "started {id}\n")?,
+        Answer::Kept(kept) => {
+            text.push_str("kept ")?;
+            kept_onto(text, *kept)?;
+            text.push_str("\n")?;
+        }
+        Answer::Bad(bad) => {
+            let (field, at) = (bad.field.word(), bad.at);
+            write!(text, "bad {field} {at}\n")?;
+        }
+        Answer::Connected { circuit, session } => {
+            write!(text, "connected circuit {circuit} session {session}\n")?;
+        }
+        Answer::Put(count) => write!(text, "put {count}\n")?,
+        Answer::Took(items) => took_onto(alloc, text, items.as_slice())?,
+        _ => text.push_str(answer_word(answer))?,
+    }
+    Ok(())
+}
+
+// An answer without a number.
+fn answer_word(answer: &Answer) -> &'static str {
+    match answer {
+        Answer::StartRefused => "start-refused\n",
+        Answer::Announced => "announced\n",
+        Answer::DirectoryFull => "directory-full\n",
+        Answer::NotKept => "not-kept\n",
+        Answer::Noted => "noted\n",
+        Answer::Apart => "apart\n",
+        Answer::Solicited => "solicited\n",
+        Answer::Ignored => "ignored\n",
+        Answer::Done => "done\n",
+        Answer::NoLine => "no-line\n",
+        Answer::Busy => "busy\n",
+        Answer::NoService => "no-service\n",
+        Answer::SessionsFull => "sessions-full\n",
+        Answer::CircuitsFull => "circuits-full\n",
+        Answer::IdsOut => "ids-out\n",
+        Answer::Closed => "closed\n",
+        Answer::Full => "full\n",
+        Answer::IdUsed => "id-used\n",
+        Answer::NotHere => "not-here\n",
+        _ => "other\n",
+    }
+}
+
+fn heard_onto(text: &mut String, heard: Heard) -> Result<(), AllocError> {
+    match heard {
+        Heard::Running => text.push_str("running\n"),
+        Heard::Taken(slots) => write!(text, "taken {slots}\n"),
+        Heard::Again => text.push_str("again\n"),
+        Heard::AckOnly => text.push_str("ack-only\n"),
+        Heard::Foreign => text.push_str("foreign\n"),
+        Heard::Broke(reason) => write!(text, "broke {reason}\n"),
+        Heard::Ended(reason) => write!(text, "ended {reason}\n"),
+    }
+}
+
+fn kept_onto(text: &mut String, kept: Kept) -> Result<(), AllocError> {
+    match kept {
+        Kept::Waiting(place) => write!(text, "waiting {place}"),
+        Kept::Granted => text.push_str("granted"),
+        Kept::Cancelled => text.push_str("cancelled"),
+        Kept::QueueFull => text.push_str("queue-full"),
+        Kept::NoService => text.push_str("no-service"),
+        Kept::RecordsFull => text.push_str("records-full"),
+        Kept::Done => text.push_str("done"),
+    }
+}
+
+fn took_onto(alloc: Global, text: &mut String, items: &[Item]) -> Result<(), AllocError> {
+    let count = items.len();
+    write!(text, "took {count}")?;
+    for item in items {
+        item_onto(alloc, text, *item)?;
+    }
+    text.push_str("\n")
+}
+
+fn item_onto(alloc: Global, text: &mut String, item: Item) -> Result<(), AllocError> {
+    match item {
+        Item::Byte(byte) => write!(text, " {byte:02x}"),
+        Item::Set(setting) => {
+            let digits = hex::encode(alloc, setting)?;
+            write!(text, " set {digits}")
+        }
+    }
+}
+
+fn mark_onto(text: &mut String, mark: Mark) -> Result<(), AllocError> {
+    match mark {
+        Mark::Fresh => text.push_str("fresh"),
+        Mark::Again(back) => write!(text, "again {back}"),
+        Mark::Bare => text.push_str("bare"),
+        Mark::Plain => text.push_str("plain"),
+    }
+}
+
+/// Adds a frame of this number to the text: its mark, where it goes, its circuit, and what is shown of it.
+pub fn frame_onto(
+    alloc: Global,
+    text: &mut String,
+    number: usize,
+    frame: &OutFrame,
+) -> Result<(), Memory> {
+    write!(text, "{number} ")?;
+    mark_onto(text, frame.mark)?;
+    text.push_str(" to ")?;
+    address_onto(alloc, text, frame.to)?;
+    let circuit = frame.circuit;
+    write!(text, " circuit {circuit}\n")?;
+    let mut line = hex::encode(alloc, frame.payload.bytes())?;
+    line.push_str("\n")?;
+    let (_, shown) = show(alloc, line.as_bytes())?;
+    text.push_str(&shown)?;
+    Ok(())
+}
+
+/// The word of a session's state.
+pub fn state_word(state: SessionState) -> &'static str {
+    match state {
+        SessionState::Free => "free\n",
+        SessionState::Calling => "calling\n",
+        SessionState::Asked => "asked\n",
+        SessionState::Live => "live\n",
+        SessionState::Closing => "closing\n",
+        SessionState::Left => "left\n",
+    }
+}
+
+/// The word of a circuit's span.
+pub fn span_word(span: Option<Span>) -> &'static str {
+    match span {
+        Some(Span::Byte) => "byte\n",
+        Some(Span::Word) => "word\n",
+        None => "none\n",
+    }
+}
+
+pub fn yes_word(yes: bool) -> &'static str {
+    if yes { "yes\n" } else { "no\n" }
+}
+
+fn end_onto(text: &mut String, end: Option<SessionEnd>) -> Result<(), AllocError> {
+    match end {
+        Some(SessionEnd::Closed) => text.push_str("closed\n"),
+        Some(SessionEnd::Rejected(reason)) => write!(text, "rejected {reason}\n"),
+        Some(SessionEnd::Circuit(reason)) => write!(text, "circuit {reason}\n"),
+        None => text.push_str("open\n"),
+    }
+}
+
+fn session_onto(
+    alloc: Global,
+    text: &mut String,
+    session: Option<LineSession>,
+) -> Result<(), Memory> {
+    let Some(session) = session else {
+        return Ok(text.push_str("none\n")?);
+    };
+    let LineSession {
+        number,
+        peer,
+        circuit,
+        session,
+        peer_circuit,
+        peer_session,
+        given,
+        used,
+        end,
+    } = session;
+    write!(text, "number {number} peer ")?;
+    address_onto(alloc, text, peer)?;
+    write!(text, " circuit {circuit} session {session}")?;
+    write!(text, " at the peer {peer_circuit} {peer_session}")?;
+    write!(text, " given {given} used {used} end ")?;
+    Ok(end_onto(text, end)?)
+}
+
+/// Adds the last two sessions of a line to the text.
+pub fn book_onto(alloc: Global, text: &mut String, book: Option<LineBook>) -> Result<(), Memory> {
+    let Some(book) = book else {
+        return Ok(text.push_str("no-line\n")?);
+    };
+    text.push_str("present ")?;
+    session_onto(alloc, text, book.present)?;
+    text.push_str("last ")?;
+    session_onto(alloc, text, book.last)
+}
+
+/// Adds a request's record to the text.
+pub fn record_onto(alloc: Global, text: &mut String, record: Option<Record>) -> Result<(), Memory> {
+    let Some(record) = record else {
+        return Ok(text.push_str("none\n")?);
+    };
+    name_onto(alloc, text, &record.key.node)?;
+    let (incarnation, request) = (record.key.incarnation, record.key.request);
+    write!(text, " {incarnation} {request} ")?;
+    name_onto(alloc, text, &record.service)?;
+    text.push_str(" ")?;
+    kept_onto(text, record.kept)?;
+    match record.grant {
+        Some(grant) => write!(text, " grant {grant}\n")?,
+        None => text.push_str("\n")?,
+    }
+    Ok(())
+}
