@@ -1,5 +1,5 @@
 -- Every event of a server is a list of events of the world of circuits, and keeps its lists free of frames from everyone.
-use Rattle.std.proofs.Common.{◌≡◌, ◌≢◌, ℕ, suc, refl, subst, Bool, true, false, not, cond, ◌&&◌, List, [], ◌∷◌, ◌++◌, Option, Some, None, nat_eq, nat_lt, filter}
+use Rattle.std.proofs.Common.{◌≡◌, ◌≢◌, ℕ, suc, ◌⊎◌, refl, subst, Bool, true, false, not, cond, ◌&&◌, List, [], ◌∷◌, ◌++◌, Option, Some, None, nat_eq, nat_lt, eqb-true, filter}
 use Rattle.std.proofs.lemmas.Bool.{eqb-false}
 use Rattle.std.specs.List.{list_any}
 use Rattle.lat_model.specs.sessions.Slots.{Slot}
@@ -24,36 +24,47 @@ use Rattle.lat_machines.specs.server.Records.{ask_answer, kept_of, is_granted}
 use Rattle.lat_machines.specs.values.Events.{Numbers, Event, Hears, Time, Connects, Puts, Sets, Takes, Attends, Closes, Requests, Withdraws, Announces}
 use Rattle.lat_machines.specs.values.Answers.{Connected, NoLine, Busy, SessionsFull, CircuitsFull, IdsOut, Ignored, NotKept, KeptIs}
 use Rattle.lat_machines.specs.cores.Acts.{call_at}
-use Rattle.lat_machines.specs.cores.Hearing.{HeardAct, numbers_at, run_frame, hear_run, hear_stop_at, hear_reply_at}
+use Rattle.lat_machines.specs.cores.Hearing.{HeardAct, names, numbers_at, run_frame, hear_run, hear_stop_at, hear_reply_at}
 use Rattle.lat_machines.specs.cores.Cores.{Seat, Core, setup_of, Doing, rests, acts, at_moment, circuit_to}
 use Rattle.lat_machines.specs.cores.Lines.{over, holds, line_exists}
 use Rattle.lat_machines.specs.cores.LineCalls.{put_on, set_on, attend_on, take_on, close_on}
-use Rattle.lat_machines.specs.server.Server.{ServerConfig, Server, ServerStep, Passing, server_side, offer_on, has_room, can_open, calls_to, connects_on, opens, connects_to, solicits_for, connect_event, heard_at, hears_message, hears_announcement, hears_command, hears_notice, hears_value, hears, server_event, key_of, status_frame, finish_one, finish_all, finished_requests, grant_frame, fitting, grantable, grants_by, grant_line, grant_lines, grant_pass, server_step, tells, does, offered}
-use Rattle.lat_machines.proofs.events.Leads.{Leads, Brings, run_leads, stop_leads, reply_leads, call_leads, table_with, each_more}
-use Rattle.lat_machines.proofs.events.Mades.{Made, acts_made, made_none, made_then, made_notice, made_cond, local_made_all, passes_made, put_made, set_made, attend_made, take_made, close_made, line_made}
+use Rattle.lat_machines.specs.server.Server.{Offer, ServerConfig, Server, ServerStep, Passing, server_side, offer_on, has_room, can_open, calls_to, connects_on, opens, connects_to, solicits_for, connect_event, heard_at, hears_message, hears_announcement, hears_command, hears_notice, hears_value, hears, server_event, key_of, status_frame, finish_one, finish_all, finished_requests, grant_frame, fitting, grantable, grants_by, grant_line, grant_lines, grant_pass, server_step, tells, does, offered}
+use Rattle.lat_machines.proofs.events.Leads.{Quiet, Leads, Brings, leads_ignored, any_agreed, run_leads, stop_leads, reply_leads, call_leads, table_with, each_more}
+use Rattle.lat_machines.proofs.events.Mades.{Made, made_loud, acts_made, made_none, made_then, made_notice, made_cond, local_made_all, passes_made, put_made, set_made, attend_made, take_made, close_made, line_made}
 
 -- what comes to a side, whoever sent it
 
-pub record BroughtRun (w : World) (b : Bool) (from : ℕ) (k : Option Numbers) (h : Head) (slots : List Slot) : Type 0 where
+pub record BroughtRun (L D : List ℕ → Type 0) (w : World) (b : Bool) (from : ℕ) (k : Option Numbers) (wide : Bool) (h : Head) (slots : List Slot) : Type 0 where
   pub mark : Mark
   pub frame : Frame (List Slot)
-  pub brings : Brings w b from h.master h.to h.from (Run mark h.ask frame)
+  pub brings : Brings L D w b from h.master h.to h.from (Run mark h.ask frame)
   pub same : (now : ℕ) → run_end now h.ask frame ((table w b).circuit_at h.to).end ≡ run_end now h.ask (run_frame (numbers_at ((table w b).circuit_at h.to).end h k) slots) ((table w b).circuit_at h.to).end
+  -- it is of the kind that its circuit has, where this matters
+  pub spans : D [] ⊎ (names (table w b) from h.to h.from ≡ true → cond wide ((table w b).circuit_at h.to).end.wide (not ((table w b).circuit_at h.to).end.wide) ≡ true)
 
-abbrev pub Brought : World → Bool → ℕ → Option Numbers → Message → Type 0
-Brought w b from k (RunMessage h slots) = BroughtRun w b from k h slots
-Brought w b from k (WideMessage h slots) = BroughtRun w b from k h slots
-Brought w b from k (StartMessage master ask to source info) = Brings w b from master to source (cond master CallStart ReplyStart)
-Brought w b from k (StopMessage master ask to source reason text) = Brings w b from master to source (Stopped reason)
+abbrev pub Brought : (List ℕ → Type 0) → (List ℕ → Type 0) → World → Bool → ℕ → Option Numbers → Message → Type 0
+Brought L D w b from k (RunMessage h slots) = BroughtRun L D w b from k false h slots
+Brought L D w b from k (WideMessage h slots) = BroughtRun L D w b from k true h slots
+Brought L D w b from k (StartMessage master ask to source info) = Brings L D w b from master to source (cond master CallStart ReplyStart)
+Brought L D w b from k (StopMessage master ask to source reason text) = Brings L D w b from master to source (Stopped reason)
 
-abbrev pub BroughtIn : World → Bool → ℕ → Option Numbers → Reading → Type 0
-BroughtIn w b from k (Malformed field at) = Unit {0}
-BroughtIn w b from k (Whole (OfCircuit m)) = Brought w b from k m
-BroughtIn w b from k (Whole (OfNotice n)) = Unit {0}
+abbrev pub BroughtIn : (List ℕ → Type 0) → (List ℕ → Type 0) → World → Bool → ℕ → Option Numbers → Reading → Type 0
+BroughtIn L D w b from k (Malformed field at) = D []
+BroughtIn L D w b from k (Whole (OfCircuit m)) = Brought L D w b from k m
+BroughtIn L D w b from k (Whole (OfNotice n)) = D []
 
-abbrev pub BroughtBy : World → Bool → Event → Type 0
-BroughtBy w b (Hears from payload k now) = from ≢ everyone → BroughtIn w b from k payload
-BroughtBy w b _ = Unit {0}
+abbrev pub BroughtBy : (List ℕ → Type 0) → (List ℕ → Type 0) → World → Bool → Event → Type 0
+BroughtBy L D w b (Hears from payload k now) = (from ≡ everyone → D []) × (from ≢ everyone → BroughtIn L D w b from k payload)
+BroughtBy L D w b (Connects line service) = D [] × L service
+BroughtBy L D w b _ = D []
+
+-- what can't be read delivers nothing
+pub read_quiet : (D : List ℕ → Type 0) (from : ℕ) → (from ≡ everyone → D []) → (from ≢ everyone → D []) → D []
+read_quiet D from p q = go (nat_eq from everyone) refl
+  where
+    go : (n : Bool) → nat_eq from everyone ≡ n → D []
+    go true i = p (eqb-true from everyone i)
+    go false i = q (eqb-false from everyone i)
 
 -- nobody is called everyone
 
@@ -126,92 +137,112 @@ next_fits service h p = go (waiting service h) (each_filter (λ (r : Request). r
     go [] q = tt
     go (r ∷ rs) q = q.0
 
+-- the services of these lines
+abbrev pub OffersFit : (List ℕ → Type 0) → List Offer → Type 0
+OffersFit L os = Each (λ (o : Offer). L o.service) os
+
+abbrev pub NameFits : (List ℕ → Type 0) → Option Name → Type 0
+NameFits L None = Unit {0}
+NameFits L (Some service) = L service
+
+offer_fits : (L : List ℕ → Type 0) (line : ℕ) (os : List Offer) → OffersFit L os → NameFits L (offer_on line os)
+offer_fits L line [] h = tt
+offer_fits L line (o ∷ os) h = go (nat_eq o.line line) (offer_fits L line os h.1)
+  where
+    go : (n : Bool) → NameFits L (offer_on line os) → NameFits L (cond n (Some o.service) (offer_on line os))
+    go true p = h.0
+    go false p = p
+
 -- opening a session for a line
 
-calls_made : (config : ServerConfig) (address : ℕ) (node : Name) (c : Core) (w : World) → table w true ≡ c.circuits → w.setup ≡ setup_of config.timing → address ≢ everyone → Made w true (calls_to config address node c).core (calls_to config address node c).frames
-calls_made config address node c w q s f =
+calls_made : {L : List ℕ → Type 0} (config : ServerConfig) (address : ℕ) (node : Name) (c : Core) (w : World) → table w true ≡ c.circuits → w.setup ≡ setup_of config.timing → address ≢ everyone → Made L Quiet w true (calls_to config address node c).core (calls_to config address node c).frames
+calls_made {L} config address node c w q s f =
     let d : Core = record c { names = updated c.names (suc c.circuits.drawn) node } in
     made_cond w true (nat_eq (circuit_to c address) 0) (acts (server_side config) d (call_at (setup_of config.timing) d.circuits address d.moment)) (rests c)
-    (λ i. acts_made (server_side config) d w true (call_at (setup_of config.timing) d.circuits address d.moment) (subst (λ u. Leads w true (call_at u d.circuits address d.moment).table (call_at u d.circuits address d.moment).sent) s (subst (λ t. Leads w true (call_at w.setup t address d.moment).table (call_at w.setup t address d.moment).sent) q (call_leads w address d.moment f))))
+    (λ i. acts_made (server_side config) d w true (call_at (setup_of config.timing) d.circuits address d.moment) (subst (λ u. Leads L Quiet w true (call_at u d.circuits address d.moment).table (call_at u d.circuits address d.moment).sent) s (subst (λ t. Leads L Quiet w true (call_at w.setup t address d.moment).table (call_at w.setup t address d.moment).sent) q (call_leads w address d.moment f))))
     (λ i. made_none w true c q)
 
-connects_made : (config : ServerConfig) (line x : ℕ) (service : Name) (key : Option Key) (request : Option ℕ) (c : Core) (w : World) → table w true ≡ c.circuits → Made w true (connects_on config line x service key request c).core (connects_on config line x service key request c).frames
-connects_made config line x service key request c w q =
+connects_made : {L : List ℕ → Type 0} (config : ServerConfig) (line x : ℕ) (service : Name) (key : Option Key) (request : Option ℕ) (c : Core) (w : World) → L service → table w true ≡ c.circuits → Made L Quiet w true (connects_on config line x service key request c).core (connects_on config line x service key request c).frames
+connects_made config line x service key request c w n q =
     let e : Sessions = (c.circuits.circuit_at x).end.half.sessions in
     let d : Core = record c { seats = c.seats ++ record { line = line; circuit = x; id = least_free e; serial = suc e.made; key = key } ∷ [] } in
-    local_made_all (server_side config) d w true x (Connect service request) q
+    local_made_all (server_side config) d w true x (Connect service request) n q
 
-opens_made : (config : ServerConfig) (line address : ℕ) (node service : Name) (key : Option Key) (request : Option ℕ) (c : Core) (w : World) → table w true ≡ c.circuits → w.setup ≡ setup_of config.timing → address ≢ everyone → Made w true (opens config line address node service key request c).core (opens config line address node service key request c).frames
-opens_made config line address node service key request c w q s f =
+opens_made : {L : List ℕ → Type 0} (config : ServerConfig) (line address : ℕ) (node service : Name) (key : Option Key) (request : Option ℕ) (c : Core) (w : World) → L service → table w true ≡ c.circuits → w.setup ≡ setup_of config.timing → address ≢ everyone → Made L Quiet w true (opens config line address node service key request c).core (opens config line address node service key request c).frames
+opens_made {L} config line address node service key request c w l q s f =
     let d : Doing = calls_to config address node c in
-    let m : Made w true d.core d.frames = calls_made config address node c w q s f in
+    let m : Made L Quiet w true d.core d.frames = calls_made config address node c w q s f in
     let n : Doing = connects_on config line (circuit_to d.core address) service key request d.core in
-    made_then w true d.core d.frames n.core n.frames m (connects_made config line (circuit_to d.core address) service key request d.core (with_table w true d.core.circuits m.wired) (table_with w true d.core.circuits m.wired))
+    made_then w true d.core d.frames n.core n.frames m (connects_made config line (circuit_to d.core address) service key request d.core (with_table w true d.core.circuits m.wired) l (table_with w true d.core.circuits m.wired))
 
 -- one event
 
-pub record Did (w : World) (st : Server) (fs : List OutFrame) : Type 0 where
-  pub made : Made w true st.core fs
+pub record Did (L D : List ℕ → Type 0) (w : World) (st : Server) (fs : List OutFrame) : Type 0 where
+  pub made : Made L D w true st.core fs
   pub fits : ServerFits st
 
-did_cond : (w : World) (n : Bool) (s t : ServerStep) → (n ≡ true → Did w s.state s.frames) → (n ≡ false → Did w t.state t.frames) → Did w (cond n s t).state (cond n s t).frames
+did_cond : {L D : List ℕ → Type 0} (w : World) (n : Bool) (s t : ServerStep) → (n ≡ true → Did L D w s.state s.frames) → (n ≡ false → Did L D w t.state t.frames) → Did L D w (cond n s t).state (cond n s t).frames
 did_cond w true s t p q = p refl
 did_cond w false s t p q = q refl
 
-did_none : (w : World) (st : Server) → table w true ≡ st.core.circuits → ServerFits st → Did w st []
+did_none : {L : List ℕ → Type 0} (w : World) (st : Server) → table w true ≡ st.core.circuits → ServerFits st → Did L Quiet w st []
 did_none w st q f = record { made = made_none w true st.core q; fits = f }
 
-did_core : (w : World) (st : Server) (c : Core) (fs : List OutFrame) → ServerFits st → Made w true c fs → Did w (record st { core = c }) fs
+-- what delivers nothing, where this may be
+did_loud : {L D : List ℕ → Type 0} (w : World) (st : Server) (fs : List OutFrame) → D [] → Did L Quiet w st fs → Did L D w st fs
+did_loud w st fs l d = record { made = made_loud w true st.core fs l d.made; fits = d.fits }
+
+did_core : {L D : List ℕ → Type 0} (w : World) (st : Server) (c : Core) (fs : List OutFrame) → ServerFits st → Made L D w true c fs → Did L D w (record st { core = c }) fs
 did_core w st c fs f m = record { made = m; fits = record { heard = f.heard; queue = f.queue } }
 
-did_connect : (config : ServerConfig) (w : World) (st : Server) (line : ℕ) (service : Name) → table w true ≡ st.core.circuits → w.setup ≡ setup_of config.timing → ServerFits st → Did w (connect_event config st line service).state (connect_event config st line service).frames
-did_connect config w st line service q s f = go (line_exists config.lines line) (holds st.core line) (best config.groups service st.core.moment st.heard) (best_fits config.groups service st.core.moment st.heard f.heard)
+did_connect : {L : List ℕ → Type 0} (config : ServerConfig) (w : World) (st : Server) (line : ℕ) (service : Name) → L service → table w true ≡ st.core.circuits → w.setup ≡ setup_of config.timing → ServerFits st → Did L Quiet w (connect_event config st line service).state (connect_event config st line service).frames
+did_connect {L} config w st line service l q s f = go (line_exists config.lines line) (holds st.core line) (best config.groups service st.core.moment st.heard) (best_fits config.groups service st.core.moment st.heard f.heard)
   where
-    none : Did w st []
+    none : Did L Quiet w st []
     none = did_none w st q f
 
-    reaches : (b : Best) → b.from ≢ everyone → Did w (connects_to config st line service b).state (connects_to config st line service b).frames
+    reaches : (b : Best) → b.from ≢ everyone → Did L Quiet w (connects_to config st line service b).state (connects_to config st line service b).frames
     reaches b g =
         let x : ℕ = circuit_to st.core b.from in
         let d : Doing = opens config line b.from b.node service None None st.core in
-        let yes : Did w (record st { core = d.core }) d.frames = did_core w st d.core d.frames f (opens_made config line b.from b.node service None None st.core w q s g) in
+        let yes : Did L Quiet w (record st { core = d.core }) d.frames = did_core w st d.core d.frames f (opens_made config line b.from b.node service None None st.core w l q s g) in
         step (nat_eq x 0) (nat_lt (living st.core.circuits) 8) (nat_lt st.core.circuits.drawn 65535) (has_room st.core x) d yes x
       where
-        step : (i j k l : Bool) (d : Doing) → Did w (record st { core = d.core }) d.frames → (x : ℕ) → Did w (cond i (cond j (cond k (does st (Connected (suc st.core.circuits.drawn) 1) d) (tells st IdsOut)) (tells st CircuitsFull)) (cond l (does st (Connected x (least_free (st.core.circuits.circuit_at x).end.half.sessions)) d) (tells st SessionsFull))).state (cond i (cond j (cond k (does st (Connected (suc st.core.circuits.drawn) 1) d) (tells st IdsOut)) (tells st CircuitsFull)) (cond l (does st (Connected x (least_free (st.core.circuits.circuit_at x).end.half.sessions)) d) (tells st SessionsFull))).frames
+        step : (i j k l : Bool) (d : Doing) → Did L Quiet w (record st { core = d.core }) d.frames → (x : ℕ) → Did L Quiet w (cond i (cond j (cond k (does st (Connected (suc st.core.circuits.drawn) 1) d) (tells st IdsOut)) (tells st CircuitsFull)) (cond l (does st (Connected x (least_free (st.core.circuits.circuit_at x).end.half.sessions)) d) (tells st SessionsFull))).state (cond i (cond j (cond k (does st (Connected (suc st.core.circuits.drawn) 1) d) (tells st IdsOut)) (tells st CircuitsFull)) (cond l (does st (Connected x (least_free (st.core.circuits.circuit_at x).end.half.sessions)) d) (tells st SessionsFull))).frames
         step true true true l d y x = y
         step true true false l d y x = none
         step true false k l d y x = none
         step false j k true d y x = y
         step false j k false d y x = none
 
-    solicits : Did w (solicits_for config st service).state (solicits_for config st service).frames
+    solicits : Did L Quiet w (solicits_for config st service).state (solicits_for config st service).frames
     solicits = record { made = made_notice w true st.core _ [] _ refl (made_none w true st.core q); fits = record { heard = f.heard; queue = f.queue } }
 
     asks : (o : Option Best) → ServerStep
     asks o = elim o [ None ↦ solicits_for config st service | Some b ↦ connects_to config st line service b ]
 
-    go : (n m : Bool) (o : Option Best) → BestFits o → Did w (cond n (cond m (tells st Busy) (elim o [ None ↦ solicits_for config st service | Some b ↦ connects_to config st line service b ])) (tells st NoLine)).state (cond n (cond m (tells st Busy) (elim o [ None ↦ solicits_for config st service | Some b ↦ connects_to config st line service b ])) (tells st NoLine)).frames
+    go : (n m : Bool) (o : Option Best) → BestFits o → Did L Quiet w (cond n (cond m (tells st Busy) (elim o [ None ↦ solicits_for config st service | Some b ↦ connects_to config st line service b ])) (tells st NoLine)).state (cond n (cond m (tells st Busy) (elim o [ None ↦ solicits_for config st service | Some b ↦ connects_to config st line service b ])) (tells st NoLine)).frames
     go false m o g = none
     go true true o g = none
     go true false None g = solicits
     go true false (Some b) g = reaches b g
 
-did_heard : (config : ServerConfig) (w : World) (st : Server) (h : HeardAct) → ServerFits st → Leads w true h.act.table h.act.sent → Did w (heard_at config st h).state (heard_at config st h).frames
+did_heard : {L D : List ℕ → Type 0} (config : ServerConfig) (w : World) (st : Server) (h : HeardAct) → ServerFits st → Leads L D w true h.act.table h.act.sent → Did L D w (heard_at config st h).state (heard_at config st h).frames
 did_heard config w st h f p = did_core w st (acts (server_side config) st.core h.act).core (acts (server_side config) st.core h.act).frames f (acts_made (server_side config) st.core w true h.act p)
 
-did_run : (config : ServerConfig) (w : World) (st : Server) (from : ℕ) (wide : Bool) (h : Head) (slots : List Slot) (k : Option Numbers) → table w true ≡ st.core.circuits → ServerFits st → BroughtRun w true from k h slots → Did w (heard_at config st (hear_run true st.core.circuits from wide h slots k st.core.moment)).state (heard_at config st (hear_run true st.core.circuits from wide h slots k st.core.moment)).frames
-did_run config w st from wide h slots k q f p = did_heard config w st (hear_run true st.core.circuits from wide h slots k st.core.moment) f (subst (λ t. Leads w true (hear_run true t from wide h slots k st.core.moment).act.table (hear_run true t from wide h slots k st.core.moment).act.sent) q (run_leads w true from wide h slots k st.core.moment p.mark p.frame p.brings (p.same st.core.moment)))
+did_run : {L D : List ℕ → Type 0} (config : ServerConfig) (w : World) (st : Server) (from : ℕ) (wide : Bool) (h : Head) (slots : List Slot) (k : Option Numbers) → table w true ≡ st.core.circuits → ServerFits st → BroughtRun L D w true from k wide h slots → Did L D w (heard_at config st (hear_run true st.core.circuits from wide h slots k st.core.moment)).state (heard_at config st (hear_run true st.core.circuits from wide h slots k st.core.moment)).frames
+did_run {L} {D} config w st from wide h slots k q f p = did_heard config w st (hear_run true st.core.circuits from wide h slots k st.core.moment) f (subst (λ t. Leads L D w true (hear_run true t from wide h slots k st.core.moment).act.table (hear_run true t from wide h slots k st.core.moment).act.sent) q (run_leads w true from wide h slots k st.core.moment p.mark p.frame p.spans p.brings (p.same st.core.moment)))
 
-did_message : (config : ServerConfig) (w : World) (st : Server) (from : ℕ) (m : Message) (k : Option Numbers) → table w true ≡ st.core.circuits → ServerFits st → Brought w true from k m → Did w (hears_message config st from m k).state (hears_message config st from m k).frames
-did_message config w st from (RunMessage h slots) k q f p = did_run config w st from false h slots k q f p
-did_message config w st from (WideMessage h slots) k q f p = did_run config w st from true h slots k q f p
-did_message config w st from (StartMessage true ask to source info) k q f p = did_none w st q f
-did_message config w st from (StartMessage false ask to source info) k q f p = did_heard config w st (hear_reply_at st.core.circuits from to source st.core.moment (agreed_by config.timing info)) f (subst (λ t. Leads w true (hear_reply_at t from to source st.core.moment (agreed_by config.timing info)).act.table (hear_reply_at t from to source st.core.moment (agreed_by config.timing info)).act.sent) q (reply_leads w from to source st.core.moment (agreed_by config.timing info) false p))
-did_message config w st from (StopMessage master ask to source reason text) k q f p = did_heard config w st (hear_stop_at true st.core.circuits from to source st.core.moment reason) f (subst (λ t. Leads w true (hear_stop_at true t from to source st.core.moment reason).act.table (hear_stop_at true t from to source st.core.moment reason).act.sent) q (stop_leads w true from to source st.core.moment reason master p))
+did_message : {L D : List ℕ → Type 0} (config : ServerConfig) (w : World) (st : Server) (from : ℕ) (m : Message) (k : Option Numbers) → table w true ≡ st.core.circuits → ServerFits st → Brought L D w true from k m → Did L D w (hears_message config st from m k).state (hears_message config st from m k).frames
+did_message {L} {D} config w st from (RunMessage h slots) k q f p = did_run config w st from false h slots k q f p
+did_message {L} {D} config w st from (WideMessage h slots) k q f p = did_run config w st from true h slots k q f p
+did_message {L} {D} config w st from (StartMessage true ask to source info) k q f p = record { made = record { wired = []; leads = subst (λ t. Leads L D w true t []) q (leads_ignored w true (p.event st.core.moment any_agreed) (p.fits st.core.moment any_agreed) (p.gives st.core.moment any_agreed) (p.arrives st.core.moment any_agreed)); shown = refl }; fits = f }
+did_message {L} {D} config w st from (StartMessage false ask to source info) k q f p = did_heard config w st (hear_reply_at st.core.circuits from to source st.core.moment (agreed_by config.timing info)) f (subst (λ t. Leads L D w true (hear_reply_at t from to source st.core.moment (agreed_by config.timing info)).act.table (hear_reply_at t from to source st.core.moment (agreed_by config.timing info)).act.sent) q (reply_leads w from to source st.core.moment (agreed_by config.timing info) false p))
+did_message {L} {D} config w st from (StopMessage master ask to source reason text) k q f p = did_heard config w st (hear_stop_at true st.core.circuits from to source st.core.moment reason) f (subst (λ t. Leads L D w true (hear_stop_at true t from to source st.core.moment reason).act.table (hear_stop_at true t from to source st.core.moment reason).act.sent) q (stop_leads w true from to source st.core.moment reason master p))
 
-did_command : (config : ServerConfig) (w : World) (st : Server) (from : ℕ) (m : Command) (a : Action) → table w true ≡ st.core.circuits → ServerFits st → from ≢ everyone → Did w (hears_command config st from m a).state (hears_command config st from m a).frames
-did_command config w st from m Ask q f n = record { made = made_notice w true st.core _ [] _ refl (made_none w true st.core q); fits = record { heard = f.heard; queue = each_more AskFits st.queue (Asks (key_of m) from m.service (ask_answer (offered config) (key_of m) m.service st.queue) ∷ []) f.queue (n, tt) } }
-did_command config w st from m Cancel q f n = go (kept_of (key_of m) (st.queue ++ Cancels (key_of m) ∷ []))
+did_command : {L : List ℕ → Type 0} (config : ServerConfig) (w : World) (st : Server) (from : ℕ) (m : Command) (a : Action) → table w true ≡ st.core.circuits → ServerFits st → from ≢ everyone → Did L Quiet w (hears_command config st from m a).state (hears_command config st from m a).frames
+did_command {L} config w st from m Ask q f n = record { made = made_notice w true st.core _ [] _ refl (made_none w true st.core q); fits = record { heard = f.heard; queue = each_more AskFits st.queue (Asks (key_of m) from m.service (ask_answer (offered config) (key_of m) m.service st.queue) ∷ []) f.queue (n, tt) } }
+did_command {L} config w st from m Cancel q f n = go (kept_of (key_of m) (st.queue ++ Cancels (key_of m) ∷ []))
   where
     fits : ServerFits (record st { queue = st.queue ++ Cancels (key_of m) ∷ [] })
     fits = record { heard = f.heard; queue = each_more AskFits st.queue (Cancels (key_of m) ∷ []) f.queue (tt, tt) }
@@ -222,44 +253,44 @@ did_command config w st from m Cancel q f n = go (kept_of (key_of m) (st.queue +
       | Some k ↦ record { state = record st { queue = st.queue ++ Cancels (key_of m) ∷ [] }; answer = KeptIs k; frames = status_frame from m (KeptAs k) ∷ [] }
     ]
 
-    go : (o : Option Kept) → Did w (told o).state (told o).frames
+    go : (o : Option Kept) → Did L Quiet w (told o).state (told o).frames
     go None = record { made = made_notice w true st.core _ [] _ refl (made_none w true st.core q); fits = fits }
     go (Some k) = record { made = made_notice w true st.core _ [] _ refl (made_none w true st.core q); fits = fits }
 
-did_announcement : (config : ServerConfig) (w : World) (st : Server) (from : ℕ) (a : Announcement) → table w true ≡ st.core.circuits → ServerFits st → from ≢ everyone → Did w (hears_announcement config st from a).state (hears_announcement config st from a).frames
+did_announcement : {L : List ℕ → Type 0} (config : ServerConfig) (w : World) (st : Server) (from : ℕ) (a : Announcement) → table w true ≡ st.core.circuits → ServerFits st → from ≢ everyone → Did L Quiet w (hears_announcement config st from a).state (hears_announcement config st from a).frames
 did_announcement config w st from a q f n = record { made = made_none w true st.core q; fits = record { heard = go (refuses config.groups st.core.moment a st.heard); queue = f.queue } }
   where
     go : (r : Bool) → Each (λ (e : HeardAnnouncement). e.from ≢ everyone) (cond r st.heard (st.heard ++ record { from = from; announcement = a; at = st.core.moment } ∷ []))
     go true = f.heard
     go false = each_more (λ (e : HeardAnnouncement). e.from ≢ everyone) st.heard (record { from = from; announcement = a; at = st.core.moment } ∷ []) f.heard (n, tt)
 
-did_notice : (config : ServerConfig) (w : World) (st : Server) (from : ℕ) (n : Notice) → table w true ≡ st.core.circuits → ServerFits st → from ≢ everyone → Did w (hears_notice config st from n).state (hears_notice config st from n).frames
+did_notice : {L : List ℕ → Type 0} (config : ServerConfig) (w : World) (st : Server) (from : ℕ) (n : Notice) → table w true ≡ st.core.circuits → ServerFits st → from ≢ everyone → Did L Quiet w (hears_notice config st from n).state (hears_notice config st from n).frames
 did_notice config w st from (AnnouncementNotice a) q f n = did_announcement config w st from a q f n
 did_notice config w st from (CommandNotice m) q f n = did_command config w st from m m.action q f n
 did_notice config w st from (ResponseNotice r) q f n = did_none w st q f
 did_notice config w st from (StatusNotice s) q f n = did_none w st q f
 did_notice config w st from (SolicitNotice s) q f n = did_none w st q f
 
-did_value : (config : ServerConfig) (w : World) (st : Server) (from : ℕ) (v : Value) (k : Option Numbers) → table w true ≡ st.core.circuits → ServerFits st → from ≢ everyone → BroughtIn w true from k (Whole v) → Did w (hears_value config st from v k).state (hears_value config st from v k).frames
+did_value : {L D : List ℕ → Type 0} (config : ServerConfig) (w : World) (st : Server) (from : ℕ) (v : Value) (k : Option Numbers) → table w true ≡ st.core.circuits → ServerFits st → from ≢ everyone → BroughtIn L D w true from k (Whole v) → Did L D w (hears_value config st from v k).state (hears_value config st from v k).frames
 did_value config w st from (OfCircuit m) k q f n p = did_message config w st from m k q f p
-did_value config w st from (OfNotice m) k q f n p = did_notice config w st from m q f n
+did_value config w st from (OfNotice m) k q f n p = did_loud w (hears_notice config st from m).state (hears_notice config st from m).frames p (did_notice config w st from m q f n)
 
-did_hear : (config : ServerConfig) (w : World) (st : Server) (from : ℕ) (r : Reading) (k : Option Numbers) → table w true ≡ st.core.circuits → ServerFits st → (from ≢ everyone → BroughtIn w true from k r) → Did w (hears config st from r k).state (hears config st from r k).frames
-did_hear config w st from (Malformed field at) k q f p = did_none w st q f
-did_hear config w st from (Whole v) k q f p = did_cond w (nat_eq from everyone) (tells st Ignored) (hears_value config st from v k) (λ i. did_none w st q f) (λ i. did_value config w st from v k q f (eqb-false from everyone i) (p (eqb-false from everyone i)))
+did_hear : {L D : List ℕ → Type 0} (config : ServerConfig) (w : World) (st : Server) (from : ℕ) (r : Reading) (k : Option Numbers) → table w true ≡ st.core.circuits → ServerFits st → (from ≡ everyone → D []) → (from ≢ everyone → BroughtIn L D w true from k r) → Did L D w (hears config st from r k).state (hears config st from r k).frames
+did_hear {L} {D} config w st from (Malformed field at) k q f o p = did_loud w st [] (read_quiet D from o p) (did_none w st q f)
+did_hear {L} {D} config w st from (Whole v) k q f o p = did_cond w (nat_eq from everyone) (tells st Ignored) (hears_value config st from v k) (λ i. did_loud w st [] (o (eqb-true from everyone i)) (did_none w st q f)) (λ i. did_value config w st from v k q f (eqb-false from everyone i) (p (eqb-false from everyone i)))
 
-pub did_event : (config : ServerConfig) (w : World) (st : Server) (e : Event) → table w true ≡ st.core.circuits → w.setup ≡ setup_of config.timing → ServerFits st → BroughtBy w true e → Did w (server_event config st e).state (server_event config st e).frames
-did_event config w st (Hears from payload k now) q s f p = did_hear config w (record st { core = at_moment now st.core }) from payload k q (record { heard = f.heard; queue = f.queue }) p
-did_event config w st (Time now) q s f p = did_core w st _ _ f (passes_made (server_side config) (at_moment now st.core) w q)
-did_event config w st (Connects line service) q s f p = did_connect config w st line service q s f
-did_event config w st (Puts line bytes) q s f p = did_core w st _ [] f (line_made (server_side config) config.lines st.core w line (λ t. put_on (server_side config) st.core t bytes) q (λ t. put_made (server_side config) st.core w t bytes q))
-did_event config w st (Sets line setting) q s f p = did_core w st _ [] f (line_made (server_side config) config.lines st.core w line (λ t. set_on (server_side config) st.core t setting) q (λ t. set_made (server_side config) st.core w t setting q))
-did_event config w st (Takes line n) q s f p = did_core w st _ [] f (line_made (server_side config) config.lines st.core w line (λ t. take_on (server_side config) st.core t n) q (λ t. take_made (server_side config) st.core w t n q))
-did_event config w st (Attends line flag) q s f p = did_core w st _ [] f (line_made (server_side config) config.lines st.core w line (λ t. attend_on (server_side config) st.core t flag) q (λ t. attend_made (server_side config) st.core w t flag q))
-did_event config w st (Closes line) q s f p = did_core w st _ [] f (line_made (server_side config) config.lines st.core w line (λ t. close_on (server_side config) st.core t) q (λ t. close_made (server_side config) st.core w t q))
-did_event config w st (Requests to id service) q s f p = did_none w st q f
-did_event config w st (Withdraws id) q s f p = did_none w st q f
-did_event config w st Announces q s f p = did_none w st q f
+pub did_event : {L D : List ℕ → Type 0} (config : ServerConfig) (w : World) (st : Server) (e : Event) → table w true ≡ st.core.circuits → w.setup ≡ setup_of config.timing → ServerFits st → BroughtBy L D w true e → Did L D w (server_event config st e).state (server_event config st e).frames
+did_event config w st (Hears from payload k now) q s f p = did_hear config w (record st { core = at_moment now st.core }) from payload k q (record { heard = f.heard; queue = f.queue }) p.0 p.1
+did_event config w st (Time now) q s f p = did_loud w _ _ p (did_core w st _ _ f (passes_made (server_side config) (at_moment now st.core) w q))
+did_event config w st (Connects line service) q s f p = did_loud w _ _ p.0 (did_connect config w st line service p.1 q s f)
+did_event config w st (Puts line bytes) q s f p = did_loud w _ _ p (did_core w st _ [] f (line_made (server_side config) config.lines st.core w line (λ t. put_on (server_side config) st.core t bytes) q (λ t. put_made (server_side config) st.core w t bytes q)))
+did_event config w st (Sets line setting) q s f p = did_loud w _ _ p (did_core w st _ [] f (line_made (server_side config) config.lines st.core w line (λ t. set_on (server_side config) st.core t setting) q (λ t. set_made (server_side config) st.core w t setting q)))
+did_event config w st (Takes line n) q s f p = did_loud w _ _ p (did_core w st _ [] f (line_made (server_side config) config.lines st.core w line (λ t. take_on (server_side config) st.core t n) q (λ t. take_made (server_side config) st.core w t n q)))
+did_event config w st (Attends line flag) q s f p = did_loud w _ _ p (did_core w st _ [] f (line_made (server_side config) config.lines st.core w line (λ t. attend_on (server_side config) st.core t flag) q (λ t. attend_made (server_side config) st.core w t flag q)))
+did_event config w st (Closes line) q s f p = did_loud w _ _ p (did_core w st _ [] f (line_made (server_side config) config.lines st.core w line (λ t. close_on (server_side config) st.core t) q (λ t. close_made (server_side config) st.core w t q)))
+did_event config w st (Requests to id service) q s f p = did_loud w _ _ p (did_none w st q f)
+did_event config w st (Withdraws id) q s f p = did_loud w _ _ p (did_none w st q f)
+did_event config w st Announces q s f p = did_loud w _ _ p (did_none w st q f)
 
 -- what follows every event
 
@@ -288,28 +319,28 @@ grantable_fits st line (Some service) f = go (holds st.core line) (next_request 
     go false None p = tt
     go false (Some r) p = fit (can_open st.core r.from) r p
 
-did_grant : (config : ServerConfig) (w : World) (p : Passing) (line : ℕ) (o : Option Name) (r : Option Request) → w.setup ≡ setup_of config.timing → RequestFits r → Did w p.state p.frames → Did w (grants_by config line o r p).state (grants_by config line o r p).frames
-did_grant config w p line None r s g d = d
-did_grant config w p line (Some service) None s g d = d
-did_grant config w p line (Some service) (Some r) s g d =
+did_grant : {L D : List ℕ → Type 0} (config : ServerConfig) (w : World) (p : Passing) (line : ℕ) (o : Option Name) (r : Option Request) → NameFits L o → w.setup ≡ setup_of config.timing → RequestFits r → Did L D w p.state p.frames → Did L D w (grants_by config line o r p).state (grants_by config line o r p).frames
+did_grant config w p line None r l s g d = d
+did_grant config w p line (Some service) None l s g d = d
+did_grant config w p line (Some service) (Some r) l s g d =
     let v : World = with_table w true p.state.core.circuits d.made.wired in
     let n : Doing = opens config line r.from r.key.node service (Some r.key) (Some r.key.request) p.state.core in
     record {
-      made = made_then w true p.state.core p.frames n.core (grant_frame r ∷ n.frames) d.made (made_notice v true n.core (grant_frame r) n.frames _ refl (opens_made config line r.from r.key.node service (Some r.key) (Some r.key.request) p.state.core v refl s g));
+      made = made_then w true p.state.core p.frames n.core (grant_frame r ∷ n.frames) d.made (made_notice v true n.core (grant_frame r) n.frames _ refl (opens_made config line r.from r.key.node service (Some r.key) (Some r.key.request) p.state.core v l refl s g));
       fits = record { heard = d.fits.heard; queue = each_more AskFits p.state.queue (Grants r.key service ∷ []) d.fits.queue (tt, tt) };
     }
 
-did_lines : (config : ServerConfig) (w : World) (lines : List ℕ) (p : Passing) → w.setup ≡ setup_of config.timing → Did w p.state p.frames → Did w (grant_lines config lines p).state (grant_lines config lines p).frames
-did_lines config w [] p s d = d
-did_lines config w (line ∷ lines) p s d = did_lines config w lines (grant_line config p line) s (did_grant config w p line (offer_on line config.offers) (grantable p.state line (offer_on line config.offers)) s (grantable_fits p.state line (offer_on line config.offers) d.fits) d)
+did_lines : {L D : List ℕ → Type 0} (config : ServerConfig) (w : World) (lines : List ℕ) (p : Passing) → OffersFit L config.offers → w.setup ≡ setup_of config.timing → Did L D w p.state p.frames → Did L D w (grant_lines config lines p).state (grant_lines config lines p).frames
+did_lines {L} config w [] p l s d = d
+did_lines {L} config w (line ∷ lines) p l s d = did_lines config w lines (grant_line config p line) l s (did_grant config w p line (offer_on line config.offers) (grantable p.state line (offer_on line config.offers)) (offer_fits L line config.offers l) s (grantable_fits p.state line (offer_on line config.offers) d.fits) d)
 
 -- an event of the server, with what follows it
-pub did_step : (config : ServerConfig) (w : World) (st : Server) (e : Event) → table w true ≡ st.core.circuits → w.setup ≡ setup_of config.timing → ServerFits st → BroughtBy w true e → Did w (server_step config st e).state (server_step config st e).frames
-did_step config w st e q s f p =
+pub did_step : {L D : List ℕ → Type 0} (config : ServerConfig) (w : World) (st : Server) (e : Event) → OffersFit L config.offers → table w true ≡ st.core.circuits → w.setup ≡ setup_of config.timing → ServerFits st → BroughtBy L D w true e → Did L D w (server_step config st e).state (server_step config st e).frames
+did_step {L} {D} config w st e l q s f p =
     let x : ServerStep = server_event config st e in
-    let d : Did w x.state x.frames = did_event config w st e q s f p in
+    let d : Did L D w x.state x.frames = did_event config w st e q s f p in
     let v : World = with_table w true x.state.core.circuits d.made.wired in
     let y : Server = finished_requests x.state in
-    let n : Did v y [] = record { made = made_none v true y.core refl; fits = record { heard = d.fits.heard; queue = finish_fits x.state.core x.state.core.seats x.state.queue d.fits.queue } } in
-    let g : Did v (grant_pass config y).state (grant_pass config y).frames = did_lines config v (upwards 0 config.lines) (record { state = y; frames = [] }) s n in
+    let n : Did L Quiet v y [] = record { made = made_none v true y.core refl; fits = record { heard = d.fits.heard; queue = finish_fits x.state.core x.state.core.seats x.state.queue d.fits.queue } } in
+    let g : Did L Quiet v (grant_pass config y).state (grant_pass config y).frames = did_lines config v (upwards 0 config.lines) (record { state = y; frames = [] }) l s n in
     record { made = made_then w true x.state.core x.frames (grant_pass config y).state.core (grant_pass config y).frames d.made g.made; fits = g.fits }

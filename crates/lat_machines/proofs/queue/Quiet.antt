@@ -20,8 +20,9 @@ use Rattle.lat_machines.specs.cores.Cores.{Core, setup_of}
 use Rattle.lat_machines.specs.server.Server.{ServerStep, server_event, finished_requests, offer_on, grantable}
 use Rattle.lat_machines.specs.world.Machines.{Setups, Posted, Machines, Move, Does, HearsFrame, HearsForeign, tell, is_for_other, heard_as, counted, marked_delivered, comes, is_own, happens, run, open_machines}
 use Rattle.lat_machines.specs.world.Safe.{Fit, circuits_open, NoGrant}
+use Rattle.lat_machines.proofs.events.Leads.{Quiet}
 use Rattle.lat_machines.proofs.events.Servers.{BroughtBy, Did, did_event}
-use Rattle.lat_machines.proofs.events.Tied.{Beside, Goes, happens_goes, open_beside, brought_local, brought_frame, foreign_in, marked_beside}
+use Rattle.lat_machines.proofs.events.Tied.{Beside, Anything, any_own, Goes, happens_goes, open_beside, brought_local, brought_frame, foreign_in, marked_beside}
 use Rattle.lat_machines.proofs.queue.Rooms.{Ready}
 use Rattle.lat_machines.proofs.queue.Grants.{no_grant}
 
@@ -122,11 +123,11 @@ pub record Going (u : Setups) (m : Machines) (w : World) : Type 0 where
   pub masters : Masters w
   pub quiet : NoGrant u.server m.server
 
-quiet_step : (u : Setups) (m : Machines) (w : World) (b : Bool) (e : Event) (rates : List ℕ) → 0 < u.server.timing.sessions → Going u m w → BroughtBy w b e → NoGrant u.server (tell u m b e rates).server
-quiet_step u m w false e rates pos g h = g.quiet
-quiet_step u m w true e rates pos g h =
+quiet_step : (L D : List ℕ → Type 0) (u : Setups) (m : Machines) (w : World) (b : Bool) (e : Event) (rates : List ℕ) → 0 < u.server.timing.sessions → Going u m w → BroughtBy L D w b e → NoGrant u.server (tell u m b e rates).server
+quiet_step L D u m w false e rates pos g h = g.quiet
+quiet_step L D u m w true e rates pos g h =
     let x : ServerStep = server_event u.server m.server e in
-    let d : Did w x.state x.frames = did_event u.server w m.server e g.beside.ties.server g.beside.ties.setup g.beside.fits h in
+    let d : Did L D w x.state x.frames = did_event u.server w m.server e g.beside.ties.server g.beside.ties.setup g.beside.fits h in
     let at : (go_on d.made.leads.events w).server ≡ x.state.core.circuits = ap (λ (z : World). z.server) d.made.leads.there in
     let r : Ready x.state.core = ready_of (go_on d.made.leads.events w) x.state.core at (go_on_ok d.made.leads.events w g.ok) (masters_on d.made.leads.events w g.masters) in
     no_grant u.server (finished_requests x.state) pos (record { masters = r.masters; new = r.new })
@@ -136,18 +137,18 @@ quiet_cond u true x y p q = p refl
 quiet_cond u false x y p q = q refl
 
 quiet_happens : (u : Setups) (m : Machines) (w : World) (e : Move) → 0 < u.server.timing.sessions → Going u m w → NoGrant u.server (happens u m e).server
-quiet_happens u m w (Does b e rates) pos g = quiet_cond u (is_heard e) m (tell u m b e rates) (λ i. g.quiet) (λ i. quiet_step u m w b e rates pos g (brought_local w b e i))
+quiet_happens u m w (Does b e rates) pos g = quiet_cond u (is_heard e) m (tell u m b e rates) (λ i. g.quiet) (λ i. quiet_step Anything Anything u m w b e rates pos g (brought_local Anything Anything w b e tt (any_own e) i))
 quiet_happens u m w (HearsForeign b from payload now rates) pos g =
     quiet_cond u (is_own u from) m (tell u m b (Hears from payload None now) rates) (λ i. g.quiet)
     (λ i. let o : (nat_eq from u.server.own ≡ false) × (nat_eq from u.node.own ≡ false) = or_parts (nat_eq from u.server.own) (nat_eq from u.node.own) i in
-    quiet_step u m w b (Hears from payload None now) rates pos g (λ n. foreign_in w b from payload n (subst (λ z. nat_eq from z ≡ false) (sym g.beside.ties.server_own) o.0) (subst (λ z. nat_eq from z ≡ false) (sym g.beside.ties.node_own) o.1)))
+    quiet_step Anything Quiet u m w b (Hears from payload None now) rates pos g (λ a. refl, λ n. foreign_in Anything w b from payload n (subst (λ z. nat_eq from z ≡ false) (sym g.beside.ties.server_own) o.0) (subst (λ z. nat_eq from z ≡ false) (sym g.beside.ties.node_own) o.1)))
 quiet_happens u m w (HearsFrame i now rates) pos g = go (slice_get m.posts i) refl
   where
     go : (o : Option Posted) → slice_get m.posts i ≡ o → NoGrant u.server (comes u m i now rates o).server
     go None q = g.quiet
     go (Some f) q =
         quiet_cond u (is_for_other u f) (tell u (marked_delivered i m) (not f.by_server) (heard_as u f now) rates) (counted (marked_delivered i m))
-        (λ t. quiet_step u (marked_delivered i m) w (not f.by_server) (heard_as u f now) rates pos (record { beside = marked_beside u m w i g.beside; ok = g.ok; masters = g.masters; quiet = g.quiet }) (λ n. brought_frame u m w f i g.beside q t))
+        (λ t. quiet_step Anything Anything u (marked_delivered i m) w (not f.by_server) (heard_as u f now) rates pos (record { beside = marked_beside u m w i g.beside; ok = g.ok; masters = g.masters; quiet = g.quiet }) (λ a. tt, λ n. brought_frame u m w f i g.beside q t))
         (λ t. g.quiet)
 
 quiet_on : (u : Setups) (es : List Move) (m : Machines) (w : World) → 0 < u.server.timing.sessions → Going u m w → NoGrant u.server (run u es m).server
