@@ -13,5 +13,3 @@ mod words;
 
 pub use input::choose;
 
-#[cfg(test)]
-mod tests;

@@ -2,13 +2,14 @@
 
 ghost use Rattle.std.specs.Prelude.{◌≡◌, ◌⊎◌, ◌<◌, ◌≤◌, ◌≢◌, ℕ, None, Some, map, take, length, codes, IfOk, IfSome, string_bytes};
 ghost use Rattle.std.specs.Io.KnownBytes.{Appends};
-ghost use Rattle.lat_base.specs.Causes.{Rose};
+ghost use Rattle.lat_outside.specs.Causes.{Rose};
 ghost use Rattle.lat_cmd.specs.declared.command.Command.{Command};
 ghost use Rattle.lat_cmd.specs.Commands.{command_of};
 ghost use Rattle.lat_cmd.specs.Answers.{answer_to, answer_of, IsTold, IsEarly, IsStatus};
 
 use crate::command::{Command, command_of};
-use lat_base::{Memory, ReadEnd, Sink, Source, read_all, write_all};
+use lat_base::Memory;
+use lat_outside::{ReadEnd, Sink, Source, read_all, write_all};
 use lat_choose::choose;
 use lat_show::show;
 use std::alloc::Global;

@@ -8,8 +8,6 @@ mod directory;
 mod groups;
 mod node;
 mod offers;
-#[cfg(test)]
-mod tests;
 
 pub use best::Best;
 pub use directory::{DirFault, Directory};

@@ -7,8 +7,6 @@ mod params;
 mod params_read;
 mod params_write;
 mod read;
-#[cfg(test)]
-mod tests;
 mod write;
 
 pub use fault::LayoutFault;

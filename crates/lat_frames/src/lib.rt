@@ -9,8 +9,6 @@ mod read_head;
 mod read_run;
 mod read_start;
 mod slots;
-#[cfg(test)]
-mod tests;
 mod write;
 
 pub use check::message_ok;

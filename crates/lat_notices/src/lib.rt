@@ -19,5 +19,3 @@ pub use read::read_notice;
 pub use services::{Service, Services};
 pub use write::write_notice;
 
-#[cfg(test)]
-mod tests;

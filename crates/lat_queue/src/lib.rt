@@ -7,8 +7,6 @@ mod line;
 mod queue;
 mod record;
 mod services;
-#[cfg(test)]
-mod tests;
 
 pub use key::Key;
 pub use queue::Queue;

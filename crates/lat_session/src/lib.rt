@@ -6,11 +6,7 @@ mod calls;
 mod getters;
 mod hearing;
 mod packing;
-#[cfg(test)]
-mod slot_tests;
 mod table;
-#[cfg(test)]
-mod tests;
 
 pub use ask::Ask;
 pub use getters::Asked;

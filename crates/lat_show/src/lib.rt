@@ -11,5 +11,3 @@ mod start;
 
 pub use print::show;
 
-#[cfg(test)]
-mod tests;

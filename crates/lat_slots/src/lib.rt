@@ -5,8 +5,6 @@ mod head;
 pub mod laws;
 mod read;
 mod slot;
-#[cfg(test)]
-mod tests;
 mod write;
 
 pub use head::{ATTENTION, DATA_A, DATA_B, REJECT, SERVICE_CLASS, START, STOP};

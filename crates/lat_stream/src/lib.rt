@@ -3,14 +3,10 @@
 
 mod calls;
 mod forming;
-#[cfg(test)]
-mod forming_tests;
 mod hearing;
 mod opening;
 mod rings;
 mod stream;
-#[cfg(test)]
-mod tests;
 mod write;
 
 pub use calls::SessionFault;

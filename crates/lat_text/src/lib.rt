@@ -15,5 +15,3 @@ pub use form::wrong_line;
 pub use lines::first_line;
 pub use name::name_onto;
 
-#[cfg(test)]
-mod tests;
