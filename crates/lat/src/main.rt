@@ -1,8 +1,8 @@
 //! The program `lat`: hands its words, standard input and standard output to `run`, and ends with its status.
 #![tactic(auto)]
 
-use lat_outside::{StdSink, StdSource};
 use lat_cmd::run;
+use lat_outside::{StdSink, StdSource};
 use std::alloc::{AllocError, Global};
 use std::env::{Args, args};
 use std::io;

@@ -12,4 +12,3 @@ mod print;
 mod words;
 
 pub use input::choose;
-

@@ -9,8 +9,8 @@ ghost use Rattle.lat_cmd.specs.Answers.{answer_to, answer_of, IsTold, IsEarly, I
 
 use crate::command::{Command, command_of};
 use lat_base::Memory;
-use lat_outside::{ReadEnd, Sink, Source, read_all, write_all};
 use lat_choose::choose;
+use lat_outside::{ReadEnd, Sink, Source, read_all, write_all};
 use lat_show::show;
 use std::alloc::Global;
 

@@ -18,4 +18,3 @@ pub use notice::{Action, Announcement, Command, Notice, Outcome, Response, Solic
 pub use read::read_notice;
 pub use services::{Service, Services};
 pub use write::write_notice;
-

@@ -33,7 +33,8 @@ mod rounds;
 mod script;
 mod words;
 
-use lat_base::{Memory, StdSink, StdSource, read_all, write_all};
+use lat_base::Memory;
+use lat_outside::{StdSink, StdSource, read_all, write_all};
 use script::played;
 use std::alloc::Global;
 use std::io;

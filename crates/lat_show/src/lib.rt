@@ -10,4 +10,3 @@ mod slot;
 mod start;
 
 pub use print::show;
-

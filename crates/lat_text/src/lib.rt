@@ -14,4 +14,3 @@ pub use flag::flag_text;
 pub use form::wrong_line;
 pub use lines::first_line;
 pub use name::name_onto;
-
