@@ -1,0 +1,56 @@
+//! Plays commands of the program `lat` from a file, and prints how each ends. Its stored run (`stdin`, `stdout`) is how the
+//! worked examples of the commands are seen to hold; what stands in `stdout` was worked out from docs/FORMATS.md and
+//! docs/PROTOCOL.md.
+//!
+//! A line of the file is a command of this player, words with a blank between them. A line without a word and a line that
+//! begins with `#` are printed as they are. Of all others but `input`, `tail` and `feeds` the line itself is printed behind
+//! `> `, and then what came of it.
+//!
+//! | Line | Does |
+//! |---|---|
+//! | `command WORDS` | forgets the input, and keeps the words of the program's next runs |
+//! | `input TEXT` | puts this text and a line feed behind the input; without a text the line feed alone |
+//! | `tail TEXT` | puts this text behind the input |
+//! | `feeds N` | puts N line feeds behind the input |
+//! | `run` | runs the program: prints its status and what it wrote |
+//! | `outside READ FAILING WRITE FAILING` | runs it over a source that gives at most READ bytes a call and fails at the call FAILING, counted from 1, and a sink that takes at most WRITE bytes a call and fails likewise; 0 fails never |
+//! | `reads READ CALLS`, `writes WRITE CALLS` | does so for each failing call from 1 to CALLS, of the source and of the sink, and prints each status and what was written |
+//! | `cuts HEX` | what `show` prints of the first bytes of this payload, as many as 0, 1 and so on to one byte less than all |
+//!
+//! What was written is printed as it is; where it doesn't end with a line feed, `%` and a line feed follow it. A word that
+//! isn't a number makes its line `wrong`.
+#![tactic(auto)]
+
+mod play;
+mod words;
+
+use lat_base::Memory;
+use lat_outside::{StdSink, StdSource, read_all, write_all};
+use play::played;
+use std::alloc::Global;
+use std::io;
+use std::process::ExitCode;
+
+const INPUT_BYTES: usize = 16_777_216;
+
+fn text_of(alloc: Global, input: &[u8]) -> Result<String, Memory> {
+    match str::from_utf8(input) {
+        Ok(file) => played(alloc, file),
+        Err(_) => Ok(String::from_str(alloc, "no text\n")?),
+    }
+}
+
+fn main(rt: HostRuntime) -> ExitCode {
+    let mut source = StdSource::new(rt.stdin());
+    let Ok(input) = read_all(rt.alloc(), &mut source, INPUT_BYTES) else {
+        return ExitCode::from(4);
+    };
+    let Ok(text) = text_of(rt.alloc(), &input) else {
+        return ExitCode::from(9);
+    };
+    let mut sink = StdSink::new(io::writer(&rt));
+    match write_all(&mut sink, text.as_bytes()) {
+        Ok(()) => ExitCode::from(0),
+        Err(_) => ExitCode::from(5),
+    }
+}
