@@ -3,5 +3,4 @@ pub mod Whole
 pub mod Bytes
 pub mod Homes
 pub mod Passes
-pub mod Reads
 pub mod TrueFrames

@@ -3,3 +3,4 @@ pub mod Ends
 pub mod Cores
 pub mod Servers
 pub mod Nodes
+pub mod Worlds

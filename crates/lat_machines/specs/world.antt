@@ -2,6 +2,7 @@
 
 pub mod Machines
 pub mod Young
+pub mod Bears
 pub mod Reports
 pub mod Ties
 pub mod Spans
