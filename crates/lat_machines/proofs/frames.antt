@@ -3,4 +3,6 @@ pub mod Whole
 pub mod Bytes
 pub mod Homes
 pub mod Passes
+pub mod Reads
 pub mod TrueFrames
+pub mod Refused

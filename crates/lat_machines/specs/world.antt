@@ -10,3 +10,4 @@ pub mod Safe
 pub mod Histories
 pub mod Tally
 pub mod Home
+pub mod Refusals

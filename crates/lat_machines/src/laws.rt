@@ -8,9 +8,10 @@ ghost use Rattle.lat_machines.specs.server.Server.{ServerConfig, open_server};
 ghost use Rattle.lat_machines.specs.node.Node.{NodeConfig, Node, node_step, SameButFrames};
 ghost use Rattle.lat_machines.specs.world.Machines.{Setups, Move, run, open_machines};
 ghost use Rattle.lat_machines.specs.world.Safe.{Fit, IsCircuits, EndsAgree, SharedMatch, StreamsInOrder, SlotsCredited, FramesAreTrue, NeverBreaks, HeardByBytes, NoGrant, Safe};
-ghost use Rattle.lat_machines.specs.world.Histories.{server_run, HistoriesAreAWorld};
+ghost use Rattle.lat_machines.specs.world.Histories.{server_run, HasHistories, HistoriesAreAWorld};
 ghost use Rattle.lat_machines.specs.world.Spans.{OneSpan};
 ghost use Rattle.lat_machines.specs.world.Tally.{ServerTallies, NodeTallies, MachinesTally, YouthIsTallied};
+ghost use Rattle.lat_machines.specs.world.Refusals.{ServerUnchanged, NodeUnchanged, ServerHearsNoLayout, NodeHearsNoLayout, ServerBadOnly, NodeBadOnly};
 ghost use Rattle.lat_machines.specs.world.Home.{ServerHearsAtHome, ServerStaysHome, NodeStaysHome};
 
 // of every world
@@ -74,6 +75,11 @@ pub fn both_ends_have_one_span()
     ensures { (u : Setups) (moves : List Move) → Fit u → OneSpan u (run u moves (open_machines u)) }
 {}
 
+/// In every run of the two each machine is the run of a history of its own, so what the laws of one machine say holds there.
+pub fn runs_are_histories()
+    ensures { (u : Setups) (moves : List Move) → HasHistories u (run u moves (open_machines u)) }
+{}
+
 /// A history of a server and one of a node, in any order in which each frame that one heard from the other's address is a
 /// young one that the other had made, are a run of the two machines, and it is safe.
 pub fn histories_are_a_world()
@@ -105,6 +111,26 @@ pub fn server_heard_stays_home()
 /// A frame leaves the node's circuits of other addresses as they were.
 pub fn node_heard_stays_home()
     ensures { NodeStaysHome }
+{}
+
+/// A frame of no layout changes nothing but the moment: the answer is `Bad` with its first bad field, no frame goes out, and
+/// the grant pass that follows at the server grants nothing. Of a server behind every history, and of a node in every state.
+pub fn frames_of_no_layout_change_nothing()
+    ensures server { ServerHearsNoLayout }
+    ensures node { NodeHearsNoLayout }
+{}
+
+/// Only a frame of no layout is answered `Bad`, with the bad field that it was read as.
+pub fn bad_is_of_no_layout()
+    ensures server { ServerBadOnly }
+    ensures node { NodeBadOnly }
+{}
+
+/// Behind every history: where an event is refused, or a notice means nothing here (`changes_nothing` lists the answers),
+/// nothing has changed but the moment, and no frame goes out; nor does the server grant anything then.
+pub fn refusals_change_nothing()
+    ensures server { ServerUnchanged }
+    ensures node { NodeUnchanged }
 {}
 
 /// The ratings that a node's hook gives change the frames of an event alone: state and answer don't depend on them.
