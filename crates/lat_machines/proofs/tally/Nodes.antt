@@ -21,8 +21,9 @@ use Rattle.lat_machines.specs.cores.Cores.{Core, setup_of, rests, acts, at_momen
 use Rattle.lat_machines.specs.cores.LineCalls.{put_on, set_on, attend_on, take_on, close_on}
 use Rattle.lat_machines.specs.node.Node.{NodeConfig, Requested, Node, NodeStep, node_side, open_node, tells, request_of, Verdict, Accepts, Rejects, verdict, judged, asked_at, answers_one, answers_in, asked_on, answers_asked, heard_at, hears_run, names_for, hears_start, solicited, hears_value, requests_again, withdraws, node_step}
 use Rattle.lat_machines.specs.world.Histories.{RatedEvent, node_run}
-use Rattle.lat_machines.specs.world.Tally.{taken_by, TalliesOn}
-use Rattle.lat_machines.proofs.tally.Cores.{Steady, CoreCounts, Same, core_none, core_quiet, more_as, local_quiet, stop_counts, start_counts, run_counts, taken_of, notice_more, times_counts, line_counts, put_same, set_same, attend_same, take_same, close_same}
+use Rattle.lat_machines.specs.world.Tally.{taken_by, NodeTallied}
+use Rattle.lat_machines.proofs.tally.Tables.{Steady, CoreCounts, Same, core_none, more_as}
+use Rattle.lat_machines.proofs.tally.Cores.{core_quiet, local_quiet, stop_counts, start_counts, run_counts, taken_of, notice_more, times_counts, line_counts, put_same, set_same, attend_same, take_same, close_same}
 use Rattle.lat_machines.proofs.tally.Servers.{run_says, wide_says}
 
 abbrev pub StepCounts : Event → Node → NodeStep → Type 0
@@ -165,10 +166,10 @@ steady_on config (e ∷ es) st r = steady_on config es (node_step config e.rates
 pub open_steady : (config : NodeConfig) → Steady (open_node config).core.circuits
 open_steady config = record { unused = λ x l. (refl, refl); full = λ x. tt }
 
-pub tallies : (config : NodeConfig) (rates : List ℕ) (st : Node) (e : Event) → Steady st.core.circuits → TalliesOn st.core (node_step config rates st e).state.core e (node_step config rates st e).answer (node_step config rates st e).frames
+pub tallies : (config : NodeConfig) (rates : List ℕ) (st : Node) (e : Event) → Steady st.core.circuits → NodeTallied config rates st e
 tallies config rates st e r =
     let p : StepCounts e st (node_step config rates st e) = step_counts config rates st e r in
     record { numbers = p.numbers; bears = p.bears; formed = p.formed; taken = p.taken; shown = p.shown }
 
-pub node_tallies : (config : NodeConfig) (es : List RatedEvent) (rates : List ℕ) (e : Event) → TalliesOn (node_run config es (open_node config)).core (node_step config rates (node_run config es (open_node config)) e).state.core e (node_step config rates (node_run config es (open_node config)) e).answer (node_step config rates (node_run config es (open_node config)) e).frames
+pub node_tallies : (config : NodeConfig) (es : List RatedEvent) (rates : List ℕ) (e : Event) → NodeTallied config rates (node_run config es (open_node config)) e
 node_tallies config es rates e = tallies config rates (node_run config es (open_node config)) e (steady_on config es (open_node config) (open_steady config))

@@ -24,8 +24,9 @@ use Rattle.lat_machines.specs.cores.Lines.{holds, line_exists}
 use Rattle.lat_machines.specs.cores.LineCalls.{put_on, set_on, attend_on, take_on, close_on}
 use Rattle.lat_machines.specs.server.Server.{ServerConfig, Server, ServerStep, server_side, open_server, offer_on, tells, does, has_room, connects_on, opens, connects_to, solicits_for, connect_event, status_frame, key_of, hears_command, hears_value, server_event, finished_requests, Passing, grantable, grants_by, grant_line, grant_lines, server_step}
 use Rattle.lat_machines.specs.world.Histories.{server_run}
-use Rattle.lat_machines.specs.world.Tally.{taken_by, TalliesOn}
-use Rattle.lat_machines.proofs.tally.Cores.{Steady, CoreCounts, Same, core_none, core_then, more_as, local_counts, call_counts, stop_counts, reply_counts, run_counts, taken_of, notice_more, times_counts, line_counts, put_same, set_same, attend_same, take_same, close_same, cond_none}
+use Rattle.lat_machines.specs.world.Tally.{taken_by, ServerTallied}
+use Rattle.lat_machines.proofs.tally.Tables.{Steady, CoreCounts, Same, core_none, core_then, more_as, local_counts, call_counts, cond_none}
+use Rattle.lat_machines.proofs.tally.Cores.{stop_counts, reply_counts, run_counts, taken_of, notice_more, times_counts, line_counts, put_same, set_same, attend_same, take_same, close_same}
 
 abbrev pub StepCounts : Event → Server → ServerStep → Type 0
 StepCounts e st s = CoreCounts st.core s.state.core s.frames (taken_by e s.answer)
@@ -195,10 +196,10 @@ steady_on config (e ∷ es) st r = steady_on config es (server_step config st e)
 pub open_steady : (config : ServerConfig) → Steady (open_server config).core.circuits
 open_steady config = record { unused = λ x l. (refl, refl); full = λ x. tt }
 
-pub tallies : (config : ServerConfig) (st : Server) (e : Event) → Steady st.core.circuits → TalliesOn st.core (server_step config st e).state.core e (server_step config st e).answer (server_step config st e).frames
+pub tallies : (config : ServerConfig) (st : Server) (e : Event) → Steady st.core.circuits → ServerTallied config st e
 tallies config st e r =
     let p : StepCounts e st (server_step config st e) = step_counts config st e r in
     record { numbers = p.numbers; bears = p.bears; formed = p.formed; taken = p.taken; shown = p.shown }
 
-pub server_tallies : (config : ServerConfig) (es : List Event) (e : Event) → TalliesOn (server_run config es (open_server config)).core (server_step config (server_run config es (open_server config)) e).state.core e (server_step config (server_run config es (open_server config)) e).answer (server_step config (server_run config es (open_server config)) e).frames
+pub server_tallies : (config : ServerConfig) (es : List Event) (e : Event) → ServerTallied config (server_run config es (open_server config)) e
 server_tallies config es e = tallies config (server_run config es (open_server config)) e (steady_on config es (open_server config) (open_steady config))

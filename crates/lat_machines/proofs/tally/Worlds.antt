@@ -19,7 +19,7 @@ use Rattle.lat_machines.specs.world.Bears.{messages_of, Bears}
 use Rattle.lat_machines.specs.world.Tally.{formed_in, shown_in, MachinesTally, is_recent, is_young_at, YouthIsTallied}
 use Rattle.lat_machines.proofs.events.Leads.{each_more}
 use Rattle.lat_machines.proofs.tally.Ends.{Grown, grown_none}
-use Rattle.lat_machines.proofs.tally.Cores.{Steady, value_on}
+use Rattle.lat_machines.proofs.tally.Tables.{Steady, value_on}
 use Rattle.lat_machines.proofs.tally.Servers as Servers
 use Rattle.lat_machines.proofs.tally.Nodes as Nodes
 

@@ -9,7 +9,6 @@ use Rattle.lat_machines.specs.server.Server as Server
 use Rattle.lat_machines.specs.node.Node.{NodeConfig, Node, open_node, node_step}
 use Rattle.lat_machines.specs.node.Node as Node
 use Rattle.lat_machines.specs.world.Histories.{server_run, RatedEvent, node_run}
-use Rattle.lat_machines.specs.world.Tally.{server_after, node_after}
 
 -- The answers after which nothing has changed and no frame goes out. Of the other refusals, `NoService` draws a solicit id,
 -- `StartRefused` sends a STOP, `NotKept` and a `KeptIs` of any kind note the command and send a Status; and a circuit that
@@ -40,6 +39,13 @@ server_moved e state = Server.with_core state (moved_by e state.core)
 
 abbrev pub node_moved : Event → Node → Node
 node_moved e state = Node.with_core state (moved_by e state.core)
+
+-- the event that comes behind a history
+abbrev pub server_after : ServerConfig → List Event → Event → Server.ServerStep
+server_after config events e = server_step config (server_run config events (open_server config)) e
+
+abbrev pub node_after : NodeConfig → List RatedEvent → List ℕ → Event → Node.NodeStep
+node_after config events rates e = node_step config rates (node_run config events (open_node config)) e
 
 -- behind every history; at the server also the grant pass that follows grants nothing
 abbrev pub ServerUnchanged : Type 0

@@ -10,8 +10,8 @@ use Rattle.lat_machines.specs.values.Events.{Event, Hears}
 use Rattle.lat_machines.specs.values.Answers.{Taken, Answer, Circuit}
 use Rattle.lat_machines.specs.cores.Hearing.{names}
 use Rattle.lat_machines.specs.cores.Cores.{Core}
-use Rattle.lat_machines.specs.server.Server.{ServerConfig, ServerStep, open_server, server_step}
-use Rattle.lat_machines.specs.node.Node.{NodeConfig, NodeStep, open_node, node_step}
+use Rattle.lat_machines.specs.server.Server.{ServerConfig, Server, ServerStep, open_server, server_step}
+use Rattle.lat_machines.specs.node.Node.{NodeConfig, Node, NodeStep, open_node, node_step}
 use Rattle.lat_machines.specs.world.Machines.{Setups, Posted, Machines, core_of, own_of, Move, run, open_machines}
 use Rattle.lat_machines.specs.world.Young.{head_of, IsYoung}
 use Rattle.lat_machines.specs.world.Bears.{messages_of, Bears}
@@ -80,32 +80,30 @@ pub record TalliesOn (before : Core) (after : Core) (e : Event) (a : Answer) (fr
   pub taken : (x : ℕ) → taken_in after x ≡ taken_in before x + taken_by e a x
   pub shown : (x : ℕ) → shown_in after x ≡ cond (sends_run x frames) (taken_in after x) (shown_in before x)
 
--- the event that comes behind a history
-abbrev pub server_after : ServerConfig → List Event → Event → ServerStep
-server_after config events e = server_step config (server_run config events (open_server config)) e
+-- an event of a server, and of a node
+abbrev pub ServerTallied : ServerConfig → Server → Event → Type 0
+ServerTallied config state e =
+    let s : ServerStep = server_step config state e in
+    TalliesOn state.core s.state.core e s.answer s.frames
 
-abbrev pub node_after : NodeConfig → List RatedEvent → List ℕ → Event → NodeStep
-node_after config events rates e = node_step config rates (node_run config events (open_node config)) e
+abbrev pub NodeTallied : NodeConfig → List ℕ → Node → Event → Type 0
+NodeTallied config rates state e =
+    let s : NodeStep = node_step config rates state e in
+    TalliesOn state.core s.state.core e s.answer s.frames
 
 -- at every event of every history
 abbrev pub ServerTallies : Type 0
-ServerTallies =
-    (config : ServerConfig) (events : List Event) (e : Event) →
-    TalliesOn (server_run config events (open_server config)).core (server_after config events e).state.core e (server_after config events e).answer (server_after config events e).frames
+ServerTallies = (config : ServerConfig) (events : List Event) (e : Event) → ServerTallied config (server_run config events (open_server config)) e
 
 abbrev pub NodeTallies : Type 0
 NodeTallies =
     (config : NodeConfig) (events : List RatedEvent) (rates : List ℕ) (e : Event) →
-    TalliesOn (node_run config events (open_node config)).core (node_after config events rates e).state.core e (node_after config events rates e).answer (node_after config events rates e).frames
+    NodeTallied config rates (node_run config events (open_node config)) e
 
 -- and at every event that either of two machines may be told next, in every run of the two
 pub record RunTallies (u : Setups) (m : Machines) : Type 0 where
-  pub server :
-      (e : Event) →
-      TalliesOn m.server.core (server_step u.server m.server e).state.core e (server_step u.server m.server e).answer (server_step u.server m.server e).frames
-  pub node :
-      (rates : List ℕ) (e : Event) →
-      TalliesOn m.node.core (node_step u.node rates m.node e).state.core e (node_step u.node rates m.node e).answer (node_step u.node rates m.node e).frames
+  pub server : (e : Event) → ServerTallied u.server m.server e
+  pub node : (rates : List ℕ) (e : Event) → NodeTallied u.node rates m.node e
 
 abbrev pub MachinesTally : Type 0
 MachinesTally = (u : Setups) (moves : List Move) → RunTallies u (run u moves (open_machines u))
