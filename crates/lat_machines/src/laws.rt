@@ -7,7 +7,8 @@ ghost use Rattle.lat_machines.specs.server.Queue.{LegalQueue};
 ghost use Rattle.lat_machines.specs.server.Server.{ServerConfig, open_server};
 ghost use Rattle.lat_machines.specs.node.Node.{NodeConfig, Node, node_step, SameButFrames};
 ghost use Rattle.lat_machines.specs.world.Machines.{Setups, Move, run, open_machines};
-ghost use Rattle.lat_machines.specs.world.Safe.{Fit, IsCircuits, EndsAgree, SharedMatch, StreamsInOrder, SlotsCredited, FramesAreTrue, NeverBreaks, HeardByBytes, NoGrant, Safe};
+ghost use Rattle.lat_machines.specs.world.Safe.{Fit, IsCircuits, EndsAgree, SharedMatch, GenerationsArePlaces, StreamsInOrder, SlotsCredited};
+ghost use Rattle.lat_machines.specs.world.Safe.{FramesAreTrue, NeverBreaks, HeardByBytes, NoGrant, Safe};
 ghost use Rattle.lat_machines.specs.world.Histories.{server_run, HasHistories, HistoriesAreAWorld};
 ghost use Rattle.lat_machines.specs.world.Spans.{OneSpan};
 ghost use Rattle.lat_machines.specs.world.Tally.{ServerTallies, NodeTallies, MachinesTally, YouthIsTallied};
@@ -39,6 +40,12 @@ pub fn both_ends_agree()
 /// configurations are.
 pub fn shared_circuits_match()
     ensures { (u : Setups) (moves : List Move) → Fit u → SharedMatch u (run u moves (open_machines u)) }
+{}
+
+/// On such a circuit a generation is the place of its ask: among all messages that the server's end formed, the first ask has
+/// the generation 1, and each later one the next.
+pub fn generations_are_places()
+    ensures { (u : Setups) (moves : List Move) → Fit u → GenerationsArePlaces u (run u moves (open_machines u)) }
 {}
 
 /// Of each session on such a circuit, both ways: what one end took is a prefix of what it heard, that of what the other end

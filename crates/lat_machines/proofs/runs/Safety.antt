@@ -12,6 +12,7 @@ use Rattle.lat_machines.proofs.events.Tied.{Goes, every_run}
 use Rattle.lat_machines.proofs.frames.Bytes.{heard_by_bytes}
 use Rattle.lat_machines.proofs.queue.Quiet.{world_ok, run_quiet}
 use Rattle.lat_machines.proofs.frames.Whole.{never_breaks}
+use Rattle.lat_machines.proofs.runs.Places.{places}
 use Rattle.lat_machines.proofs.tally.Worlds.{post_bears}
 use Rattle.lat_machines.proofs.frames.TrueFrames.{frames_true}
 use Rattle.lat_machines.proofs.spans.Runs.{node_runs, one_span}
@@ -56,6 +57,7 @@ every_safe u es f =
       circuits = record { events = g.events; ties = g.beside.ties };
       agree = ends_agree u (run u es (open_machines u)) (go_on g.events (circuits_open u)) g.beside.ties (world_ok u f g.events);
       shared = shared_match u es f (go_on g.events (circuits_open u)) g.beside.ties (world_ok u f g.events);
+      places = places u (run u es (open_machines u)) g.events f g.beside.ties (world_ok u f g.events);
       spans = one_span u es f;
       true_frames = frames_true u (run u es (open_machines u)) (go_on g.events (circuits_open u)) g.beside (world_ok u f g.events) (post_bears u es);
       queue = legal_run u es (open_machines u) legal_none;

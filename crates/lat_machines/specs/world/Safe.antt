@@ -3,14 +3,16 @@ use Rattle.std.specs.Prelude.{◌≡◌, ◌≢◌, ℕ, ◌≤◌, ◌<◌, Boo
 use Rattle.lat_model.specs.sessions.Slots.{Slot}
 use Rattle.lat_model.specs.sessions.Session.{Session}
 use Rattle.lat_model.specs.sessions.Sessions.{of_generation}
+use Rattle.lat_model.specs.sessions.Joined.{AsksFrom, asks}
 use Rattle.lat_model.specs.numbers.Link.{Link, Frame}
 use Rattle.lat_model.specs.numbers.NetOk.{FrameOf}
 use Rattle.lat_model.specs.ends.End.{Half}
 use Rattle.lat_model.specs.circuits.World.{World}
 use Rattle.lat_model.specs.circuits.Events.{WorldEvent, go_on, open_world}
 use Rattle.lat_model.specs.circuits.InOrder.{Stream}
-use Rattle.lat_model.specs.circuits.History.{Credited}
+use Rattle.lat_model.specs.circuits.History.{History, Credited}
 use Rattle.lat_model.specs.circuits.Agree.{Agree}
+use Rattle.lat_model.specs.circuits.Together.{flat}
 use Rattle.lat_machines.specs.values.Addresses.{everyone}
 use Rattle.lat_machines.specs.values.Messages.{RunMessage, WideMessage, StartMessage, StopMessage}
 use Rattle.lat_machines.specs.values.Frames.{Value, OfCircuit, OfNotice, Whole, OutFrame}
@@ -82,6 +84,15 @@ StreamsInOrder u m =
 abbrev pub SlotsCredited : Setups → Machines → Type 0
 SlotsCredited u m = (p q : ℕ) → Shared u m p q → Credited (half_of m true p) × Credited (half_of m false q)
 
+-- A generation is the place of an ask: the first ask among all messages of this end has the generation 1, and so on
+pub record AsksInOrder (a : Half) : Type 0 where
+  pub history : History a
+  pub places : AsksFrom 0 (flat history.formed)
+  pub count : a.sessions.generations ≡ asks (flat history.formed)
+
+abbrev pub GenerationsArePlaces : Setups → Machines → Type 0
+GenerationsArePlaces u m = (p q : ℕ) → Shared u m p q → AsksInOrder (half_of m true p)
+
 -- A RUN is true to its sender: its number is at most that of the newest message, its acknowledgement was shown, and its slots
 -- are those of the message of its number, if it is a new or a repeated one; a bare one has none
 pub record TrueFrame (l : Link (List Slot)) (f : OutFrame) (slots : List Slot) : Type 0 where
@@ -140,6 +151,7 @@ pub record Safe (u : Setups) (m : Machines) : Type 0 where
   pub circuits : IsCircuits u m
   pub agree : EndsAgree u m
   pub shared : SharedMatch u m
+  pub places : GenerationsArePlaces u m
   pub spans : OneSpan u m
   pub true_frames : FramesAreTrue u m
   pub queue : LegalQueue m.server.queue
