@@ -1,0 +1,4 @@
+-- Rounds bring all that was put: what a round does at the two ends of a circuit, and so what many do.
+pub mod Steady
+pub mod Walks
+pub mod Wires
