@@ -2,3 +2,4 @@
 pub mod Steady
 pub mod Walks
 pub mod Wires
+pub mod Before
