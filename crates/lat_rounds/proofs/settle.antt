@@ -3,3 +3,5 @@ pub mod Steady
 pub mod Walks
 pub mod Wires
 pub mod Before
+pub mod Opens
+pub mod Others
