@@ -5,3 +5,5 @@ pub mod Wires
 pub mod Before
 pub mod Opens
 pub mod Others
+pub mod Bares
+pub mod Answers

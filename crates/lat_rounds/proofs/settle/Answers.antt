@@ -1,0 +1,1 @@
+-- The first RUN of a round is heard by a slave that waits.
