@@ -7,3 +7,4 @@ pub mod Opens
 pub mod Others
 pub mod Bares
 pub mod Answers
+pub mod Counts

@@ -74,7 +74,7 @@ in_not k i xs h n = go (is_in k (xs ++ i ∷ [])) refl
     go false q = q
     go true q = ⊎_elim {C = is_in k (xs ++ i ∷ []) ≡ false} (λ a. absurd (true≢false (sym a ∙ h))) (λ a. absurd (last (nat_eq k i) refl a)) (in_append k xs (i ∷ []) q)
 
-get_at : {A : Type 0} → (xs : List A) (x : A) (ys : List A) → slice_get (xs ++ x ∷ ys) (length xs) ≡ Some x
+pub get_at : {A : Type 0} → (xs : List A) (x : A) (ys : List A) → slice_get (xs ++ x ∷ ys) (length xs) ≡ Some x
 get_at [] x ys = refl
 get_at (z ∷ xs) x ys = get_at xs x ys
 

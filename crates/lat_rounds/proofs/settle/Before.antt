@@ -17,11 +17,11 @@ use Rattle.lat_rounds.specs.Counting.{peer_at}
 use Rattle.lat_rounds.proofs.progress.Settled.{round_brings}
 use Rattle.lat_rounds.proofs.rounds.Moves.{Moved, Reached, moved_one, moved_then, moved_time, moved_deliveries, moved_lines, moved_round, moved_rounds}
 use Rattle.lat_rounds.proofs.rounds.Prefixes.{Within}
-use Rattle.lat_rounds.proofs.rounds.Delivers.{Keeps, time_keeps, deliveries_keep, round_keeps}
+use Rattle.lat_rounds.proofs.rounds.Delivers.{Keeps, does_keeps, time_keeps, deliveries_keep, round_keeps}
 use Rattle.lat_rounds.proofs.rounds.Youngs.{reached_follows, reached_within, reached_then}
 use Rattle.lat_rounds.proofs.rounds.Beside.{Follows}
 use Rattle.lat_rounds.proofs.rounds.Done.{done_of}
-use Rattle.lat_rounds.proofs.rounds.Empty.{Joins, joins_at, none_undelivered, emptied_flies}
+use Rattle.lat_rounds.proofs.rounds.Empty.{Emptied, Joins, joins_at, none_undelivered, emptied_flies}
 use Rattle.lat_rounds.proofs.ready.Moments.{BothUntil, round_until}
 use Rattle.lat_rounds.proofs.ready.Reached.{Standing, reached_standing}
 use Rattle.lat_rounds.proofs.ready.Readies.{Known, IsRunning, Coupling, coupling, Readied, ready_heard, Rounded, ready}
@@ -131,6 +131,10 @@ module _ (u : Setups) (p : ℕ) (now : ℕ) (w : Machines) (more : List (List (L
   pub readied : Readied (next_moment u now) (up_end w p) (down_end w (peer_at w p))
   readied = subst (λ v. Readied (next_moment u now) (up_end v p) (down_end v (peer_at v p))) (sym o.takes) (ready u now m p rounded)
 
+-- each frame of its circuit was delivered
+pub emptied : (u : Setups) (p : ℕ) (now : ℕ) (w : Machines) (more : List (List (List ℕ))) → Runs u p now w more → Emptied u w true p
+emptied u p now w more o = subst (λ v. Emptied u v true p) (sym o.takes) (takes_empty_up u o.before p (some_circuit u o.before p o.fit o.usual o.reached_before o.runs_before.running) (coupled u o.before p o.fit o.usual o.reached_before o.runs_before).drawn (none_undelivered u o.before true p o.none))
+
 -- the round to come
 
 connects_live : (cs : List Connection) (e : End) → lives (connects_all cs e) ≡ lives e
@@ -157,11 +161,14 @@ module _ (u : Setups) (p : ℕ) (now : ℕ) (w : Machines) (r : List (List ℕ))
   abbrev pub q : ℕ
   q = peer_at w p
 
-  within : Within w
+  pub within : Within w
   within = reached_within u w o.reached
 
   pub reached_timed : Reached u both_timed
   reached_timed = reached_then u w both_timed o.reached (moved_time u then_now w) (time_keeps u then_now w within o.reached.lossless).lossless
+
+  pub reached_one : Reached u one
+  reached_one = reached_then u w one o.reached (moved_one u w (Does true (Time then_now) []) tt) (does_keeps u w true (Time then_now) [] within o.reached.lossless).lossless
 
   pub reached_come : Reached u all_come
   reached_come = (let k : Keeps u w both_timed = time_keeps u then_now w within o.reached.lossless in reached_then u both_timed all_come reached_timed (moved_deliveries u then_now r both_timed) (deliveries_keep u then_now r both_timed (reached_within u both_timed reached_timed) k.lossless).lossless)
@@ -177,6 +184,9 @@ module _ (u : Setups) (p : ℕ) (now : ℕ) (w : Machines) (r : List (List ℕ))
 
   runs_here : HasEnd p u.node.own (RunsTo q) w.server.core
   runs_here = record { drawn = here.drawn; address = o.home; end = (o.running, refl) }
+
+  pub runs_one : HasEnd p u.node.own (RunsTo q) one.server.core
+  runs_one = runs_on u p u.node.own q w one (moved_one u w (Does true (Time then_now) []) tt) runs_here
 
   pub runs_timed : HasEnd p u.node.own (RunsTo q) both_timed.server.core
   runs_timed = runs_on u p u.node.own q w both_timed (moved_time u then_now w) runs_here
@@ -199,10 +209,10 @@ module _ (u : Setups) (p : ℕ) (now : ℕ) (w : Machines) (r : List (List ℕ))
   pub lives_here : lives (up_end w p) ≡ true
   lives_here = lived_up u p w next (moved_round u then_now r w) here.drawn lives_next
 
-  moments : (w.server.core.moment ≤ then_now) × (w.node.core.moment ≤ then_now)
+  pub moments : (w.server.core.moment ≤ then_now) × (w.node.core.moment ≤ then_now)
   moments = (let a : w.server.core.moment ≤ now = o.until.server in omega (arith, a), let b : w.node.core.moment ≤ now = o.until.node in omega (arith, b))
 
-  some : p ≢ 0
+  pub some : p ≢ 0
   some = some_circuit u w p o.fit o.usual o.reached o.running
 
   some_slave : q ≢ 0
