@@ -8,3 +8,6 @@ pub mod Others
 pub mod Bares
 pub mod Answers
 pub mod Counts
+pub mod Firsts
+pub mod Late
+pub mod All

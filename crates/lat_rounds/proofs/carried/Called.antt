@@ -1,5 +1,5 @@
 -- A circuit that waits for its reply has sent its START; where that was delivered, there is a slave or a refusal on its way.
-use Rattle.std.proofs.Common.{◌≡◌, ◌≢◌, ℕ, zero, suc, ◌+◌, ◌<◌, ◌≤◌, ◌⊎◌, inl, inr, ⊎_elim, sym, ap, ap₂, ◌∙◌, refl, subst, arith, Bool, true, false, not, cond, ◌&&◌, ◌||◌, List, [], ◌∷◌, ◌++◌, length, Option, Some, None, nat_eq, nat_lt, slice_get, eqb-true, length-append}
+use Rattle.std.proofs.Common.{◌≡◌, ◌≢◌, ℕ, zero, suc, ◌<◌, ◌≤◌, ◌⊎◌, inl, inr, ⊎_elim, sym, ap, ap₂, ◌∙◌, refl, subst, arith, Bool, true, false, not, cond, ◌&&◌, ◌||◌, List, [], ◌∷◌, ◌++◌, length, Option, Some, None, nat_eq, nat_lt, slice_get, eqb-true}
 use Rattle.std.proofs.lemmas.Bool.{true≢false, false≢true, and_parts, and_from, or_right, eqb-false, cases_lt}
 use Rattle.std.proofs.lemmas.Option.{slice_get_within}
 use Rattle.lat_model.specs.Lists.{upwards}
@@ -7,9 +7,9 @@ use Rattle.lat_model.specs.ends.End.{Sent, Run, CallStart, ReplyStart, Stopped, 
 use Rattle.lat_model.specs.ends.Timers.{note_empty, time_step}
 use Rattle.lat_model.specs.ends.Run.{run_end}
 use Rattle.lat_model.specs.ends.Starting.{Agreed, Setup, reply_end, make_master, make_slave, again_start, hear_reply, hear_stop}
-use Rattle.lat_model.specs.circuits.World.{CircuitEntry, Table, Wired, World, table, with_table, put_circuit, at_end, wire_all, first_end}
+use Rattle.lat_model.specs.circuits.World.{CircuitEntry, Wired, World, table, with_table, put_circuit, at_end, wire_all, first_end}
 use Rattle.lat_model.specs.circuits.WorldOk.{WorldOk}
-use Rattle.lat_model.specs.circuits.Arriving.{is_of, living, slave_of, refusal, run_in, stop_in, reply_in, make_in, start_in, arrive}
+use Rattle.lat_model.specs.circuits.Arriving.{is_of, living, slave_of, refusal, stop_in, start_in, arrive}
 use Rattle.lat_model.specs.circuits.Events.{WorldEvent, Calls, Locally, Times, Moves, Delivers, Injects, deliver_in, occurs, go_on, open_world}
 use Rattle.lat_model.proofs.sessions.Words.{upd_same, upd_other}
 use Rattle.lat_model.proofs.circuits.Kin.{Kin, kin_time, kin_run, kin_again, kin_stop}

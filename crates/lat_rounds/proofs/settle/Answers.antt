@@ -1,31 +1,31 @@
 -- The first RUN of a round is heard by its slave as it was behind its time.
-use Rattle.std.proofs.Common.{◌≡◌, ◌≢◌, ℕ, zero, suc, ◌+◌, ◌<◌, ◌≤◌, ◌⊎◌, inl, inr, ⊎_elim, sym, ap, ap₂, ◌∙◌, refl, subst, arith, Bool, true, false, not, cond, ◌&&◌, ◌||◌, List, [], ◌∷◌, ◌++◌, length, Option, Some, None, nat_eq, slice_get, eqb-true, eq-eqb, ne_eqb}
+use Rattle.std.proofs.Common.{◌≡◌, ◌≢◌, ℕ, ◌+◌, ◌<◌, ◌≤◌, ◌⊎◌, inl, inr, ⊎_elim, sym, ap, ◌∙◌, refl, subst, arith, Bool, true, false, not, cond, ◌&&◌, ◌||◌, List, [], ◌∷◌, ◌++◌, length, Option, Some, None, nat_eq, slice_get, eqb-true, eq-eqb, ne_eqb}
 use Rattle.std.proofs.lemmas.Bool.{true≢false, false≢true, and_from, or_left, cases_lt, eqb-false}
 use Rattle.std.proofs.lemmas.List.{append_assoc}
 use Rattle.lat_model.specs.sessions.Slots.{Slot}
 use Rattle.lat_model.specs.sessions.EndOk.{EndOk}
 use Rattle.lat_model.specs.numbers.Link.{Link, bare_frame}
-use Rattle.lat_model.specs.ends.End.{Bare, Run, End, lives}
+use Rattle.lat_model.specs.ends.End.{Bare, Run, lives}
 use Rattle.lat_model.specs.ends.Run.{run_end}
-use Rattle.lat_model.specs.circuits.World.{CircuitEntry, Table}
+use Rattle.lat_model.specs.circuits.World.{CircuitEntry}
 use Rattle.lat_model.specs.circuits.Arriving.{is_of}
 use Rattle.lat_machines.specs.values.Addresses.{everyone}
 use Rattle.lat_machines.specs.values.Messages.{RunMessage, WideMessage}
-use Rattle.lat_machines.specs.values.Frames.{Value, OfCircuit, OutFrame, Whole}
+use Rattle.lat_machines.specs.values.Frames.{OfCircuit}
 use Rattle.lat_machines.specs.values.Runs.{run_head}
-use Rattle.lat_machines.specs.values.Events.{Event, Hears}
+use Rattle.lat_machines.specs.values.Events.{Event}
 use Rattle.lat_machines.specs.cores.Cores.{Side, Core, sent_frame}
 use Rattle.lat_machines.specs.cores.Hearing.{names, fits_kind}
 use Rattle.lat_machines.specs.node.Node.{node_step}
 use Rattle.lat_machines.specs.server.Server.{server_step}
 use Rattle.lat_machines.specs.world.Machines.{Setups, Posted, Machines, HearsFrame, own_of, post_all, tell, is_for_other, heard_as, counted, marked_delivered, comes, happens}
 use Rattle.lat_machines.specs.world.Safe.{Fit}
-use Rattle.lat_machines.specs.world.Spans.{both_wide, IsOfSpan, OneSpan}
+use Rattle.lat_machines.specs.world.Spans.{both_wide, IsOfSpan}
 use Rattle.lat_rounds.specs.Lossless.{is_in}
 use Rattle.lat_rounds.specs.Rounds.{undelivered, deliver_one, deliveries}
 use Rattle.lat_rounds.specs.Settles.{Usual}
 use Rattle.lat_rounds.specs.Measure.{weights}
-use Rattle.lat_rounds.specs.Counting.{sessions_in, peer_at}
+use Rattle.lat_rounds.specs.Counting.{sessions_in}
 use Rattle.lat_rounds.proofs.rounds.Moves.{Moved, Reached, moved_deliver}
 use Rattle.lat_rounds.proofs.rounds.Delivers.{deliver_keeps}
 use Rattle.lat_rounds.proofs.rounds.Nexts.{NextOf, next_of, in_append}
@@ -39,7 +39,7 @@ use Rattle.lat_rounds.proofs.counting.Forth.{Forth, forth_same, deliveries_forth
 use Rattle.lat_rounds.proofs.settle.Steady.{HasEnd, RunsTo, SlaveOf}
 use Rattle.lat_rounds.proofs.settle.Walks.{runs_on, slave_on}
 use Rattle.lat_rounds.proofs.settle.Others.{node_else, speaks_of}
-use Rattle.lat_rounds.proofs.settle.Bares.{bare_numbers, hears_bare}
+use Rattle.lat_rounds.proofs.settle.Bares.{hears_bare}
 
 -- a delivery is a hearing
 

@@ -1,32 +1,30 @@
 -- A slave hears a RUN without slots, and what the node then answers throws it not back.
-use Rattle.std.proofs.Common.{◌≡◌, ℕ, ◌≤◌, sym, ap, ap₂, ◌∙◌, refl, subst, arith, Bool, true, false, not, cond, ◌&&◌, ◌||◌, List, [], ◌∷◌, length, Option, Some, None, nat_eq, nat_lt}
-use Rattle.std.proofs.lemmas.Bool.{and_from}
+use Rattle.std.proofs.Common.{◌≡◌, ℕ, ◌≤◌, sym, ap, ◌∙◌, refl, subst, arith, Bool, true, false, cond, ◌||◌, List, [], length, Option, Some, None, nat_eq, nat_lt}
 use Rattle.lat_model.specs.sessions.Slots.{Slot}
-use Rattle.lat_model.specs.sessions.Sessions.{Sessions}
 use Rattle.lat_model.specs.sessions.Packing.{pack}
 use Rattle.lat_model.specs.sessions.Calls.{Answer}
 use Rattle.lat_model.specs.Lists.{is_empty}
-use Rattle.lat_model.specs.numbers.Link.{Link, Frame, bare_frame, window_open, ack_in}
-use Rattle.lat_model.specs.ends.End.{End, Step, still, lives, finish, settle, send_bare, send_message, form_packed, occasion}
-use Rattle.lat_model.specs.ends.Run.{RunBroke, RunStep, ack_end, body_end, after_run, run_end}
+use Rattle.lat_model.specs.numbers.Link.{Link, bare_frame, window_open, ack_in}
+use Rattle.lat_model.specs.ends.End.{End, still, lives, finish, settle, send_bare, send_message, occasion}
+use Rattle.lat_model.specs.ends.Run.{RunBroke, ack_end, body_end, after_run, run_end}
 use Rattle.lat_model.specs.ends.Timers.{note_empty}
 use Rattle.lat_model.specs.circuits.World.{CircuitEntry, Table}
 use Rattle.lat_model.proofs.sessions.Words.{upd_same}
 use Rattle.lat_machines.specs.values.Addresses.{everyone}
 use Rattle.lat_machines.specs.values.Messages.{Head, RunMessage, WideMessage}
 use Rattle.lat_machines.specs.values.Frames.{Value, OfCircuit, Whole}
-use Rattle.lat_machines.specs.values.Runs.{slots_in, run_head}
+use Rattle.lat_machines.specs.values.Runs.{run_head}
 use Rattle.lat_machines.specs.values.Events.{Numbers, Hears}
 use Rattle.lat_machines.specs.values.Answers.{Ignored}
-use Rattle.lat_machines.specs.cores.Acts.{Acted, steps_at, move_at, local_at}
-use Rattle.lat_machines.specs.cores.Hearing.{HeardAct, foreign, names, fits_kind, numbers_at, run_frame, run_at, hear_run}
-use Rattle.lat_machines.specs.cores.Cores.{Core, at_moment}
+use Rattle.lat_machines.specs.cores.Acts.{steps_at}
+use Rattle.lat_machines.specs.cores.Hearing.{foreign, names, fits_kind, run_at, hear_run}
+use Rattle.lat_machines.specs.cores.Cores.{at_moment}
 use Rattle.lat_machines.specs.node.Node.{NodeConfig, Node, NodeStep, answers_asked, hears_run, hears_value, node_step}
 use Rattle.lat_machines.specs.node.Node as N
 use Rattle.lat_rounds.specs.Measure.{weights}
 use Rattle.lat_rounds.specs.Counting.{sessions_in}
 use Rattle.lat_rounds.proofs.counting.Stays.{Past, Low, Onto, goes_kept, InRounds, goes_call}
-use Rattle.lat_rounds.proofs.counting.Tables.{Turned, turned_same, turned_then, run_turned, local_turned}
+use Rattle.lat_rounds.proofs.counting.Tables.{turned_same, turned_then, run_turned, local_turned}
 use Rattle.lat_rounds.proofs.counting.Nodes.{asked_holds}
 use Rattle.lat_rounds.proofs.counting.Forth.{Drawn, On, on_holds}
 
@@ -35,8 +33,8 @@ asked_more : (config : NodeConfig) (x q : ℕ) (st : Node) → q ≤ st.core.cir
 asked_more config x q st d p l =
     let n : ℕ = st.core.circuits.drawn in
     let t : On st.core (answers_asked config x st).core = asked_holds n (Drawn n) InRounds (On st.core) (on_holds false st.core) config
-        (λ s y id line request w h. turned_then n false (Drawn n) (goes_kept n false) st.core.circuits s.core.circuits _ h (local_turned n false (Drawn n) (goes_kept n false) false s.core.circuits y (Answer id) (λ k. goes_call (s.core.circuits.circuit_at y).end.half.sessions (Answer id) tt)))
-        (λ id reason. tt) x st (turned_same n false (Drawn n) (goes_kept n false) st.core.circuits) in
+    (λ s y id line request w h. turned_then n false (Drawn n) (goes_kept n false) st.core.circuits s.core.circuits _ h (local_turned n false (Drawn n) (goes_kept n false) false s.core.circuits y (Answer id) (λ k. goes_call (s.core.circuits.circuit_at y).end.half.sessions (Answer id) tt)))
+    (λ id reason. tt) x st (turned_same n false (Drawn n) (goes_kept n false) st.core.circuits) in
     (let o : Onto (sessions_in st.core q) (sessions_in (answers_asked config x st).core q) = t.at q d p in o.rises l).1
 
 -- a frame without slots, of this link

@@ -1,16 +1,15 @@
 -- What is known of a circuit at the start of each round but the first, and so what the round brings.
-use Rattle.std.proofs.Common.{◌≡◌, ◌≢◌, ℕ, zero, suc, ◌+◌, ◌*◌, ◌<◌, ◌≤◌, inl, sym, ap, ◌∙◌, refl, subst, arith, Bool, true, false, List, [], ◌∷◌, None}
-use Rattle.std.proofs.lemmas.Bool.{true≢false, false≢true}
+use Rattle.std.proofs.Common.{◌≡◌, ◌≢◌, ℕ, zero, suc, ◌<◌, ◌≤◌, inl, sym, ap, ◌∙◌, refl, subst, arith, Bool, true, false, List, [], ◌∷◌, None}
+use Rattle.std.proofs.lemmas.Bool.{true≢false}
 use Rattle.lat_model.specs.Lists.{upwards}
 use Rattle.lat_model.specs.ends.End.{End, lives}
 use Rattle.lat_model.specs.ends.Timers.{time_step}
 use Rattle.lat_model.specs.circuits.World.{CircuitEntry, Table}
 use Rattle.lat_machines.specs.values.Events.{Time}
-use Rattle.lat_machines.specs.cores.Cores.{Core}
 use Rattle.lat_machines.specs.world.Machines.{Setups, Machines, Does, happens}
 use Rattle.lat_machines.specs.world.Home.{Connection, connects_all}
 use Rattle.lat_machines.specs.world.Safe.{Fit}
-use Rattle.lat_rounds.specs.Rounds.{undelivered, time_both, delivered_by, take_lines, take_both, round, rounds, next_moment, deliveries, Whole}
+use Rattle.lat_rounds.specs.Rounds.{undelivered, time_both, delivered_by, take_lines, take_both, round, rounds, next_moment, Whole}
 use Rattle.lat_rounds.specs.Settles.{Usual}
 use Rattle.lat_rounds.specs.Progress.{Brings}
 use Rattle.lat_rounds.specs.Counting.{peer_at}
@@ -27,7 +26,7 @@ use Rattle.lat_rounds.proofs.ready.Reached.{Standing, reached_standing}
 use Rattle.lat_rounds.proofs.ready.Readies.{Known, IsRunning, Coupling, coupling, Readied, ready_heard, Rounded, ready}
 use Rattle.lat_rounds.proofs.ready.Firsts.{first_brings}
 use Rattle.lat_rounds.proofs.shape.Times.{timed, time_here, time_there}
-use Rattle.lat_rounds.proofs.settle.Steady.{HasEnd, RunsTo, Ended}
+use Rattle.lat_rounds.proofs.settle.Steady.{HasEnd, RunsTo}
 use Rattle.lat_rounds.proofs.settle.Walks.{runs_on, lived_up, lived_down}
 use Rattle.lat_rounds.proofs.settle.Wires.{takes_empty_up, takes_empty_down}
 
@@ -73,7 +72,7 @@ some_peer u m p f s r i z =
     let t : k.world.server ≡ m.server.core.circuits = k.beside.ties.server in
     (k.beside.good.replied p (ap (λ (x : Table). (x.circuit_at p).address) t ∙ (i.address ∙ sym k.beside.ties.node_own)) (ap (λ (x : Table). (x.circuit_at p).end.running) t ∙ i.running)).some (ap (λ (x : Table). (x.circuit_at p).end.peer) t ∙ z)
 
-moved_takes : (u : Setups) (m : Machines) → Moved u m (take_both u m)
+pub moved_takes : (u : Setups) (m : Machines) → Moved u m (take_both u m)
 moved_takes u m =
     let s : Machines = take_lines u true (upwards 0 u.server.lines) m in
     moved_then u m s (take_both u m) (moved_lines u true (upwards 0 u.server.lines) m) (moved_lines u false (upwards 0 u.node.lines) s)

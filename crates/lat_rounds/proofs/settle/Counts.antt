@@ -1,6 +1,5 @@
 -- A round brings the two ends of a circuit forward, or all is through behind it.
-use Rattle.std.proofs.Common.{◌≡◌, ◌≢◌, ℕ, zero, suc, ◌+◌, ◌<◌, ◌≤◌, ◌⊎◌, inl, inr, ⊎_elim, sym, ap, ap₂, ◌∙◌, refl, subst, arith, Bool, true, false, List, [], ◌∷◌, ◌++◌, length, Some, None, slice_get, length-append}
-use Rattle.std.proofs.lemmas.Bool.{true≢false}
+use Rattle.std.proofs.Common.{◌≡◌, ◌≢◌, ℕ, zero, suc, ◌+◌, ◌<◌, ◌≤◌, ◌⊎◌, inl, inr, ⊎_elim, sym, ap, ◌∙◌, refl, subst, arith, Bool, true, false, List, [], ◌∷◌, ◌++◌, length, slice_get, length-append}
 use Rattle.std.proofs.lemmas.List.{append_assoc}
 use Rattle.lat_model.specs.Lists.{Each, upwards}
 use Rattle.lat_model.specs.sessions.Slots.{Slot}
@@ -8,31 +7,29 @@ use Rattle.lat_model.specs.sessions.Sessions.{Sessions}
 use Rattle.lat_model.specs.sessions.Calls.{Connect}
 use Rattle.lat_model.specs.sessions.EndOk.{EndOk}
 use Rattle.lat_model.specs.numbers.Link.{Link, bare_frame}
-use Rattle.lat_model.specs.ends.End.{Bare, Sent, Run, End, Step, lives}
+use Rattle.lat_model.specs.ends.End.{Bare, Sent, Run, End, lives}
 use Rattle.lat_model.specs.ends.Run.{run_end}
-use Rattle.lat_model.specs.ends.Timers.{note_empty, time_step}
+use Rattle.lat_model.specs.ends.Timers.{time_step}
 use Rattle.lat_model.specs.circuits.World.{CircuitEntry, Table}
 use Rattle.lat_model.proofs.circuits.Kin.{kin_time}
 use Rattle.lat_machines.specs.values.Events.{Time}
 use Rattle.lat_machines.specs.values.Frames.{OutFrame}
-use Rattle.lat_machines.specs.cores.Cores.{Core, Side, at_moment, passes_time, sent_frame}
-use Rattle.lat_machines.specs.server.Server.{server_side, server_event, finished_requests, grant_lines, server_step}
+use Rattle.lat_machines.specs.cores.Cores.{Core, Side, at_moment, passes_time}
+use Rattle.lat_machines.specs.server.Server.{server_side, server_event, finished_requests, grant_lines}
 use Rattle.lat_machines.specs.node.Node.{node_step}
 use Rattle.lat_machines.specs.world.Home.{Connection, connects_one, connects_all}
-use Rattle.lat_machines.specs.world.Machines.{Setups, Posted, Machines, Does, post_all, happens, tell, is_for_other}
+use Rattle.lat_machines.specs.world.Machines.{Setups, Posted, Machines, post_all}
 use Rattle.lat_machines.specs.world.Safe.{Fit}
 use Rattle.lat_machines.specs.world.Spans.{both_wide, IsOfSpan, OneSpan}
 use Rattle.lat_machines.proofs.spans.Runs.{one_span}
 use Rattle.lat_rounds.specs.Lossless.{is_in}
-use Rattle.lat_rounds.specs.Rounds.{deliveries, take_lines, next_moment, round}
-use Rattle.lat_rounds.specs.Settles.{Usual}
+use Rattle.lat_rounds.specs.Rounds.{take_lines, next_moment, round}
 use Rattle.lat_rounds.specs.Measure.{weights}
 use Rattle.lat_rounds.specs.Progress.{Brings, Forward, Back, Answered, Through}
-use Rattle.lat_rounds.specs.Counting.{sessions_at, sessions_in, peer_at, both}
+use Rattle.lat_rounds.specs.Counting.{sessions_at, peer_at, both}
 use Rattle.lat_rounds.proofs.progress.Times.{time_grows}
 use Rattle.lat_rounds.proofs.rounds.Moves.{Reached}
 use Rattle.lat_rounds.proofs.rounds.Nexts.{each_in}
-use Rattle.lat_rounds.proofs.rounds.Empty.{Emptied}
 use Rattle.lat_rounds.proofs.rounds.Beside.{Follows}
 use Rattle.lat_rounds.proofs.rounds.Youngs.{reached_follows}
 use Rattle.lat_rounds.proofs.counting.Most.{Matched, matched_at}
@@ -41,11 +38,11 @@ use Rattle.lat_rounds.proofs.counting.Stays.{Past, Low, Onto, goes_call}
 use Rattle.lat_rounds.proofs.counting.Forth.{Forth, forth_same, tell_forth, deliveries_forth, lines_forth, round_forth}
 use Rattle.lat_rounds.proofs.row.Settle.{round_stays}
 use Rattle.lat_rounds.proofs.shape.Times.{timed}
-use Rattle.lat_rounds.proofs.settle.Steady.{HasEnd, RunsTo, SlaveOf}
+use Rattle.lat_rounds.proofs.settle.Steady.{HasEnd, RunsTo}
 use Rattle.lat_rounds.proofs.settle.Wires.{NotOf, either_part}
 use Rattle.lat_rounds.proofs.settle.Before.{Runs, up_end, down_end, coupled, emptied, within, moments, some, here, reached_timed, reached_come, reached_next, reached_one, runs_one, runs_timed, runs_come, runs_next, lives_here, forms_down, timed_here, timed_there, brings}
 use Rattle.lat_rounds.proofs.settle.Before as Before
-use Rattle.lat_rounds.proofs.settle.Opens.{Begin, wired, time_begins}
+use Rattle.lat_rounds.proofs.settle.Opens.{Begin, time_begins}
 use Rattle.lat_rounds.proofs.settle.Bares.{run_empty}
 use Rattle.lat_rounds.proofs.settle.Answers.{Slave, Waits, bare_post, get_at, bare_answers}
 
@@ -265,8 +262,8 @@ module _ (u : Setups) (p : ℕ) (now : ℕ) (w : Machines) (r : List (List ℕ))
       let d : End = down_end w q in
       let span : IsOfSpan (both_wide u) (bare_post (server_side u.server) f.core p to q l).frame.value = (reached_span u m o.fit (reached_timed u p now w r more o)).frames (length (w.posts ++ post_all true f.front)) (bare_post (server_side u.server) f.core p to q l) (ap (λ z. slice_get z (length (w.posts ++ post_all true f.front))) f.parts ∙ get_at (w.posts ++ post_all true f.front) (bare_post (server_side u.server) f.core p to q l) f.back) o.home in
       let a : suc (weights (sessions_at w false q)) ≤ weights (sessions_at come false q) = bare_answers u p q t (suc (weights (sessions_at w false q))) r m (timed t (w.node.core.circuits.circuit_at q)) (server_side u.server) f.core to l o.fit o.usual slave o.home span
-          (λ n. let s : Sessions = (run_end n false (bare_frame l) (time_step t d).end).step.end.half.sessions in let z : (run_end n false (bare_frame l) (timed t (w.node.core.circuits.circuit_at q)).end).step.end.half.sessions ≡ s = run_empty n (timed t (w.node.core.circuits.circuit_at q)).end.empty_at l (time_step t d).end in let y : suc (weights (sessions_at w false q)) ≤ weights s = h n in omega (arith, y, ap weights z))
-          (waits l f) o.whole.0 in
+      (λ n. let s : Sessions = (run_end n false (bare_frame l) (time_step t d).end).step.end.half.sessions in let z : (run_end n false (bare_frame l) (timed t (w.node.core.circuits.circuit_at q)).end).step.end.half.sessions ≡ s = run_empty n (timed t (w.node.core.circuits.circuit_at q)).end.empty_at l (time_step t d).end in let y : suc (weights (sessions_at w false q)) ≤ weights s = h n in omega (arith, y, ap weights z))
+      (waits l f) o.whole.0 in
       omega (arith, a, rise_down come (reached_come u p now w r more o) (runs_come u p now w r more o) from_come)
 
   -- a round counts

@@ -2,14 +2,14 @@
 use Rattle.std.proofs.Common.{◌≡◌, ◌≢◌, ℕ, zero, suc, ◌+◌, ◌<◌, ◌≤◌, sym, ap, ◌∙◌, refl, subst, arith, Bool, true, false, cond, List, [], ◌∷◌, ◌++◌, map, max, nat_eq, eqb-true}
 use Rattle.std.proofs.lemmas.Bool.{eqb-false}
 use Rattle.std.proofs.lemmas.List.{append_assoc}
-use Rattle.lat_model.specs.Lists.{Each, upwards}
-use Rattle.lat_model.specs.ends.End.{Sent, End, Step, lives}
+use Rattle.lat_model.specs.Lists.{upwards}
+use Rattle.lat_model.specs.ends.End.{Sent, Step, lives}
 use Rattle.lat_model.specs.ends.Timers.{note_empty, time_step}
-use Rattle.lat_model.specs.circuits.World.{CircuitEntry, Table, Wired, wire_all}
+use Rattle.lat_model.specs.circuits.World.{CircuitEntry, Wired, wire_all}
 use Rattle.lat_machines.specs.values.Frames.{OutFrame}
 use Rattle.lat_machines.specs.cores.Acts.{Acted, idle, steps_at, time_at}
 use Rattle.lat_machines.specs.cores.Cores.{Core, Side, Doing, rests, then_doing, acts, with_circuits, at_moment, time_each, passes_time, sent_frame}
-use Rattle.lat_machines.proofs.events.Leads.{append_nil, each_more}
+use Rattle.lat_machines.proofs.events.Leads.{each_more}
 use Rattle.lat_rounds.proofs.rounds.Empty.{sent_circuit}
 use Rattle.lat_rounds.proofs.shape.Times.{time_other}
 use Rattle.lat_rounds.proofs.settle.Wires.{NotOf}

@@ -1,32 +1,30 @@
 -- A frame of a circuit of the server leaves alone the slaves of its other circuits.
-use Rattle.std.proofs.Common.{◌≡◌, ◌≢◌, ℕ, suc, ◌+◌, ◌≤◌, ⊎_elim, sym, ap, ap₂, ◌∙◌, refl, subst, arith, Bool, true, false, not, cond, ◌&&◌, ◌||◌, List, [], ◌∷◌, Option, Some, None, nat_eq, nat_lt, slice_get, eqb-true, ne_eqb, find}
+use Rattle.std.proofs.Common.{◌≡◌, ◌≢◌, ℕ, suc, ◌+◌, ◌≤◌, ⊎_elim, sym, ap, ◌∙◌, refl, subst, arith, Bool, true, false, not, cond, ◌&&◌, ◌||◌, List, [], ◌∷◌, Option, Some, None, nat_eq, nat_lt, slice_get, eqb-true, ne_eqb, find}
 use Rattle.std.proofs.lemmas.Bool.{true≢false, false≢true, and_parts, eqb-false}
 use Rattle.lat_model.specs.Lists.{upwards}
 use Rattle.lat_model.specs.sessions.Slots.{Slot}
 use Rattle.lat_model.specs.sessions.Session.{Session, waits}
 use Rattle.lat_model.specs.sessions.Calls.{Call, Refuse}
 use Rattle.lat_model.specs.sessions.Calls as Calls
-use Rattle.lat_model.specs.numbers.Link.{Frame}
 use Rattle.lat_model.specs.ends.End.{Sent, Run, CallStart, ReplyStart, Stopped, End, Step, lives, call_end}
 use Rattle.lat_model.specs.ends.Run.{run_end}
-use Rattle.lat_model.specs.ends.Starting.{again_start, hear_stop, make_slave}
-use Rattle.lat_model.specs.circuits.World.{CircuitEntry, Table, Wired, World, table, first_end}
+use Rattle.lat_model.specs.ends.Starting.{again_start, hear_stop}
+use Rattle.lat_model.specs.circuits.World.{CircuitEntry, Table, Wired, World, table}
 use Rattle.lat_model.specs.circuits.WorldOk.{ByServer, Says}
 use Rattle.lat_model.specs.circuits.Arriving.{is_of, slave_of, living}
 use Rattle.lat_model.proofs.numbers.Net.{each_at}
 use Rattle.lat_model.proofs.sessions.Words.{upd_other}
 use Rattle.lat_machines.specs.values.Names.{Name, same}
 use Rattle.lat_machines.specs.values.Addresses.{everyone}
-use Rattle.lat_machines.specs.values.Messages.{Head, StartInfo, Message, RunMessage, WideMessage, StartMessage, StopMessage}
+use Rattle.lat_machines.specs.values.Messages.{Head, StartInfo, RunMessage, WideMessage, StartMessage, StopMessage}
 use Rattle.lat_machines.specs.values.Notices.{Notice, AnnouncementNotice, CommandNotice, StatusNotice, SolicitNotice, ResponseNotice}
 use Rattle.lat_machines.specs.values.Frames.{Value, OfCircuit, OfNotice, Whole, OutFrame}
 use Rattle.lat_machines.specs.values.Runs.{slots_in, run_head}
-use Rattle.lat_machines.specs.values.Timing.{agreed_by}
 use Rattle.lat_machines.specs.values.Events.{Numbers, Hears}
 use Rattle.lat_machines.specs.values.Answers.{Ignored, Ended}
-use Rattle.lat_machines.specs.cores.Acts.{Acted, idle, put_at, steps_at, local_at}
-use Rattle.lat_machines.specs.cores.Hearing.{HeardAct, foreign, names, fits_kind, numbers_at, run_frame, run_at, hear_run, hear_stop_at, StartFact, Repeats, Makes, Refuses, start_fact, start_at}
-use Rattle.lat_machines.specs.cores.Cores.{Side, Core, sent_frame, setup_of, at_moment}
+use Rattle.lat_machines.specs.cores.Acts.{Acted, idle, steps_at, local_at}
+use Rattle.lat_machines.specs.cores.Hearing.{HeardAct, foreign, names, fits_kind, numbers_at, run_frame, run_at, hear_run, hear_stop_at, Repeats, Makes, Refuses, start_fact}
+use Rattle.lat_machines.specs.cores.Cores.{Side, Core, sent_frame, at_moment}
 use Rattle.lat_machines.specs.node.Node.{NodeConfig, Node, NodeStep, Verdict, Accepts, Rejects, judged, verdict, asked_at, answers_one, answers_in, asked_on, answers_asked, solicited, hears_run, hears_start, hears_value, node_step}
 use Rattle.lat_machines.specs.node.Node as N
 use Rattle.lat_machines.specs.world.Machines.{Setups, Posted, Machines, is_for_other}

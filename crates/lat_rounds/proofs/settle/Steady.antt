@@ -1,5 +1,5 @@
 -- A circuit that runs keeps its peer, and one that has ended stays so.
-use Rattle.std.proofs.Common.{◌≡◌, ◌≢◌, ℕ, suc, ◌≤◌, refl, sym, ap, ◌∙◌, subst, arith, Bool, true, false, not, cond, ◌&&◌, ◌||◌, List, [], Option, Some, None, nat_eq, nat_lt, slice_get, eqb-true}
+use Rattle.std.proofs.Common.{◌≡◌, ℕ, suc, ◌≤◌, refl, sym, ap, ◌∙◌, subst, arith, Bool, true, false, not, cond, ◌&&◌, ◌||◌, List, [], Option, nat_eq, nat_lt, eqb-true}
 use Rattle.std.proofs.lemmas.Bool.{true≢false, false≢true, and_parts, eqb-false}
 use Rattle.lat_model.specs.sessions.Slots.{Slot}
 use Rattle.lat_model.specs.sessions.Calls.{Call}
@@ -13,14 +13,13 @@ use Rattle.lat_model.specs.Lists.{upwards}
 use Rattle.lat_model.specs.circuits.Arriving.{is_of, living, slave_of}
 use Rattle.lat_model.proofs.sessions.Words.{upd_same, upd_other}
 use Rattle.lat_model.proofs.circuits.Kin.{Kin, kin_time, kin_run, kin_again, kin_stop}
-use Rattle.lat_model.proofs.circuits.Begins.{kin_call}
 use Rattle.lat_machines.specs.values.Messages.{Head, StartInfo}
-use Rattle.lat_machines.specs.values.Events.{Numbers, Event, Time}
+use Rattle.lat_machines.specs.values.Events.{Numbers}
 use Rattle.lat_machines.specs.values.Answers.{Again, Running}
 use Rattle.lat_machines.specs.values.Answers as Answers
 use Rattle.lat_machines.specs.values.Timing.{agreed_by}
-use Rattle.lat_machines.specs.cores.Acts.{Acted, idle, put_at, steps_at, move_at, called, call_at, local_at, time_at}
-use Rattle.lat_machines.specs.cores.Hearing.{HeardAct, foreign, names, fits_kind, numbers_at, run_frame, run_at, hear_run, hear_stop_at, hear_reply_at, Makes, Repeats, Refuses, start_at, start_fact}
+use Rattle.lat_machines.specs.cores.Acts.{Acted, idle, put_at, steps_at, move_at, called}
+use Rattle.lat_machines.specs.cores.Hearing.{HeardAct, foreign, names, fits_kind, numbers_at, run_frame, run_at, hear_run, hear_stop_at, Makes, Repeats, Refuses, start_at}
 use Rattle.lat_machines.specs.cores.Cores.{Core, Side, with_circuits, setup_of}
 use Rattle.lat_machines.specs.server.Server.{ServerConfig, server_side}
 use Rattle.lat_machines.specs.node.Node.{NodeConfig, node_side}
@@ -240,3 +239,11 @@ ended_reply n s g e l d = ended_not e l d
 
 pub ended_again : (n : ℕ) (e : End) → lives e ≡ true → Ended e → Ended (again_start n e).end
 ended_again n e l d = ended_not e l d
+
+-- any at all
+
+abbrev pub AnyEnd : End → Type 0
+AnyEnd e = Unit {0}
+
+pub any_keeps : KeepsEnd AnyEnd
+any_keeps = record { empties = λ n e p. tt; calls = λ k e l p. tt; moves = λ n e l p. tt; times = λ n e l p. tt; runs = λ n a f e l p. tt; stops = λ n r e l p. tt }

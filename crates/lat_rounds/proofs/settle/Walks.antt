@@ -4,13 +4,11 @@ use Rattle.std.proofs.lemmas.Bool.{true≢false}
 use Rattle.lat_model.specs.ends.End.{lives}
 use Rattle.lat_machines.specs.values.Events.{Event, Hears, is_heard}
 use Rattle.lat_machines.specs.cores.Cores.{Core}
-use Rattle.lat_machines.specs.server.Server.{ServerConfig}
-use Rattle.lat_machines.specs.node.Node.{NodeConfig}
 use Rattle.lat_machines.specs.world.Machines.{Setups, Posted, Machines, Move, Does, HearsFrame, HearsForeign, tell, is_for_other, heard_as, counted, marked_delivered, comes, is_own, happens, run}
 use Rattle.lat_rounds.proofs.rounds.Moves.{Moved}
-use Rattle.lat_rounds.proofs.ready.Traverse.{KeepsServer, KeepsNode, in_any, server_keeps, node_keeps}
+use Rattle.lat_rounds.proofs.ready.Traverse.{in_any, server_keeps, node_keeps}
 use Rattle.lat_rounds.proofs.ready.Firsts.{Anything, says_any}
-use Rattle.lat_rounds.proofs.settle.Steady.{HasEnd, KeepsEnd, AlwaysServer, AlwaysNode, server_always, node_always, RunsTo, runs_keep, runs_reply, SlaveOf, slave_keeps, slave_again, Ended, ended_keeps, ended_reply, ended_again}
+use Rattle.lat_rounds.proofs.settle.Steady.{HasEnd, AlwaysServer, AlwaysNode, server_always, node_always, RunsTo, runs_keep, runs_reply, SlaveOf, slave_keeps, slave_again, Ended, ended_keeps, ended_reply, ended_again, AnyEnd, any_keeps}
 
 module _ (u : Setups) (Q : Core → Type 0) (s : AlwaysServer u.server Q) where
   abbrev Up : Machines → Type 0
@@ -108,3 +106,7 @@ lived_down u q w v m d l = go (lives (w.node.core.circuits.circuit_at q).end) re
     go : (b : Bool) → lives (w.node.core.circuits.circuit_at q).end ≡ b → lives (w.node.core.circuits.circuit_at q).end ≡ true
     go true r = r
     go false r = absurd (true≢false (sym l ∙ (ended_down u q (w.node.core.circuits.circuit_at q).address w v m (record { drawn = d; address = refl; end = r })).end))
+
+-- a circuit that was drawn keeps its address
+pub address_on : (u : Setups) (p : ℕ) (w v : Machines) → Moved u w v → p ≤ w.server.core.circuits.drawn → (v.server.core.circuits.circuit_at p).address ≡ (w.server.core.circuits.circuit_at p).address
+address_on u p w v m d = (up_moved u (HasEnd p (w.server.core.circuits.circuit_at p).address AnyEnd) (server_always AnyEnd any_keeps p (w.server.core.circuits.circuit_at p).address u.server (λ n s g e l x. tt)) w v m (record { drawn = d; address = refl; end = tt })).address

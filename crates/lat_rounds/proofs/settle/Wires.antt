@@ -1,5 +1,5 @@
 -- The take phase posts no frame of a circuit that was drawn before it.
-use Rattle.std.proofs.Common.{◌≡◌, ◌≢◌, ℕ, zero, suc, ◌≤◌, ◌⊎◌, inl, inr, ⊎_elim, sym, ap, ap₂, ◌∙◌, refl, subst, arith, Bool, true, false, not, cond, List, [], ◌∷◌, ◌++◌, map, Option, Some, None, nat_eq, slice_get}
+use Rattle.std.proofs.Common.{◌≡◌, ◌≢◌, ℕ, zero, suc, ◌≤◌, ◌⊎◌, inl, inr, ⊎_elim, sym, ap, ◌∙◌, refl, subst, arith, Bool, true, false, cond, List, [], ◌∷◌, ◌++◌, map, Option, Some, None, nat_eq, slice_get}
 use Rattle.std.proofs.lemmas.Bool.{true≢false}
 use Rattle.std.proofs.lemmas.List.{append_assoc}
 use Rattle.lat_model.specs.Lists.{Each, updated, upwards}
@@ -15,11 +15,11 @@ use Rattle.lat_machines.specs.cores.Acts.{Acted, idle, steps_at, call_at, local_
 use Rattle.lat_machines.specs.cores.Cores.{Core, Side, Doing, rests, acts, with_circuits, setup_of, circuit_to, sent_frame}
 use Rattle.lat_machines.specs.cores.Lines.{holds}
 use Rattle.lat_machines.specs.server.Server.{ServerConfig, server_side, server_event, finished_requests, connects_on, opens, offer_on, Passing, grantable, grants_by, grant_line, grant_lines}
-use Rattle.lat_machines.specs.world.Machines.{Setups, Posted, Machines, core_of, post_all, tell, is_for_other}
+use Rattle.lat_machines.specs.world.Machines.{Setups, Posted, Machines, core_of, post_all, tell}
 use Rattle.lat_machines.proofs.events.Leads.{append_nil, each_more}
 use Rattle.lat_rounds.specs.Lossless.{is_in}
-use Rattle.lat_rounds.specs.Rounds.{undelivered, take_line, take_lines, take_both}
-use Rattle.lat_rounds.proofs.rounds.Empty.{Emptied, none_undelivered}
+use Rattle.lat_rounds.specs.Rounds.{take_line, take_lines, take_both}
+use Rattle.lat_rounds.proofs.rounds.Empty.{Emptied}
 use Rattle.lat_rounds.proofs.ready.Takes.{take_line_took, take_line_other}
 use Rattle.lat_rounds.proofs.ready.Tooks.{TookCore, line_took}
 use Rattle.lat_model.proofs.numbers.Net.{each_at}
