@@ -1,4 +1,4 @@
--- A slave hears a RUN without slots, and what the node then answers throws it not back.
+-- A slave hears a RUN without slots, and what the node answers then does not throw it back.
 use Rattle.std.proofs.Common.{◌≡◌, ℕ, ◌≤◌, sym, ap, ◌∙◌, refl, subst, arith, Bool, true, false, cond, ◌||◌, List, [], length, Option, Some, None, nat_eq, nat_lt}
 use Rattle.lat_model.specs.sessions.Slots.{Slot}
 use Rattle.lat_model.specs.sessions.Packing.{pack}

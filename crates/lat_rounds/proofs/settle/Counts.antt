@@ -208,11 +208,11 @@ module _ (u : Setups) (p : ℕ) (now : ℕ) (w : Machines) (r : List (List ℕ))
   abbrev to : ℕ
   to = (w.server.core.circuits.circuit_at p).address
 
-  abbrev Begins_with : Link (List Slot) → ℕ → Type 0
-  Begins_with l d = (c : Core) × Begin p passed (bare_post (server_side u.server) c p to d l).frame
+  abbrev BeginsWith : Link (List Slot) → ℕ → Type 0
+  BeginsWith l d = (c : Core) × Begin p passed (bare_post (server_side u.server) c p to d l).frame
 
-  begins_with : (l : Link (List Slot)) (rest : List Sent) → (time_step t (up_end w p)).sent ≡ Run Bare false (bare_frame l) ∷ rest → Begins_with l q
-  begins_with l rest e = subst (Begins_with l) (kin_time t (up_end w p)).peer (time_begins (server_side u.server) w.server.core t p (Run Bare false (bare_frame l)) rest (moments u p now w r more o).0 (positive p (some u p now w r more o)) (here u p now w r more o).drawn (lives_here u p now w r more o) e)
+  begins_with : (l : Link (List Slot)) (rest : List Sent) → (time_step t (up_end w p)).sent ≡ Run Bare false (bare_frame l) ∷ rest → BeginsWith l q
+  begins_with l rest e = subst (BeginsWith l) (kin_time t (up_end w p)).peer (time_begins (server_side u.server) w.server.core t p (Run Bare false (bare_frame l)) rest (moments u p now w r more o).0 (positive p (some u p now w r more o)) (here u p now w r more o).drawn (lives_here u p now w r more o) e)
     where
       positive : (n : ℕ) → n ≢ 0 → 0 < n
       positive zero z = absurd (z refl)
@@ -220,7 +220,7 @@ module _ (u : Setups) (p : ℕ) (now : ℕ) (w : Machines) (r : List (List ℕ))
 
   first_post : (l : Link (List Slot)) (rest : List Sent) → (time_step t (up_end w p)).sent ≡ Run Bare false (bare_frame l) ∷ rest → FirstPost p q to (server_side u.server) w.posts m.posts l
   first_post l rest e =
-      let b : Begins_with l q = begins_with l rest e in
+      let b : BeginsWith l q = begins_with l rest e in
       let f : OutFrame = (bare_post (server_side u.server) b.0 p to q l).frame in
       record {
         core = b.0;

@@ -66,7 +66,7 @@ module _ (u : Setups) (Q : Core → Type 0) (s : AlwaysNode u.node Q) where
   down_moved : (w v : Machines) → Moved u w v → Down w → Down v
   down_moved w v m h = subst Down (sym m.there) (down_run m.moves w h)
 
--- the three that rounds need
+-- those that rounds need
 
 runs_server : (u : Setups) (p home q : ℕ) → AlwaysServer u.server (HasEnd p home (RunsTo q))
 runs_server u p home q = server_always (RunsTo q) (runs_keep q) p home u.server (runs_reply q)
