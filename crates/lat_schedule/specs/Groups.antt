@@ -17,10 +17,10 @@ server_groups_at at = or_else (replicate 32 255) (may server_groups_of at)
 abbrev pub node_groups_at : Place → List ℕ × Place
 node_groups_at at = or_else [] (may node_groups_of at)
 
-abbrev pub both_groups : List ℕ × Place → Groups
-both_groups server = let node = node_groups_at server.1 in record { server = server.0; node = node.0; behind = node.1 }
+abbrev pub both_groups : List ℕ × Place → Groups × Place
+both_groups server = let node = node_groups_at server.1 in (record { server = server.0; node = node.0 }, node.1)
 
--- the masks of both ends; in the first version no line tells them
-abbrev pub groups_at : Version → Place → Groups
-groups_at One at = record { server = replicate 32 255; node = []; behind = at }
+-- The masks of both ends, and the lines behind theirs; in the first version no line tells them
+abbrev pub groups_at : Version → Place → Groups × Place
+groups_at One at = (record { server = replicate 32 255; node = [] }, at)
 groups_at Two at = both_groups (server_groups_at at)

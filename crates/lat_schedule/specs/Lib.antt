@@ -4,3 +4,7 @@ pub mod Events
 pub mod SetupLines
 pub mod Setups
 pub mod Places
+pub mod Front
+pub mod Groups
+pub mod ScheduleText
+pub mod EventText

@@ -1,6 +1,7 @@
 -- The lines of a text one after another, and what they say.
 use Rattle.std.specs.Prelude.{ℕ, ◌+◌, List, [], ◌∷◌, ◌++◌, Option, Some, None, Result, Ok, Err, ok_or}
-use Rattle.lat_text.specs.Lines.{Lines, End, Cut, Line}
+use Rattle.lat_text.specs.Lines.{Lines, End, Cut, Line, lines_of}
+use Rattle.lat_schedule.specs.declared.rest.Rest.{Rest}
 
 -- what follows is read where this is right; the number of a wrong line stays
 infixl 10 ◌>>=◌
@@ -12,6 +13,10 @@ Err number >>= f = Err number
 pub record Place : Type 0 where
   pub number : ℕ
   pub lines : Lines
+
+-- the lines of what is left of a text
+abbrev pub place : Rest → Place
+place rest = record { number = rest.number; lines = lines_of rest.text.now }
 
 -- the next line, and the lines behind it; its number where there is none that a line feed ends
 abbrev pub line_in : ℕ → Lines → Result (List ℕ × Place) ℕ

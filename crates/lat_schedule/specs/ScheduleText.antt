@@ -1,41 +1,18 @@
 -- The text of a schedule: its lines in order, and the first one that is wrong or missing.
-use Rattle.std.specs.Prelude.{◌≡◌, ℕ, ◌+◌, ◌-◌, ◌^◌, min, List, [], length, replicate, Option, Some, None, unwrap_or, Result, Ok, Err, nat_lt, bytes_eq, codes, if◌then◌else◌}
+use Rattle.std.specs.Prelude.{◌≡◌, ℕ, ◌+◌, ◌-◌, ◌^◌, min, List, length, Option, Some, None, Result, Ok, Err, nat_lt, bytes_eq, codes, if◌then◌else◌}
 use Rattle.lat_server.specs.declared.config.Offer.{Offer}
 use Rattle.lat_text.specs.Lines.{lines_of}
+use Rattle.lat_schedule.specs.declared.front.Front.{Front}
+use Rattle.lat_schedule.specs.declared.groups.Groups.{Groups}
 use Rattle.lat_schedule.specs.declared.schedule.Schedule.{Schedule}
 use Rattle.lat_schedule.specs.declared.schedule.ScheduleFault.{ScheduleFault}
 use Rattle.lat_schedule.specs.declared.schedule.ScheduleFault.TheVariants.{Form, Events, Memory}
 use Rattle.lat_schedule.specs.declared.setup.Setup.{Setup}
-use Rattle.lat_schedule.specs.declared.front.Front.{Front}
-use Rattle.lat_schedule.specs.declared.groups.Groups.{Groups}
-use Rattle.lat_schedule.specs.declared.setup_line.Version.{Version}
-use Rattle.lat_schedule.specs.declared.setup_line.Version.TheVariants.{One, Two}
-use Rattle.lat_schedule.specs.SetupLines.{version_of, server_of, node_of, circuit_of, server_groups_of, node_groups_of, service_of, offer_of}
 use Rattle.lat_schedule.specs.EventLines.{event_of}
-use Rattle.lat_schedule.specs.Places.{Place, must, may, many, nothing_at, ◌>>=◌}
-
--- the first four lines: the version, the server, the node and the circuits between them
-abbrev pub front_at : Place → Result Front ℕ
-front_at at = do
-  version ← must version_of at
-  server ← must server_of version.1
-  node ← must (node_of server.0.own) server.1
-  circuit ← must (circuit_of version.0) node.1
-  Ok (record { version = version.0; server = server.0; node = node.0; circuit = circuit.0; behind = circuit.1 })
-
--- the masks of groups, the server's before the node's
-abbrev pub told_groups : Option (List ℕ) → Option (List ℕ) × Place → Groups
-told_groups server node = record { server = unwrap_or server (replicate 32 255); node = unwrap_or node.0 []; behind = node.1 }
-
--- In the second version a line may tell each of them. Without it the server listens to all groups, and the node's mask
--- is empty
-abbrev pub groups_at : Version → Place → Groups
-groups_at One at = told_groups None (None, at)
-groups_at Two at = let server = may server_groups_of at in told_groups server.0 (may node_groups_of server.1)
-
--- a line of one word
-abbrev pub word_of : List ℕ → List ℕ → Option (Unit {0})
-word_of word line = if bytes_eq line word then Some tt else None
+use Rattle.lat_schedule.specs.Front.{front_at}
+use Rattle.lat_schedule.specs.Groups.{groups_at}
+use Rattle.lat_schedule.specs.Places.{Place, must, many, nothing_at, ◌>>=◌}
+use Rattle.lat_schedule.specs.SetupLines.{service_of, offer_of}
 
 -- what both cores are made of
 abbrev pub setup_of : Front → Groups → List (List ℕ) → List Offer → Setup
@@ -60,6 +37,22 @@ setup_of front groups services offers = record {
   };
 }
 
+-- a line of one word
+abbrev pub if_word : List ℕ → List ℕ → Option (Unit {0})
+if_word word line = if bytes_eq line word then Some tt else None
+
+-- the lines behind a line that must be this word
+abbrev pub word_at : List ℕ → Place → Result Place ℕ
+word_at word at = do
+  next ← must (if_word word) at
+  Ok next.1
+
+-- `end`, with nothing behind it
+abbrev pub ending_at : Place → Result (Unit {0}) ℕ
+ending_at at = do
+  behind ← word_at (codes "end") at
+  nothing_at behind
+
 -- a line number as it is told
 abbrev pub told_number : ℕ → ℕ
 told_number number = min number (2 ^ 32 - 1)
@@ -69,25 +62,32 @@ told_number number = min number (2 ^ 32 - 1)
 abbrev pub schedule_at : Place → Result Schedule ℕ
 schedule_at at = do
   front ← front_at at
-  groups ← Ok (groups_at front.version front.behind)
-  services ← Ok (many service_of groups.behind)
-  offers ← Ok (many (offer_of front.server.lines) services.1)
-  began ← must (word_of (codes "go")) offers.1
-  events ← Ok (many (λ before. event_of front.server.own) began.1)
-  ended ← must (word_of (codes "end")) events.1
-  nothing ← nothing_at ended.1
-  Ok (record { setup = setup_of front groups services.0 offers.0; first = told_number began.1.number; events = events.0 })
+  groups ← Ok (groups_at front.0.version front.1)
+  services ← Ok (many service_of groups.1)
+  offers ← Ok (many (offer_of front.0.server.lines) services.1)
+  began ← word_at (codes "go") offers.1
+  events ← Ok (many (λ before. event_of front.0.server.own) began)
+  ended ← ending_at events.1
+  Ok (record { setup = setup_of front.0 groups.0 services.0 offers.0; first = told_number began.number; events = events.0 })
+
+abbrev pub form_at : ℕ → ScheduleFault
+form_at number = Form (told_number number)
 
 -- a schedule has 100,000 events at most
-abbrev pub within_limit : Result Schedule ℕ → Result Schedule ScheduleFault
-within_limit (Err number) = Err (Form (told_number number))
-within_limit (Ok s) = if nat_lt 100000 (length s.events) then Err (Events (told_number (s.first + 100000))) else Ok s
+abbrev pub within_limit : Schedule → Result Schedule ScheduleFault
+within_limit s = if nat_lt 100000 (length s.events) then Err (Events (told_number (s.first + 100000))) else Ok s
+
+abbrev pub answer_of : Result Schedule ℕ → Result Schedule ScheduleFault
+answer_of (Ok schedule) = within_limit schedule
+answer_of (Err number) = Err (form_at number)
 
 -- the schedule that a text is, or why it is none
 abbrev pub schedule_of : List ℕ → Result Schedule ScheduleFault
-schedule_of text = within_limit (schedule_at (record { number = 1; lines = lines_of text }))
+schedule_of text = answer_of (schedule_at (record { number = 1; lines = lines_of text }))
 
 -- what a call that reads a schedule answers; want of memory may stand in place of any answer
 abbrev pub ReadsSchedule : Result Schedule ScheduleFault → List ℕ → Type 0
 ReadsSchedule (Err Memory) text = Unit {0}
-ReadsSchedule answer text = answer ≡ schedule_of text
+ReadsSchedule (Err (Form line)) text = Err (Form line) ≡ schedule_of text
+ReadsSchedule (Err (Events line)) text = Err (Events line) ≡ schedule_of text
+ReadsSchedule (Ok schedule) text = Ok schedule ≡ schedule_of text

@@ -4,7 +4,12 @@
 
 mod event;
 mod event_line;
+mod front;
+mod groups;
+mod listed;
 mod numbers;
+mod print;
+mod read;
 mod rest;
 mod schedule;
 mod setup;
@@ -12,5 +17,7 @@ mod setup_line;
 mod verb;
 
 pub use event::{WorldEvent, WorldEvents};
+pub use print::event_onto;
+pub use read::read_schedule;
 pub use schedule::{Schedule, ScheduleFault};
 pub use setup::Setup;

@@ -7,7 +7,7 @@ ghost use Rattle.lat_server.specs.Config.{AreOffers};
 ghost use Rattle.lat_server.specs.declared.config.Offer.{Offer};
 ghost use Rattle.lat_schedule.specs.EventLines.{event_of};
 ghost use Rattle.lat_schedule.specs.Events.{IsEvent};
-ghost use Rattle.lat_schedule.specs.Places.{many};
+ghost use Rattle.lat_schedule.specs.Places.{many, place};
 ghost use Rattle.lat_schedule.specs.SetupLines.{service_of, offer_of};
 
 use crate::event::WorldEvents;
@@ -22,7 +22,7 @@ use std::alloc::Global;
 
 /// The services that the node offers, and the lines behind theirs.
 pub fn services_of(alloc: Global, at: Rest<'_>) -> Result<(Services16, Rest<'_>), Memory>
-    ensures value { IfOk result (λ r. r ≡ many service_of at) }
+    ensures value { IfOk result (λ r. (r.0, place r.1) ≡ many service_of (place at.entry)) }
     ensures names { IfOk result (λ r. Each IsName r.0) }
 {
     let mut services = Services16::make(alloc);
@@ -39,7 +39,7 @@ pub fn services_of(alloc: Global, at: Rest<'_>) -> Result<(Services16, Rest<'_>)
 
 /// The offers of a server that has so many lines, and the lines behind theirs.
 pub fn offers_of(alloc: Global, lines: u8, at: Rest<'_>) -> Result<(Offers, Rest<'_>), Memory>
-    ensures value { IfOk result (λ r. r ≡ many (offer_of lines) at) }
+    ensures value { IfOk result (λ r. (r.0, place r.1) ≡ many (offer_of lines) (place at.entry)) }
     ensures offers { IfOk result (λ r. AreOffers lines r.0) }
     ensures names { IfOk result (λ r. Each (λ (o : Offer). IsName o.service) r.0) }
 {
@@ -57,7 +57,7 @@ pub fn offers_of(alloc: Global, lines: u8, at: Rest<'_>) -> Result<(Offers, Rest
 
 /// The events, and the lines behind theirs. Requests go to the server at this address.
 pub fn events_of(alloc: Global, to: Addr, at: Rest<'_>) -> Result<(WorldEvents, Rest<'_>), Memory>
-    ensures value { IfOk result (λ r. r ≡ many (λ before. event_of to) at) }
+    ensures value { IfOk result (λ r. (r.0, place r.1) ≡ many (λ before. event_of to) (place at.entry)) }
     ensures events { IfOk result (λ r. Each (IsEvent to) r.0) }
 {
     let mut events = WorldEvents::new(alloc);

@@ -2,6 +2,7 @@
 
 use crate::event::WorldEvents;
 use crate::setup::Setup;
+use lat_base::Memory;
 use thiserror::Error;
 
 /// What a text of a schedule says.
@@ -31,4 +32,15 @@ pub enum ScheduleFault {
     /// No memory was found.
     #[error("memory")]
     Memory,
+}
+
+impl From<Memory> for ScheduleFault {
+    ghost use Rattle.std.specs.Prelude.{◌≡◌};
+    ghost use Rattle.lat_schedule.specs.declared.schedule.ScheduleFault.TheVariants as faults;
+
+    ghost from_gives = { λ _ fault. fault ≡ faults.Memory };
+
+    fn from(_e: Memory) -> ScheduleFault {
+        ScheduleFault::Memory
+    }
 }

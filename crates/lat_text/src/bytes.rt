@@ -1,6 +1,6 @@
 //! Bytes written as hex digits of either case.
 
-ghost use Rattle.std.specs.Prelude.{◌≡◌};
+ghost use Rattle.std.specs.Prelude.{◌≡◌, ◌*◌, ◌≤◌, length, IfOk};
 ghost use Rattle.lat_text.specs.Digits.{address_of, byte_of, bytes_of, mask_of, payload_of};
 ghost use Rattle.lat_text.specs.Reads.{Reads};
 
@@ -39,7 +39,8 @@ pub fn mask_of(text: &[u8]) -> Option<[u8; 32]>
 
 /// The bytes that an even number of digits write, so many digits at least and so many at most. Takes memory for them.
 pub fn bytes_of(alloc: Global, least: usize, most: usize, text: &[u8]) -> Result<Vec<u8>, LineFault>
-    ensures { Reads (λ bytes. bytes.items) result (bytes_of least most text.now) }
+    ensures reads { Reads (λ bytes. bytes.items) result (bytes_of least most text.now) }
+    ensures many { IfOk result (λ bytes. (least ≤ 2 * length bytes.items) × (2 * length bytes.items ≤ most)) }
 {
     if text.len() < least || text.len() > most {
         return Err(LineFault::Form);
@@ -53,7 +54,8 @@ pub fn bytes_of(alloc: Global, least: usize, most: usize, text: &[u8]) -> Result
 
 /// The payload that an even number of digits write, 2 to 8,192 of them, or `-` for no byte. Takes memory for it.
 pub fn payload_of(alloc: Global, text: &[u8]) -> Result<Vec<u8>, LineFault>
-    ensures { Reads (λ payload. payload.items) result (payload_of text.now) }
+    ensures reads { Reads (λ payload. payload.items) result (payload_of text.now) }
+    ensures many { IfOk result (λ payload. length payload.items ≤ 4096) }
 {
     if text == "-".as_bytes() {
         return Ok(Vec::new(alloc));
