@@ -1,6 +1,6 @@
 //! The line of an event.
 
-ghost use Rattle.std.specs.Prelude.{◌≡◌, Bool, true, false, IsTrue, IfOk, IfSome};
+ghost use Rattle.std.specs.Prelude.{◌≡◌, ◌≤◌, Bool, true, false, IsTrue, IfOk, IfSome, length};
 ghost use Rattle.lat_text.specs.Reads.{Reads};
 ghost use Rattle.lat_schedule.specs.EventLines.{line_of, id_of, setting_of, flag_of, end_of, connect_of, put_of, set_of, take_of, attend_of, close_of, time_of, cancel_of, request_of, told_of, local_of, deliver_of, inject_of, worded_of, event_of};
 ghost use Rattle.lat_schedule.specs.Verbs.{may_say};
@@ -19,19 +19,22 @@ use lat_text::{
 use std::alloc::Global;
 
 fn line_of(text: &[u8]) -> Option<u8>
-    ensures { result ≡ line_of text.now }
+    ensures value { result ≡ line_of text.now }
+    ensures most { IfSome result (λ line. line ≤ 255) }
 {
     byte_within(0, 255, text)
 }
 
 fn id_of(text: &[u8]) -> Option<u16>
-    ensures { result ≡ id_of text.now }
+    ensures value { result ≡ id_of text.now }
+    ensures most { IfSome result (λ id. id ≤ 65535) }
 {
     short_up_to(65535, text)
 }
 
 fn setting_of(text: &[u8]) -> Option<[u8; 5]>
-    ensures { result ≡ setting_of text.now }
+    ensures value { result ≡ setting_of text.now }
+    ensures five { IfSome result (λ setting. length setting ≡ 5) }
 {
     <[u8; 5] as FromHex>::from_hex(text).ok()
 }

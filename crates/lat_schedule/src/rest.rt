@@ -1,9 +1,6 @@
 //! The lines of a text, one after another.
 
-ghost use Rattle.std.specs.Prelude.{◌≡◌, ◌+◌, ◌<◌, ◌^◌, length};
-ghost use Rattle.std.specs.Result.{result_map_both};
-ghost use Rattle.lat_text.specs.Lines.{lines_of};
-ghost use Rattle.lat_schedule.specs.Places.{line_at, place};
+ghost use Rattle.std.specs.Prelude.{◌+◌, ◌<◌, ◌^◌, length};
 
 use lat_text::first_line;
 
@@ -16,6 +13,11 @@ pub struct Rest<'a> {
 }
 
 impl<'a> Rest<'a> {
+    ghost use Rattle.std.specs.Prelude.{◌≡◌, IfOk};
+    ghost use Rattle.std.specs.Result.{result_map_both};
+    ghost use Rattle.lat_text.specs.Lines.{lines_of};
+    ghost use Rattle.lat_schedule.specs.Places.{line_at, place};
+
     /// The lines of a text, counted from 1.
     pub fn new(text: &'a [u8]) -> Rest<'a>
         ensures { place result ≡ record { number = 1; lines = lines_of text.now } }
@@ -25,7 +27,8 @@ impl<'a> Rest<'a> {
 
     /// The next line, and the lines behind it. Its number where there is none that a line feed ends.
     pub fn line(self) -> Result<(&'a [u8], Rest<'a>), usize>
-        ensures { result_map_both (λ r. (r.0.now, place r.1)) (λ number. number) result ≡ line_at (place self.entry) }
+        ensures value { result_map_both (λ r. (r.0.now, place r.1)) (λ number. number) result ≡ line_at (place self.entry) }
+        ensures shorter { IfOk result (λ r. length r.1.text.now < length self.entry.text.now) }
     {
         match first_line(self.text) {
             Some((line, text)) => {

@@ -1,6 +1,6 @@
 //! The lines in front of the events: what both cores are made of.
 
-ghost use Rattle.std.specs.Prelude.{◌≡◌, ◌≢◌, ◌≤◌, ◌<◌, false, IfSome, IfOk, nat_eq, length, option_map};
+ghost use Rattle.std.specs.Prelude.{◌≡◌, ◌≢◌, ◌*◌, ◌≤◌, ◌<◌, false, IfSome, IfOk, nat_eq, length, option_map};
 ghost use Rattle.std.specs.List.{list_any};
 ghost use Rattle.lat_base.specs.Names.{IsName};
 ghost use Rattle.lat_circuit.specs.Agrees.{IsTiming};
@@ -233,7 +233,7 @@ pub fn server_groups_of(line: &[u8]) -> Option<[u8; 32]>
 /// `node-groups HEX`. Takes memory for the mask.
 pub fn node_groups_of(alloc: Global, line: &[u8]) -> Result<Vec<u8>, LineFault>
     ensures value { Reads (λ mask. mask.items) result (node_groups_of line.now) }
-    ensures fits { IfOk result (λ mask. length mask.items ≤ 32) }
+    ensures fits { IfOk result (λ mask. 2 * length mask.items ≤ 64) }
 {
     let digits = behind_word("node-groups", line).ok_or(LineFault::Form)?;
     bytes_of(alloc, 2, 64, digits)

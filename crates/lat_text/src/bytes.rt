@@ -40,7 +40,8 @@ pub fn mask_of(text: &[u8]) -> Option<[u8; 32]>
 /// The bytes that an even number of digits write, so many digits at least and so many at most. Takes memory for them.
 pub fn bytes_of(alloc: Global, least: usize, most: usize, text: &[u8]) -> Result<Vec<u8>, LineFault>
     ensures reads { Reads (λ bytes. bytes.items) result (bytes_of least most text.now) }
-    ensures many { IfOk result (λ bytes. (least ≤ 2 * length bytes.items) × (2 * length bytes.items ≤ most)) }
+    ensures least { IfOk result (λ bytes. least ≤ 2 * length bytes.items) }
+    ensures most { IfOk result (λ bytes. 2 * length bytes.items ≤ most) }
 {
     if text.len() < least || text.len() > most {
         return Err(LineFault::Form);
@@ -55,7 +56,7 @@ pub fn bytes_of(alloc: Global, least: usize, most: usize, text: &[u8]) -> Result
 /// The payload that an even number of digits write, 2 to 8,192 of them, or `-` for no byte. Takes memory for it.
 pub fn payload_of(alloc: Global, text: &[u8]) -> Result<Vec<u8>, LineFault>
     ensures reads { Reads (λ payload. payload.items) result (payload_of text.now) }
-    ensures many { IfOk result (λ payload. length payload.items ≤ 4096) }
+    ensures most { IfOk result (λ payload. 2 * length payload.items ≤ 8192) }
 {
     if text == "-".as_bytes() {
         return Ok(Vec::new(alloc));
