@@ -8,13 +8,13 @@ use Rattle.lat_schedule.specs.Places.{Place, line_in, line_at, many_in}
 said_more : {A : Type 0} (read : List A → List ℕ → Option A) (before : List A) (number : ℕ) (line : List ℕ) (more : Lines) (said : A)
     → read before line ≡ Some said → many_in read before number (Line line more) ≡ many_in read (before ++ said ∷ []) (number + 1) more
 unfolding many_in
-said_more read before number line more said is = rw is refl
+said_more read before number line more said is = rw (is, many_in) refl
 
 -- a line that says nothing of the kind
 said_none : {A : Type 0} (read : List A → List ℕ → Option A) (before : List A) (number : ℕ) (line : List ℕ) (more : Lines)
     → read before line ≡ None → many_in read before number (Line line more) ≡ (before, record { number = number; lines = Line line more })
 unfolding many_in
-said_none read before number line more is = rw is refl
+said_none read before number line more is = rw (is, many_in) refl
 
 -- no line is left
 no_line_more : {A : Type 0} (read : List A → List ℕ → Option A) (before : List A) (number n : ℕ) (lines : Lines)

@@ -8,3 +8,4 @@ pub mod Front
 pub mod Groups
 pub mod ScheduleText
 pub mod EventText
+pub mod ReadsAll

@@ -1,6 +1,8 @@
 -- The text of a schedule: its lines in order, and the first one that is wrong or missing.
 use Rattle.std.specs.Prelude.{◌≡◌, ℕ, ◌+◌, ◌-◌, ◌^◌, min, List, length, Option, Some, None, Result, Ok, Err, nat_lt, bytes_eq, codes, if◌then◌else◌}
+use Rattle.lat_node.specs.declared.config.NodeConfig.{NodeConfig}
 use Rattle.lat_server.specs.declared.config.Offer.{Offer}
+use Rattle.lat_server.specs.declared.config.ServerConfig.{ServerConfig}
 use Rattle.lat_text.specs.Lines.{lines_of}
 use Rattle.lat_schedule.specs.declared.front.Front.{Front}
 use Rattle.lat_schedule.specs.declared.groups.Groups.{Groups}
@@ -14,28 +16,32 @@ use Rattle.lat_schedule.specs.Groups.{groups_at}
 use Rattle.lat_schedule.specs.Places.{Place, must, many, nothing_at, ◌>>=◌}
 use Rattle.lat_schedule.specs.SetupLines.{service_of, offer_of}
 
--- what both cores are made of
-abbrev pub setup_of : Front → Groups → List (List ℕ) → List Offer → Setup
-setup_of front groups services offers = record {
-  server = record {
-    own = front.server.own;
-    name = front.server.name;
-    lines = front.server.lines;
-    offers = offers;
-    groups = groups.server;
-    timing = front.circuit.server;
-  };
-  node = record {
-    own = front.node.own;
-    name = front.node.name;
-    incarnation = front.node.incarnation;
-    lines = front.node.lines;
-    services = services;
-    timer = front.node.timer;
-    groups = groups.node;
-    timing = front.circuit.node;
-  };
+-- what the server is made of
+abbrev pub server_made : Front → (groups : List ℕ) → List Offer → ServerConfig
+server_made front groups offers = record {
+  own = front.server.own;
+  name = front.server.name;
+  lines = front.server.lines;
+  offers = offers;
+  groups = groups;
+  timing = front.circuit.server;
 }
+
+-- what the node is made of
+abbrev pub node_made : Front → (groups : List ℕ) → (services : List (List ℕ)) → NodeConfig
+node_made front groups services = record {
+  own = front.node.own;
+  name = front.node.name;
+  incarnation = front.node.incarnation;
+  lines = front.node.lines;
+  services = services;
+  timer = front.node.timer;
+  groups = groups;
+  timing = front.circuit.node;
+}
+
+abbrev pub setup_of : Front → Groups → List (List ℕ) → List Offer → Setup
+setup_of front groups services offers = record { server = server_made front groups.server offers; node = node_made front groups.node services }
 
 -- a line of one word
 abbrev pub if_word : List ℕ → List ℕ → Option (Unit {0})

@@ -2,22 +2,25 @@
 
 ghost use Rattle.std.specs.Prelude.{◌≡◌, ◌≤◌, length, IfOk};
 ghost use Rattle.std.specs.Result.{result_map_both};
-ghost use Rattle.lat_base.specs.Names.{IsName};
 ghost use Rattle.lat_model.specs.Lists.{Each};
+ghost use Rattle.lat_node.specs.Config as nodes;
+ghost use Rattle.lat_server.specs.Config as servers;
 ghost use Rattle.lat_server.specs.Config.{AreOffers};
-ghost use Rattle.lat_server.specs.declared.config.Offer.{Offer};
+ghost use Rattle.lat_text.specs.Lines.{lines_of};
 ghost use Rattle.lat_schedule.specs.Events.{IsEvent};
 ghost use Rattle.lat_schedule.specs.Front.{FitsFront};
 ghost use Rattle.lat_schedule.specs.Places.{place};
 ghost use Rattle.lat_schedule.specs.Setups.{IsSetup};
-ghost use Rattle.lat_schedule.specs.ScheduleText.{ReadsSchedule, told_number, form_at, word_at, ending_at, setup_of, within_limit};
+ghost use Rattle.lat_schedule.specs.ScheduleText.{ReadsSchedule, told_number, form_at, word_at, ending_at, server_made, node_made, schedule_at, within_limit};
+ghost use Rattle.lat_schedule.specs.ReadsAll.{ReadsAll};
 
 use crate::front::{Front, front_of};
-use crate::groups::{Groups, groups_of};
+use crate::groups::groups_of;
 use crate::listed::{events_of, offers_of, services_of};
 use crate::rest::Rest;
 use crate::schedule::{Schedule, ScheduleFault};
 use crate::setup::Setup;
+use lat_base::{Bytes, Memory};
 use lat_node::NodeConfig;
 use lat_queue::Services16;
 use lat_server::{Offers, ServerConfig};
@@ -66,35 +69,37 @@ fn ending_at(at: Rest<'_>) -> Result<(), usize>
     }
 }
 
-fn setup_of(front: Front, groups: Groups, services: Services16, offers: Offers) -> Setup
-    requires front { FitsFront front }
-    requires groups { length groups.node ≤ 32 }
-    requires services { Each IsName services }
-    requires offers { AreOffers front.server.lines offers }
-    requires names { Each (λ (o : Offer). IsName o.service) offers }
-    ensures value { result ≡ setup_of front groups services offers }
-    ensures setup { IsSetup result }
+fn server_made(front: &Front, groups: [u8; 32], offers: Offers) -> ServerConfig
+    requires front { FitsFront front.now }
+    requires offers { AreOffers front.now.server.lines offers }
+    ensures value { result ≡ server_made front.now groups offers }
+    ensures valid { servers.IsConfig result }
 {
-    let Groups { server, node } = groups;
-    Setup {
-        server: ServerConfig {
-            own: front.server.own,
-            name: front.server.name,
-            lines: front.server.lines,
-            offers,
-            groups: server,
-            timing: front.circuit.server,
-        },
-        node: NodeConfig {
-            own: front.node.own,
-            name: front.node.name,
-            incarnation: front.node.incarnation,
-            lines: front.node.lines,
-            services,
-            timer: front.node.timer,
-            groups: node,
-            timing: front.circuit.node,
-        },
+    ServerConfig {
+        own: front.server.own,
+        name: front.server.name,
+        lines: front.server.lines,
+        offers,
+        groups,
+        timing: front.circuit.server,
+    }
+}
+
+fn node_made(front: &Front, groups: Bytes, services: Services16) -> NodeConfig
+    requires front { FitsFront front.now }
+    requires groups { length groups ≤ 32 }
+    ensures value { result ≡ node_made front.now groups services }
+    ensures valid { nodes.IsConfig result }
+{
+    NodeConfig {
+        own: front.node.own,
+        name: front.node.name,
+        incarnation: front.node.incarnation,
+        lines: front.node.lines,
+        services,
+        timer: front.node.timer,
+        groups,
+        timing: front.circuit.node,
     }
 }
 
@@ -111,6 +116,60 @@ fn within_limit(schedule: Schedule) -> Result<Schedule, ScheduleFault>
     Ok(schedule)
 }
 
+// Why no schedule is read: a wrong line, by its number, or want of memory.
+enum Stop {
+    Line(usize),
+    Memory,
+}
+
+impl From<usize> for Stop {
+    ghost use Rattle.std.specs.Prelude.{◌≡◌};
+    ghost use Rattle.lat_schedule.specs.declared.read.Stop.TheVariants as stops;
+
+    ghost from_gives = { λ number stop. stop ≡ stops.Line number };
+
+    fn from(number: usize) -> Stop {
+        Stop::Line(number)
+    }
+}
+
+impl From<Memory> for Stop {
+    ghost use Rattle.std.specs.Prelude.{◌≡◌};
+    ghost use Rattle.lat_schedule.specs.declared.read.Stop.TheVariants as stops;
+
+    ghost from_gives = { λ _ stop. stop ≡ stops.Memory };
+
+    fn from(_e: Memory) -> Stop {
+        Stop::Memory
+    }
+}
+
+// The schedule that a text is, whatever the number of its events.
+fn schedule_at(alloc: Global, text: &[u8]) -> Result<Schedule, Stop>
+    ensures value { ReadsAll result (schedule_at (record { number = 1; lines = lines_of text.now })) }
+    ensures setup { IfOk result (λ schedule. IsSetup schedule.setup) }
+    ensures events { IfOk result (λ schedule. Each (IsEvent schedule.setup.server.own) schedule.events) }
+{
+    let (front, at) = match front_of(&Rest::new(text)) {
+        Ok(found) => found,
+        Err(number) => return Err(Stop::Line(number)),
+    };
+    let (groups, at) = groups_of(alloc, front.version, at)?;
+    let (services, at) = services_of(alloc, at)?;
+    let (offers, at) = offers_of(alloc, front.server.lines, at)?;
+    let at = word_at("go", at)?;
+    let first = told_number(at.number);
+    let (events, at) = events_of(alloc, front.server.own, at)?;
+    ending_at(at)?;
+    let server = server_made(&front, groups.server, offers);
+    let node = node_made(&front, groups.node, services);
+    Ok(Schedule {
+        setup: Setup { server, node },
+        first,
+        events,
+    })
+}
+
 /// The schedule that a text is: what both cores are made of, and the events. `Form` exactly where the text is none, with
 /// the first line that is wrong or missing, and `Events` exactly where it is one with more than 100,000 events, with the
 /// line of the first one too many. `docs/FORMATS.md`, "Schedules", has the lines. Takes memory for what it gives.
@@ -120,18 +179,9 @@ pub fn read_schedule(alloc: Global, text: &[u8]) -> Result<Schedule, ScheduleFau
     ensures events { IfOk result (λ schedule. Each (IsEvent schedule.setup.server.own) schedule.events) }
     ensures few { IfOk result (λ schedule. length schedule.events ≤ 100000) }
 {
-    let (front, at) = front_of(Rest::new(text)).map_err(form_at)?;
-    let (groups, at) = groups_of(alloc, front.version, at)?;
-    let (services, at) = services_of(alloc, at)?;
-    let (offers, at) = offers_of(alloc, front.server.lines, at)?;
-    let at = word_at("go", at).map_err(form_at)?;
-    let first = told_number(at.number);
-    let (events, at) = events_of(alloc, front.server.own, at)?;
-    ending_at(at).map_err(form_at)?;
-    let setup = setup_of(front, groups, services, offers);
-    within_limit(Schedule {
-        setup,
-        first,
-        events,
-    })
+    match schedule_at(alloc, text) {
+        Ok(schedule) => within_limit(schedule),
+        Err(Stop::Line(number)) => Err(form_at(number)),
+        Err(Stop::Memory) => Err(ScheduleFault::Memory),
+    }
 }

@@ -8,8 +8,8 @@ use Rattle.lat_schedule.proofs.listed.events_of.Given as goal
 abbrev pub invariant-loop-line : goal.invariant-loop-line
 invariant-loop-line l =
     record {
-      value : many (λ before. event_of l.to) (place l.at) ≡ many_in (λ before. event_of l.to) l.events (place l.rest).number (place l.rest).lines;
-      events : Each (IsEvent l.to) l.events;
+      value : many (λ before. event_of l.fn.to) (place l.at) ≡ many_in (λ before. event_of l.fn.to) l.events (place l.rest).number (place l.rest).lines;
+      events : Each (IsEvent l.fn.to) l.events;
     }
 
 abbrev pub decreases-loop-line : goal.decreases-loop-line

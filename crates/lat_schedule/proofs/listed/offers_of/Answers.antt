@@ -26,7 +26,7 @@ loop-line-preserved c =
     let named : Offer → Type 0 = λ o. IsName o.service in
     record {
       value = l.invariant.value ∙ goes_on (offer_of c.args.lines) l.offers c.push.new.self l.rest.number (place l.rest).lines (place c.in-Ok.behind) c.in-Ok.line.now c.in-Some.offer next found more;
-      offers = subst (AreOffers c.args.lines) (sym more) (offers_push c.args.lines l.offers c.in-Some.offer l.invariant.offers c.in-Some.ensures.line ?);
+      offers = subst (AreOffers c.args.lines) (sym more) (offers_push c.args.lines l.offers c.in-Some.offer l.invariant.offers c.in-Some.ensures.line (rw c.as_slice.ensures at c.in-Some.ensures.free));
       names = subst (Each named) (sym more) (each_push named l.offers c.in-Some.offer l.invariant.names c.in-Some.ensures.name);
     }
 
