@@ -34,7 +34,11 @@ pub fn number_within(least: u64, most: u64, text: &[u8]) -> Option<u64>
     ensures most { IfSome result (λ n. n ≤ most) }
 {
     let number = number_of(text)?;
-    if least <= number && number <= most { Some(number) } else { None }
+    if least <= number && number <= most {
+        Some(number)
+    } else {
+        None
+    }
 }
 
 /// The moment that a text is: a number below 10^15.
