@@ -21,21 +21,21 @@ use Rattle.lat_node.specs.Kept.{Kept, SameConfig, config_of}
 use Rattle.lat_node.specs.Stands.{Stands}
 use Rattle.lat_node.specs.Events.{Does, IsAct, IsPlain}
 
-abbrev pub with_lines : {F : Type 0} → Kept F → lines.Kept → Kept F
+abbrev pub with_lines : {H : Type 0} → Kept H → lines.Kept → Kept H
 with_lines k l = record k { lines = l }
 
 -- the lines alone have gone on
-pub moved : {F : Type 0} (k : Kept F) (l : lines.Kept) (s : Node) (c : Core) → Stands k s → line_stands.Stands l c → Stands (with_lines k l) (with_core s c)
+pub moved : {H : Type 0} (k : Kept H) (l : lines.Kept) (s : Node) (c : Core) → Stands k s → line_stands.Stands l c → Stands (with_lines k l) (with_core s c)
 moved k l s c st x = record { lines = x; requests = st.requests; accepted = st.accepted; turned_away = st.turned_away }
 
-pub same_lines : {F : Type 0} (k : Kept F) (l : lines.Kept) → lines.SameLines k.lines l → SameConfig k (with_lines k l)
+pub same_lines : {H : Type 0} (k : Kept H) (l : lines.Kept) → lines.SameLines k.lines l → SameConfig k (with_lines k l)
 same_lines k l same = record { config = rw (same.core.own, same.core.name, same.core.timing, same.lines) refl; rule = refl }
 
-pub same_twice : {F : Type 0} (k l m : Kept F) → SameConfig k l → SameConfig l m → SameConfig k m
+pub same_twice : {H : Type 0} (k l m : Kept H) → SameConfig k l → SameConfig l m → SameConfig k m
 same_twice k l m p q = record { config = q.config ∙ p.config; rule = q.rule ∙ p.rule }
 
 -- a node's side of its circuits
-pub side_is : {F : Type 0} (k : Kept F) → k.lines.circuits.server ≡ false → lines.side_of k.lines ≡ node_side (config_of k)
+pub side_is : {H : Type 0} (k : Kept H) → k.lines.circuits.server ≡ false → lines.side_of k.lines ≡ node_side (config_of k)
 side_is k node = ap (λ b. record { server = b; timing = (config_of k).timing; name = (config_of k).name }) node
 
 pub side_stays : (k l : lines.Kept) → lines.SameLines k l → lines.side_of l ≡ lines.side_of k
@@ -46,14 +46,14 @@ pub adds_none : (before : List OutFrame) → Adds [] before before
 adds_none before = sym (append-nil (map seen before))
 
 -- a call on a line
-pub called : {F : Type 0} (k : Kept F) (l : lines.Kept) (call : Side → Core → Said) (answer : base.Answer) (before : List OutFrame) → k.lines.circuits.server ≡ false →
+pub called : {H : Type 0} (k : Kept H) (l : lines.Kept) (call : Side → Core → Said) (answer : base.Answer) (before : List OutFrame) → k.lines.circuits.server ≡ false →
     Says (call (lines.side_of k.lines)) k.lines l answer → Does (λ config s. said s (call (node_side config) s.core)) k (with_lines k l) answer before before
 called k l call answer before node says s st =
     let x : SaidTo s.core (call (node_side (config_of k)) s.core) l answer = subst (λ (side : Side). SaidTo s.core (call side s.core) l answer) (side_is k node) (says s.core st.lines) in
     (moved k l s (call (node_side (config_of k)) s.core).core st x.state, x.answered, adds_none before)
 
 -- a moment, and what the circuits do then
-pub timed : {F : Type 0} (k : Kept F) (l d : lines.Kept) (now : ℕ) (before after : List OutFrame) → k.lines.circuits.server ≡ false →
+pub timed : {H : Type 0} (k : Kept H) (l d : lines.Kept) (now : ℕ) (before after : List OutFrame) → k.lines.circuits.server ≡ false →
     ((c : Core) → line_stands.Stands k.lines c → line_stands.Stands l (at_moment now c)) → lines.SameLines k.lines l → line_stands.Did (passes_time (lines.side_of l)) l d before after →
     Does (λ config s. node_step config [] s (Time now)) k (with_lines k d) answers.Done before after
 timed k l d now before after node passed same did s st =
@@ -77,7 +77,7 @@ not_here config s (events.Request to id service) a t p x f z w = absurd a
 not_here config s (events.Cancel id) a t p x f z w = absurd (w id refl)
 not_here config s events.Announce a t p x f z w = absurd a
 
-pub does_not_here : {F : Type 0} (k : Kept F) (e : Event) (before : List OutFrame) → ((config : NodeConfig) (s : Node) → node_step config [] s (event_shown e) ≡ tells s NotHere) → Does (λ config s. node_step config [] s (event_shown e)) k k answers.NotHere before before
+pub does_not_here : {H : Type 0} (k : Kept H) (e : Event) (before : List OutFrame) → ((config : NodeConfig) (s : Node) → node_step config [] s (event_shown e) ≡ tells s NotHere) → Does (λ config s. node_step config [] s (event_shown e)) k k answers.NotHere before before
 does_not_here k e before is s st =
     subst (λ (t : NodeStep). Stands k t.state × (NotHere ≡ t.answer) × Adds t.frames before before) (sym (is (config_of k) s)) (st, refl, adds_none before)
 

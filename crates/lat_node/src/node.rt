@@ -1,7 +1,6 @@
 //! The node core.
 
 ghost use Rattle.std.specs.Prelude.{◌≡◌, ◌≤◌, length, IfOk};
-ghost use Rattle.lat_hook.specs.Hook.{HookFact};
 ghost use Rattle.lat_machines.specs.cores.Books.{book};
 ghost use Rattle.lat_machines.specs.cores.Cores.{span};
 ghost use Rattle.lat_machines.specs.cores.Hearing.{names};
@@ -19,7 +18,7 @@ use crate::config::NodeConfig;
 use crate::requests::Request;
 use indexmap::IndexMap;
 use lat_base::{Addr, Bytes, LineBook, Memory, Name};
-use lat_hook::RateHook;
+use lat_hook::RatingRule;
 use lat_lines::Lines;
 use lat_queue::Services16;
 use lat_seq::Span;
@@ -30,7 +29,7 @@ use std::marker::Model;
 /// its requests. Contracts say for every state of the node machine that it stands for what it stands for afterwards. See
 /// "Cores" in docs/PROTOCOL.md.
 #[derive(Drop)]
-pub struct NodeCore<F> {
+pub struct NodeCore<H> {
     pub(crate) lines: Lines,
     pub(crate) services: Services16,
     pub(crate) incarnation: u16,
@@ -41,14 +40,14 @@ pub struct NodeCore<F> {
     pub(crate) requests: IndexMap<u16, Request>,
     /// How many asked sessions became free without a line.
     pub(crate) turned_away: u32,
-    pub(crate) hook: RateHook<F>,
+    pub(crate) rule: H,
 }
 
-impl<F> Model for NodeCore<F> {
+impl<H> Model for NodeCore<H> {
     ghost use Rattle.lat_node.specs.Kept.{Kept, Holds};
     ghost use Rattle.lat_node.specs.Shown.{shown};
 
-    ghost Value = { Kept F };
+    ghost Value = { Kept H };
 
     ghost view = { shown };
 
@@ -67,19 +66,19 @@ fn copy(alloc: Global, names: &[Name]) -> Result<Services16, Memory>
     Ok(copied)
 }
 
-impl<F: Fn(u16, u16) -> u8> NodeCore<F> {
+impl<H: RatingRule> NodeCore<H> {
     /// The node of a valid configuration at moment 0, as it is opened: no circuit, no session, no request. Its ratings are the
     /// rule's. Takes the memory of eight circuits; `Memory` where none is found.
     pub fn make(
         alloc: Global,
         config: &NodeConfig,
-        hook: RateHook<F>,
-    ) -> Result<NodeCore<F>, Memory>
+        rule: H,
+    ) -> Result<NodeCore<H>, Memory>
         requires config { IsConfig config.now }
-        requires fact { HookFact F.pre F.post hook.rule }
+        requires fact { H.fact rule }
         ensures stands { IfOk result (λ k. IsMachine k (opening k)) }
-        ensures config { IfOk result (λ k. (config_of k ≡ config_shown config.now) × (k.rule ≡ hook.rule)) }
-        ensures rest { IfOk result (λ k. AtRest k × HookFact F.pre F.post k.rule) }
+        ensures config { IfOk result (λ k. (config_of k ≡ config_shown config.now) × (k.rule ≡ rule)) }
+        ensures rest { IfOk result (λ k. AtRest k × H.fact k.rule) }
     {
         Ok(NodeCore {
             lines: Lines::make(
@@ -96,7 +95,7 @@ impl<F: Fn(u16, u16) -> u8> NodeCore<F> {
             groups: Bytes::copy(alloc, config.groups.as_slice())?,
             requests: IndexMap::new(alloc),
             turned_away: 0,
-            hook,
+            rule,
         })
     }
 
