@@ -3,6 +3,7 @@
 ghost use Rattle.lat_machines.specs.world.Home.{NodeStaysHome};
 ghost use Rattle.lat_node.specs.Laws.{RatingsTellFullness};
 
+use crate::node::NodeCore;
 use lat_hook::RatingRule;
 
 /// A heard frame leaves each living circuit whose peer has another address as it was.
@@ -14,3 +15,11 @@ pub fn heard_stays_home()
 pub fn ratings_tell_fullness<H: RatingRule>()
     ensures { RatingsTellFullness H.may H.fact }
 {}
+
+/// A node may go to another thread where its rule of rating may.
+pub fn is_send<H: RatingRule + Send>() {
+    sent::<NodeCore<H>>();
+}
+
+// It may be called where values of the type may go to another thread.
+fn sent<T: Send>() {}
