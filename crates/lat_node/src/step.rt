@@ -109,13 +109,7 @@ impl<H: RatingRule> NodeCore<H> {
             Event::Take { line, n } => self.lines.take(alloc, *line, *n),
             Event::Request { to, id, service } => self.request(*to, *id, service, out),
             Event::Announce => self.announce(alloc, out),
-            Event::Time { .. }
-            | Event::Connect { .. }
-            | Event::Put { .. }
-            | Event::Set { .. }
-            | Event::Attend { .. }
-            | Event::Close { .. }
-            | Event::Cancel { .. } => Ok(self.act(event, out)),
+            other => Ok(self.act(other, out)),
         }
     }
 

@@ -104,15 +104,7 @@ impl ServerCore {
                 self.hear(alloc, *from, payload.as_slice(), *now, out)
             }
             Event::Take { line, n } => self.lines.take(alloc, *line, *n),
-            Event::Time { .. }
-            | Event::Connect { .. }
-            | Event::Put { .. }
-            | Event::Set { .. }
-            | Event::Attend { .. }
-            | Event::Close { .. }
-            | Event::Request { .. }
-            | Event::Cancel { .. }
-            | Event::Announce => Ok(self.act(event, out)),
+            other => Ok(self.act(other, out)),
         }
     }
 

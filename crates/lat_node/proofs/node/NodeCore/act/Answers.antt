@@ -9,7 +9,7 @@ use Rattle.lat_lines.specs.Kept.{side_of}
 use Rattle.lat_node.specs.Events.{Does}
 use Rattle.lat_node.specs.Kept.{Kept}
 use Rattle.lat_node.specs.Shown.{shown}
-use Rattle.lat_node.proofs.StepLemmas.{with_lines, called, not_here, does_not_here}
+use Rattle.lat_node.proofs.StepLemmas.{with_lines, called, does_nothing}
 use Rattle.lat_node.proofs.node.NodeCore.act.Goals as goal
 
 pub returns-in-Put-clause-does : goal.returns-in-Put-clause-does
@@ -44,7 +44,17 @@ returns-in-Close-clause-does g c =
     (called k c.close.new.self (λ side d. on_line k.lines.lines d c.in-Close.line (λ x. close_on side d x)) c.close.result c.args.out.now c.self-in-Close.invariant.node
     c.close.ensures.says))
 
-pub returns-in_default-clause-does : goal.returns-in_default-clause-does
-returns-in_default-clause-does g c =
-    does_not_here c.args.self.now c.args.event.now c.args.out.now
-    (λ config s. not_here config s c.args.event.now c.requires.act c.in_default.not-Time c.in_default.not-Put c.in_default.not-Set c.in_default.not-Attend c.in_default.not-Close c.in_default.not-Cancel)
+pub returns-in-Connect-clause-does : goal.returns-in-Connect-clause-does
+returns-in-Connect-clause-does g c = does_nothing c.args.self.now c.args.event.now c.args.out.now c.requires.act c.in-Connect.is
+
+pub returns-in-Connect-2-clause-does : goal.returns-in-Connect-2-clause-does
+returns-in-Connect-2-clause-does g c = does_nothing c.args.self.now c.args.event.now c.args.out.now c.requires.act c.in-Connect.is
+
+pub returns-in-Connect-3-clause-does : goal.returns-in-Connect-3-clause-does
+returns-in-Connect-3-clause-does g c = does_nothing c.args.self.now c.args.event.now c.args.out.now c.requires.act c.in-Connect.is
+
+pub returns-in-Connect-4-clause-does : goal.returns-in-Connect-4-clause-does
+returns-in-Connect-4-clause-does g c = does_nothing c.args.self.now c.args.event.now c.args.out.now c.requires.act c.in-Connect.is
+
+pub returns-in-Connect-5-clause-does : goal.returns-in-Connect-5-clause-does
+returns-in-Connect-5-clause-does g c = does_nothing c.args.self.now c.args.event.now c.args.out.now c.requires.act c.in-Connect.is
