@@ -46,15 +46,3 @@ returns-in-Close-clause-does g c =
 
 pub returns-in-Connect-clause-does : goal.returns-in-Connect-clause-does
 returns-in-Connect-clause-does g c = does_nothing c.args.self.now c.args.event.now c.args.out.now c.requires.act c.in-Connect.is
-
-pub returns-in-Connect-2-clause-does : goal.returns-in-Connect-2-clause-does
-returns-in-Connect-2-clause-does g c = does_nothing c.args.self.now c.args.event.now c.args.out.now c.requires.act c.in-Connect.is
-
-pub returns-in-Connect-3-clause-does : goal.returns-in-Connect-3-clause-does
-returns-in-Connect-3-clause-does g c = does_nothing c.args.self.now c.args.event.now c.args.out.now c.requires.act c.in-Connect.is
-
-pub returns-in-Connect-4-clause-does : goal.returns-in-Connect-4-clause-does
-returns-in-Connect-4-clause-does g c = does_nothing c.args.self.now c.args.event.now c.args.out.now c.requires.act c.in-Connect.is
-
-pub returns-in-Connect-5-clause-does : goal.returns-in-Connect-5-clause-does
-returns-in-Connect-5-clause-does g c = does_nothing c.args.self.now c.args.event.now c.args.out.now c.requires.act c.in-Connect.is

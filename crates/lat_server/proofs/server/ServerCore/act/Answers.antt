@@ -58,15 +58,3 @@ returns-in-Close-clause-does c = λ s st.
 
 pub returns-in-Request-clause-does : goal.returns-in-Request-clause-does
 returns-in-Request-clause-does c = does_nothing c.args.self.now c.args.event.now c.args.out.now c.requires.rest c.requires.local c.in-Request.is
-
-pub returns-in-Request-2-clause-does : goal.returns-in-Request-2-clause-does
-returns-in-Request-2-clause-does c = does_nothing c.args.self.now c.args.event.now c.args.out.now c.requires.rest c.requires.local c.in-Request.is
-
-pub returns-in-Request-3-clause-does : goal.returns-in-Request-3-clause-does
-returns-in-Request-3-clause-does c = does_nothing c.args.self.now c.args.event.now c.args.out.now c.requires.rest c.requires.local c.in-Request.is
-
-pub returns-in-Request-4-clause-does : goal.returns-in-Request-4-clause-does
-returns-in-Request-4-clause-does c = does_nothing c.args.self.now c.args.event.now c.args.out.now c.requires.rest c.requires.local c.in-Request.is
-
-pub returns-in-Request-5-clause-does : goal.returns-in-Request-5-clause-does
-returns-in-Request-5-clause-does c = does_nothing c.args.self.now c.args.event.now c.args.out.now c.requires.rest c.requires.local c.in-Request.is
