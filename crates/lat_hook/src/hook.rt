@@ -1,18 +1,35 @@
-//! A closure that rates how much is left.
+//! Rules of rating, and the closure that is one.
 
-ghost use Rattle.std.specs.Prelude.{◌≡◌, ◌≤◌, ◌↔◌};
-ghost use Rattle.lat_hook.specs.Hook.{HookFact};
+ghost use Rattle.std.specs.Prelude.{◌≡◌, ◌≤◌, ℕ};
+ghost use Rattle.lat_hook.specs.Rules.{TellsFullness, HookFact};
 
 /// A node's rule of rating: from the number of lines used and the number of all lines, both 0 to 65,535, to a rating of 0 to
-/// 255. It answers 0 exactly where all are used. That is known of the closure, and tested nowhere at run time. It takes no
-/// memory.
+/// 255. It answers 0 exactly where all are used. That is known of the rule, and tested nowhere at run time.
+pub trait RatingRule: Drop {
+    // The ratings that it may answer where so many of so many lines are used.
+    ghost may: { Self → ℕ → ℕ → ℕ → Type 0 };
+
+    // What must be known of a rule. No call changes a rule, so whoever knows it once knows it for good.
+    ghost fact: { Self → Type 0 };
+
+    /// The rule's answer where `used` of `max` are used. `used` is at most `max`. It takes no memory.
+    fn rate(&self, used: u16, max: u16) -> u8
+        requires fact { fact self.now }
+        requires within { used ≤ max }
+        ensures answer { may self.now used max result };
+
+    // Each answer is 0 exactly where all are used.
+    ghost full: { (rule : Self) → fact rule → TellsFullness (may rule) };
+}
+
+/// A closure as a rule of rating.
 #[derive(Drop)]
 pub struct RateHook<F> {
     rule: F,
 }
 
 impl<F: Fn(u16, u16) -> u8> RateHook<F> {
-    /// Keeps a rule that may be called wherever `used` is at most `max`, and there answers 0 exactly where they are equal.
+    /// Keeps a closure that may be called wherever `used` is at most `max`, and there answers 0 exactly where they are equal.
     pub fn new(rule: F) -> RateHook<F>
         requires { HookFact F.pre F.post rule }
         ensures kept { result.rule ≡ rule }
@@ -20,15 +37,18 @@ impl<F: Fn(u16, u16) -> u8> RateHook<F> {
     {
         RateHook { rule }
     }
+}
 
-    /// The rule's answer where `used` of `max` are used: 0 exactly where none is left. `used` is at most `max`. Whoever holds
-    /// a hook made by `new` knows the fact that is asked for.
-    pub fn rate(&self, used: u16, max: u16) -> u8
-        requires fact { HookFact F.pre F.post self.now.rule }
-        requires within { used ≤ max }
-        ensures answer { F.post self.now.rule used max result }
-        ensures full { (result ≡ 0) ↔ (used ≡ max) }
-    {
+impl<F: Fn(u16, u16) -> u8 + Drop> RatingRule for RateHook<F> {
+    ghost use Rattle.lat_hook.specs.Rules.{HookFact};
+
+    ghost may = { λ hook. F.post hook.rule };
+
+    ghost fact = { λ hook. HookFact F.pre F.post hook.rule };
+
+    ghost full = { λ hook known. known.full };
+
+    fn rate(&self, used: u16, max: u16) -> u8 {
         (self.rule)(used, max)
     }
 }

@@ -1,9 +1,6 @@
-//! The rule by which a node rates its services, kept as the caller's closure. `docs/DECISIONS.md`, "The rating hook",
-//! says what is known of it.
+//! The rules by which nodes rate their services. `docs/DECISIONS.md`, "The rating hook", says what is known of them.
 #![tactic(auto)]
 
 mod hook;
-#[cfg(test)]
-mod tests;
 
-pub use hook::RateHook;
+pub use hook::{RateHook, RatingRule};

@@ -1,5 +1,5 @@
 -- A node accepts an asked session for a line that has none.
-use Rattle.std.proofs.Common.{◌≡◌, ℕ, Bool, true, false, not, cond, ◌||◌, nat_eq, List, [], ◌∷◌, sym, ap, subst, ◌∙◌}
+use Rattle.std.proofs.Common.{◌≡◌, ℕ, Bool, true, false, not, cond, ◌||◌, nat_eq, List, [], ◌∷◌, refl, sym, ap, subst, ◌∙◌}
 use Rattle.std.proofs.lemmas.Bool.{not-false}
 use Rattle.lat_model.specs.Lists.{Each}
 use Rattle.lat_model.specs.sessions.Session.{free, waits}
@@ -17,7 +17,8 @@ use Rattle.lat_circuits.specs.Stands.{calling}
 use Rattle.lat_lines.specs.Kept.{Kept}
 use Rattle.lat_lines.specs.Later.{Leads}
 use Rattle.lat_lines.specs.Cores.{CoreLater}
-use Rattle.lat_lines.specs.Stands.{IsSeat, Stands}
+use Rattle.lat_lines.specs.Opens.{accepted_core}
+use Rattle.lat_lines.specs.Stands.{IsSeat, Stands, freed_key, freed_from, freed_between}
 use Rattle.lat_lines.proofs.later.Calls.{called_later, answered_leads}
 use Rattle.lat_lines.proofs.settling.Held.{IsStood, stood_at}
 use Rattle.lat_lines.proofs.settling.Seats.{Between, still_over}
@@ -71,3 +72,13 @@ accepted_leads k s x id c st l w m =
     let slave : t.master ≡ false = sym (called_later (Answer id) t at.good at.begun).master ∙ sym (ap (λ (e : End). e.half.sessions.master) is) ∙ m in
     let leads : Leads (call t (Answer id)) id (t.at_id id) = answered_leads t id at.good slave w in
     subst (λ (e : End). Leads e.half.sessions id (e.half.sessions.at_id id)) (sym is) (subst (Leads (call t (Answer id)) id) (sym leads.at_id) leads)
+
+-- the session that it accepts frees none
+
+accepted_from : (k : Side) (line x id : ℕ) (b c : Core) (ss : List Seat) → freed_from b (calling k x (Answer id) c) ss ≡ freed_from b (accepted_core k line x id c) ss
+accepted_from k line x id b c [] = refl
+accepted_from k line x id b c (s ∷ ss) =
+    ap (λ ks. cond (over b s) ks (cond (over (calling k x (Answer id) c) s) (freed_key s.key ks) ks)) (accepted_from k line x id b c ss)
+
+pub accepted_frees : (k : Side) (line x id : ℕ) (c : Core) → freed_between c (calling k x (Answer id) c) ≡ freed_between c (accepted_core k line x id c)
+accepted_frees k line x id c = accepted_from k line x id c c c.seats

@@ -11,7 +11,7 @@ ghost use Rattle.lat_machines.specs.cores.Cores.{Core, span};
 ghost use Rattle.lat_machines.specs.cores.Hearing.{names};
 ghost use Rattle.lat_machines.specs.cores.Lines.{holds, used, ended, told_count, line_exists, line_state, waiting_at};
 ghost use Rattle.lat_session.specs.States.{asked_at};
-ghost use Rattle.lat_stream.specs.Kept.{state_shown};
+ghost use Rattle.lat_stream.specs.Kept.{state_shown, told_total};
 ghost use Rattle.lat_circuits.specs.Kept.{has_id};
 ghost use Rattle.lat_circuits.specs.Told.{span_told, is_asked_at};
 ghost use Rattle.lat_circuits.specs.Opens.{id_told};
@@ -70,6 +70,13 @@ impl Lines {
         ensures model { (c : Core) → Stands self.now c → result ≡ used c }
     {
         self.seats.len() as u16
+    }
+
+    /// How many sessions lines have had. It stops at the greatest number of 64 bits.
+    pub fn made(&self) -> u64
+        ensures { (c : Core) → Stands self.now c → result ≡ told_total (length c.seats) }
+    {
+        self.made
     }
 
     /// How many line sessions are over. It stops at the greatest number of 32 bits.

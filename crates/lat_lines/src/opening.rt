@@ -1,6 +1,6 @@
 //! Sessions that a server connects, and that a node accepts.
 
-ghost use Rattle.std.specs.Prelude.{◌≡◌, ℕ, ◌≤◌, ◌+◌, ◌&&◌, true, false, [], length, None, IfOk, OnOk, OnErr};
+ghost use Rattle.std.specs.Prelude.{◌≡◌, ℕ, ◌≤◌, ◌+◌, ◌&&◌, true, false, [], map, length, None, IfOk, OnOk, OnErr};
 ghost use Rattle.lat_model.specs.ends.End.{lives};
 ghost use Rattle.lat_model.specs.sessions.Calls.{Connect, Refuse};
 ghost use Rattle.lat_model.specs.sessions.Session.{waits};
@@ -9,7 +9,7 @@ ghost use Rattle.lat_machines.specs.values.Addresses.{address};
 ghost use Rattle.lat_machines.specs.cores.Cores.{Core};
 ghost use Rattle.lat_machines.specs.cores.Lines.{holds};
 ghost use Rattle.lat_machines.specs.server.Server.{ServerConfig, server_side, has_room, can_open, opens};
-ghost use Rattle.lat_queue.specs.Histories.{some_key};
+ghost use Rattle.lat_queue.specs.Histories.{key_in, some_key};
 ghost use Rattle.lat_payload.specs.Frames.{Adds};
 ghost use Rattle.lat_circuit.specs.Agrees.{IsTiming};
 ghost use Rattle.lat_circuits.specs.Kept.{side_of as circuits_side, IsClear, SameCore, SameCircuits, has_id};
@@ -17,7 +17,7 @@ ghost use Rattle.lat_circuits.specs.Stands.{calling, Did, Stands as CircuitsStan
 ghost use Rattle.lat_circuits.specs.Told.{telling};
 ghost use Rattle.lat_lines.specs.Later.{Leads};
 ghost use Rattle.lat_lines.specs.Kept.{side_of, SameLines, IsLine};
-ghost use Rattle.lat_lines.specs.Stands.{Stands, session_shown};
+ghost use Rattle.lat_lines.specs.Stands.{Stands, freed_between, session_shown};
 ghost use Rattle.lat_lines.specs.Opens.{opening, way, MayCall, reaches, reached, seated_core, session_begun, accepted_core, request_of};
 
 use crate::getters::seat_of;
@@ -100,7 +100,8 @@ impl Lines {
         Ok((circuit, session))
     }
 
-    /// Accepts the asked session of this id for a line without a session, at a node.
+    /// Accepts the asked session of this id for a line without a session, at a node. `freed` tells then whose sessions became
+    /// free.
     pub fn accept(&mut self, line: u8, circuit: u16, id: u8)
         requires node { self.old.circuits.server ≡ false }
         requires line { IsLine self.old.lines line }
@@ -110,6 +111,9 @@ impl Lines {
             lives (c.circuits.circuit_at circuit).end ≡ true →
             waits (named (c.circuits.circuit_at circuit).end.half.sessions id) ≡ true →
             Stands self.new (accepted_core (side_of self.old) line circuit id c) }
+        ensures freed { (c : Core) →
+            Stands self.old c →
+            map key_in self.new.freed ≡ freed_between c (accepted_core (side_of self.old) line circuit id c) }
         ensures same { SameLines self.old self.new }
     {
         self.circuits.answer(circuit, id);
@@ -117,10 +121,13 @@ impl Lines {
         self.seat(line, None, circuit, id);
     }
 
-    /// Rejects the asked session of this id for a reason, 0 to 15, at a node.
+    /// Rejects the asked session of this id for a reason, 0 to 15, at a node. `freed` tells then whose sessions became free.
     pub fn reject(&mut self, circuit: u16, id: u8, reason: u8)
         requires reason { reason ≤ 15 }
         ensures state { (c : Core) → Stands self.old c → Stands self.new (calling (side_of self.old) circuit (Refuse id reason) c) }
+        ensures freed { (c : Core) →
+            Stands self.old c →
+            map key_in self.new.freed ≡ freed_between c (calling (side_of self.old) circuit (Refuse id reason) c) }
         ensures same { SameLines self.old self.new }
     {
         self.circuits.reject(circuit, id, reason);

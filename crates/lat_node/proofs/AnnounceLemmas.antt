@@ -122,18 +122,18 @@ announcement_writable a ns timer groups node bare few all is =
     count = sym (length_map service_shown a.services) ∙ ap length is ∙ length_rated ns (ratings a.services)
 
 -- it is the machine's
-pub announced_as : {F : Type 0} (post : F → ℕ → ℕ → ℕ → Type 0) (k : Kept F) (held timer incarnation : ℕ) (groups : List ℕ) (node : Name) (bare : List ℕ) (ss : List notices.Service) →
+pub announced_as : {H : Type 0} (may : H → ℕ → ℕ → ℕ → Type 0) (k : Kept H) (held timer incarnation : ℕ) (groups : List ℕ) (node : Name) (bare : List ℕ) (ss : List notices.Service) →
     timer ≡ k.timer → incarnation ≡ k.incarnation → groups ≡ k.groups → node ≡ k.lines.circuits.name → bare ≡ [] →
-    map service_shown ss ≡ rated k.services (ratings ss) → Each (post k.rule held k.lines.lines) (ratings ss) →
-    IsAnnounced post k held (variants.Announcement (record { timer = timer; incarnation = incarnation; groups = groups; node = node; description = bare; services = ss }))
-announced_as post k held timer incarnation groups node bare ss is_timer is_incarnation is_groups is_node is_bare is each = record {
+    map service_shown ss ≡ rated k.services (ratings ss) → Each (may k.rule held k.lines.lines) (ratings ss) →
+    IsAnnounced may k held (variants.Announcement (record { timer = timer; incarnation = incarnation; groups = groups; node = node; description = bare; services = ss }))
+announced_as may k held timer incarnation groups node bare ss is_timer is_incarnation is_groups is_node is_bare is each = record {
   rates = ratings ss;
   count = ratings_count k.services ss is;
   each = each;
   is = cc;
 }
 
-pub response_as : {F : Type 0} (k : Kept F) (to id : ℕ) (service : Name) (rate : ℕ) (node : Name) (timer : ℕ) → node ≡ k.lines.circuits.name → timer ≡ k.timer →
+pub response_as : {H : Type 0} (k : Kept H) (to id : ℕ) (service : Name) (rate : ℕ) (node : Name) (timer : ℕ) → node ≡ k.lines.circuits.name → timer ≡ k.timer →
     expected (machines.plain to 0 (machines.OfNotice (ResponseNotice (record { id = id; node = node; service = service; rating = rate; timer = timer })))) ≡ expected (response (config_of k) to id service rate)
 response_as k to id service rate node timer is_node is_timer =
     ap (λ n. expected (machines.plain to 0 (machines.OfNotice (ResponseNotice (record { id = id; node = n; service = service; rating = rate; timer = timer }))))) is_node
@@ -141,25 +141,25 @@ response_as k to id service rate node timer is_node is_timer =
 
 -- what goes out
 
-pub announced_rated : {F : Type 0} (post : F → ℕ → ℕ → ℕ → Type 0) (k : Kept F) (s : Node) (held : ℕ) (n : Notice) (f : OutFrame) (before after : List OutFrame) →
-    held ≡ used s.core → IsAnnounced post k held n → seen f ≡ expected (machines.plain everyone 0 (machines.OfNotice (notice_shown n))) → after ≡ before ++ f ∷ [] →
-    Rated post k s (announces (config_of k) s) (length k.services) before after
-announced_rated post k s held n f before after lines a goes is = record {
+pub announced_rated : {H : Type 0} (may : H → ℕ → ℕ → ℕ → Type 0) (k : Kept H) (s : Node) (held : ℕ) (n : Notice) (f : OutFrame) (before after : List OutFrame) →
+    held ≡ used s.core → IsAnnounced may k held n → seen f ≡ expected (machines.plain everyone 0 (machines.OfNotice (notice_shown n))) → after ≡ before ++ f ∷ [] →
+    Rated may k s (announces (config_of k) s) (length k.services) before after
+announced_rated may k s held n f before after lines a goes is = record {
   rates = a.rates;
   count = a.count;
-  each = subst (λ u. Each (post k.rule u k.lines.lines) a.rates) lines a.each;
+  each = subst (λ u. Each (may k.rule u k.lines.lines) a.rates) lines a.each;
   frames = subst (Adds (announcement (config_of k) a.rates ∷ []) before) (sym is) (adds_one (announcement (config_of k) a.rates) f before (goes ∙ ap expected a.is));
 }
 
-pub response_rated : {F : Type 0} (post : F → ℕ → ℕ → ℕ → Type 0) (k : Kept F) (s : Node) (held to id : ℕ) (service : Name) (rate : ℕ) (n : Notice) (e f : OutFrame) (before between after : List OutFrame) →
-    held ≡ used s.core → IsAnnounced post k held n → post k.rule held k.lines.lines rate →
+pub response_rated : {H : Type 0} (may : H → ℕ → ℕ → ℕ → Type 0) (k : Kept H) (s : Node) (held to id : ℕ) (service : Name) (rate : ℕ) (n : Notice) (e f : OutFrame) (before between after : List OutFrame) →
+    held ≡ used s.core → IsAnnounced may k held n → may k.rule held k.lines.lines rate →
     seen e ≡ expected (response (config_of k) to id service rate) → between ≡ before ++ e ∷ [] →
     seen f ≡ expected (machines.plain everyone 0 (machines.OfNotice (notice_shown n))) → after ≡ between ++ f ∷ [] →
-    Rated post k s (λ rates. solicited (config_of k) rates s to id (Some service)) (suc (length k.services)) before after
-response_rated post k s held to id service rate n e f before between after lines a one goes_first first goes then = record {
+    Rated may k s (λ rates. solicited (config_of k) rates s to id (Some service)) (suc (length k.services)) before after
+response_rated may k s held to id service rate n e f before between after lines a one goes_first first goes then = record {
   rates = rate ∷ a.rates;
   count = ap suc a.count;
-  each = subst (λ u. Each (post k.rule u k.lines.lines) (rate ∷ a.rates)) lines (one, a.each);
+  each = subst (λ u. Each (may k.rule u k.lines.lines) (rate ∷ a.rates)) lines (one, a.each);
   frames =
       adds_then (r ∷ []) (m ∷ []) before between after
       (subst (Adds (r ∷ []) before) (sym first) (adds_one r e before goes_first))
@@ -172,10 +172,10 @@ response_rated post k s held to id service rate n e f before between after lines
     m : machines.OutFrame
     m = announcement (config_of k) a.rates
 
-pub ignored_rated : {F : Type 0} (post : F → ℕ → ℕ → ℕ → Type 0) (k : Kept F) (s : Node) (from id : ℕ) (o : Option Name) (before : List OutFrame) → o ≡ None →
-    Rated post k s (λ rates. solicited (config_of k) rates s from id o) (ratings_for (config_of k) o) before before
-ignored_rated post k s from id o before none =
-    subst (λ (x : Option Name). Rated post k s (λ rates. solicited (config_of k) rates s from id x) (ratings_for (config_of k) x) before before) (sym none)
+pub ignored_rated : {H : Type 0} (may : H → ℕ → ℕ → ℕ → Type 0) (k : Kept H) (s : Node) (from id : ℕ) (o : Option Name) (before : List OutFrame) → o ≡ None →
+    Rated may k s (λ rates. solicited (config_of k) rates s from id o) (ratings_for (config_of k) o) before before
+ignored_rated may k s from id o before none =
+    subst (λ (x : Option Name). Rated may k s (λ rates. solicited (config_of k) rates s from id x) (ratings_for (config_of k) x) before before) (sym none)
     (record { rates = []; count = refl; each = tt; frames = adds_none before })
 
 -- the service that a Solicit finds

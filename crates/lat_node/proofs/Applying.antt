@@ -20,34 +20,34 @@ use Rattle.lat_node.proofs.StepLemmas.{with_lines, called}
 use Rattle.lat_node.proofs.FrameLemmas.{IsQuiet, steps_quiet, steps_announce}
 
 -- an event of the core, as the machines know it
-pub steps_event : {F : Type 0} (post : F → ℕ → ℕ → ℕ → Type 0) (k l : Kept F) (e : base_event.Event) (x : Event) (result : Result base.Answer Memory) (before after : List OutFrame) → event_shown e ≡ x →
-    IfOk result (λ a. Steps post x k l a before after) → IfOk result (λ a. Steps post (event_shown e) k l a before after)
-steps_event post k l e x result before after is steps = subst (λ (y : Event). IfOk result (λ a. Steps post y k l a before after)) (sym is) steps
+pub steps_event : {H : Type 0} (may : H → ℕ → ℕ → ℕ → Type 0) (k l : Kept H) (e : base_event.Event) (x : Event) (result : Result base.Answer Memory) (before after : List OutFrame) → event_shown e ≡ x →
+    IfOk result (λ a. Steps may x k l a before after) → IfOk result (λ a. Steps may (event_shown e) k l a before after)
+steps_event may k l e x result before after is steps = subst (λ (y : Event). IfOk result (λ a. Steps may y k l a before after)) (sym is) steps
 
 -- one that asks for no ratings
-pub steps_does : {F : Type 0} (post : F → ℕ → ℕ → ℕ → Type 0) (k l : Kept F) (e : base_event.Event) (x : Event) (result : Result base.Answer Memory) (before after : List OutFrame) → event_shown e ≡ x → IsQuiet x →
-    IfOk result (λ a. Does (λ config s. node_step config [] s x) k l a before after) → IfOk result (λ a. Steps post (event_shown e) k l a before after)
-steps_does post k l e x (Ok a) before after is quiet does = subst (λ (y : Event). Steps post y k l a before after) (sym is) (steps_quiet post k l x a before after quiet does)
-steps_does post k l e x (Err m) before after is quiet does = tt
+pub steps_does : {H : Type 0} (may : H → ℕ → ℕ → ℕ → Type 0) (k l : Kept H) (e : base_event.Event) (x : Event) (result : Result base.Answer Memory) (before after : List OutFrame) → event_shown e ≡ x → IsQuiet x →
+    IfOk result (λ a. Does (λ config s. node_step config [] s x) k l a before after) → IfOk result (λ a. Steps may (event_shown e) k l a before after)
+steps_does may k l e x (Ok a) before after is quiet does = subst (λ (y : Event). Steps may y k l a before after) (sym is) (steps_quiet may k l x a before after quiet does)
+steps_does may k l e x (Err m) before after is quiet does = tt
 
 -- a take
-pub steps_take : {F : Type 0} (post : F → ℕ → ℕ → ℕ → Type 0) (k old : Kept F) (l : lines.Kept) (e : base_event.Event) (line n : ℕ) (result : Result base.Answer Memory) (before : List OutFrame) → k ≡ old → k.lines.circuits.server ≡ false →
+pub steps_take : {H : Type 0} (may : H → ℕ → ℕ → ℕ → Type 0) (k old : Kept H) (l : lines.Kept) (e : base_event.Event) (line n : ℕ) (result : Result base.Answer Memory) (before : List OutFrame) → k ≡ old → k.lines.circuits.server ≡ false →
     event_shown e ≡ Takes line n → IfOk result (λ a. Says (λ d. on_line k.lines.lines d line (λ x. take_on (lines.side_of k.lines) d x n)) k.lines l a) →
-    IfOk result (λ a. Steps post (event_shown e) old (with_lines k l) a before before)
-steps_take {F = F} post k old l e line n (Ok a) before same node is says =
-    subst (λ (z : Kept F). Steps post (event_shown e) z (with_lines k l) a before before) same
-    (subst (λ (y : Event). Steps post y k (with_lines k l) a before before) (sym is)
-    (steps_quiet post k (with_lines k l) (Takes line n) a before before tt (called k l (λ (side : Side) d. on_line k.lines.lines d line (λ x. take_on side d x n)) a before node says)))
-steps_take post k old l e line n (Err m) before same node is says = tt
+    IfOk result (λ a. Steps may (event_shown e) old (with_lines k l) a before before)
+steps_take {H = H} may k old l e line n (Ok a) before same node is says =
+    subst (λ (z : Kept H). Steps may (event_shown e) z (with_lines k l) a before before) same
+    (subst (λ (y : Event). Steps may y k (with_lines k l) a before before) (sym is)
+    (steps_quiet may k (with_lines k l) (Takes line n) a before before tt (called k l (λ (side : Side) d. on_line k.lines.lines d line (λ x. take_on side d x n)) a before node says)))
+steps_take may k old l e line n (Err m) before same node is says = tt
 
 -- an announcement
-pub steps_announced : {F : Type 0} (post : F → ℕ → ℕ → ℕ → Type 0) (k : Kept F) (e : base_event.Event) (result : Result base.Answer Memory) (before after : List OutFrame) → event_shown e ≡ Announces →
-    IfOk result (λ a. a ≡ answers.Done) → ((s : Node) → Stands k s → OnOk result (Rated post k s (announces (config_of k) s) (length k.services) before after)) →
-    IfOk result (λ a. Steps post (event_shown e) k k a before after)
-steps_announced post k e (Ok a) before after is done rated =
-    subst (λ (y : Event). Steps post y k k a before after) (sym is)
-    (subst (λ (z : base.Answer). Steps post Announces k k z before after) (sym done) (steps_announce post k before after rated))
-steps_announced post k e (Err m) before after is done rated = tt
+pub steps_announced : {H : Type 0} (may : H → ℕ → ℕ → ℕ → Type 0) (k : Kept H) (e : base_event.Event) (result : Result base.Answer Memory) (before after : List OutFrame) → event_shown e ≡ Announces →
+    IfOk result (λ a. a ≡ answers.Done) → ((s : Node) → Stands k s → OnOk result (Rated may k s (announces (config_of k) s) (length k.services) before after)) →
+    IfOk result (λ a. Steps may (event_shown e) k k a before after)
+steps_announced may k e (Ok a) before after is done rated =
+    subst (λ (y : Event). Steps may y k k a before after) (sym is)
+    (subst (λ (z : base.Answer). Steps may Announces k k z before after) (sym done) (steps_announce may k before after rated))
+steps_announced may k e (Err m) before after is done rated = tt
 
 -- the other events take no memory
 pub act_of : (e : base_event.Event) → ((from : _) (payload : _) (now : _) → e ≡ events.Heard from payload now → ⊥) → ((line : _) (n : _) → e ≡ events.Take line n → ⊥) → ((to : _) (id : _) (service : _) → e ≡ events.Request to id service → ⊥)

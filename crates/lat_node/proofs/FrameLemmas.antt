@@ -26,23 +26,23 @@ use Rattle.lat_node.specs.Stands.{Stands, Machine, IsMachine, Frames}
 use Rattle.lat_node.specs.Events.{Does, Steps, Rated, ratings_for, IsAct}
 
 -- as many ratings as are asked for give the frames of an event
-pub frames_rated : {F : Type 0} (post : F → ℕ → ℕ → ℕ → Type 0) (k : Kept F) (m : Machine F) (e : base.Event) (after : List OutFrame) → IsMachine k m →
-    Rated post k m.state (λ rates. node_step (config_of k) rates m.state (event_shown e)) (rates_of (config_of k) (node_step (config_of k) [] m.state (event_shown e)).answer (event_shown e)) [] after →
-    Frames post m e after
-frames_rated {F = F} post k m e after is r =
-    subst (λ (c : NodeConfig). (made : List machine.OutFrame) × NodeFrames (post m.rule) c m.state (event_shown e) made × (map seen after ≡ map expected made)) (sym is.config)
-    (subst (λ (f : F). (made : List machine.OutFrame) × NodeFrames (post f) (config_of k) m.state (event_shown e) made × (map seen after ≡ map expected made)) (sym is.rule) (
+pub frames_rated : {H : Type 0} (may : H → ℕ → ℕ → ℕ → Type 0) (k : Kept H) (m : Machine H) (e : base.Event) (after : List OutFrame) → IsMachine k m →
+    Rated may k m.state (λ rates. node_step (config_of k) rates m.state (event_shown e)) (rates_of (config_of k) (node_step (config_of k) [] m.state (event_shown e)).answer (event_shown e)) [] after →
+    Frames may m e after
+frames_rated {H = H} may k m e after is r =
+    subst (λ (c : NodeConfig). (made : List machine.OutFrame) × NodeFrames (may m.rule) c m.state (event_shown e) made × (map seen after ≡ map expected made)) (sym is.config)
+    (subst (λ (f : H). (made : List machine.OutFrame) × NodeFrames (may f) (config_of k) m.state (event_shown e) made × (map seen after ≡ map expected made)) (sym is.rule) (
       (node_step (config_of k) r.rates m.state (event_shown e)).frames,
       (r.rates, record { count = r.count ∙ ap (λ a. rates_of (config_of k) a (event_shown e)) (same_but_frames (config_of k) [] r.rates m.state (event_shown e)).answer; each = r.each }, refl),
       r.frames,
     ))
 
 -- an event without ratings
-pub unrated : {F : Type 0} (post : F → ℕ → ℕ → ℕ → Type 0) (k : Kept F) (s : Node) (e : Event) (before after : List OutFrame) →
+pub unrated : {H : Type 0} (may : H → ℕ → ℕ → ℕ → Type 0) (k : Kept H) (s : Node) (e : Event) (before after : List OutFrame) →
     rates_of (config_of k) (node_step (config_of k) [] s e).answer e ≡ 0 →
     Adds (node_step (config_of k) [] s e).frames before after →
-    Rated post k s (λ rates. node_step (config_of k) rates s e) (rates_of (config_of k) (node_step (config_of k) [] s e).answer e) before after
-unrated post k s e before after none adds = record { rates = []; count = sym none; each = tt; frames = adds }
+    Rated may k s (λ rates. node_step (config_of k) rates s e) (rates_of (config_of k) (node_step (config_of k) [] s e).answer e) before after
+unrated may k s e before after none adds = record { rates = []; count = sym none; each = tt; frames = adds }
 
 -- the answers that ask for none
 abbrev Quiet : NodeConfig → Event → Answer → Type 0
@@ -116,15 +116,15 @@ solicited_rates config rates s from id (Some service) x r k now = refl
 
 -- an event without ratings, whole
 
-pub steps_quiet : {F : Type 0} (post : F → ℕ → ℕ → ℕ → Type 0) (k l : Kept F) (e : Event) (answer : base_answer.Answer) (before after : List OutFrame) →
-    IsQuiet e → Does (λ config s. node_step config [] s e) k l answer before after → Steps post e k l answer before after
-steps_quiet post k l e answer before after q does = λ s st.
+pub steps_quiet : {H : Type 0} (may : H → ℕ → ℕ → ℕ → Type 0) (k l : Kept H) (e : Event) (answer : base_answer.Answer) (before after : List OutFrame) →
+    IsQuiet e → Does (λ config s. node_step config [] s e) k l answer before after → Steps may e k l answer before after
+steps_quiet may k l e answer before after q does = λ s st.
     let d = does s st in
-    (d.0, d.1, unrated post k s e before after (quiet (config_of k) s e q) d.2)
+    (d.0, d.1, unrated may k s e before after (quiet (config_of k) s e q) d.2)
 
-pub steps_announce : {F : Type 0} (post : F → ℕ → ℕ → ℕ → Type 0) (k : Kept F) (before after : List OutFrame) →
-    ((s : Node) → Stands k s → Rated post k s (λ rates. node_step (config_of k) rates s Announces) (length k.services) before after) → Steps post Announces k k answers.Done before after
-steps_announce post k before after rated = λ s st. (st, refl, rated s st)
+pub steps_announce : {H : Type 0} (may : H → ℕ → ℕ → ℕ → Type 0) (k : Kept H) (before after : List OutFrame) →
+    ((s : Node) → Stands k s → Rated may k s (λ rates. node_step (config_of k) rates s Announces) (length k.services) before after) → Steps may Announces k k answers.Done before after
+steps_announce may k before after rated = λ s st. (st, refl, rated s st)
 
 pub act_quiet : (e : base.Event) → IsAct e → IsQuiet (event_shown e)
 act_quiet (events.Heard from payload now) a = absurd a

@@ -27,21 +27,21 @@ abbrev pub passed : ℕ → Node → Node
 passed now s = with_core s (at_moment now s.core)
 
 -- it went on to the moment of the frame
-abbrev pub Passed : {F : Type 0} → ℕ → (old new : Kept F) → Type 0
+abbrev pub Passed : {H : Type 0} → ℕ → (old new : Kept H) → Type 0
 Passed now old new = (s : Node) → Stands old s → Stands new (passed now s)
 
 -- a step of an event, of one state
-abbrev Stepped : {F : Type 0} → (F → ℕ → ℕ → ℕ → Type 0) → Event → (old new : Kept F) → Node → base.Answer → (before after : List OutFrame) → Type 0
-Stepped post e old new s answer before after =
+abbrev Stepped : {H : Type 0} → (H → ℕ → ℕ → ℕ → Type 0) → Event → (old new : Kept H) → Node → base.Answer → (before after : List OutFrame) → Type 0
+Stepped may e old new s answer before after =
     Stands new (node_step (config_of old) [] s e).state
     × (answer_shown answer ≡ (node_step (config_of old) [] s e).answer)
-    × Rated post old s (λ rates. node_step (config_of old) rates s e) (rates_of (config_of old) (node_step (config_of old) [] s e).answer e) before after
+    × Rated may old s (λ rates. node_step (config_of old) rates s e) (rates_of (config_of old) (node_step (config_of old) [] s e).answer e) before after
 
 -- one that is the same whatever the ratings, and asks for none
-stepped : {F : Type 0} (post : F → ℕ → ℕ → ℕ → Type 0) (e : Event) (k l : Kept F) (s : Node) (answer : base.Answer) (before after : List OutFrame) (t : NodeStep) →
+stepped : {H : Type 0} (may : H → ℕ → ℕ → ℕ → Type 0) (e : Event) (k l : Kept H) (s : Node) (answer : base.Answer) (before after : List OutFrame) (t : NodeStep) →
     ((rates : List ℕ) → node_step (config_of k) rates s e ≡ t) → rates_of (config_of k) t.answer e ≡ 0 →
-    Stands l t.state → answer_shown answer ≡ t.answer → Adds t.frames before after → Stepped post e k l s answer before after
-stepped post e k l s answer before after t same none st told adds = (
+    Stands l t.state → answer_shown answer ≡ t.answer → Adds t.frames before after → Stepped may e k l s answer before after
+stepped may e k l s answer before after t same none st told adds = (
   subst (λ (x : NodeStep). Stands l x.state) (sym (same [])) st,
   told ∙ ap (λ (x : NodeStep). x.answer) (sym (same [])),
   record {
@@ -53,18 +53,18 @@ stepped post e k l s answer before after t same none st told adds = (
 )
 
 -- a payload with a bad field
-pub steps_bad : {F : Type 0} (post : F → ℕ → ℕ → ℕ → Type 0) (k l : Kept F) (from now : ℕ) (reading : Reading) (bad : Bad) (before : List OutFrame) →
-    Passed now k l → reading ≡ malformed bad → Steps post (Hears from reading None now) k l (answers.Bad bad) before before
-steps_bad {F = F} post k l from now reading bad before p is =
-    subst (λ (r : Reading). Steps post (Hears from r None now) k l (answers.Bad bad) before before) (sym is)
-    (λ s st. stepped post (Hears from (malformed bad) None now) k l s (answers.Bad bad) before before (node_step (config_of k) [] s (Hears from (malformed bad) None now))
+pub steps_bad : {H : Type 0} (may : H → ℕ → ℕ → ℕ → Type 0) (k l : Kept H) (from now : ℕ) (reading : Reading) (bad : Bad) (before : List OutFrame) →
+    Passed now k l → reading ≡ malformed bad → Steps may (Hears from reading None now) k l (answers.Bad bad) before before
+steps_bad {H = H} may k l from now reading bad before p is =
+    subst (λ (r : Reading). Steps may (Hears from r None now) k l (answers.Bad bad) before before) (sym is)
+    (λ s st. stepped may (Hears from (malformed bad) None now) k l s (answers.Bad bad) before before (node_step (config_of k) [] s (Hears from (malformed bad) None now))
     (λ rates. refl) refl (p s st) refl (adds_none before))
 
 -- a payload that reads as a value
-pub steps_read : {F : Type 0} (post : F → ℕ → ℕ → ℕ → Type 0) (k l : Kept F) (from now : ℕ) (reading : Reading) (v : Value) (result : Result base.Answer Memory) (before after : List OutFrame) →
-    reading ≡ Whole v → IfOk result (λ a. Steps post (Hears from (Whole v) None now) k l a before after) → IfOk result (λ a. Steps post (Hears from reading None now) k l a before after)
-steps_read post k l from now reading v result before after is steps =
-    subst (λ (r : Reading). IfOk result (λ a. Steps post (Hears from r None now) k l a before after)) (sym is) steps
+pub steps_read : {H : Type 0} (may : H → ℕ → ℕ → ℕ → Type 0) (k l : Kept H) (from now : ℕ) (reading : Reading) (v : Value) (result : Result base.Answer Memory) (before after : List OutFrame) →
+    reading ≡ Whole v → IfOk result (λ a. Steps may (Hears from (Whole v) None now) k l a before after) → IfOk result (λ a. Steps may (Hears from reading None now) k l a before after)
+steps_read may k l from now reading v result before after is steps =
+    subst (λ (r : Reading). IfOk result (λ a. Steps may (Hears from r None now) k l a before after)) (sym is) steps
 
 -- by the address of everyone
 
@@ -74,21 +74,21 @@ of_everyone config s from now v e rates = ap (λ b. cond b (tells (passed now s)
 of_station : (config : NodeConfig) (s : Node) (from now : ℕ) (v : Value) → nat_eq from everyone ≡ false → (rates : List ℕ) → node_step config rates s (Hears from (Whole v) None now) ≡ hears_value config rates (passed now s) from v None
 of_station config s from now v e rates = ap (λ b. cond b (tells (passed now s) Ignored) (hears_value config rates (passed now s) from v None)) e
 
-pub steps_everyone : {F : Type 0} (post : F → ℕ → ℕ → ℕ → Type 0) (k l : Kept F) (from now : ℕ) (v : Value) (before : List OutFrame) →
-    nat_eq from everyone ≡ true → Passed now k l → Steps post (Hears from (Whole v) None now) k l answers.Ignored before before
-steps_everyone post k l from now v before e p = λ s st.
-    stepped post (Hears from (Whole v) None now) k l s answers.Ignored before before (tells (passed now s) Ignored)
+pub steps_everyone : {H : Type 0} (may : H → ℕ → ℕ → ℕ → Type 0) (k l : Kept H) (from now : ℕ) (v : Value) (before : List OutFrame) →
+    nat_eq from everyone ≡ true → Passed now k l → Steps may (Hears from (Whole v) None now) k l answers.Ignored before before
+steps_everyone may k l from now v before e p = λ s st.
+    stepped may (Hears from (Whole v) None now) k l s answers.Ignored before before (tells (passed now s) Ignored)
     (of_everyone (config_of k) s from now v e) refl (p s st) refl (adds_none before)
 
 -- a circuit message of a station
-pub steps_message : {F : Type 0} (post : F → ℕ → ℕ → ℕ → Type 0) (k l : Kept F) (from now : ℕ) (v : Value) (m : Message) (answer : base.Answer) (before after : List OutFrame) →
+pub steps_message : {H : Type 0} (may : H → ℕ → ℕ → ℕ → Type 0) (k l : Kept H) (from now : ℕ) (v : Value) (m : Message) (answer : base.Answer) (before after : List OutFrame) →
     v ≡ OfCircuit m → nat_eq from everyone ≡ false → Does (λ config s. hears_message config (with_core s (at_moment now s.core)) from m None) k l answer before after →
-    Steps post (Hears from (Whole v) None now) k l answer before after
-steps_message post k l from now v m answer before after is e does =
-    subst (λ (x : Value). Steps post (Hears from (Whole x) None now) k l answer before after) (sym is)
+    Steps may (Hears from (Whole v) None now) k l answer before after
+steps_message may k l from now v m answer before after is e does =
+    subst (λ (x : Value). Steps may (Hears from (Whole x) None now) k l answer before after) (sym is)
     (λ s st.
     let d = does s st in
-    stepped post (Hears from (Whole (OfCircuit m)) None now) k l s answer before after (hears_message (config_of k) (passed now s) from m None)
+    stepped may (Hears from (Whole (OfCircuit m)) None now) k l s answer before after (hears_message (config_of k) (passed now s) from m None)
     (of_station (config_of k) s from now (OfCircuit m) e) (quiet_message (config_of k) (passed now s) from m from (Whole (OfCircuit m)) None now) d.0 d.1 d.2)
 
 -- a notice of a station
@@ -127,12 +127,12 @@ of_notices config rates s t from (SolicitNotice n) x now r =
     }
 
 -- what was answered to it and sent, and then the moment
-pub steps_notice : {F : Type 0} (post : F → ℕ → ℕ → ℕ → Type 0) (k l : Kept F) (from now : ℕ) (n : Notice) (answer : base.Answer) (before after : List OutFrame) →
+pub steps_notice : {H : Type 0} (may : H → ℕ → ℕ → ℕ → Type 0) (k l : Kept H) (from now : ℕ) (n : Notice) (answer : base.Answer) (before after : List OutFrame) →
     nat_eq from everyone ≡ false → Passed now k l →
     ((s : Node) → Stands k s → answer_shown answer ≡ (hears_notice (config_of k) [] s from n).answer) →
-    ((s : Node) → Stands k s → Rated post k s (λ rates. hears_notice (config_of k) rates s from n) (notice_ratings (config_of k) n) before after) →
-    Steps post (Hears from (Whole (OfNotice n)) None now) k l answer before after
-steps_notice {F = F} post k l from now n answer before after e p told rated s st = (
+    ((s : Node) → Stands k s → Rated may k s (λ rates. hears_notice (config_of k) rates s from n) (notice_ratings (config_of k) n) before after) →
+    Steps may (Hears from (Whole (OfNotice n)) None now) k l answer before after
+steps_notice {H = H} may k l from now n answer before after e p told rated s st = (
   subst (Stands l) ((of_notices (config_of k) [] s (passed now s) from n from now (Whole (OfNotice n))).state ∙ ap (λ (x : NodeStep). x.state) (sym (is []))) (p s st),
   told s st ∙ (of_notices (config_of k) [] s (passed now s) from n from now (Whole (OfNotice n))).answer ∙ ap (λ (x : NodeStep). x.answer) (sym (is [])),
   record {
@@ -146,9 +146,9 @@ steps_notice {F = F} post k l from now n answer before after e p told rated s st
     is : (rates : List ℕ) → node_step (config_of k) rates s (Hears from (Whole (OfNotice n)) None now) ≡ hears_notice (config_of k) rates (passed now s) from n
     is = of_station (config_of k) s from now (OfNotice n) e
 
-    r : Rated post k s (λ rates. hears_notice (config_of k) rates s from n) (notice_ratings (config_of k) n) before after
+    r : Rated may k s (λ rates. hears_notice (config_of k) rates s from n) (notice_ratings (config_of k) n) before after
     r = rated s st
 
 -- what asks for no ratings
-pub rated_none : {F : Type 0} (post : F → ℕ → ℕ → ℕ → Type 0) (k : Kept F) (s : Node) (t : List ℕ → NodeStep) (before : List OutFrame) → (t []).frames ≡ [] → Rated post k s t 0 before before
-rated_none post k s t before none = record { rates = []; count = refl; each = tt; frames = subst (λ fs. Adds fs before before) (sym none) (adds_none before) }
+pub rated_none : {H : Type 0} (may : H → ℕ → ℕ → ℕ → Type 0) (k : Kept H) (s : Node) (t : List ℕ → NodeStep) (before : List OutFrame) → (t []).frames ≡ [] → Rated may k s t 0 before before
+rated_none may k s t before none = record { rates = []; count = refl; each = tt; frames = subst (λ fs. Adds fs before before) (sym none) (adds_none before) }

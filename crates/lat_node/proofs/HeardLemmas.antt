@@ -55,7 +55,7 @@ named_lives t from (StartMessage master ask to source info) x e = let z : ⊥ = 
 named_lives t from (StopMessage master ask to source reason text) x e = let z : ⊥ = cc in absurd z
 
 -- the moment, the circuits, and those who ask
-pub record MessageParts {F : Type 0} (k : Kept F) (l d : lines.Kept) (new : Kept F) (now from : ℕ) (m : Message) (named : Option ℕ) (answer : base.Answer) (before after : List OutFrame) : Type 0 where
+pub record MessageParts {H : Type 0} (k : Kept H) (l d : lines.Kept) (new : Kept H) (now from : ℕ) (m : Message) (named : Option ℕ) (answer : base.Answer) (before after : List OutFrame) : Type 0 where
   pub node : k.lines.circuits.server ≡ false
   pub passed : (c : Core) → line_stands.Stands k.lines c → line_stands.Stands l (at_moment now c)
   pub same : lines.SameLines k.lines l
@@ -66,9 +66,9 @@ pub record MessageParts {F : Type 0} (k : Kept F) (l d : lines.Kept) (new : Kept
   pub held : (x : ℕ) → has_id x l.circuits ≡ true → has_id x d.circuits ≡ true
   pub asked : AskedThen named (with_lines k d) new
 
-pub message_does : {F : Type 0} (k : Kept F) (l d : lines.Kept) (new : Kept F) (now from : ℕ) (m : Message) (named : Option ℕ) (answer : base.Answer) (before after : List OutFrame) → MessageParts k l d new now from m named answer before after →
+pub message_does : {H : Type 0} (k : Kept H) (l d : lines.Kept) (new : Kept H) (now from : ℕ) (m : Message) (named : Option ℕ) (answer : base.Answer) (before after : List OutFrame) → MessageParts k l d new now from m named answer before after →
     Does (λ config s. hears_message config (with_core s (at_moment now s.core)) from m None) k new answer before after
-message_does {F = F} k l d new now from m named answer before after p s st =
+message_does {H = H} k l d new now from m named answer before after p s st =
     subst (λ (t : NodeStep). Stands new t.state × (answer_shown answer ≡ t.answer) × Adds t.frames before after)
     (sym (message_is (config_of k) t from m ∙ ap (λ o. then_asked (config_of k) o (heard_step t h)) (sym (p.names t stood))))
     (go named (p.names t stood) p.asked)
@@ -99,10 +99,10 @@ message_does {F = F} k l d new now from m named answer before after p s st =
 
     go : (o : Option ℕ) → o ≡ named_by t.core.circuits from m → AskedThen o (with_lines k d) new →
         Stands new (then_asked (config_of k) o (heard_step t h)).state × (answer_shown answer ≡ (then_asked (config_of k) o (heard_step t h)).answer) × Adds (then_asked (config_of k) o (heard_step t h)).frames before after
-    go None e a = (subst (λ (x : Kept F). Stands x (with_core t h.doing.core)) (sym a) standing, told, did.frames)
+    go None e a = (subst (λ (x : Kept H). Stands x (with_core t h.doing.core)) (sym a) standing, told, did.frames)
     go (Some x) e a =
         let held : has_id x d.circuits ≡ true = p.held x (stood.lines.circuits.all x (named_lives t.core.circuits from m x (sym e))) in
         (subst (λ (c : NodeConfig). Stands new (answers_asked c x (with_core t h.doing.core))) same (a (with_core t h.doing.core) standing held), told, did.frames)
 
-pub message_same : {F : Type 0} (k : Kept F) (l d : lines.Kept) → lines.SameLines k.lines l → lines.SameLines l d → SameConfig k (with_lines k d)
+pub message_same : {H : Type 0} (k : Kept H) (l d : lines.Kept) → lines.SameLines k.lines l → lines.SameLines l d → SameConfig k (with_lines k d)
 message_same k l d p q = record { config = (same_lines (with_lines k l) d q).config ∙ (same_lines k l p).config; rule = refl }

@@ -13,14 +13,14 @@ use Rattle.lat_node.specs.Stands.{Stands}
 use Rattle.lat_node.proofs.StepLemmas.{with_lines, moved, side_is}
 
 -- the session is accepted for a line, but for its request
-pub accepted : {F : Type 0} (k : Kept F) (l : lines.Kept) (s : Node) (line x id : ℕ) → k.lines.circuits.server ≡ false → Stands k s →
+pub accepted : {H : Type 0} (k : Kept H) (l : lines.Kept) (s : Node) (line x id : ℕ) → k.lines.circuits.server ≡ false → Stands k s →
     line_stands.Stands l (accepted_core (lines.side_of k.lines) line x id s.core) → Stands (with_lines k l) (judged (config_of k) s x id None (Accepts line))
 accepted k l s line x id node st y =
     moved k l s (accepted_core (node_side (config_of k)) line x id s.core) st
     (subst (λ (side : Side). line_stands.Stands l (accepted_core side line x id s.core)) (side_is k node) y)
 
 -- more were turned away
-pub counted : {F : Type 0} (k : Kept F) (s : Node) (t n : ℕ) → Stands k s → t ≡ told_count (s.turned_away + n) → Stands (record k { turned_away = t }) (record s { turned_away = s.turned_away + n })
+pub counted : {H : Type 0} (k : Kept H) (s : Node) (t n : ℕ) → Stands k s → t ≡ told_count (s.turned_away + n) → Stands (record k { turned_away = t }) (record s { turned_away = s.turned_away + n })
 counted k s t n st e = record { lines = st.lines; requests = st.requests; accepted = st.accepted; turned_away = e }
 
 pub told_more : (k a n m t : ℕ) → k ≡ told_count a → n ≡ m → t ≡ min (k + n) 4294967295 → t ≡ told_count (a + m)
@@ -30,7 +30,7 @@ pub told_next : (k a t : ℕ) → k ≡ told_count a → t ≡ min (k + 1) 42949
 told_next k a t e i = i ∙ omega (arith, e)
 
 -- the session is rejected, but for the count of those turned away
-pub rejected : {F : Type 0} (k : Kept F) (l : lines.Kept) (s : Node) (x id reason t : ℕ) (request : Option ℕ) → k.lines.circuits.server ≡ false → Stands k s →
+pub rejected : {H : Type 0} (k : Kept H) (l : lines.Kept) (s : Node) (x id reason t : ℕ) (request : Option ℕ) → k.lines.circuits.server ≡ false → Stands k s →
     line_stands.Stands l (calling (lines.side_of k.lines) x (Refuse id reason) s.core) → t ≡ told_count (suc s.turned_away) →
     Stands (record (with_lines k l) { turned_away = t }) (judged (config_of k) s x id request (Rejects reason))
 rejected k l s x id reason t request node st y e =

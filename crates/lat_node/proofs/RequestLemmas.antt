@@ -114,7 +114,7 @@ asks_too s r = record s { requests = s.requests ++ r ∷ [] }
 still_made : (s : Node) (r : Requested) (id : ℕ) → was_made s id ≡ true → was_made (asks_too s r) id ≡ true
 still_made s r id made = list_any-append (λ (q : Requested). nat_eq q.id id) s.requests (r ∷ []) ∙ ap (λ b. b || (nat_eq r.id id || false)) made
 
-pub stands_more : {F : Type 0} (k : Kept F) (s : Node) (id : ℕ) (to : Addr) (service : Name) (es : List (ℕ × Request)) → Stands k s → request_of id s ≡ None →
+pub stands_more : {H : Type 0} (k : Kept H) (s : Node) (id : ℕ) (to : Addr) (service : Name) (es : List (ℕ × Request)) → Stands k s → request_of id s ≡ None →
     es ≡ k.requests ++ (id, record { to = to; service = service; accepted = false }) ∷ [] →
     Stands (record k { requests = es }) (asks_too s (record { id = id; to = address to.0; service = service }))
 stands_more k s id to service es st none is = record {
@@ -198,7 +198,7 @@ noted_in s id (r ∷ rs) =
     ap (λ b. record { request = r; accepted = b } ∷ map (noted id) (map (request_in s) rs)) (ap (λ b. list_any (nat_eq r.id) s.accepted || b) (sym (or_false (nat_eq r.id id))) ∙ sym (list_any-append (nat_eq r.id) s.accepted (id ∷ [])))
     ∙ ap (λ ns. request_in (accepts_too s id) r ∷ ns) (noted_in s id rs)
 
-pub stands_accepted : {F : Type 0} (k : Kept F) (s : Node) (id : ℕ) (v : Request) (es : List (ℕ × Request)) → Stands k s → was_made s id ≡ true → lookup (nat_eq id) k.requests ≡ Some v →
+pub stands_accepted : {H : Type 0} (k : Kept H) (s : Node) (id : ℕ) (v : Request) (es : List (ℕ × Request)) → Stands k s → was_made s id ≡ true → lookup (nat_eq id) k.requests ≡ Some v →
     es ≡ insert_entry nat_eq k.requests id (record v { accepted = true }) → IsDistinct nat_eq (keys_of es) →
     Stands (record k { requests = es }) (accepts_too s id)
 stands_accepted k s id v es st made there is apart = record {

@@ -1,5 +1,5 @@
 -- What a node stands for once its lines have done something, and how its machine goes on.
-use Rattle.std.proofs.Common.{◌≡◌, ℕ, refl, sym, ap, subst, ◌∙◌, false, List, [], map}
+use Rattle.std.proofs.Common.{◌≡◌, ◌⊎◌, inl, inr, ℕ, refl, sym, ap, subst, ◌∙◌, false, List, [], map}
 use Rattle.std.proofs.lemmas.List.{append-nil}
 use Rattle.lat_base.specs.Answers.{PutFits, TookFits}
 use Rattle.lat_base.specs.declared.answer.Answer as base
@@ -21,21 +21,21 @@ use Rattle.lat_node.specs.Kept.{Kept, SameConfig, config_of}
 use Rattle.lat_node.specs.Stands.{Stands}
 use Rattle.lat_node.specs.Events.{Does, IsAct, IsPlain}
 
-abbrev pub with_lines : {F : Type 0} → Kept F → lines.Kept → Kept F
+abbrev pub with_lines : {H : Type 0} → Kept H → lines.Kept → Kept H
 with_lines k l = record k { lines = l }
 
 -- the lines alone have gone on
-pub moved : {F : Type 0} (k : Kept F) (l : lines.Kept) (s : Node) (c : Core) → Stands k s → line_stands.Stands l c → Stands (with_lines k l) (with_core s c)
+pub moved : {H : Type 0} (k : Kept H) (l : lines.Kept) (s : Node) (c : Core) → Stands k s → line_stands.Stands l c → Stands (with_lines k l) (with_core s c)
 moved k l s c st x = record { lines = x; requests = st.requests; accepted = st.accepted; turned_away = st.turned_away }
 
-pub same_lines : {F : Type 0} (k : Kept F) (l : lines.Kept) → lines.SameLines k.lines l → SameConfig k (with_lines k l)
+pub same_lines : {H : Type 0} (k : Kept H) (l : lines.Kept) → lines.SameLines k.lines l → SameConfig k (with_lines k l)
 same_lines k l same = record { config = rw (same.core.own, same.core.name, same.core.timing, same.lines) refl; rule = refl }
 
-pub same_twice : {F : Type 0} (k l m : Kept F) → SameConfig k l → SameConfig l m → SameConfig k m
+pub same_twice : {H : Type 0} (k l m : Kept H) → SameConfig k l → SameConfig l m → SameConfig k m
 same_twice k l m p q = record { config = q.config ∙ p.config; rule = q.rule ∙ p.rule }
 
 -- a node's side of its circuits
-pub side_is : {F : Type 0} (k : Kept F) → k.lines.circuits.server ≡ false → lines.side_of k.lines ≡ node_side (config_of k)
+pub side_is : {H : Type 0} (k : Kept H) → k.lines.circuits.server ≡ false → lines.side_of k.lines ≡ node_side (config_of k)
 side_is k node = ap (λ b. record { server = b; timing = (config_of k).timing; name = (config_of k).name }) node
 
 pub side_stays : (k l : lines.Kept) → lines.SameLines k l → lines.side_of l ≡ lines.side_of k
@@ -46,14 +46,14 @@ pub adds_none : (before : List OutFrame) → Adds [] before before
 adds_none before = sym (append-nil (map seen before))
 
 -- a call on a line
-pub called : {F : Type 0} (k : Kept F) (l : lines.Kept) (call : Side → Core → Said) (answer : base.Answer) (before : List OutFrame) → k.lines.circuits.server ≡ false →
+pub called : {H : Type 0} (k : Kept H) (l : lines.Kept) (call : Side → Core → Said) (answer : base.Answer) (before : List OutFrame) → k.lines.circuits.server ≡ false →
     Says (call (lines.side_of k.lines)) k.lines l answer → Does (λ config s. said s (call (node_side config) s.core)) k (with_lines k l) answer before before
 called k l call answer before node says s st =
     let x : SaidTo s.core (call (node_side (config_of k)) s.core) l answer = subst (λ (side : Side). SaidTo s.core (call side s.core) l answer) (side_is k node) (says s.core st.lines) in
     (moved k l s (call (node_side (config_of k)) s.core).core st x.state, x.answered, adds_none before)
 
 -- a moment, and what the circuits do then
-pub timed : {F : Type 0} (k : Kept F) (l d : lines.Kept) (now : ℕ) (before after : List OutFrame) → k.lines.circuits.server ≡ false →
+pub timed : {H : Type 0} (k : Kept H) (l d : lines.Kept) (now : ℕ) (before after : List OutFrame) → k.lines.circuits.server ≡ false →
     ((c : Core) → line_stands.Stands k.lines c → line_stands.Stands l (at_moment now c)) → lines.SameLines k.lines l → line_stands.Did (passes_time (lines.side_of l)) l d before after →
     Does (λ config s. node_step config [] s (Time now)) k (with_lines k d) answers.Done before after
 timed k l d now before after node passed same did s st =
@@ -62,24 +62,43 @@ timed k l d now before after node passed same did s st =
     let x : line_stands.DidTo t.core (passes_time (node_side (config_of k)) t.core) d before after = subst (λ (side : Side). line_stands.DidTo t.core (passes_time side t.core) d before after) (side_stays k.lines l same ∙ side_is k node) (did t.core stood.lines) in
     (moved (with_lines k l) d t (passes_time (node_side (config_of k)) t.core).core stood x.state, refl, x.frames)
 
--- the events that there are none of at a node
-pub not_here : (config : NodeConfig) (s : Node) (e : Event) → IsAct e → ((now : _) → e ≡ events.Time now → ⊥) → ((line : _) (bytes : _) → e ≡ events.Put line bytes → ⊥) → ((line : _) (setting : _) → e ≡ events.Set line setting → ⊥)
-    → ((line : _) (flag : _) → e ≡ events.Attend line flag → ⊥) → ((line : _) → e ≡ events.Close line → ⊥) → ((id : _) → e ≡ events.Cancel id → ⊥) → node_step config [] s (event_shown e) ≡ tells s NotHere
-not_here config s (events.Heard from payload now) a t p x f z w = absurd a
-not_here config s (events.Time now) a t p x f z w = absurd (t now refl)
-not_here config s (events.Connect line service) a t p x f z w = refl
-not_here config s (events.Put line bytes) a t p x f z w = absurd (p line bytes refl)
-not_here config s (events.Set line setting) a t p x f z w = absurd (x line setting refl)
-not_here config s (events.Take line n) a t p x f z w = absurd a
-not_here config s (events.Attend line flag) a t p x f z w = absurd (f line flag refl)
-not_here config s (events.Close line) a t p x f z w = absurd (z line refl)
-not_here config s (events.Request to id service) a t p x f z w = absurd a
-not_here config s (events.Cancel id) a t p x f z w = absurd (w id refl)
-not_here config s events.Announce a t p x f z w = absurd a
+-- an event that there is none of at a node
+abbrev IsNothing : Event → Type 0
+IsNothing (events.Connect line service) = Unit {0}
+IsNothing e = ⊥
 
-pub does_not_here : {F : Type 0} (k : Kept F) (e : Event) (before : List OutFrame) → ((config : NodeConfig) (s : Node) → node_step config [] s (event_shown e) ≡ tells s NotHere) → Does (λ config s. node_step config [] s (event_shown e)) k k answers.NotHere before before
-does_not_here k e before is s st =
-    subst (λ (t : NodeStep). Stands k t.state × (NotHere ≡ t.answer) × Adds t.frames before before) (sym (is (config_of k) s)) (st, refl, adds_none before)
+-- one that is none of the others
+abbrev pub IsElse : Event → Type 0
+IsElse e =
+    ((line : _) × (service : _) × (e ≡ events.Connect line service))
+    ⊎ (((from : _) × (payload : _) × (now : _) × (e ≡ events.Heard from payload now))
+    ⊎ (((line : _) × (n : _) × (e ≡ events.Take line n))
+    ⊎ (((to : _) × (id : _) × (service : _) × (e ≡ events.Request to id service))
+    ⊎ (e ≡ events.Announce))))
+
+nothing : (e : Event) → IsAct e → IsElse e → IsNothing e
+nothing e a (inl h) = subst IsNothing (sym h.2) tt
+nothing e a (inr (inl h)) = absurd (subst IsAct h.3 a)
+nothing e a (inr (inr (inl h))) = absurd (subst IsAct h.2 a)
+nothing e a (inr (inr (inr (inl h)))) = absurd (subst IsAct h.3 a)
+nothing e a (inr (inr (inr (inr h)))) = absurd (subst IsAct h a)
+
+at_nothing : (config : NodeConfig) (s : Node) (e : Event) → IsNothing e → node_step config [] s (event_shown e) ≡ tells s NotHere
+at_nothing config s (events.Heard from payload now) n = absurd n
+at_nothing config s (events.Time now) n = absurd n
+at_nothing config s (events.Connect line service) n = refl
+at_nothing config s (events.Put line bytes) n = absurd n
+at_nothing config s (events.Set line setting) n = absurd n
+at_nothing config s (events.Take line count) n = absurd n
+at_nothing config s (events.Attend line flag) n = absurd n
+at_nothing config s (events.Close line) n = absurd n
+at_nothing config s (events.Request to id service) n = absurd n
+at_nothing config s (events.Cancel id) n = absurd n
+at_nothing config s events.Announce n = absurd n
+
+pub does_nothing : {H : Type 0} (k : Kept H) (e : Event) (before : List OutFrame) → IsAct e → IsElse e → Does (λ config s. node_step config [] s (event_shown e)) k k answers.NotHere before before
+does_nothing k e before a h = λ s st.
+    subst (λ (t : NodeStep). Stands k t.state × (NotHere ≡ t.answer) × Adds t.frames before before) (sym (at_nothing (config_of k) s e (nothing e a h))) (st, refl, adds_none before)
 
 -- what a plain answer tells of no call
 pub plain_fits : (ready : ℕ → ℕ) (a : base.Answer) (e : Event) → IsPlain a → PutFits a e × TookFits ready a e

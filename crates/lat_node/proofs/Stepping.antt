@@ -16,22 +16,22 @@ use Rattle.lat_node.proofs.FrameLemmas.{frames_rated, steps_quiet, act_quiet}
 
 -- what a core promises of a step
 
-pub stepped_state : {F : Type 0} (k middle new : Kept F) (e : base_event.Event) → ((s : Node) → Stands k s → Stands middle (node_step (config_of k) [] s (event_shown e)).state) → SameConfig k middle → ((s : Node) → Stands middle s → Stands new s) → SameConfig middle new →
-    (m : Machine F) → IsMachine k m → IsMachine new (next m e)
+pub stepped_state : {H : Type 0} (k middle new : Kept H) (e : base_event.Event) → ((s : Node) → Stands k s → Stands middle (node_step (config_of k) [] s (event_shown e)).state) → SameConfig k middle → ((s : Node) → Stands middle s → Stands new s) → SameConfig middle new →
+    (m : Machine H) → IsMachine k m → IsMachine new (next m e)
 stepped_state k middle new e done same then still m is = record {
   config = is.config ∙ sym same.config ∙ sym still.config;
   rule = is.rule ∙ sym same.rule ∙ sym still.rule;
   state = subst (λ (c : NodeConfig). Stands new (node_step c [] m.state (event_shown e)).state) (sym is.config) (then (node_step (config_of k) [] m.state (event_shown e)).state (done m.state is.state));
 }
 
-pub stepped_answer : {F : Type 0} (k : Kept F) (e : base_event.Event) (a : base.Answer) → ((s : Node) → Stands k s → answer_shown a ≡ (node_step (config_of k) [] s (event_shown e)).answer) → (m : Machine F) → IsMachine k m → a ≡ answered m e
+pub stepped_answer : {H : Type 0} (k : Kept H) (e : base_event.Event) (a : base.Answer) → ((s : Node) → Stands k s → answer_shown a ≡ (node_step (config_of k) [] s (event_shown e)).answer) → (m : Machine H) → IsMachine k m → a ≡ answered m e
 stepped_answer k e a told m is = sym (answer_back a) ∙ ap answer_of (told m.state is.state ∙ ap (λ (c : NodeConfig). (node_step c [] m.state (event_shown e)).answer) (sym is.config))
 
-pub stepped_frames : {F : Type 0} (post : F → ℕ → ℕ → ℕ → Type 0) (k middle : Kept F) (e : base_event.Event) (a : base.Answer) (before after : List OutFrame) → before ≡ [] → Steps post (event_shown e) k middle a before after →
-    (m : Machine F) → IsMachine k m → Frames post m e after
-stepped_frames post k middle e a before after empty steps m is =
-    frames_rated post k m e after is
-    (subst (λ (b : List OutFrame). Rated post k m.state (λ rates. node_step (config_of k) rates m.state (event_shown e)) (rates_of (config_of k) (node_step (config_of k) [] m.state (event_shown e)).answer (event_shown e)) b after) empty (steps m.state is.state).2)
+pub stepped_frames : {H : Type 0} (may : H → ℕ → ℕ → ℕ → Type 0) (k middle : Kept H) (e : base_event.Event) (a : base.Answer) (before after : List OutFrame) → before ≡ [] → Steps may (event_shown e) k middle a before after →
+    (m : Machine H) → IsMachine k m → Frames may m e after
+stepped_frames may k middle e a before after empty steps m is =
+    frames_rated may k m e after is
+    (subst (λ (b : List OutFrame). Rated may k m.state (λ rates. node_step (config_of k) rates m.state (event_shown e)) (rates_of (config_of k) (node_step (config_of k) [] m.state (event_shown e)).answer (event_shown e)) b after) empty (steps m.state is.state).2)
 
 -- the events of `local` take no memory
 pub local_act : (e : base_event.Event) → IsLocal e → IsAct e
@@ -47,13 +47,13 @@ local_act (events.Request to id service) l = absurd l
 local_act (events.Cancel id) l = tt
 local_act events.Announce l = absurd l
 
-pub acted_frames : {F : Type 0} (post : F → ℕ → ℕ → ℕ → Type 0) (k middle : Kept F) (e : base_event.Event) (a : base.Answer) (before after : List OutFrame) → IsLocal e → before ≡ [] → Does (λ config s. node_step config [] s (event_shown e)) k middle a before after →
-    (m : Machine F) → IsMachine k m → Frames post m e after
-acted_frames post k middle e a before after local empty does =
-    stepped_frames post k middle e a before after empty (steps_quiet post k middle (event_shown e) a before after (act_quiet e (local_act e local)) does)
+pub acted_frames : {H : Type 0} (may : H → ℕ → ℕ → ℕ → Type 0) (k middle : Kept H) (e : base_event.Event) (a : base.Answer) (before after : List OutFrame) → IsLocal e → before ≡ [] → Does (λ config s. node_step config [] s (event_shown e)) k middle a before after →
+    (m : Machine H) → IsMachine k m → Frames may m e after
+acted_frames may k middle e a before after local empty does =
+    stepped_frames may k middle e a before after empty (steps_quiet may k middle (event_shown e) a before after (act_quiet e (local_act e local)) does)
 
 -- where neither configuration nor rule changed it opened as it did
-pub same_opening : {F : Type 0} (k l : Kept F) → SameConfig k l → opening l ≡ opening k
+pub same_opening : {H : Type 0} (k l : Kept H) → SameConfig k l → opening l ≡ opening k
 same_opening k l same =
     ap (λ (c : NodeConfig). record { config = c; rule = l.rule; state = open_node c }) same.config
     ∙ ap (λ r. record { config = config_of k; rule = r; state = open_node (config_of k) }) same.rule

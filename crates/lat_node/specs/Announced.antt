@@ -13,8 +13,8 @@ abbrev pub ratings : List Service → List ℕ
 ratings services = map (λ (s : Service). s.rating) services
 
 -- a notice is the announcement of all services, each with a rating that the rule may give where so many lines are held
-pub record IsAnnounced {F : Type 0} (post : F → ℕ → ℕ → ℕ → Type 0) (k : Kept F) (used : ℕ) (n : Notice) : Type 0 where
+pub record IsAnnounced {H : Type 0} (may : H → ℕ → ℕ → ℕ → Type 0) (k : Kept H) (used : ℕ) (n : Notice) : Type 0 where
   pub rates : List ℕ
   pub count : length rates ≡ length k.services
-  pub each : Each (post k.rule used k.lines.lines) rates
+  pub each : Each (may k.rule used k.lines.lines) rates
   pub is : plain everyone 0 (OfNotice (notice_shown n)) ≡ announcement (config_of k) rates

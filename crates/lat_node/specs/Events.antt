@@ -17,7 +17,7 @@ use Rattle.lat_node.specs.Kept.{Kept, config_of}
 use Rattle.lat_node.specs.Stands.{Stands}
 
 -- It did so of every state that it stood for, and answered so, whatever the ratings
-abbrev pub Does : {F : Type 0} → (NodeConfig → Node → NodeStep) → (old new : Kept F) → Answer → (before after : List OutFrame) → Type 0
+abbrev pub Does : {H : Type 0} → (NodeConfig → Node → NodeStep) → (old new : Kept H) → Answer → (before after : List OutFrame) → Type 0
 Does event old new answer before after =
     (s : Node) → Stands old s →
     Stands new (event (config_of old) s).state
@@ -26,20 +26,20 @@ Does event old new answer before after =
 
 -- Ratings, as many as are asked for, each one that the rule may give at the lines held, with which the frames of such an
 -- event went out
-pub record Rated {F : Type 0} (post : F → ℕ → ℕ → ℕ → Type 0) (k : Kept F) (s : Node) (event : List ℕ → NodeStep) (asked : ℕ) (before after : List OutFrame) : Type 0 where
+pub record Rated {H : Type 0} (may : H → ℕ → ℕ → ℕ → Type 0) (k : Kept H) (s : Node) (event : List ℕ → NodeStep) (asked : ℕ) (before after : List OutFrame) : Type 0 where
   pub rates : List ℕ
   pub count : length rates ≡ asked
-  pub each : Each (post k.rule (used s.core) k.lines.lines) rates
+  pub each : Each (may k.rule (used s.core) k.lines.lines) rates
   pub frames : Adds (event rates).frames before after
 
 -- It did what the machine does at an event, of every state that it stood for, and answered so. Only the frames depend on the
 -- ratings
-abbrev pub Steps : {F : Type 0} → (F → ℕ → ℕ → ℕ → Type 0) → machine.Event → (old new : Kept F) → Answer → (before after : List OutFrame) → Type 0
-Steps post e old new answer before after =
+abbrev pub Steps : {H : Type 0} → (H → ℕ → ℕ → ℕ → Type 0) → machine.Event → (old new : Kept H) → Answer → (before after : List OutFrame) → Type 0
+Steps may e old new answer before after =
     (s : Node) → Stands old s →
     Stands new (node_step (config_of old) [] s e).state
     × (answer_shown answer ≡ (node_step (config_of old) [] s e).answer)
-    × Rated post old s (λ rates. node_step (config_of old) rates s e) (rates_of (config_of old) (node_step (config_of old) [] s e).answer e) before after
+    × Rated may old s (λ rates. node_step (config_of old) rates s e) (rates_of (config_of old) (node_step (config_of old) [] s e).answer e) before after
 
 -- announcing, by its ratings
 abbrev pub announces : NodeConfig → Node → List ℕ → NodeStep

@@ -25,6 +25,6 @@ then_asked config (Some circuit) x = record {
 }
 
 -- what was made of those who ask of the circuit that it names
-abbrev pub AskedThen : {F : Type 0} → Option ℕ → (old new : Kept F) → Type 0
+abbrev pub AskedThen : {H : Type 0} → Option ℕ → (old new : Kept H) → Type 0
 AskedThen None old new = new ≡ old
 AskedThen (Some x) old new = (s : Node) → Stands old s → has_id x old.lines.circuits ≡ true → Stands new (answers_asked (config_of old) x s)

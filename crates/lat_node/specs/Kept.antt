@@ -7,8 +7,8 @@ use Rattle.lat_circuits.specs.Kept.{IsClear}
 use Rattle.lat_lines.specs.Kept as lines
 use Rattle.lat_node.specs.declared.requests.Request.{Request}
 
--- F is the rule by which it rates its services
-pub record Kept (F : Type 0) : Type 0 where
+-- H is the rule by which it rates its services
+pub record Kept (H : Type 0) : Type 0 where
   pub lines : lines.Kept
   pub services : List (List ℕ)
   pub incarnation : ℕ
@@ -16,9 +16,9 @@ pub record Kept (F : Type 0) : Type 0 where
   pub groups : List ℕ
   pub requests : List (ℕ × Request)  -- by their ids, in the order in which they were first made
   pub turned_away : ℕ
-  pub rule : F
+  pub rule : H
 
-abbrev pub config_of : {F : Type 0} → Kept F → machine.NodeConfig
+abbrev pub config_of : {H : Type 0} → Kept H → machine.NodeConfig
 config_of k = record {
   own = address k.lines.circuits.own.0;
   name = k.lines.circuits.name;
@@ -31,18 +31,18 @@ config_of k = record {
 }
 
 -- what holds of every node
-pub record Holds {F : Type 0} (k : Kept F) : Type 0 where
+pub record Holds {H : Type 0} (k : Kept H) : Type 0 where
   pub node : k.lines.circuits.server ≡ false
   pub services : length k.services ≤ 32
   pub timer : 1 ≤ k.timer
   pub groups : length k.groups ≤ 32
 
 -- between events no circuit that has ended is held
-pub record AtRest {F : Type 0} (k : Kept F) : Type 0 where
+pub record AtRest {H : Type 0} (k : Kept H) : Type 0 where
   pub clear : IsClear k.lines.circuits
   pub freed : k.lines.freed ≡ []
 
 -- neither the configuration nor the rule changes
-pub record SameConfig {F : Type 0} (old new : Kept F) : Type 0 where
+pub record SameConfig {H : Type 0} (old new : Kept H) : Type 0 where
   pub config : config_of new ≡ config_of old
   pub rule : new.rule ≡ old.rule

@@ -2,7 +2,7 @@
 use Rattle.lat_node.specs.declared.node.NodeCore.TheInside.{Inside}
 use Rattle.lat_node.specs.Kept.{Kept}
 
-abbrev pub shown : {F : Type 0} → Inside F → Kept F
+abbrev pub shown : {H : Type 0} → Inside H → Kept H
 shown a = record {
   lines = a.lines;
   services = a.services;
@@ -11,5 +11,5 @@ shown a = record {
   groups = a.groups;
   requests = a.requests.entries;
   turned_away = a.turned_away;
-  rule = a.hook.rule;
+  rule = a.rule;
 }

@@ -37,53 +37,53 @@ abbrev pub was_made : Node → ℕ → Bool
 was_made s id = list_any (λ (r : Requested). nat_eq r.id id) s.requests
 
 -- a node stands for a state of the machine
-pub record Stands {F : Type 0} (k : Kept F) (s : Node) : Type 0 where
+pub record Stands {H : Type 0} (k : Kept H) (s : Node) : Type 0 where
   pub lines : lines.Stands k.lines s.core
   pub requests : map request_shown k.requests ≡ map (request_in s) s.requests
   pub accepted : Each (λ id. was_made s id ≡ true) s.accepted
   pub turned_away : k.turned_away ≡ told_count s.turned_away
 
 -- the machine of a configuration with a rule, and its state
-pub record Machine (F : Type 0) : Type 0 where
+pub record Machine (H : Type 0) : Type 0 where
   pub config : NodeConfig
-  pub rule : F
+  pub rule : H
   pub state : Node
 
 -- the machine as it is made
-abbrev pub IsMade : {F : Type 0} → Machine F → Type 0
+abbrev pub IsMade : {H : Type 0} → Machine H → Type 0
 IsMade m = m.state ≡ open_node m.config
 
-abbrev pub opening : {F : Type 0} → Kept F → Machine F
+abbrev pub opening : {H : Type 0} → Kept H → Machine H
 opening k = record { config = config_of k; rule = k.rule; state = open_node (config_of k) }
 
-pub record IsMachine {F : Type 0} (k : Kept F) (m : Machine F) : Type 0 where
+pub record IsMachine {H : Type 0} (k : Kept H) (m : Machine H) : Type 0 where
   pub config : m.config ≡ config_of k
   pub rule : m.rule ≡ k.rule
   pub state : Stands k m.state
 
 -- state and answer don't depend on the ratings
-abbrev pub stepped : {F : Type 0} → Machine F → Event → NodeStep
+abbrev pub stepped : {H : Type 0} → Machine H → Event → NodeStep
 stepped m e = node_step m.config [] m.state (event_shown e)
 
-abbrev pub next : {F : Type 0} → Machine F → Event → Machine F
+abbrev pub next : {H : Type 0} → Machine H → Event → Machine H
 next m e = record { config = m.config; rule = m.rule; state = (stepped m e).state }
 
-abbrev pub answered : {F : Type 0} → Machine F → Event → Answer
+abbrev pub answered : {H : Type 0} → Machine H → Event → Answer
 answered m e = answer_of (stepped m e).answer
 
 -- the frames that may go out: each rating in them is one that the rule may give at the lines then held
-abbrev pub Frames : {F : Type 0} → (F → ℕ → ℕ → ℕ → Type 0) → Machine F → Event → List OutFrame → Type 0
-Frames post m e frames =
-    (made : List machine.OutFrame) × NodeFrames (post m.rule) m.config m.state (event_shown e) made × (map seen frames ≡ map expected made)
+abbrev pub Frames : {H : Type 0} → (H → ℕ → ℕ → ℕ → Type 0) → Machine H → Event → List OutFrame → Type 0
+Frames may m e frames =
+    (made : List machine.OutFrame) × NodeFrames (may m.rule) m.config m.state (event_shown e) made × (map seen frames ≡ map expected made)
 
-abbrev pub line_of : {F : Type 0} → Machine F → ℕ → SessionState
+abbrev pub line_of : {H : Type 0} → Machine H → ℕ → SessionState
 line_of m line = state_shown (line_state (node_side m.config) m.state.core line)
 
-abbrev pub moment_of : {F : Type 0} → Machine F → ℕ
+abbrev pub moment_of : {H : Type 0} → Machine H → ℕ
 moment_of m = m.state.core.moment
 
-abbrev pub waiting_of : {F : Type 0} → Machine F → ℕ → ℕ
+abbrev pub waiting_of : {H : Type 0} → Machine H → ℕ → ℕ
 waiting_of m line = waiting_at m.state.core line
 
-abbrev pub finished_of : {F : Type 0} → Machine F → ℕ
+abbrev pub finished_of : {H : Type 0} → Machine H → ℕ
 finished_of m = finished m.state

@@ -4,7 +4,6 @@ ghost use Rattle.std.specs.Prelude.{◌≡◌, ◌≤◌, ◌+◌, suc, [], find
 ghost use Rattle.std.specs.List.{AllByRecursion};
 ghost use Rattle.lat_base.specs.Names.{IsName};
 ghost use Rattle.lat_base.specs.declared.answer.Answer.TheVariants as answers;
-ghost use Rattle.lat_hook.specs.Hook.{HookFact};
 ghost use Rattle.lat_notices.specs.Services.{IsService};
 ghost use Rattle.lat_notices.specs.Texts.{IsWritable};
 ghost use Rattle.lat_model.specs.Lists.{Each};
@@ -20,17 +19,18 @@ ghost use Rattle.lat_node.specs.Stands.{Stands};
 
 use crate::node::NodeCore;
 use lat_base::{Addr, Answer, Bytes, EVERYONE, Memory, Name, OutBox};
+use lat_hook::RatingRule;
 use lat_notices::{Announcement, Notice, Service, Services, Solicit};
 use lat_payload::{notice_frame, response_frame};
 use std::alloc::Global;
 
-impl<F: Fn(u16, u16) -> u8> NodeCore<F> {
+impl<H: RatingRule> NodeCore<H> {
     /// Announces all services to everyone, each with the rating that the rule gives at the lines held. Takes its memory first.
     pub(crate) fn announce(&self, alloc: Global, out: &mut OutBox) -> Result<Answer, Memory>
-        requires fact { HookFact F.pre F.post self.now.rule }
+        requires fact { H.fact self.now.rule }
         requires room { length out.old + 16 ≤ 256 }
         ensures answer { IfOk result (λ a. a ≡ answers.Done) }
-        ensures frames { (s : machine.Node) → Stands self.now s → OnOk result (Rated F.post self.now s (announces (config_of self.now) s) (length self.now.services) out.old out.new) }
+        ensures frames { (s : machine.Node) → Stands self.now s → OnOk result (Rated H.may self.now s (announces (config_of self.now) s) (length self.now.services) out.old out.new) }
         ensures most { length out.new ≤ length out.old + 1 }
         ensures err { OnErr result (out.new ≡ out.old) }
     {
@@ -47,12 +47,12 @@ impl<F: Fn(u16, u16) -> u8> NodeCore<F> {
         solicit: &Solicit,
         out: &mut OutBox,
     ) -> Result<Answer, Memory>
-        requires fact { HookFact F.pre F.post self.now.rule }
+        requires fact { H.fact self.now.rule }
         requires room { length out.old + 16 ≤ 256 }
         ensures answer { (s : machine.Node) → Stands self.now s → IfOk result (λ a. answer_shown a ≡ (machine.solicited (config_of self.now) [] s (address from.0) solicit.now.id (find (same solicit.now.service) self.now.services)).answer) }
         ensures frames { (s : machine.Node) →
             Stands self.now s →
-            OnOk result (Rated F.post self.now s (λ rates. machine.solicited (config_of self.now) rates s (address from.0) solicit.now.id (find (same solicit.now.service) self.now.services)) (ratings_for (config_of self.now) (find (same solicit.now.service) self.now.services)) out.old out.new) }
+            OnOk result (Rated H.may self.now s (λ rates. machine.solicited (config_of self.now) rates s (address from.0) solicit.now.id (find (same solicit.now.service) self.now.services)) (ratings_for (config_of self.now) (find (same solicit.now.service) self.now.services)) out.old out.new) }
         ensures plain { IfOk result IsPlain }
         ensures most { length out.new ≤ length out.old + 2 }
         ensures err { OnErr result (out.new ≡ out.old) }
@@ -75,12 +75,12 @@ impl<F: Fn(u16, u16) -> u8> NodeCore<F> {
         service: &Name,
         out: &mut OutBox,
     ) -> Result<Answer, Memory>
-        requires fact { HookFact F.pre F.post self.now.rule }
+        requires fact { H.fact self.now.rule }
         requires room { length out.old + 16 ≤ 256 }
         ensures answer { IfOk result (λ a. a ≡ answers.Solicited) }
         ensures frames { (s : machine.Node) →
             Stands self.now s →
-            OnOk result (Rated F.post self.now s (λ rates. machine.solicited (config_of self.now) rates s (address from.0) id (Some service.now)) (suc (length self.now.services)) out.old out.new) }
+            OnOk result (Rated H.may self.now s (λ rates. machine.solicited (config_of self.now) rates s (address from.0) id (Some service.now)) (suc (length self.now.services)) out.old out.new) }
         ensures most { length out.new ≤ length out.old + 2 }
         ensures err { OnErr result (out.new ≡ out.old) }
     {
@@ -95,19 +95,19 @@ impl<F: Fn(u16, u16) -> u8> NodeCore<F> {
 
     // A rating where so many lines are held.
     fn rating(&self, used: u16) -> u8
-        requires fact { HookFact F.pre F.post self.now.rule }
+        requires fact { H.fact self.now.rule }
         requires within { used ≤ self.now.lines.lines }
-        ensures { F.post self.now.rule used self.now.lines.lines result }
+        ensures { H.may self.now.rule used self.now.lines.lines result }
     {
-        self.hook.rate(used, self.lines.count() as u16)
+        self.rule.rate(used, self.lines.count() as u16)
     }
 
     // The announcement of all services, where so many lines are held.
     fn announcement(&self, alloc: Global, used: u16) -> Result<Notice, Memory>
-        requires fact { HookFact F.pre F.post self.now.rule }
+        requires fact { H.fact self.now.rule }
         requires within { used ≤ self.now.lines.lines }
         ensures writable { IfOk result IsWritable }
-        ensures announced { IfOk result (IsAnnounced F.post self.now used) }
+        ensures announced { IfOk result (IsAnnounced H.may self.now used) }
     {
         let node = self.lines.name();
         named(&node);
@@ -123,11 +123,11 @@ impl<F: Fn(u16, u16) -> u8> NodeCore<F> {
 
     // The services, each with a rating.
     fn rated(&self, alloc: Global, used: u16) -> Result<Services, Memory>
-        requires fact { HookFact F.pre F.post self.now.rule }
+        requires fact { H.fact self.now.rule }
         requires within { used ≤ self.now.lines.lines }
         ensures services { IfOk result (AllByRecursion IsService) }
         ensures names { IfOk result (λ ss. map service_shown ss ≡ machine.rated self.now.services (ratings ss)) }
-        ensures ratings { IfOk result (λ ss. Each (F.post self.now.rule used self.now.lines.lines) (ratings ss)) }
+        ensures ratings { IfOk result (λ ss. Each (H.may self.now.rule used self.now.lines.lines) (ratings ss)) }
     {
         let mut services = Services::new(alloc);
         for name in self.services.as_slice() {
@@ -138,11 +138,11 @@ impl<F: Fn(u16, u16) -> u8> NodeCore<F> {
 
     // A service, with a rating.
     fn service(&self, alloc: Global, name: &Name, used: u16) -> Result<Service, Memory>
-        requires fact { HookFact F.pre F.post self.now.rule }
+        requires fact { H.fact self.now.rule }
         requires within { used ≤ self.now.lines.lines }
         ensures service { IfOk result IsService }
         ensures shown { IfOk result (λ s. service_shown s ≡ record { rating = s.rating; name = name.now; description = [] }) }
-        ensures rating { IfOk result (λ s. F.post self.now.rule used self.now.lines.lines s.rating) }
+        ensures rating { IfOk result (λ s. H.may self.now.rule used self.now.lines.lines s.rating) }
     {
         named(name);
         Ok(Service {

@@ -12,6 +12,7 @@ ghost use Rattle.lat_node.specs.Kept.{config_of, SameConfig};
 ghost use Rattle.lat_node.specs.Stands.{Stands};
 
 use crate::node::NodeCore;
+use lat_hook::RatingRule;
 use lat_lines::Asked;
 
 /// The reason of a reject where the service isn't offered.
@@ -26,7 +27,7 @@ const NO_LINE: u8 = 7;
 /// How many sessions a circuit has at most.
 const SESSIONS: u8 = 64;
 
-impl<F: Fn(u16, u16) -> u8> NodeCore<F> {
+impl<H: RatingRule> NodeCore<H> {
     /// Answers the asked sessions of a held circuit, by rising id; where the frame has ended it, they are turned away. See "How
     /// a node answers" in docs/PROTOCOL.md.
     pub(crate) fn answer_asked(&mut self, circuit: u16)

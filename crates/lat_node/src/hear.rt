@@ -3,7 +3,6 @@
 ghost use Rattle.std.specs.Prelude.{◌≡◌, ℕ, ◌≤◌, ◌+◌, false, List, [], length, Err, None, nat_eq, IfOk, OnOk, OnErr};
 ghost use Rattle.lat_base.specs.declared.outbox.OutFrame.{OutFrame};
 ghost use Rattle.lat_frames.specs.Written.{IsWritable};
-ghost use Rattle.lat_hook.specs.Hook.{HookFact};
 ghost use Rattle.lat_machines.specs.cores.Cores.{at_moment};
 ghost use Rattle.lat_machines.specs.node.Node.{Node, with_core, hears_message, hears_notice};
 ghost use Rattle.lat_machines.specs.values.Addresses.{address, everyone};
@@ -21,6 +20,7 @@ ghost use Rattle.lat_node.specs.Stands.{Stands};
 
 use crate::node::NodeCore;
 use lat_base::{Addr, Answer, EVERYONE, Memory, OutBox};
+use lat_hook::RatingRule;
 use lat_fields::LayoutFault;
 use lat_frames::Message;
 use lat_lines::Hearing;
@@ -28,7 +28,7 @@ use lat_notices::Notice;
 use lat_payload::{Value, read_value};
 use std::alloc::Global;
 
-impl<F: Fn(u16, u16) -> u8> NodeCore<F> {
+impl<H: RatingRule> NodeCore<H> {
     /// Hears a payload from a station. Takes its memory first: after `Memory` nothing has changed.
     pub(crate) fn hear(
         &mut self,
@@ -39,9 +39,9 @@ impl<F: Fn(u16, u16) -> u8> NodeCore<F> {
         out: &mut OutBox,
     ) -> Result<Answer, Memory>
         requires rest { AtRest self.old }
-        requires fact { HookFact F.pre F.post self.old.rule }
+        requires fact { H.fact self.old.rule }
         requires room { length out.old + 16 ≤ 256 }
-        ensures steps { IfOk result (λ a. Steps F.post (Hears (address from.0) (reads.reading_of payload.now) None now) self.old self.new a out.old out.new) }
+        ensures steps { IfOk result (λ a. Steps H.may (Hears (address from.0) (reads.reading_of payload.now) None now) self.old self.new a out.old out.new) }
         ensures same { SameConfig self.old self.new }
         ensures plain { IfOk result IsPlain }
         ensures most { length out.new ≤ length out.old + 2 }
@@ -57,7 +57,7 @@ impl<F: Fn(u16, u16) -> u8> NodeCore<F> {
     fn misread(&mut self, fault: LayoutFault, now: u64) -> Result<Answer, Memory>
         ensures steps { (reading : Reading) (from : ℕ) (frames : List OutFrame) →
             reads.Answers (Err fault) reading →
-            IfOk result (λ a. Steps F.post (Hears from reading None now) self.old self.new a frames frames) }
+            IfOk result (λ a. Steps H.may (Hears from reading None now) self.old self.new a frames frames) }
         ensures same { SameConfig self.old self.new }
         ensures plain { IfOk result IsPlain }
         ensures err { OnErr result (self.new ≡ self.old) }
@@ -89,10 +89,10 @@ impl<F: Fn(u16, u16) -> u8> NodeCore<F> {
         out: &mut OutBox,
     ) -> Result<Answer, Memory>
         requires rest { AtRest self.old }
-        requires fact { HookFact F.pre F.post self.old.rule }
+        requires fact { H.fact self.old.rule }
         requires room { length out.old + 16 ≤ 256 }
         requires ok { reads.IsWritable value.now }
-        ensures steps { IfOk result (λ a. Steps F.post (Hears (address from.0) (Whole (value_shown value.now)) None now) self.old self.new a out.old out.new) }
+        ensures steps { IfOk result (λ a. Steps H.may (Hears (address from.0) (Whole (value_shown value.now)) None now) self.old self.new a out.old out.new) }
         ensures same { SameConfig self.old self.new }
         ensures plain { IfOk result IsPlain }
         ensures most { length out.new ≤ length out.old + 2 }
@@ -158,10 +158,10 @@ impl<F: Fn(u16, u16) -> u8> NodeCore<F> {
         out: &mut OutBox,
     ) -> Result<Answer, Memory>
         requires rest { AtRest self.old }
-        requires fact { HookFact F.pre F.post self.old.rule }
+        requires fact { H.fact self.old.rule }
         requires room { length out.old + 16 ≤ 256 }
         requires apart { nat_eq (address from.0) everyone ≡ false }
-        ensures steps { IfOk result (λ a. Steps F.post (Hears (address from.0) (Whole (OfNotice (notice_shown notice.now))) None now) self.old self.new a out.old out.new) }
+        ensures steps { IfOk result (λ a. Steps H.may (Hears (address from.0) (Whole (OfNotice (notice_shown notice.now))) None now) self.old self.new a out.old out.new) }
         ensures same { SameConfig self.old self.new }
         ensures plain { IfOk result IsPlain }
         ensures most { length out.new ≤ length out.old + 2 }
@@ -180,12 +180,12 @@ impl<F: Fn(u16, u16) -> u8> NodeCore<F> {
         notice: &Notice,
         out: &mut OutBox,
     ) -> Result<Answer, Memory>
-        requires fact { HookFact F.pre F.post self.now.rule }
+        requires fact { H.fact self.now.rule }
         requires room { length out.old + 16 ≤ 256 }
         ensures answer { (s : Node) → Stands self.now s → IfOk result (λ a. answer_shown a ≡ (hears_notice (config_of self.now) [] s (address from.0) (notice_shown notice.now)).answer) }
         ensures frames { (s : Node) →
             Stands self.now s →
-            OnOk result (Rated F.post self.now s (λ rates. hears_notice (config_of self.now) rates s (address from.0) (notice_shown notice.now)) (notice_ratings (config_of self.now) (notice_shown notice.now)) out.old out.new) }
+            OnOk result (Rated H.may self.now s (λ rates. hears_notice (config_of self.now) rates s (address from.0) (notice_shown notice.now)) (notice_ratings (config_of self.now) (notice_shown notice.now)) out.old out.new) }
         ensures plain { IfOk result IsPlain }
         ensures most { length out.new ≤ length out.old + 2 }
         ensures err { OnErr result (out.new ≡ out.old) }

@@ -3,12 +3,23 @@
 ghost use Rattle.lat_machines.specs.world.Home.{NodeStaysHome};
 ghost use Rattle.lat_node.specs.Laws.{RatingsTellFullness};
 
+use crate::node::NodeCore;
+use lat_hook::RatingRule;
+
 /// A heard frame leaves each living circuit whose peer has another address as it was.
 pub fn heard_stays_home()
     ensures { NodeStaysHome }
 {}
 
 /// Each rating of an announcement or a response is 0 exactly where all lines were held when it was made, whatever the rule.
-pub fn ratings_tell_fullness<F: Fn(u16, u16) -> u8>()
-    ensures { RatingsTellFullness F.pre F.post }
+pub fn ratings_tell_fullness<H: RatingRule>()
+    ensures { RatingsTellFullness H.may H.fact }
 {}
+
+/// A node may go to another thread where its rule of rating may.
+pub fn is_send<H: RatingRule + Send>() {
+    sent::<NodeCore<H>>();
+}
+
+// It may be called where values of the type may go to another thread.
+fn sent<T: Send>() {}

@@ -11,9 +11,6 @@ mod requests;
 mod step;
 
 pub use config::NodeConfig;
-pub use lat_hook::RateHook;
+pub use lat_hook::{RateHook, RatingRule};
 pub use lat_lines::Timing;
 pub use node::NodeCore;
-
-#[cfg(test)]
-mod tests;

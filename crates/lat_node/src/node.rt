@@ -1,13 +1,13 @@
 //! The node core.
 
 ghost use Rattle.std.specs.Prelude.{◌≡◌, ◌≤◌, length, IfOk};
-ghost use Rattle.lat_hook.specs.Hook.{HookFact};
 ghost use Rattle.lat_machines.specs.cores.Books.{book};
 ghost use Rattle.lat_machines.specs.cores.Cores.{span};
 ghost use Rattle.lat_machines.specs.cores.Hearing.{names};
 ghost use Rattle.lat_machines.specs.cores.Lines.{used};
 ghost use Rattle.lat_machines.specs.node.Node.{Node};
 ghost use Rattle.lat_machines.specs.values.Addresses.{address};
+ghost use Rattle.lat_stream.specs.Kept.{told_total};
 ghost use Rattle.lat_circuits.specs.Told.{span_told};
 ghost use Rattle.lat_lines.specs.Kept.{IsLine};
 ghost use Rattle.lat_lines.specs.Stands.{book_shown, book_told};
@@ -19,7 +19,7 @@ use crate::config::NodeConfig;
 use crate::requests::Request;
 use indexmap::IndexMap;
 use lat_base::{Addr, Bytes, LineBook, Memory, Name};
-use lat_hook::RateHook;
+use lat_hook::RatingRule;
 use lat_lines::Lines;
 use lat_queue::Services16;
 use lat_seq::Span;
@@ -30,7 +30,7 @@ use std::marker::Model;
 /// its requests. Contracts say for every state of the node machine that it stands for what it stands for afterwards. See
 /// "Cores" in docs/PROTOCOL.md.
 #[derive(Drop)]
-pub struct NodeCore<F> {
+pub struct NodeCore<H> {
     pub(crate) lines: Lines,
     pub(crate) services: Services16,
     pub(crate) incarnation: u16,
@@ -41,14 +41,14 @@ pub struct NodeCore<F> {
     pub(crate) requests: IndexMap<u16, Request>,
     /// How many asked sessions became free without a line.
     pub(crate) turned_away: u32,
-    pub(crate) hook: RateHook<F>,
+    pub(crate) rule: H,
 }
 
-impl<F> Model for NodeCore<F> {
+impl<H> Model for NodeCore<H> {
     ghost use Rattle.lat_node.specs.Kept.{Kept, Holds};
     ghost use Rattle.lat_node.specs.Shown.{shown};
 
-    ghost Value = { Kept F };
+    ghost Value = { Kept H };
 
     ghost view = { shown };
 
@@ -67,19 +67,19 @@ fn copy(alloc: Global, names: &[Name]) -> Result<Services16, Memory>
     Ok(copied)
 }
 
-impl<F: Fn(u16, u16) -> u8> NodeCore<F> {
+impl<H: RatingRule> NodeCore<H> {
     /// The node of a valid configuration at moment 0, as it is opened: no circuit, no session, no request. Its ratings are the
     /// rule's. Takes the memory of eight circuits; `Memory` where none is found.
     pub fn make(
         alloc: Global,
         config: &NodeConfig,
-        hook: RateHook<F>,
-    ) -> Result<NodeCore<F>, Memory>
+        rule: H,
+    ) -> Result<NodeCore<H>, Memory>
         requires config { IsConfig config.now }
-        requires fact { HookFact F.pre F.post hook.rule }
+        requires fact { H.fact rule }
         ensures stands { IfOk result (λ k. IsMachine k (opening k)) }
-        ensures config { IfOk result (λ k. (config_of k ≡ config_shown config.now) × (k.rule ≡ hook.rule)) }
-        ensures rest { IfOk result (λ k. AtRest k × HookFact F.pre F.post k.rule) }
+        ensures config { IfOk result (λ k. (config_of k ≡ config_shown config.now) × (k.rule ≡ rule)) }
+        ensures rest { IfOk result (λ k. AtRest k × H.fact k.rule) }
     {
         Ok(NodeCore {
             lines: Lines::make(
@@ -96,7 +96,7 @@ impl<F: Fn(u16, u16) -> u8> NodeCore<F> {
             groups: Bytes::copy(alloc, config.groups.as_slice())?,
             requests: IndexMap::new(alloc),
             turned_away: 0,
-            hook,
+            rule,
         })
     }
 
@@ -106,6 +106,13 @@ impl<F: Fn(u16, u16) -> u8> NodeCore<F> {
         ensures { (s : Node) → Stands self.now s → book_shown result ≡ book_told (book s.core line) }
     {
         self.lines.book(line)
+    }
+
+    /// How many sessions its lines have had. It stops at the greatest number of 64 bits.
+    pub fn made(&self) -> u64
+        ensures { (s : Node) → Stands self.now s → result ≡ told_total (length s.core.seats) }
+    {
+        self.lines.made()
     }
 
     /// Whether a RUN from this address, with this destination and this source, names a living circuit.

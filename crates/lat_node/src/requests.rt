@@ -17,6 +17,7 @@ ghost use Rattle.lat_node.specs.Stands.{Stands, was_made, request_shown, request
 use crate::node::NodeCore;
 use indexmap::IndexMap;
 use lat_base::{Addr, Answer, Memory, Name, OutBox};
+use lat_hook::RatingRule;
 use lat_notices::Action;
 use lat_payload::command_frame;
 use std::alloc::Global;
@@ -31,7 +32,7 @@ pub(crate) struct Request {
     pub(crate) accepted: bool,
 }
 
-impl<F: Fn(u16, u16) -> u8> NodeCore<F> {
+impl<H: RatingRule> NodeCore<H> {
     /// Asks a server for a session with one of its lines' services, under this id. Takes its memory first.
     pub(crate) fn request(
         &mut self,

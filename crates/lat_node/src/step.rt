@@ -3,7 +3,6 @@
 ghost use Rattle.std.specs.Prelude.{◌≡◌, ◌≤◌, ◌+◌, [], length, IfOk, OnErr};
 ghost use Rattle.lat_base.specs.Answers.{PutFits, TookFits};
 ghost use Rattle.lat_base.specs.declared.answer.Answer.TheVariants as answers;
-ghost use Rattle.lat_hook.specs.Hook.{HookFact};
 ghost use Rattle.lat_machines.specs.node.Node.{Node, node_step};
 ghost use Rattle.lat_machines.specs.values.Events.{Time};
 ghost use Rattle.lat_lines.specs.Answers as lines;
@@ -14,21 +13,21 @@ ghost use Rattle.lat_node.specs.Stands.{Stands, Machine, IsMachine, opening, nex
 
 use crate::node::NodeCore;
 use lat_base::{Answer, Core, Event, Memory, OutBox, SessionState};
+use lat_hook::RatingRule;
 use std::alloc::Global;
 
-impl<F: Fn(u16, u16) -> u8 + Drop> Core for NodeCore<F> {
-    ghost use Rattle.lat_hook.specs.Hook.{HookFact};
+impl<H: RatingRule> Core for NodeCore<H> {
     ghost use Rattle.lat_lines.specs.Answers as lines;
     ghost use Rattle.lat_node.specs.Kept.{AtRest};
     ghost use Rattle.lat_node.specs.Stands.{Machine, IsMade, opening, IsMachine, next, answered, Frames, line_of, moment_of, waiting_of, finished_of};
 
-    ghost State = { Machine F };
+    ghost State = { Machine H };
 
     ghost made = { IsMade };
 
     ghost opening = { opening };
 
-    ghost valid = { λ k. AtRest k × HookFact F.pre F.post k.rule };
+    ghost valid = { λ k. AtRest k × H.fact k.rule };
 
     ghost stands = { IsMachine };
 
@@ -36,7 +35,7 @@ impl<F: Fn(u16, u16) -> u8 + Drop> Core for NodeCore<F> {
 
     ghost answer = { answered };
 
-    ghost frames = { Frames F.post };
+    ghost frames = { Frames H.may };
 
     ghost line_of = { line_of };
 
@@ -71,19 +70,19 @@ impl<F: Fn(u16, u16) -> u8 + Drop> Core for NodeCore<F> {
     }
 }
 
-impl<F: Fn(u16, u16) -> u8> NodeCore<F> {
+impl<H: RatingRule> NodeCore<H> {
     /// Does what `step` does at an event that is `Time`, `Put`, `Set`, `Attend` or `Close`, and takes no memory.
     pub fn local(&mut self, event: &Event, out: &mut OutBox) -> Answer
         requires rest { AtRest self.old }
-        requires fact { HookFact F.pre F.post self.old.rule }
+        requires fact { H.fact self.old.rule }
         requires local { IsLocal event.now }
         requires empty { out.old ≡ [] }
         ensures rest { AtRest self.new }
-        ensures fact { HookFact F.pre F.post self.new.rule }
+        ensures fact { H.fact self.new.rule }
         ensures opening { opening self.new ≡ opening self.old }
-        ensures state { (m : Machine F) → IsMachine self.old m → IsMachine self.new (next m event.now) }
-        ensures answer { (m : Machine F) → IsMachine self.old m → result ≡ answered m event.now }
-        ensures frames { (m : Machine F) → IsMachine self.old m → Frames F.post m event.now out.new }
+        ensures state { (m : Machine H) → IsMachine self.old m → IsMachine self.new (next m event.now) }
+        ensures answer { (m : Machine H) → IsMachine self.old m → result ≡ answered m event.now }
+        ensures frames { (m : Machine H) → IsMachine self.old m → Frames H.may m event.now out.new }
         ensures put { PutFits result event.now }
         ensures took { TookFits (lines.ready self.old.lines) result event.now }
     {
@@ -95,9 +94,9 @@ impl<F: Fn(u16, u16) -> u8> NodeCore<F> {
     // What an event does. Circuits that it ends are held still.
     fn apply(&mut self, alloc: Global, event: &Event, out: &mut OutBox) -> Result<Answer, Memory>
         requires rest { AtRest self.old }
-        requires fact { HookFact F.pre F.post self.old.rule }
+        requires fact { H.fact self.old.rule }
         requires room { length out.old + 128 ≤ 256 }
-        ensures steps { IfOk result (λ a. Steps F.post (event_shown event.now) self.old self.new a out.old out.new) }
+        ensures steps { IfOk result (λ a. Steps H.may (event_shown event.now) self.old self.new a out.old out.new) }
         ensures same { SameConfig self.old self.new }
         ensures put { IfOk result (λ a. PutFits a event.now) }
         ensures took { IfOk result (λ a. TookFits (lines.ready self.old.lines) a event.now) }
@@ -110,7 +109,7 @@ impl<F: Fn(u16, u16) -> u8> NodeCore<F> {
             Event::Take { line, n } => self.lines.take(alloc, *line, *n),
             Event::Request { to, id, service } => self.request(*to, *id, service, out),
             Event::Announce => self.announce(alloc, out),
-            _ => Ok(self.act(event, out)),
+            other => Ok(self.act(other, out)),
         }
     }
 
@@ -139,7 +138,11 @@ impl<F: Fn(u16, u16) -> u8> NodeCore<F> {
             Event::Attend { line, flag } => self.lines.attend(*line, *flag),
             Event::Close { line } => self.lines.close(*line),
             Event::Cancel { id } => self.withdraw(*id, out),
-            _ => Answer::NotHere,
+            Event::Connect { .. }
+            | Event::Heard { .. }
+            | Event::Take { .. }
+            | Event::Request { .. }
+            | Event::Announce => Answer::NotHere,
         }
     }
 

@@ -1,7 +1,6 @@
 //! The blocks of a script, in order.
 
 ghost use Rattle.std.specs.Prelude.{◌≡◌, ◌≤◌, ◌-◌, min};
-ghost use Rattle.lat_hook.specs.Hook.{HookFact};
 
 use crate::play::{Play, Side};
 use crate::post::Post;
@@ -9,7 +8,7 @@ use crate::setup::Setup;
 use crate::station::Station;
 use crate::words::{is_remark, word};
 use lat_base::Memory;
-use lat_node::{NodeCore, RateHook};
+use lat_node::{NodeCore, RateHook, RatingRule};
 use lat_server::ServerCore;
 use std::alloc::Global;
 
@@ -71,17 +70,17 @@ fn play_cores<S: Station, N: Station>(
 }
 
 // Makes both cores; the node's ratings are the rule's.
-fn play_by<F: Fn(u16, u16) -> u8 + Drop>(
+fn play_by<H: RatingRule>(
     alloc: Global,
     setup: &Setup,
-    rule: F,
+    rule: H,
     lines: &str,
     text: &mut String,
 ) -> Result<(), Memory>
-    requires { HookFact F.pre F.post rule }
+    requires { H.fact rule }
 {
     let server = ServerCore::make(alloc, &setup.server)?;
-    let node = NodeCore::make(alloc, &setup.node, RateHook::new(rule))?;
+    let node = NodeCore::make(alloc, &setup.node, rule)?;
     play_cores(alloc, setup, server, node, lines, text)
 }
 
@@ -91,7 +90,7 @@ fn play(alloc: Global, setup: &Setup, lines: &str, text: &mut String) -> Result<
         requires { used ≤ max }
         ensures { result ≡ min (max - used) 255 }
     { (max - used).min(255) as u8 };
-    play_by(alloc, setup, rule, lines, text)
+    play_by(alloc, setup, RateHook::new(rule), lines, text)
 }
 
 // What the lines before `go` say.

@@ -4,7 +4,7 @@ ghost use Rattle.std.specs.Prelude.{◌≡◌, ℕ, []};
 ghost use Rattle.lat_lines.specs.Kept.{IsLine};
 
 use lat_base::{Addr, Answer, Core, Event, LineBook, Memory, OutBox};
-use lat_node::NodeCore;
+use lat_node::{NodeCore, RatingRule};
 use lat_queue::Record;
 use lat_seq::Span;
 use lat_server::ServerCore;
@@ -69,7 +69,7 @@ impl Station for ServerCore {
     }
 }
 
-impl<F: Fn(u16, u16) -> u8 + Drop> Station for NodeCore<F> {
+impl<H: RatingRule> Station for NodeCore<H> {
     ghost use Rattle.lat_node.specs.Stands.{opening};
 
     ghost count = { λ k. (opening k).config.lines };

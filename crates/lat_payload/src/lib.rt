@@ -10,6 +10,3 @@ mod value;
 pub use read::read_value;
 pub use said::{command_frame, notice_frame, response_frame, solicit_frame, status_frame};
 pub use value::Value;
-
-#[cfg(test)]
-mod tests;

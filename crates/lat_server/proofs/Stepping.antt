@@ -1,6 +1,7 @@
 -- An event and what follows it are a step of the machine.
-use Rattle.std.proofs.Common.{◌≡◌, refl, sym, ap, ◌∙◌, subst, List, []}
+use Rattle.std.proofs.Common.{◌≡◌, ◌⊎◌, inl, inr, refl, sym, ap, ◌∙◌, subst, List, []}
 use Rattle.lat_base.specs.declared.answer.Answer as base
+use Rattle.lat_base.specs.declared.answer.Answer.TheVariants as answers
 use Rattle.lat_base.specs.declared.event.Event as base_event
 use Rattle.lat_base.specs.declared.event.Event.TheVariants as events
 use Rattle.lat_base.specs.declared.outbox.OutFrame.{OutFrame}
@@ -12,9 +13,10 @@ use Rattle.lat_lines.specs.Events.{event_shown}
 use Rattle.lat_lines.specs.Kept as lines
 use Rattle.lat_lines.proofs.Back.{answer_back}
 use Rattle.lat_queue.specs.Tables.{Table}
-use Rattle.lat_server.specs.Kept.{Kept, config_of}
+use Rattle.lat_server.specs.Kept.{Kept, AtRest, config_of}
 use Rattle.lat_server.specs.Stands.{Machine, IsMachine, next, answered, Frames}
 use Rattle.lat_server.specs.Events.{DidTo, Does, Follows, HasFollowed, TakesNoMemory}
+use Rattle.lat_server.proofs.Connecting.{idle}
 use Rattle.lat_server.proofs.EventSeats.{event_seats}
 
 -- the configuration stays where the lines are the same
@@ -26,20 +28,46 @@ config_same k l r s =
     let d : l.circuits.timing ≡ k.lines.circuits.timing = s.core.timing in
     rw (a, b, c, d) refl
 
--- the events that are nothing to a server
-pub at_not_here : (config : ServerConfig) (s : Server) (e : base_event.Event) → TakesNoMemory e → ((now : _) → e ≡ events.Time now → ⊥) → ((line : _) (service : _) → e ≡ events.Connect line service → ⊥) → ((line : _) (bytes : _) → e ≡ events.Put line bytes → ⊥)
-    → ((line : _) (setting : _) → e ≡ events.Set line setting → ⊥) → ((line : _) (flag : _) → e ≡ events.Attend line flag → ⊥) → ((line : _) → e ≡ events.Close line → ⊥) → server_event config s (event_shown e) ≡ tells s NotHere
-at_not_here config s (events.Heard from payload now) l t c p x a z = absurd l
-at_not_here config s (events.Time now) l t c p x a z = absurd (t now refl)
-at_not_here config s (events.Connect line service) l t c p x a z = absurd (c line service refl)
-at_not_here config s (events.Put line bytes) l t c p x a z = absurd (p line bytes refl)
-at_not_here config s (events.Set line setting) l t c p x a z = absurd (x line setting refl)
-at_not_here config s (events.Take line n) l t c p x a z = absurd l
-at_not_here config s (events.Attend line flag) l t c p x a z = absurd (a line flag refl)
-at_not_here config s (events.Close line) l t c p x a z = absurd (z line refl)
-at_not_here config s (events.Request to id service) l t c p x a z = refl
-at_not_here config s (events.Cancel id) l t c p x a z = refl
-at_not_here config s events.Announce l t c p x a z = refl
+-- an event that is nothing to a server
+abbrev IsNothing : base_event.Event → Type 0
+IsNothing (events.Request to id service) = Unit {0}
+IsNothing (events.Cancel id) = Unit {0}
+IsNothing events.Announce = Unit {0}
+IsNothing e = ⊥
+
+-- one that is none of the others
+abbrev pub IsElse : base_event.Event → Type 0
+IsElse e =
+    ((to : _) × (id : _) × (service : _) × (e ≡ events.Request to id service))
+    ⊎ (((id : _) × (e ≡ events.Cancel id))
+    ⊎ ((e ≡ events.Announce)
+    ⊎ (((from : _) × (payload : _) × (now : _) × (e ≡ events.Heard from payload now))
+    ⊎ ((line : _) × (n : _) × (e ≡ events.Take line n)))))
+
+nothing : (e : base_event.Event) → TakesNoMemory e → IsElse e → IsNothing e
+nothing e l (inl h) = subst IsNothing (sym h.3) tt
+nothing e l (inr (inl h)) = subst IsNothing (sym h.1) tt
+nothing e l (inr (inr (inl h))) = subst IsNothing (sym h) tt
+nothing e l (inr (inr (inr (inl h)))) = absurd (subst TakesNoMemory h.3 l)
+nothing e l (inr (inr (inr (inr h)))) = absurd (subst TakesNoMemory h.2 l)
+
+at_nothing : (config : ServerConfig) (s : Server) (e : base_event.Event) → IsNothing e → server_event config s (event_shown e) ≡ tells s NotHere
+at_nothing config s (events.Heard from payload now) n = absurd n
+at_nothing config s (events.Time now) n = absurd n
+at_nothing config s (events.Connect line service) n = absurd n
+at_nothing config s (events.Put line bytes) n = absurd n
+at_nothing config s (events.Set line setting) n = absurd n
+at_nothing config s (events.Take line count) n = absurd n
+at_nothing config s (events.Attend line flag) n = absurd n
+at_nothing config s (events.Close line) n = absurd n
+at_nothing config s (events.Request to id service) n = refl
+at_nothing config s (events.Cancel id) n = refl
+at_nothing config s events.Announce n = refl
+
+pub does_nothing : (k : Kept) (e : base_event.Event) (before : List OutFrame) → AtRest k → TakesNoMemory e → IsElse e → Does (λ config s. server_event config s (event_shown e)) k k answers.NotHere before before
+does_nothing k e before rest l h = λ s st.
+    subst (λ (t : ServerStep). DidTo s t k answers.NotHere before before) (sym (at_nothing (config_of k) s e (nothing e l h)))
+    (record { state = idle k s NotHere before rest st; answered = refl })
 
 -- what a core promises of a step
 pub record HasStepped (m : Machine) (e : base_event.Event) (new : Kept) (answer : base.Answer) (after : List OutFrame) : Type 0 where

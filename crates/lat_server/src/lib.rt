@@ -9,8 +9,6 @@ mod hear;
 pub mod laws;
 mod server;
 mod step;
-#[cfg(test)]
-mod tests;
 
 pub use config::{Offer, Offers, ServerConfig};
 pub use lat_lines::Timing;

@@ -104,7 +104,7 @@ impl ServerCore {
                 self.hear(alloc, *from, payload.as_slice(), *now, out)
             }
             Event::Take { line, n } => self.lines.take(alloc, *line, *n),
-            _ => Ok(self.act(event, out)),
+            other => Ok(self.act(other, out)),
         }
     }
 
@@ -126,7 +126,11 @@ impl ServerCore {
             Event::Set { line, setting } => self.lines.set(*line, *setting),
             Event::Attend { line, flag } => self.lines.attend(*line, *flag),
             Event::Close { line } => self.lines.close(*line),
-            _ => Answer::NotHere,
+            Event::Request { .. }
+            | Event::Cancel { .. }
+            | Event::Announce
+            | Event::Heard { .. }
+            | Event::Take { .. } => Answer::NotHere,
         }
     }
 

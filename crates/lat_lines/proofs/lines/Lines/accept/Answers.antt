@@ -1,16 +1,17 @@
-use Rattle.std.proofs.Common.{◌≡◌, true, false, sym, ap, subst, ◌∙◌}
+use Rattle.std.proofs.Common.{◌≡◌, true, false, map, sym, ap, subst, ◌∙◌}
 use Rattle.lat_model.specs.sessions.Calls.{Answer}
 use Rattle.lat_model.specs.ends.End.{lives}
 use Rattle.lat_machines.specs.cores.Cores.{Core}
+use Rattle.lat_queue.specs.Histories.{key_in}
 use Rattle.lat_circuits.specs.Stands.{calling}
 use Rattle.lat_lines.specs.Kept.{Kept, side_of}
-use Rattle.lat_lines.specs.Stands.{Stands}
+use Rattle.lat_lines.specs.Stands.{Stands, freed_between}
 use Rattle.lat_lines.specs.Opens.{accepted_core}
 use Rattle.lat_lines.specs.Shown.{shown}
 use Rattle.lat_lines.proofs.Says.{acted_calling}
 use Rattle.lat_lines.proofs.Acting.{ok_of}
 use Rattle.lat_lines.proofs.CoresLater.{calling_later}
-use Rattle.lat_lines.proofs.Accepting.{none_still, called_lives, accepted_leads}
+use Rattle.lat_lines.proofs.Accepting.{none_still, called_lives, accepted_leads, accepted_frees}
 use Rattle.lat_lines.proofs.lines.Lines.accept.Goals as goal
 
 pub returns-clause-state : goal.returns-clause-state
@@ -28,3 +29,12 @@ returns-clause-state c = λ d st none l w.
     let leads = accepted_leads k (side_of k) x c.args.id d st2 l w (c.seat.ensures.side e done free_still going ∙ node) in
     subst (λ (z : Kept). Stands c.seat.new.self (accepted_core (side_of z) c.args.line x c.args.id d)) c.self.view_is
     (c.seat.ensures.state e ((e.circuits.circuit_at x).end.half.sessions.at_id c.args.id) done free_still going leads)
+
+pub returns-clause-freed : goal.returns-clause-freed
+returns-clause-freed c = λ d st.
+    let k = shown c.self.inside in
+    let x = c.args.circuit in
+    let st2 : Stands k d = subst (λ z. Stands z d) (sym c.self.view_is) st in
+    let did = acted_calling k c.settle.new.self c.answer.new.self x (Answer c.args.id) d st2 c.answer.ensures.same.ids (c.answer.ensures.state d st2.circuits) c.settle.ensures.state c.settle.ensures.circuits in
+    subst (λ (z : Kept). map key_in c.seat.new.self.freed ≡ freed_between d (accepted_core (side_of z) c.args.line x c.args.id d)) c.self.view_is
+    (ap (map key_in) c.seat.ensures.freed ∙ did.freed ∙ accepted_frees (side_of k) c.args.line x c.args.id d)

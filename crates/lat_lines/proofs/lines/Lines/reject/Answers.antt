@@ -1,8 +1,9 @@
-use Rattle.std.proofs.Common.{sym, subst}
+use Rattle.std.proofs.Common.{◌≡◌, map, sym, subst}
 use Rattle.lat_model.specs.sessions.Calls.{Refuse}
+use Rattle.lat_queue.specs.Histories.{key_in}
 use Rattle.lat_circuits.specs.Stands.{calling}
 use Rattle.lat_lines.specs.Kept.{Kept, side_of}
-use Rattle.lat_lines.specs.Stands.{Stands}
+use Rattle.lat_lines.specs.Stands.{Stands, freed_between}
 use Rattle.lat_lines.specs.Shown.{shown}
 use Rattle.lat_lines.proofs.Says.{acted_calling}
 use Rattle.lat_lines.proofs.lines.Lines.reject.Goals as goal
@@ -13,3 +14,10 @@ returns-clause-state c = λ d st.
     let st2 : Stands k d = subst (λ z. Stands z d) (sym c.self.view_is) st in
     subst (λ (z : Kept). Stands c.settle.new.self (calling (side_of z) c.args.circuit (Refuse c.args.id c.args.reason) d)) c.self.view_is
     (acted_calling k c.settle.new.self c.reject.new.self c.args.circuit (Refuse c.args.id c.args.reason) d st2 c.reject.ensures.same.ids (c.reject.ensures.state d st2.circuits) c.settle.ensures.state c.settle.ensures.circuits).state
+
+pub returns-clause-freed : goal.returns-clause-freed
+returns-clause-freed c = λ d st.
+    let k = shown c.self.inside in
+    let st2 : Stands k d = subst (λ z. Stands z d) (sym c.self.view_is) st in
+    subst (λ (z : Kept). map key_in c.settle.new.self.freed ≡ freed_between d (calling (side_of z) c.args.circuit (Refuse c.args.id c.args.reason) d)) c.self.view_is
+    (acted_calling k c.settle.new.self c.reject.new.self c.args.circuit (Refuse c.args.id c.args.reason) d st2 c.reject.ensures.same.ids (c.reject.ensures.state d st2.circuits) c.settle.ensures.state c.settle.ensures.circuits).freed

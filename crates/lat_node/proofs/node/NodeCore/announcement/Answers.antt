@@ -8,14 +8,14 @@ returns-clause-writable g c =
     announcement_writable _ c.args.self.now.services c.self.invariant.timer
     (subst (λ (xs : List ℕ). length xs ≤ 32) (sym (c.in_ok-copy.ensures ∙ c.as_slice.ensures)) c.self.invariant.groups)
     c.named.ensures c.in_ok-copy-2.ensures
-    (subst (λ (k : Kept g.row.F.Denot). length k.services ≤ 32) c.self.view_is c.self.invariant.services)
+    (subst (λ (k : Kept g.row.H.Denot). length k.services ≤ 32) c.self.view_is c.self.invariant.services)
     c.in_ok-rated.ensures.services c.in_ok-rated.ensures.names
 
 pub returns-clause-announced : goal.returns-clause-announced
 returns-clause-announced g c =
     announced_as _ c.args.self.now c.args.used c.self.inside.timer c.self.inside.incarnation c.in_ok-copy.field-0 c.name-node.result c.in_ok-copy-2.field-0 c.in_ok-rated.field-0
-    (ap (λ (k : Kept g.row.F.Denot). k.timer) c.self.view_is)
-    (ap (λ (k : Kept g.row.F.Denot). k.incarnation) c.self.view_is)
-    (c.in_ok-copy.ensures ∙ c.as_slice.ensures ∙ ap (λ (k : Kept g.row.F.Denot). k.groups) c.self.view_is)
-    (c.name-node.ensures ∙ ap (λ (k : Kept g.row.F.Denot). k.lines.circuits.name) c.self.view_is)
+    (ap (λ (k : Kept g.row.H.Denot). k.timer) c.self.view_is)
+    (ap (λ (k : Kept g.row.H.Denot). k.incarnation) c.self.view_is)
+    (c.in_ok-copy.ensures ∙ c.as_slice.ensures ∙ ap (λ (k : Kept g.row.H.Denot). k.groups) c.self.view_is)
+    (c.name-node.ensures ∙ ap (λ (k : Kept g.row.H.Denot). k.lines.circuits.name) c.self.view_is)
     c.in_ok-copy-2.ensures c.in_ok-rated.ensures.names c.in_ok-rated.ensures.ratings

@@ -9,10 +9,10 @@ use Rattle.lat_node.proofs.node.NodeCore.answer_one.Goals as goal
 
 pub returns-in-Ok-clause-state : goal.returns-in-Ok-clause-state
 returns-in-Ok-clause-state g c = λ s st asks.
-    let config = config_of {F = g.row.F.Denot} c.args.self.now in
+    let config = config_of {H = g.row.H.Denot} c.args.self.now in
     let x = c.args.asked.now in
     let v = c.in-Ok.ensures.verdict s st in
-    subst (λ (w : Verdict). Stands {F = g.row.F.Denot} c.accept.new.self (judged config s c.args.circuit x.id x.request w)) v
+    subst (λ (w : Verdict). Stands {H = g.row.H.Denot} c.accept.new.self (judged config s c.args.circuit x.id x.request w)) v
     (c.accept.ensures.state s st asks (accepts_free config s x.service x.request c.in-Ok.line (sym v)) (accepts_requested config s x.service x.request c.in-Ok.line (sym v)))
 
 pub returns-in-Err-clause-state : goal.returns-in-Err-clause-state
@@ -20,7 +20,7 @@ returns-in-Err-clause-state g c = λ s st asks.
     let k = shown c.self.inside in
     let x = c.args.asked.now in
     let v = c.in-Err.ensures.verdict s st in
-    let stood = subst (λ z. Stands {F = g.row.F.Denot} z s) (sym c.self.view_is) st in
-    subst (λ (w : Verdict). Stands {F = g.row.F.Denot} (record k { lines = c.reject.new.self; turned_away = c.saturating_add-self-inside.result }) (judged (config_of {F = g.row.F.Denot} c.args.self.now) s c.args.circuit x.id x.request w)) v
+    let stood = subst (λ z. Stands {H = g.row.H.Denot} z s) (sym c.self.view_is) st in
+    subst (λ (w : Verdict). Stands {H = g.row.H.Denot} (record k { lines = c.reject.new.self; turned_away = c.saturating_add-self-inside.result }) (judged (config_of {H = g.row.H.Denot} c.args.self.now) s c.args.circuit x.id x.request w)) v
     (rejected k c.reject.new.self s c.args.circuit x.id c.in-Err.reason c.saturating_add-self-inside.result x.request c.self.invariant.node stood (c.reject.ensures.state s.core stood.lines)
     (told_next c.self.inside.turned_away s.turned_away c.saturating_add-self-inside.result stood.turned_away c.saturating_add-self-inside.ensures))

@@ -14,7 +14,7 @@ returns-clause-does g c =
     let k = shown c.self.inside in
     let from = address c.args.from.0 in
     let m = message_shown c.args.message.now in
-    subst (λ (z : Kept g.row.F.Denot). Does (λ config s. hears_message config (with_core s (at_moment c.args.now s.core)) from m None) z c.answer_named.new.self c.hearing_told.result c.args.out.now c.heard-hearing.new.out) c.self.view_is
+    subst (λ (z : Kept g.row.H.Denot). Does (λ config s. hears_message config (with_core s (at_moment c.args.now s.core)) from m None) z c.answer_named.new.self c.hearing_told.result c.args.out.now c.heard-hearing.new.out) c.self.view_is
     (message_does k c.pass.new.self c.heard-hearing.new.self c.answer_named.new.self c.args.now from m c.named-named.result c.hearing_told.result c.args.out.now c.heard-hearing.new.out
     (record {
       node = c.self.invariant.node;

@@ -11,5 +11,5 @@ abbrev pub invariant-loop-name : goal.invariant-loop-name
 invariant-loop-name g l = record {
   services : AllByRecursion IsService l.services;
   names : map service_shown l.services ≡ machine.rated (take l.name-index l.name-items) (ratings l.services);
-  ratings : Each (goal.F-post g l.self.rule l.used l.self.lines.lines) (ratings l.services);
+  ratings : Each (g.H.RatingRule.may l.self.rule l.used l.self.lines.lines) (ratings l.services);
 }

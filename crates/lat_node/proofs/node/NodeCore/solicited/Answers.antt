@@ -14,7 +14,7 @@ returns-in-Some-clause-answer g c = λ s st.
     let k = c.args.self.now in
     let p = same c.args.solicit.now.service in
     let n = c.index-as_slice-place.result in
-    let inside = ap (λ (k : Kept g.row.F.Denot). k.services) c.self.view_is in
+    let inside = ap (λ (k : Kept g.row.H.Denot). k.services) c.self.view_is in
     let is = offered_at p k.services c.in-Some.place n (subst (λ ns. position p ns ≡ Some c.in-Some.place) inside (sym c.in-Some.ensures)) (subst (λ ns. n ≡ get_or ns c.in-Some.place n) (c.as_slice.ensures.value ∙ inside) c.index-as_slice-place.is) in
     subst (λ (o : Option Name). IfOk c.respond.result (λ a. answer_shown a ≡ (machine.solicited (config_of k) [] s (address c.args.from.0) c.args.solicit.now.id o).answer)) (sym is)
     (ok_weaker c.respond.result _ _ (λ a done. ap answer_shown done) c.respond.ensures.answer)
@@ -24,21 +24,21 @@ returns-in-Some-clause-frames g c = λ s st.
     let k = c.args.self.now in
     let p = same c.args.solicit.now.service in
     let n = c.index-as_slice-place.result in
-    let inside = ap (λ (k : Kept g.row.F.Denot). k.services) c.self.view_is in
+    let inside = ap (λ (k : Kept g.row.H.Denot). k.services) c.self.view_is in
     let is = offered_at p k.services c.in-Some.place n (subst (λ ns. position p ns ≡ Some c.in-Some.place) inside (sym c.in-Some.ensures)) (subst (λ ns. n ≡ get_or ns c.in-Some.place n) (c.as_slice.ensures.value ∙ inside) c.index-as_slice-place.is) in
-    subst (λ (o : Option Name). OnOk c.respond.result (Rated (goal.F-post g) k s (λ rates. machine.solicited (config_of k) rates s (address c.args.from.0) c.args.solicit.now.id o) (ratings_for (config_of k) o) c.args.out.now c.respond.new.out)) (sym is)
+    subst (λ (o : Option Name). OnOk c.respond.result (Rated (g.H.RatingRule.may) k s (λ rates. machine.solicited (config_of k) rates s (address c.args.from.0) c.args.solicit.now.id o) (ratings_for (config_of k) o) c.args.out.now c.respond.new.out)) (sym is)
     (c.respond.ensures.frames s st)
 
 pub returns-in-None-clause-answer : goal.returns-in-None-clause-answer
 returns-in-None-clause-answer g c = λ s st.
     let k = c.args.self.now in
     let p = same c.args.solicit.now.service in
-    let none = finds_none p k.services (subst (λ ns. position p ns ≡ None) (ap (λ (k : Kept g.row.F.Denot). k.services) c.self.view_is) (sym c.in-None.ensures)) in
+    let none = finds_none p k.services (subst (λ ns. position p ns ≡ None) (ap (λ (k : Kept g.row.H.Denot). k.services) c.self.view_is) (sym c.in-None.ensures)) in
     ap (λ (o : Option Name). (machine.solicited (config_of k) [] s (address c.args.from.0) c.args.solicit.now.id o).answer) (sym none)
 
 pub returns-in-None-clause-frames : goal.returns-in-None-clause-frames
 returns-in-None-clause-frames g c = λ s st.
     let k = c.args.self.now in
     let p = same c.args.solicit.now.service in
-    let none = finds_none p k.services (subst (λ ns. position p ns ≡ None) (ap (λ (k : Kept g.row.F.Denot). k.services) c.self.view_is) (sym c.in-None.ensures)) in
+    let none = finds_none p k.services (subst (λ ns. position p ns ≡ None) (ap (λ (k : Kept g.row.H.Denot). k.services) c.self.view_is) (sym c.in-None.ensures)) in
     ignored_rated _ k s (address c.args.from.0) c.args.solicit.now.id _ c.args.out.now none

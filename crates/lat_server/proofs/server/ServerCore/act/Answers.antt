@@ -1,20 +1,18 @@
-use Rattle.std.proofs.Common.{ℕ, List, refl, sym, subst}
-use Rattle.lat_base.specs.declared.answer.Answer.TheVariants as answers
+use Rattle.std.proofs.Common.{ℕ, List, sym, subst}
 use Rattle.lat_base.specs.declared.event.Event as base
 use Rattle.lat_base.specs.declared.event.Event.TheVariants as events
-use Rattle.lat_machines.specs.values.Answers.{NotHere}
 use Rattle.lat_machines.specs.cores.Cores.{Side}
 use Rattle.lat_machines.specs.cores.LineCalls.{put_on, set_on, attend_on, close_on, on_line}
-use Rattle.lat_machines.specs.server.Server.{ServerStep, server_side, server_event}
+use Rattle.lat_machines.specs.server.Server.{server_side, server_event}
 use Rattle.lat_lines.specs.Answers.{SaidTo}
 use Rattle.lat_lines.specs.Events.{event_shown}
 use Rattle.lat_server.specs.Kept.{Kept, config_of}
 use Rattle.lat_server.specs.Shown.{shown}
 use Rattle.lat_server.specs.Stands.{Stands}
 use Rattle.lat_server.specs.Events.{DidTo}
-use Rattle.lat_server.proofs.Connecting.{same_side, idle}
+use Rattle.lat_server.proofs.Connecting.{same_side}
 use Rattle.lat_server.proofs.Hearing.{did_call}
-use Rattle.lat_server.proofs.Stepping.{at_not_here}
+use Rattle.lat_server.proofs.Stepping.{does_nothing}
 use Rattle.lat_server.proofs.server.ServerCore.act.Goals as goal
 
 pub returns-in-Put-clause-does : goal.returns-in-Put-clause-does
@@ -58,9 +56,5 @@ returns-in-Close-clause-does c = λ s st.
     (did_call k s c.close.new.self c.close.result (on_line k.lines.lines s.core c.in-Close.line (λ x. close_on (server_side (config_of k)) s.core x)) c.args.out.now in_it
     (subst (λ (z : Side). SaidTo s.core (on_line k.lines.lines s.core c.in-Close.line (λ x. close_on z s.core x)) c.close.new.self c.close.result) (sym (same_side k c.self-in-Close.invariant.server)) (c.close.ensures.says s.core in_it.lines))))
 
-pub returns-in_default-clause-does : goal.returns-in_default-clause-does
-returns-in_default-clause-does c = λ s st.
-    let k : Kept = c.args.self.now in
-    subst (λ (t : ServerStep). DidTo s t k answers.NotHere c.args.out.now c.args.out.now)
-    (sym (at_not_here (config_of k) s c.args.event.now c.requires.local c.in_default.not-Time c.in_default.not-Connect c.in_default.not-Put c.in_default.not-Set c.in_default.not-Attend c.in_default.not-Close))
-    (record { state = idle k s NotHere c.args.out.now c.requires.rest st; answered = refl })
+pub returns-in-Request-clause-does : goal.returns-in-Request-clause-does
+returns-in-Request-clause-does c = does_nothing c.args.self.now c.args.event.now c.args.out.now c.requires.rest c.requires.local c.in-Request.is

@@ -1,0 +1,12 @@
+-- What is known of a rule of rating.
+use Rattle.std.specs.Prelude.{◌≡◌, ℕ, ◌<◌, ◌≤◌, ◌^◌, ◌↔◌}
+
+-- each answer is 0 exactly where all lines are used, of at most 65,535
+abbrev pub TellsFullness : (ℕ → ℕ → ℕ → Type 0) → Type 0
+TellsFullness may =
+    (used max rating : ℕ) → used ≤ max → max < 2 ^ 16 → may used max rating → (rating ≡ 0) ↔ (used ≡ max)
+
+-- a closure may be called wherever used is at most max, both of two bytes, and its answers tell where they are equal
+pub record HookFact {F : Type 0} (pre : F → ℕ → ℕ → Type 0) (post : F → ℕ → ℕ → ℕ → Type 0) (rule : F) : Type 0 where
+  pub may : (used max : ℕ) → used ≤ max → max < 2 ^ 16 → pre rule used max
+  pub full : TellsFullness (post rule)
