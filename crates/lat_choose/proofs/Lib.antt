@@ -1,5 +1,2 @@
-pub mod Decimals
-pub mod HexRead
 pub mod Stations
-pub mod NamesWritten
 pub mod EntriesPrinted

@@ -1,13 +1,11 @@
 -- What a line of the input says.
-use Rattle.std.specs.Prelude.{◌≡◌, ℕ, List, Option, Some, None, option_and_then, Result, Ok, Err, nat_lt, bytes_eq, codes, if◌then◌else◌}
+use Rattle.std.specs.Prelude.{ℕ, List, Option, Some, None, option_and_then, nat_lt, bytes_eq, codes, if◌then◌else◌}
 use Rattle.lat_choose.specs.declared.entry.Entry.{Entry}
 use Rattle.lat_choose.specs.declared.entry.Entry.TheVariants.{Hear, Best}
-use Rattle.lat_choose.specs.declared.entry.EntryFault.{EntryFault}
-use Rattle.lat_choose.specs.declared.entry.EntryFault.TheVariants.{Form, Memory}
-use Rattle.lat_choose.specs.Words.{first_word}
-use Rattle.lat_choose.specs.Numbers.{moment_of}
-use Rattle.lat_choose.specs.Digits.{address_of, mask_of, payload_of}
-use Rattle.lat_choose.specs.NameWritten.{name_of}
+use Rattle.lat_text.specs.Words.{first_word}
+use Rattle.lat_text.specs.Numbers.{moment_of}
+use Rattle.lat_text.specs.Digits.{address_of, mask_of, payload_of}
+use Rattle.lat_text.specs.NameWritten.{name_of}
 use Rattle.lat_choose.specs.Announced.{announcement_read}
 
 -- what stands behind is read where this is right
@@ -56,9 +54,3 @@ unless_below last entry = if nat_lt (moment entry) last then None else Some entr
 -- an entry whose moment isn't below that of the line before
 abbrev pub entry_from : ℕ → List ℕ → Option Entry
 entry_from last line = option_and_then (unless_below last) (entry_of line)
-
--- What a call answered, seen by view, is what reading gives; want of memory may stand in place of any answer
-abbrev pub Reads : {X Y : Type 0} → (X → Y) → Result X EntryFault → Option Y → Type 0
-Reads view (Ok x) read = read ≡ Some (view x)
-Reads view (Err Form) read = read ≡ None
-Reads view (Err Memory) read = Unit {0}

@@ -2,14 +2,12 @@
 
 ghost use Rattle.std.specs.Prelude.{◌≡◌, IfOk};
 ghost use Rattle.lat_choose.specs.Announced.{announcement_read};
-ghost use Rattle.lat_choose.specs.Entries.{Reads, moment, hear_of, best_of, entry_of, entry_from};
+ghost use Rattle.lat_choose.specs.Entries.{moment, hear_of, best_of, entry_of, entry_from};
+ghost use Rattle.lat_text.specs.Reads.{Reads};
 
-use crate::digits::{address_of, payload_of};
-use crate::name::name_of;
-use crate::numbers::moment_of;
-use crate::words::first_word;
 use lat_base::{Addr, Bad, Field, Memory, Name};
 use lat_notices::{Announcement, FrameFault, Notice, read_notice};
+use lat_text::{LineFault, address_of, first_word, moment_of, name_of, payload_of};
 use std::alloc::Global;
 
 /// What a line says.
@@ -26,26 +24,6 @@ pub enum Entry {
         at: u64,
         service: Name,
     },
-}
-
-/// Why a line wasn't read.
-#[derive(Clone, Copy, Debug, PartialEq, Eq)]
-pub enum EntryFault {
-    /// It has no form of an entry.
-    Form,
-    /// No memory was found.
-    Memory,
-}
-
-impl From<Memory> for EntryFault {
-    ghost use Rattle.std.specs.Prelude.{◌≡◌};
-    ghost use Rattle.lat_choose.specs.declared.entry.EntryFault.TheVariants as faults;
-
-    ghost from_gives = { λ _ fault. fault ≡ faults.Memory };
-
-    fn from(_e: Memory) -> EntryFault {
-        EntryFault::Memory
-    }
 }
 
 impl Entry {
@@ -76,13 +54,13 @@ fn announcement_of(alloc: Global, payload: &[u8]) -> Result<Result<Announcement,
 }
 
 // `T ADDR HEX`
-fn hear_of(alloc: Global, text: &[u8]) -> Result<Entry, EntryFault>
+fn hear_of(alloc: Global, text: &[u8]) -> Result<Entry, LineFault>
     ensures { Reads (λ entry. entry) result (hear_of text.now) }
 {
-    let (moment, rest) = first_word(text).ok_or(EntryFault::Form)?;
-    let (address, digits) = first_word(rest).ok_or(EntryFault::Form)?;
-    let at = moment_of(moment).ok_or(EntryFault::Form)?;
-    let from = address_of(address).ok_or(EntryFault::Form)?;
+    let (moment, rest) = first_word(text).ok_or(LineFault::Form)?;
+    let (address, digits) = first_word(rest).ok_or(LineFault::Form)?;
+    let at = moment_of(moment).ok_or(LineFault::Form)?;
+    let from = address_of(address).ok_or(LineFault::Form)?;
     let payload = payload_of(alloc, digits)?;
     let found = announcement_of(alloc, &payload)?;
     Ok(Entry::Hear { at, from, found })
@@ -98,16 +76,16 @@ fn best_of(text: &[u8]) -> Option<Entry>
     Some(Entry::Best { at, service })
 }
 
-fn entry_of(alloc: Global, line: &[u8]) -> Result<Entry, EntryFault>
+fn entry_of(alloc: Global, line: &[u8]) -> Result<Entry, LineFault>
     ensures { Reads (λ entry. entry) result (entry_of line.now) }
 {
-    let (word, rest) = first_word(line).ok_or(EntryFault::Form)?;
+    let (word, rest) = first_word(line).ok_or(LineFault::Form)?;
     if word == "hear".as_bytes() {
         hear_of(alloc, rest)
     } else if word == "best".as_bytes() {
-        best_of(rest).ok_or(EntryFault::Form)
+        best_of(rest).ok_or(LineFault::Form)
     } else {
-        Err(EntryFault::Form)
+        Err(LineFault::Form)
     }
 }
 
@@ -119,7 +97,7 @@ pub fn entry_from(alloc: Global, last: u64, line: &[u8]) -> Result<Option<Entry>
     match entry_of(alloc, line) {
         Ok(entry) if entry.moment() < last => Ok(None),
         Ok(entry) => Ok(Some(entry)),
-        Err(EntryFault::Form) => Ok(None),
-        Err(EntryFault::Memory) => Err(Memory),
+        Err(LineFault::Form) => Ok(None),
+        Err(LineFault::Memory) => Err(Memory),
     }
 }

@@ -2,13 +2,9 @@
 //! `docs/FORMATS.md`, "Choices", has the lines.
 #![tactic(auto)]
 
-mod digits;
 mod entry;
 mod input;
-mod name;
-mod numbers;
 mod opening;
 mod print;
-mod words;
 
 pub use input::choose;

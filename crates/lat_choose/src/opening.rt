@@ -5,9 +5,7 @@ ghost use Rattle.lat_text.specs.Lines.{lines_of};
 ghost use Rattle.lat_choose.specs.Entries.{groups_of};
 ghost use Rattle.lat_choose.specs.ChooseOf.{opening_of};
 
-use crate::digits::mask_of;
-use crate::words::first_word;
-use lat_text::first_line;
+use lat_text::{first_line, first_word, mask_of};
 
 /// All groups.
 const ALL: [u8; 32] = [255; 32];

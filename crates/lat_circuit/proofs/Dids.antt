@@ -6,7 +6,8 @@ use Rattle.lat_model.specs.ends.End.{Sent, End, Step, still, then_do}
 use Rattle.lat_model.specs.ends.Timers.{note_empty}
 use Rattle.lat_model.specs.sessions.Sessions.{held}
 use Rattle.lat_circuit.specs.Kept.{Facts, Kept}
-use Rattle.lat_circuit.specs.Frames.{frame_sent}
+use Rattle.lat_model.proofs.numbers.Net.{each_append}
+use Rattle.lat_circuit.specs.Frames.{IsFormed, AreFormed, frame_sent, message_sent}
 use Rattle.lat_circuit.specs.Stands.{Stands, Did}
 use Rattle.lat_circuit.specs.Steps.{Keeps}
 
@@ -29,13 +30,14 @@ did_then f g k l m o p q a b same = λ e st.
           ∙ ap (λ z. z ++ map (frame_sent m.facts) (g (f e).end).sent) (x.1 ∙ ap (λ z. o ++ map (frame_sent z) (f e).sent) (sym same))
           ∙ append_assoc o (map (frame_sent m.facts) (f e).sent) (map (frame_sent m.facts) (g (f e).end).sent)
           ∙ ap (λ z. o ++ z) (sym (map-append (frame_sent m.facts) (f e).sent (g (f e).end).sent)),
+      each_append (λ s. IsFormed (message_sent m.facts s)) (f e).sent (g (f e).end).sent (subst (λ z. AreFormed z (f e).sent) (sym same) x.2) y.2,
     )
 
 -- a step that changes no end in another way: by another name
 pub did_as : (f g : End → Step) (k l : Kept) (o p : List OutFrame) → Did f k l o p → ((e : End) → Stands k e → g e ≡ f e) → Did g k l o p
 did_as f g k l o p a same = λ e st.
     let x = a e st in
-    let P : Step → Type 0 = λ s. Stands l s.end × (p ≡ o ++ map (frame_sent l.facts) s.sent) in
+    let P : Step → Type 0 = λ s. Stands l s.end × (p ≡ o ++ map (frame_sent l.facts) s.sent) × AreFormed l.facts s.sent in
     subst P (sym (same e st)) x
 
 -- the branch that was taken
@@ -46,7 +48,7 @@ pub did_false : (t : End → Bool) (f g : End → Step) (k l : Kept) (o p : List
 did_false t f g k l o p is a = did_as g (λ e. cond (t e) (f e) (g e)) k l o p a (λ e st. ap (λ b. cond b (f e) (g e)) (is e st))
 
 pub did_nothing : (k : Kept) (o : List OutFrame) → Did still k k o o
-did_nothing k o = λ e st. (st, sym (append-nil o))
+did_nothing k o = λ e st. (st, sym (append-nil o), tt)
 
 -- a step behind which it is noted whether the last session became free
 pub did_noted : (f : End → Step) (k l m : Kept) (o p : List OutFrame) (was : Bool) → Did f k l o p → m.facts ≡ l.facts
@@ -55,7 +57,7 @@ pub did_noted : (f : End → Step) (k l m : Kept) (o p : List OutFrame) (was : B
     → Did (λ e. note_empty e (f e)) k m o p
 did_noted f k l m o p was did same held_is noted = λ e st.
     let x = did e st in
-    (noted e (f e).end x.0 (held_is e st), x.1 ∙ ap (λ z. o ++ map (frame_sent z) (f e).sent) (sym same))
+    (noted e (f e).end x.0 (held_is e st), x.1 ∙ ap (λ z. o ++ map (frame_sent z) (f e).sent) (sym same), subst (λ z. AreFormed z (f e).sent) (sym same) x.2)
 
 -- a step of an end that was moved before
 pub did_moved : (h : End → End) (f : End → Step) (k l m : Kept) (o p : List OutFrame) → ((e : End) → Stands k e → Stands l (h e)) → Did f l m o p → Did (λ e. f (h e)) k m o p

@@ -21,7 +21,7 @@ use Rattle.lat_session.specs.Table.{Table}
 use Rattle.lat_circuit.specs.declared.circuit.Circuit.TheInside.{Inside}
 use Rattle.lat_circuit.specs.Kept.{Kept}
 use Rattle.lat_circuit.specs.Shown.{shown}
-use Rattle.lat_circuit.specs.Frames.{frame_sent}
+use Rattle.lat_circuit.specs.Frames.{AreFormed, frame_sent}
 use Rattle.lat_circuit.specs.Stands.{Stands, Did}
 use Rattle.lat_circuit.specs.Hears.{HeardStep, foreign, hears_named, hears_run, heard_shown, DidHear}
 use Rattle.lat_circuit.specs.Applies.{number_heard, ack_heard, Applied, apply_slots, apply_body, apply, slave_occasion, applied_step, answer_told, Applies}
@@ -177,16 +177,16 @@ pub applied_ok : {E : Type 0} (f : End → Applied) (r : Result OwnHeard E) (ans
 applied_ok f r answer k m l o p is a did = λ e st.
     let x = a e st in
     let y = did (f e).end x.0 in
-    let P : HeardStep → Type 0 = λ s. Stands l s.step.end × (p ≡ o ++ map (frame_sent l.facts) s.step.sent) × (heard_shown answer ≡ s.answer) in
-    subst P (ap (λ z. step_of (f e).end z) (ap answer_told (sym is) ∙ x.1)) (y.0, y.1, refl)
+    let P : HeardStep → Type 0 = λ s. Stands l s.step.end × (p ≡ o ++ map (frame_sent l.facts) s.step.sent) × (heard_shown answer ≡ s.answer) × AreFormed l.facts s.step.sent in
+    subst P (ap (λ z. step_of (f e).end z) (ap answer_told (sym is) ∙ x.1)) (y.0, y.1, refl, y.2)
 
 pub applied_err : {E : Type 0} (f : End → Applied) (r : Result OwnHeard E) (b : E) (k m l : Kept) (o p : List OutFrame) → r ≡ Err b
     → Applies f r k m → Did (finish 2) m l o p → DidHear (λ e. applied_step (f e)) (answers.Broke 2) k l o p
 applied_err f r b k m l o p is a did = λ e st.
     let x = a e st in
     let y = did (f e).end x.0 in
-    let P : HeardStep → Type 0 = λ s. Stands l s.step.end × (p ≡ o ++ map (frame_sent l.facts) s.step.sent) × (Broke 2 ≡ s.answer) in
-    subst P (ap (λ z. step_of (f e).end z) (ap answer_told (sym is) ∙ x.1)) (y.0, y.1, refl)
+    let P : HeardStep → Type 0 = λ s. Stands l s.step.end × (p ≡ o ++ map (frame_sent l.facts) s.step.sent) × (Broke 2 ≡ s.answer) × AreFormed l.facts s.step.sent in
+    subst P (ap (λ z. step_of (f e).end z) (ap answer_told (sym is) ∙ x.1)) (y.0, y.1, refl, y.2)
 
 -- which RUNs belong to the circuit
 
@@ -197,7 +197,7 @@ pub run_foreign : (own now : ℕ) (wide : Bool) (h : Head) (slots : List model.S
     → ((e : End) → Stands k e → is_named own h e ≡ false)
     → DidHear (hears_run own now wide h slots) answers.Foreign k k o o
 run_foreign own now wide h slots k o is =
-    hear_false (is_named own h) (hears_named now wide h slots) foreign answers.Foreign k k o o is (λ e st. (st, sym (append-nil o), refl))
+    hear_false (is_named own h) (hears_named now wide h slots) foreign answers.Foreign k k o o is (λ e st. (st, sym (append-nil o), refl, tt))
 
 pub run_unfit : (own now : ℕ) (wide : Bool) (h : Head) (slots : List model.Slot) (a : Inside) (o : List OutFrame)
     → ((e : End) → Stands (shown a) e → is_named own h e ≡ true)
@@ -210,7 +210,7 @@ run_unfit own now wide h slots a o is unfit =
     (λ e. record { step = still (record e { moment = now }); answer = Foreign })
     answers.Foreign (shown a) (shown (given a now)) o o
     (λ e st. unfit (record e { moment = now }) (given_stands a now e st))
-    (λ e st. (given_stands a now e st, sym (append-nil o), refl)))
+    (λ e st. (given_stands a now e st, sym (append-nil o), refl, tt)))
 
 -- the circuit that hears a RUN
 abbrev pub hearing_at : Inside → ℕ → Inside

@@ -21,7 +21,7 @@ use Rattle.lat_session.specs.Table.{Table}
 use Rattle.lat_circuit.specs.declared.agreed.Agreed.{Agreed as OwnAgreed}
 use Rattle.lat_circuit.specs.declared.circuit.Circuit.TheInside.{Inside}
 use Rattle.lat_circuit.specs.Agrees.{agreed_shown, span_of, Works}
-use Rattle.lat_circuit.specs.Frames.{frame_sent, message_sent}
+use Rattle.lat_circuit.specs.Frames.{IsFormed, AreFormed, frame_sent, message_sent}
 use Rattle.lat_circuit.specs.Kept.{Kept}
 use Rattle.lat_circuit.specs.Shown.{shown}
 use Rattle.lat_circuit.specs.Stands.{Stands}
@@ -30,7 +30,7 @@ use Rattle.lat_circuit.specs.Hears.{HeardStep, foreign, hears_start, hears_reply
 -- a step that changes no end in another way: by another name
 pub hear_as : (f g : End → HeardStep) (r : OwnHeard) (k l : Kept) (o p : List OutFrame) → DidHear f r k l o p → ((e : End) → Stands k e → g e ≡ f e) → DidHear g r k l o p
 hear_as f g r k l o p a same = λ e st.
-    let P : HeardStep → Type 0 = λ s. Stands l s.step.end × (p ≡ o ++ map (frame_sent l.facts) s.step.sent) × (heard_shown r ≡ s.answer) in
+    let P : HeardStep → Type 0 = λ s. Stands l s.step.end × (p ≡ o ++ map (frame_sent l.facts) s.step.sent) × (heard_shown r ≡ s.answer) × AreFormed l.facts s.step.sent in
     subst P (sym (same e st)) (a e st)
 
 -- the branch that was taken
@@ -131,7 +131,7 @@ stop_did a own to source reason now alive is =
     (hear_as (λ e. record { step = still (record e { ended = Some reason; moment = now }); answer = Ended reason })
     (λ e. record { step = hear_stop now reason e; answer = Ended reason })
     (answers.Ended reason) (shown a) (shown (ended_at a now reason)) [] []
-    (λ e st. (ended_is a now reason e st, refl, refl))
+    (λ e st. (ended_is a now reason e st, refl, refl, tt))
     (λ e st. ap (λ b. record { step = cond b (still (record e { ended = Some reason; moment = now })) (still e); answer = Ended reason }) (lives_is (shown a) e st alive)))
 
 -- a START again
@@ -178,15 +178,16 @@ again_noted a source now o alive heard is =
     (hear_as (λ e. record { step = still (record e { moment = now; heard_at = now }); answer = Again })
     (λ e. record { step = again_start now e; answer = Again })
     answers.Again (shown a) (shown (noted_at a now)) o o
-    (λ e st. (noted_is a now e st, sym (append-nil o), refl))
+    (λ e st. (noted_is a now e st, sym (append-nil o), refl, tt))
     (λ e st. ap (λ s. record { step = s; answer = Again }) (again_is now true e (lives_is (shown a) e st alive) (sym st.heard_run ∙ heard))))
 
 pub again_replied : (a : Inside) (source now : ℕ) (s : Message) (o p : List OutFrame) → a.ended ≡ None → a.heard_run ≡ false
     → ((e : End) → Stands (shown a) e → not e.master && nat_eq e.peer source ≡ true)
     → s ≡ message_sent (shown a).facts ReplyStart
     → p ≡ o ++ record { to = a.config.peer; payload = padded (message_text (message_of s)); circuit = a.link.ids.from; mark = marks.Plain } ∷ []
+    → ((e : End) → Stands (shown a) e → IsFormed (message_sent (shown a).facts ReplyStart))
     → DidHear (hears_start source now) answers.Again (shown a) (shown (replied_at a now)) o p
-again_replied a source now s o p alive heard is text out =
+again_replied a source now s o p alive heard is text out fair =
     hear_true
     (λ e. not e.master && nat_eq e.peer source)
     (λ e. record { step = again_start now e; answer = Again })
@@ -195,7 +196,7 @@ again_replied a source now s o p alive heard is text out =
     (hear_as (λ e. record { step = record { end = record e { moment = now; heard_at = now; sent_at = now; owed = false }; sent = ReplyStart ∷ [] }; answer = Again })
     (λ e. record { step = again_start now e; answer = Again })
     answers.Again (shown a) (shown (replied_at a now)) o p
-    (λ e st. (replied_is a now e st, out ∙ ap (λ t. o ++ record { to = a.config.peer; payload = padded (message_text (message_of t)); circuit = a.link.ids.from; mark = marks.Plain } ∷ []) text, refl))
+    (λ e st. (replied_is a now e st, out ∙ ap (λ t. o ++ record { to = a.config.peer; payload = padded (message_text (message_of t)); circuit = a.link.ids.from; mark = marks.Plain } ∷ []) text, refl, (fair e st, tt)))
     (λ e st. ap (λ s. record { step = s; answer = Again }) (again_is now false e (lives_is (shown a) e st alive) (sym st.heard_run ∙ heard))))
 
 -- a reply
@@ -218,9 +219,9 @@ reply_noted a own t to source info now alive run is =
     foreign
     answers.Again (shown a) (shown (noted_at a now)) [] [] is
     (λ e st.
-    let P : Step → Type 0 = λ s. Stands (shown (noted_at a now)) s.end × ([] ≡ map (frame_sent (shown (noted_at a now)).facts) s.sent) in
-    let x = subst P (sym (reply_is now source (agreed_by t info) true e (lives_is (shown a) e st alive) (sym st.running ∙ run))) (noted_is a now e st, refl) in
-    (x.0, x.1, ap (λ b. cond b Again Running) (sym run ∙ st.running)))
+    let P : Step → Type 0 = λ s. Stands (shown (noted_at a now)) s.end × ([] ≡ map (frame_sent (shown (noted_at a now)).facts) s.sent) × AreFormed (shown (noted_at a now)).facts s.sent in
+    let x = subst P (sym (reply_is now source (agreed_by t info) true e (lives_is (shown a) e st alive) (sym st.running ∙ run))) (noted_is a now e st, refl, tt) in
+    (x.0, x.1, ap (λ b. cond b Again Running) (sym run ∙ st.running), x.2))
 
 pub reply_runs : (a : Inside) (own : ℕ) (t : Timing) (to source : ℕ) (info : StartInfo) (now : ℕ) (l : Kept) → a.ended ≡ None → a.running ≡ false
     → ((e : End) → Stands (shown a) e → is_reply own to source e ≡ true)
@@ -233,15 +234,15 @@ reply_runs a own t to source info now l alive run is did =
     foreign
     answers.Running (shown a) l [] [] is
     (λ e st.
-    let P : Step → Type 0 = λ s. Stands l s.end × ([] ≡ map (frame_sent l.facts) s.sent) in
-    let x = subst P (sym (reply_is now source (agreed_by t info) false e (lives_is (shown a) e st alive) (sym st.running ∙ run))) (did (record e { moment = now; heard_at = now }) (noted_is a now e st), refl) in
-    (x.0, x.1, ap (λ b. cond b Again Running) (sym run ∙ st.running)))
+    let P : Step → Type 0 = λ s. Stands l s.end × ([] ≡ map (frame_sent l.facts) s.sent) × AreFormed l.facts s.sent in
+    let x = subst P (sym (reply_is now source (agreed_by t info) false e (lives_is (shown a) e st alive) (sym st.running ∙ run))) (did (record e { moment = now; heard_at = now }) (noted_is a now e st), refl, tt) in
+    (x.0, x.1, ap (λ b. cond b Again Running) (sym run ∙ st.running), x.2))
 
-span_is : (b : Bool) → is_wide (span_of b) ≡ b
+pub span_is : (b : Bool) → is_wide (span_of b) ≡ b
 span_is true = refl
 span_is false = refl
 
-window_is : (w : ℕ) → w ≤ 8 → w ≡ min w 8
+pub window_is : (w : ℕ) → w ≤ 8 → w ≡ min w 8
 window_is w most = omega (arith, most)
 
 -- the circuit that runs with these numbers

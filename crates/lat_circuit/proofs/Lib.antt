@@ -1,7 +1,10 @@
 pub mod Dids
+pub mod Messages
+pub mod Sending
 pub mod Packs
 pub mod Sends
 pub mod Agreeing
 pub mod HeardStarts
+pub mod Answering
 pub mod HeardRun
 pub mod HeardParts

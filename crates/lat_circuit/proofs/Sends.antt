@@ -18,7 +18,7 @@ use Rattle.lat_circuit.specs.declared.circuit.Circuit.TheInside.{Inside}
 use Rattle.lat_circuit.specs.declared.moments.Moments.{Moments}
 use Rattle.lat_circuit.specs.Kept.{Kept}
 use Rattle.lat_circuit.specs.Shown.{shown}
-use Rattle.lat_circuit.specs.Frames.{frame_sent}
+use Rattle.lat_circuit.specs.Frames.{AreFormed, frame_sent}
 use Rattle.lat_circuit.specs.Stands.{AreMoments, Stands, Did}
 use Rattle.lat_circuit.specs.Steps.{form_slots}
 use Rattle.lat_circuit.proofs.Packs.{framed, pack_idle, none_empty, some_empty}
@@ -123,12 +123,15 @@ pub formed_did : (a : Inside) (new : link.Kept) (since : ℕ) (text : List ℕ) 
     → since ≡ cond (all_known e) e.moment e.since
     → text ≡ run_payload a.link.ids a.link.sending.span false (formed_frame e.half.link m)
     → after ≡ before ++ framed (formed a new since) text marks.Fresh ∷ []
-    → Stands (shown (formed a new since)) (form_slots m e).end × (after ≡ before ++ map (frame_sent (shown (formed a new since)).facts) (form_slots m e).sent)
-formed_did a new since text before after e m st run is ids span window since_is text_is out = (
+    → AreFormed (shown a).facts (form_slots m e).sent
+    → Stands (shown (formed a new since)) (form_slots m e).end × (after ≡ before ++ map (frame_sent (shown (formed a new since)).facts) (form_slots m e).sent) × AreFormed (shown (formed a new since)).facts (form_slots m e).sent
+formed_did a new since text before after e m st run is ids span window since_is text_is out fair = (
   formed_stands a new since e m st run is ids span window since_is,
   out
       ∙ ap (λ t. before ++ framed (formed a new since) t marks.Fresh ∷ [])
       (text_is ∙ ap (λ i. run_payload i a.link.sending.span false (formed_frame e.half.link m)) (sym ids) ∙ ap (λ s. run_payload new.ids s false (formed_frame e.half.link m)) (sym span)),
+  subst (λ s. AreFormed (record { config = a.config; id = new.ids.from; master = new.ids.master; peer = new.ids.to; wide = is_wide s }) (form_slots m e).sent) (sym span)
+      (subst (λ i. AreFormed (record { config = a.config; id = i.from; master = i.master; peer = i.to; wide = is_wide a.link.sending.span }) (form_slots m e).sent) (sym ids) fair),
 )
 
 -- what the link tells of the window
@@ -148,7 +151,7 @@ idle_did a new count l before after wide packs counts none did = λ e st.
     let empty : is_empty p.slots ≡ true = none_empty p.slots (sym (counts e.half.sessions st.sessions) ∙ none) in
     let same : p.after ≡ e.half.sessions = pack_idle a.room e.half.sessions empty in
     let stays : sessions.Stands new e.half.sessions = subst (λ s. sessions.Stands new s) same (packs e.half.sessions st.sessions) in
-    let P : Step → Type 0 = λ s. Stands l s.end × (after ≡ before ++ map (frame_sent l.facts) s.sent) in
+    let P : Step → Type 0 = λ s. Stands l s.end × (after ≡ before ++ map (frame_sent l.facts) s.sent) × AreFormed l.facts s.sent in
     subst P
     (sym (
     ap (λ b. cond b (form_packed (pack e.room e.half.sessions) e) (settle e)) (wide e st)
@@ -164,12 +167,13 @@ pub busy_did : (a : Inside) (new : Table) (count : ℕ) (l : Kept) (before after
     → (count ≡ 0 → ⊥)
     → ((e : End) → Stands (shown a) e → Stands (shown (record a { sessions = new })) (record e { half = record (e.half) { sessions = (pack a.room e.half.sessions).after } }) →
     Stands l (form_slots (wire_of (pack a.room e.half.sessions).slots) (record e { half = record (e.half) { sessions = (pack a.room e.half.sessions).after } })).end
-    × (after ≡ before ++ map (frame_sent l.facts) (form_slots (wire_of (pack a.room e.half.sessions).slots) e).sent))
+    × (after ≡ before ++ map (frame_sent l.facts) (form_slots (wire_of (pack a.room e.half.sessions).slots) e).sent)
+    × AreFormed l.facts (form_slots (wire_of (pack a.room e.half.sessions).slots) e).sent)
     → Did occasion (shown a) l before after
 busy_did a new count l before after wide packs counts some did = λ e st.
     let p : Packing = pack a.room e.half.sessions in
     let full : is_empty p.slots ≡ false = some_empty p.slots (λ n. some (counts e.half.sessions st.sessions ∙ n)) in
-    let P : Step → Type 0 = λ s. Stands l s.end × (after ≡ before ++ map (frame_sent l.facts) s.sent) in
+    let P : Step → Type 0 = λ s. Stands l s.end × (after ≡ before ++ map (frame_sent l.facts) s.sent) × AreFormed l.facts s.sent in
     subst P
     (sym (
     ap (λ b. cond b (form_packed (pack e.room e.half.sessions) e) (settle e)) (wide e st)

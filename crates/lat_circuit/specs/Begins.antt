@@ -6,7 +6,7 @@ use Rattle.lat_machines.specs.values.Messages.{StartInfo}
 use Rattle.lat_machines.specs.values.Timing.{agreed_by}
 use Rattle.lat_circuit.specs.declared.config.CircuitConfig.{CircuitConfig}
 use Rattle.lat_circuit.specs.Kept.{Facts, Kept}
-use Rattle.lat_circuit.specs.Frames.{timing_shown, frame_sent}
+use Rattle.lat_circuit.specs.Frames.{timing_shown, frame_sent, AreFormed}
 use Rattle.lat_circuit.specs.Stands.{Stands}
 
 -- the facts of a master that was called, and of a slave that was made by this START
@@ -22,10 +22,12 @@ facts_answered config id from info = record {
   wide = (agreed_by (timing_shown config.timing) info).wide;
 }
 
--- The circuit stands for the end of this step, and the frames of the step went out. It has so many places for sessions
+-- The circuit stands for the end of this step, and the frames of the step went out, each of them formed. It has so many
+-- places for sessions
 pub record Begins (step : Step) (facts : Facts) (places now : ℕ) (k : Kept) (before after : List OutFrame) : Type 0 where
   pub state : Stands k step.end
   pub out : after ≡ before ++ map (frame_sent facts) step.sent
+  pub formed : AreFormed facts step.sent
   pub is : k.facts ≡ facts
   pub side : k.sessions.master ≡ facts.master
   pub room : length k.sessions.sessions ≡ places

@@ -1,5 +1,5 @@
 -- The frames of a circuit, and circuit messages as the machines know them.
-use Rattle.std.specs.Prelude.{false, true, [], map}
+use Rattle.std.specs.Prelude.{◌≡◌, false, true, List, [], map}
 use Rattle.lat_base.specs.declared.outbox.OutFrame.{OutFrame}
 use Rattle.lat_base.specs.declared.outbox.Mark.{Mark as FrameMark}
 use Rattle.lat_base.specs.declared.outbox.Mark.TheVariants as marks
@@ -10,8 +10,9 @@ use Rattle.lat_frames.specs.declared.message.Message.TheVariants as frames
 use Rattle.lat_frames.specs.declared.message.Head.{Head as ReadHead}
 use Rattle.lat_frames.specs.declared.message.WideHead.{WideHead as ReadWideHead}
 use Rattle.lat_frames.specs.declared.message.StartInfo.{StartInfo as ReadInfo}
-use Rattle.lat_frames.specs.Written.{message_text}
+use Rattle.lat_frames.specs.Written.{IsWritable, message_text}
 use Rattle.lat_stream.specs.Wire.{told}
+use Rattle.lat_model.specs.Lists.{Each}
 use Rattle.lat_model.specs.ends.End.{Mark, Fresh, Again, Bare, Sent, Run, CallStart, ReplyStart, Stopped}
 use Rattle.lat_machines.specs.values.Messages.{Param, Head, StartInfo, Message, RunMessage, WideMessage, StartMessage, StopMessage}
 use Rattle.lat_machines.specs.values.Runs.{run_message}
@@ -113,3 +114,12 @@ message_shown (frames.Run head slots) = RunMessage (head_shown head) (map told s
 message_shown (frames.Wide head slots) = WideMessage (wide_head_shown head) (map told slots)
 message_shown (frames.Start master ask to from info) = StartMessage master ask to from (info_shown info)
 message_shown (frames.Stop master ask to from reason text) = StopMessage master ask to from reason text
+
+-- What is written of the message can be written, and tells the message
+pub record IsFormed (m : Message) : Type 0 where
+  pub writable : IsWritable (message_of m)
+  pub shown : message_shown (message_of m) ≡ m
+
+-- what an end of these facts sends is all of this kind
+abbrev pub AreFormed : Facts → List Sent → Type 0
+AreFormed k sent = Each (λ s. IsFormed (message_sent k s)) sent

@@ -14,7 +14,7 @@ use Rattle.lat_machines.specs.values.Answers.{Heard, Running, Taken, Again, AckO
 use Rattle.lat_machines.specs.cores.Hearing.{answer_of, fits_kind, numbers_at, run_frame}
 use Rattle.lat_session.specs.Table.{SameEnd}
 use Rattle.lat_circuit.specs.Kept.{Kept}
-use Rattle.lat_circuit.specs.Frames.{frame_sent}
+use Rattle.lat_circuit.specs.Frames.{frame_sent, AreFormed}
 use Rattle.lat_circuit.specs.Stands.{Stands}
 
 pub record HeardStep : Type 0 where
@@ -79,10 +79,16 @@ heard_shown answers.Foreign = Foreign
 heard_shown (answers.Broke reason) = Broke reason
 heard_shown (answers.Ended reason) = Ended reason
 
--- the circuit did this step of every end that it stood for, the frames went out in order, and it answered so
+-- the circuit did this step of every end that it stood for, the frames went out in order, each of them formed, and it
+-- answered so
 abbrev pub DidHear : (End → HeardStep) → OwnHeard → (old new : Kept) → (before after : List OutFrame) → Type 0
 DidHear step answer old new before after =
-    (e : End) → Stands old e → Stands new (step e).step.end × (after ≡ before ++ map (frame_sent new.facts) (step e).step.sent) × (heard_shown answer ≡ (step e).answer)
+    (e : End) →
+    Stands old e →
+    Stands new (step e).step.end
+    × (after ≡ before ++ map (frame_sent new.facts) (step e).step.sent)
+    × (heard_shown answer ≡ (step e).answer)
+    × AreFormed new.facts (step e).step.sent
 
 -- what a circuit keeps at each message, given this moment
 pub record Remains (now : ℕ) (old new : Kept) : Type 0 where

@@ -1,11 +1,13 @@
 -- What is kept of an end of a circuit.
-use Rattle.std.specs.Prelude.{ℕ, ◌+◌, ◌≤◌, Bool, Option}
+use Rattle.std.specs.Prelude.{◌≡◌, ℕ, ◌+◌, ◌<◌, ◌≤◌, Bool, true, false, Option}
 use Rattle.lat_circuit.specs.declared.config.CircuitConfig.{CircuitConfig}
 use Rattle.lat_circuit.specs.declared.moments.Moments.{Moments}
 use Rattle.lat_seq.specs.declared.span.Span.{Span}
 use Rattle.lat_link.specs.Links as link
+use Rattle.lat_link.specs.declared.ids.Ids.{Ids}
 use Rattle.lat_link.specs.Payloads.{head_size}
 use Rattle.lat_session.specs.Table.{Table}
+use Rattle.lat_circuit.specs.Agrees.{IsTiming}
 
 -- what its frames bear beside their numbers
 pub record Facts : Type 0 where
@@ -44,3 +46,10 @@ pub record Holds (rounds room : ℕ) (span : Span) (m : Moments) : Type 0 where
   pub few_rounds : rounds ≤ 8
   pub head_and_room : head_size span + room ≤ 1500
   pub in_time : InTime m
+
+-- what a circuit knows of both ends: the peer's id once it runs, and none before
+pub record Knows (config : CircuitConfig) (ids : Ids) (running : Bool) : Type 0 where
+  pub timing : IsTiming config.timing
+  pub own : 0 < ids.from
+  pub peer : running ≡ true → 0 < ids.to
+  pub calls : running ≡ false → (ids.master ≡ true) × (ids.to ≡ 0)

@@ -2,7 +2,7 @@
 use Rattle.std.specs.Prelude.{cond}
 use Rattle.lat_link.specs.Payloads.{is_wide}
 use Rattle.lat_circuit.specs.declared.circuit.Circuit.TheInside.{Inside}
-use Rattle.lat_circuit.specs.Kept.{Kept, Holds}
+use Rattle.lat_circuit.specs.Kept.{Kept, Holds, Knows}
 
 abbrev pub shown : Inside → Kept
 shown a = record {
@@ -28,4 +28,4 @@ shown a = record {
 }
 
 abbrev pub IsSound : Inside → Type 0
-IsSound a = Holds a.rounds a.room a.link.sending.span a.moments
+IsSound a = Holds a.rounds a.room a.link.sending.span a.moments × Knows a.config a.link.ids a.running

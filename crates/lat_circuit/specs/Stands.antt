@@ -7,7 +7,7 @@ use Rattle.lat_link.specs.Links as link
 use Rattle.lat_session.specs.Stands as sessions
 use Rattle.lat_circuit.specs.declared.moments.Moments.{Moments}
 use Rattle.lat_circuit.specs.Kept.{Kept}
-use Rattle.lat_circuit.specs.Frames.{frame_sent}
+use Rattle.lat_circuit.specs.Frames.{frame_sent, AreFormed}
 
 -- the moments of the end
 pub record AreMoments (m : Moments) (e : End) : Type 0 where
@@ -39,8 +39,8 @@ pub record Stands (k : Kept) (e : End) : Type 0 where
   pub sessions : sessions.Stands k.sessions e.half.sessions
   pub calls : e.running ≡ false → e.half.link ≡ fresh
 
--- The circuit did this step of every end that it stood for, and the frames went out in order. A frame bears what the
--- circuit knew of its peer after the step
+-- The circuit did this step of every end that it stood for, and the frames went out in order, each of them formed. A frame
+-- bears what the circuit knew of its peer after the step
 abbrev pub Did : (End → Step) → (old new : Kept) → (before after : List OutFrame) → Type 0
 Did step old new before after =
-    (e : End) → Stands old e → Stands new (step e).end × (after ≡ before ++ map (frame_sent new.facts) (step e).sent)
+    (e : End) → Stands old e → Stands new (step e).end × (after ≡ before ++ map (frame_sent new.facts) (step e).sent) × AreFormed new.facts (step e).sent

@@ -100,6 +100,7 @@ impl Circuit {
     // A reply to the START of this end. The first one makes it run.
     fn hear_reply(&mut self, to: u16, from: u16, info: &StartInfo, now: u64) -> Heard
         requires info { InfoFits false info.now }
+        requires source { 0 < from }
         requires lives { self.old.ended ≡ None }
         requires moment { self.old.moments.now ≤ now }
         ensures did { DidHear (hears_reply self.old.facts.id now (timing_shown self.old.facts.config.timing) to from (info_shown info.now)) result self.old self.new [] [] }
@@ -128,6 +129,7 @@ impl Circuit {
     // The end runs, with what both ends agree on by this reply. An acknowledgement is owed, so that a RUN follows.
     fn run(&mut self, from: u16, info: &StartInfo)
         requires info { InfoFits false info.now }
+        requires source { 0 < from }
         requires calls { self.old.running ≡ false }
         requires heard { self.old.moments.heard_at ≡ self.old.moments.now }
         ensures did { (e : End) → Stands self.old e → Stands self.new (reply_end self.old.moments.now from (agreed_by (timing_shown self.old.facts.config.timing) (info_shown info.now)) e) }

@@ -1,6 +1,7 @@
 //! The STARTs and STOPs of a circuit. They are written without taking memory.
 
 ghost use Rattle.std.specs.Prelude.{◌≡◌, ◌+◌, ◌<◌, ◌≤◌, ◌++◌, [], ◌∷◌, length, map, false};
+ghost use Rattle.lat_base.specs.Names.{IsName};
 ghost use Rattle.lat_base.specs.declared.outbox.Mark.TheVariants as marks;
 ghost use Rattle.lat_fields.specs.Params.{params_text};
 ghost use Rattle.lat_fields.specs.Payloads.{padded};
@@ -10,7 +11,7 @@ ghost use Rattle.lat_link.specs.Payloads.{message_of, info_of, param_of};
 ghost use Rattle.lat_machines.specs.values.Timing.{wide_params};
 ghost use Rattle.lat_machines.specs.values.Messages.{StopMessage};
 ghost use Rattle.lat_model.specs.ends.End.{CallStart, ReplyStart, Stopped};
-ghost use Rattle.lat_circuit.specs.Frames.{start_info, start_message, message_sent};
+ghost use Rattle.lat_circuit.specs.Frames.{IsFormed, start_info, start_message, message_sent};
 
 use crate::circuit::Circuit;
 use lat_base::{Addr, Mark, Name, OutBox, OutFrame, Payload};
@@ -68,7 +69,8 @@ impl Start {
     /// Writes it into an empty payload, with zeros up to 46 bytes.
     pub(crate) fn write(&self, out: &mut Payload)
         requires { out.old ≡ [] }
-        ensures { out.new ≡ padded (message_text (message_of (start_message self.now))) }
+        ensures text { out.new ≡ padded (message_text (message_of (start_message self.now))) }
+        ensures names { IsName self.now.slave × IsName self.now.name }
     {
         write_plain_head(START, self.master, false, self.to, self.from, out);
         self.write_numbers(out);
@@ -121,8 +123,10 @@ fn write_stop(master: bool, to: u16, from: u16, reason: u8, out: &mut Payload)
 
 /// The STOP with which a node turns away a START that finds no circuit left. It goes to the sender's address, for the
 /// circuit's id there, and states no id of its own.
+#[tactic(auto, using(crate::proofs::Messages::stop_formed))]
 pub fn refusal(to: Addr, circuit: u16) -> OutFrame
-    ensures { result ≡ record { to = to; payload = padded (message_text (message_of (StopMessage false false circuit 0 7 []))); circuit = 0; mark = marks.Plain } }
+    ensures value { result ≡ record { to = to; payload = padded (message_text (message_of (StopMessage false false circuit 0 7 []))); circuit = 0; mark = marks.Plain } }
+    ensures formed { 0 < circuit → IsFormed (StopMessage false false circuit 0 7 []) }
 {
     let mut payload = Payload::empty();
     write_stop(false, circuit, 0, NO_RESOURCES, &mut payload);
@@ -187,7 +191,8 @@ impl Circuit {
     /// Sends a START to the peer.
     pub(crate) fn push_start(&self, start: Start, out: &mut OutBox)
         requires { length out.old < 256 }
-        ensures { out.new ≡ out.old ++ record { to = self.now.facts.config.peer; payload = padded (message_text (message_of (start_message start))); circuit = self.now.facts.id; mark = marks.Plain } ∷ [] }
+        ensures frame { out.new ≡ out.old ++ record { to = self.now.facts.config.peer; payload = padded (message_text (message_of (start_message start))); circuit = self.now.facts.id; mark = marks.Plain } ∷ [] }
+        ensures names { IsName start.slave × IsName start.name }
     {
         let mut payload = Payload::empty();
         start.write(&mut payload);

@@ -5,7 +5,8 @@ ghost use Rattle.lat_model.specs.ends.End.{End, send_bare, settle, occasion, sen
 ghost use Rattle.lat_model.specs.numbers.Link.{again_frames, formed_frame};
 ghost use Rattle.lat_model.specs.sessions.Slots.{Slot};
 ghost use Rattle.lat_link.specs.Payloads.{head_size, frame_head, slots_as_text};
-ghost use Rattle.lat_circuit.specs.Frames.{frame_sent};
+ghost use Rattle.lat_link.specs.Links.{IsMessage};
+ghost use Rattle.lat_circuit.specs.Frames.{AreFormed, frame_sent};
 ghost use Rattle.lat_circuit.specs.Stands.{Stands, Did};
 ghost use Rattle.lat_circuit.specs.Steps.{Keeps, form_slots};
 
@@ -20,9 +21,10 @@ impl Circuit {
         self.link.unacknowledged() == 0
     }
 
-    /// Sends a RUN without slots, whose bit 0 is `ask`.
+    /// Sends a RUN without slots, whose bit 0 is `ask`. The circuit must run.
     pub(crate) fn send_bare(&mut self, ask: bool, out: &mut OutBox)
-        requires { length out.old < 256 }
+        requires room { length out.old < 256 }
+        requires running { self.old.running ≡ true }
         ensures did { Did (send_bare ask) self.old self.new out.old out.new }
         ensures keeps { Keeps self.old self.new }
         ensures most { length out.new ≤ length out.old + 1 }
@@ -34,9 +36,10 @@ impl Circuit {
         self.moments.sent_at = self.moments.now;
     }
 
-    /// Sends the acknowledgement that is owed.
+    /// Sends the acknowledgement that is owed. The circuit must run.
     pub(crate) fn settle(&mut self, out: &mut OutBox)
-        requires { length out.old < 256 }
+        requires room { length out.old < 256 }
+        requires running { self.old.running ≡ true }
         ensures did { Did settle self.old self.new out.old out.new }
         ensures keeps { Keeps self.old self.new }
         ensures most { length out.new ≤ length out.old + 1 }
@@ -64,7 +67,14 @@ impl Circuit {
         requires running { self.old.running ≡ true }
         requires open { self.old.link.sending.unacknowledged < self.old.link.sending.window }
         requires head { head_size self.old.link.sending.span ≤ length payload }
-        ensures did { (e : End) (m : List Slot) → Stands self.old e → payload ≡ frame_head self.old.link.ids self.old.link.sending.span false (formed_frame e.half.link m) 0 ++ slots_as_text m → length m ≡ slots → Stands self.new (form_slots m e).end × (out.new ≡ out.old ++ map (frame_sent self.new.facts) (form_slots m e).sent) }
+        ensures did { (e : End) (m : List Slot) →
+            Stands self.old e →
+            IsMessage self.old.link.sending.span m →
+            payload ≡ frame_head self.old.link.ids self.old.link.sending.span false (formed_frame e.half.link m) 0 ++ slots_as_text m →
+            length m ≡ slots →
+            Stands self.new (form_slots m e).end
+            × (out.new ≡ out.old ++ map (frame_sent self.new.facts) (form_slots m e).sent)
+            × AreFormed self.new.facts (form_slots m e).sent }
         ensures keeps { Keeps self.old self.new }
         ensures most { length out.new ≤ length out.old + 1 }
     {
@@ -110,10 +120,11 @@ impl Circuit {
         }
     }
 
-    /// A round: all unacknowledged messages go out again.
+    /// A round: all unacknowledged messages go out again. The circuit must run.
     pub(crate) fn send_again(&mut self, out: &mut OutBox)
         requires room { length out.old + 8 ≤ 256 }
         requires rounds { self.old.rounds < 8 }
+        requires running { self.old.running ≡ true }
         ensures did { Did send_again self.old self.new out.old out.new }
         ensures keeps { Keeps self.old self.new }
         ensures most { length out.new ≤ length out.old + 8 }
@@ -129,6 +140,7 @@ impl Circuit {
     pub(crate) fn send_start(&mut self, out: &mut OutBox)
         requires room { length out.old < 256 }
         requires rounds { self.old.rounds < 8 }
+        requires calling { self.old.running ≡ false }
         ensures did { Did send_start self.old self.new out.old out.new }
         ensures keeps { Keeps self.old self.new }
         ensures most { length out.new ≤ length out.old + 1 }

@@ -1,6 +1,6 @@
 //! What a circuit does at a time event.
 
-ghost use Rattle.std.specs.Prelude.{◌≡◌, ◌+◌, ◌<◌, ◌≤◌, true, length, None};
+ghost use Rattle.std.specs.Prelude.{◌≡◌, ◌+◌, ◌<◌, ◌≤◌, true, false, length, None};
 ghost use Rattle.lat_model.specs.ends.End.{End, send_again, send_start};
 ghost use Rattle.lat_model.specs.ends.Timers.{note_empty, time_step, a_round, rounds_step, alive_step, due_step, living};
 ghost use Rattle.lat_session.specs.Table.{SameEnd};
@@ -107,7 +107,8 @@ impl Circuit {
     }
 
     fn round_again(&mut self, out: &mut OutBox)
-        requires { length out.old + 8 ≤ 256 }
+        requires room { length out.old + 8 ≤ 256 }
+        requires running { self.old.running ≡ true }
         ensures did { Did (a_round send_again) self.old self.new out.old out.new }
         ensures keeps { Keeps self.old self.new }
         ensures most { length out.new ≤ length out.old + 8 }
@@ -120,7 +121,8 @@ impl Circuit {
     }
 
     fn round_start(&mut self, out: &mut OutBox)
-        requires { length out.old < 256 }
+        requires room { length out.old < 256 }
+        requires calling { self.old.running ≡ false }
         ensures did { Did (a_round send_start) self.old self.new out.old out.new }
         ensures keeps { Keeps self.old self.new }
         ensures most { length out.new ≤ length out.old + 1 }

@@ -1,6 +1,6 @@
 //! What is due at the latest moment of a circuit.
 
-ghost use Rattle.std.specs.Prelude.{◌≡◌, ◌+◌, ◌≤◌, ◌&&◌, ◌||◌, ◌*◌, nat_le, not};
+ghost use Rattle.std.specs.Prelude.{◌≡◌, ◌+◌, ◌≤◌, ◌&&◌, ◌||◌, ◌*◌, nat_le, not, true};
 ghost use Rattle.lat_model.specs.ends.End.{End, all_known};
 ghost use Rattle.lat_model.specs.ends.Timers.{passed, silent, unused, may_form};
 ghost use Rattle.lat_circuit.specs.Stands.{Stands};
@@ -77,7 +77,8 @@ impl Circuit {
 
     /// Whether it is a master that runs, and has sent nothing for the keep-alive.
     pub(crate) fn answer_is_due(&self) -> bool
-        ensures { (e : End) → Stands self.now e → result ≡ (e.master && e.running && passed e.sent_at (1000 * e.keepalive) e) }
+        ensures model { (e : End) → Stands self.now e → result ≡ (e.master && e.running && passed e.sent_at (1000 * e.keepalive) e) }
+        ensures running { result ≡ true → self.now.running ≡ true }
     {
         let time = 1000 * u64::from(self.keepalive);
         let is_over = passed(self.moments.sent_at, time, self.moments.now);

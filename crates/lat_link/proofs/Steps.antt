@@ -5,6 +5,7 @@ use Rattle.std.proofs.lemmas.List.{drop-append-le, drop-drop, length-drop, lengt
 use Rattle.std.proofs.lemmas.List.Elements.{All-append, All-cons, All-nil}
 use Rattle.circular_buffer.specs.Buffer.{keep_last}
 use Rattle.lat_fields.specs.Payloads.{padded}
+use Rattle.lat_model.specs.Lists.{Each}
 use Rattle.lat_model.specs.numbers.Link.{Link, again_frames, formed_frame, form_message, ack_in, is_unsent, take_message}
 use Rattle.lat_model.specs.sessions.Slots.{Slot}
 use Rattle.lat_seq.specs.declared.span.Span.{Span}
@@ -13,8 +14,9 @@ use Rattle.lat_seq.specs.Spans.{half, field}
 use Rattle.lat_seq.specs.Sides.{Sending, Receiving, Sends, Takes}
 use Rattle.lat_seq.specs.Acks.{by_numbers, known_after}
 use Rattle.lat_seq.proofs.Links as sides
+use Rattle.lat_model.proofs.numbers.Net.{each_append}
 use Rattle.lat_link.specs.Payloads.{run_payload, acknowledged}
-use Rattle.lat_link.specs.Links.{Kept, Holds, IsText, AreTexts, Stands}
+use Rattle.lat_link.specs.Links.{Kept, Holds, IsText, AreTexts, IsMessage, Stands}
 use Rattle.lat_link.proofs.Numbers.{field_of_small, small}
 use Rattle.lat_link.proofs.Texts.{keep_all, texts_push, texts_drop, texts_length, texts_again}
 
@@ -38,9 +40,15 @@ taken_stands k side b l m e after h = record {
   sends = h.sends;
   takes = sides.taken side l m (subst (λ c. Takes side (cond c (suc (length l.came)) (length l.came))) e (after (length l.came) h.takes));
   texts = h.texts;
+  messages = h.messages;
 }
 
 -- a message is formed
+
+each_drop : {X : Type 0} (P : X → Type 0) (n : ℕ) (xs : List X) → Each P xs → Each P (drop n xs)
+each_drop P zero xs all = all
+each_drop P (suc n) [] all = tt
+each_drop P (suc n) (x ∷ xs) all = each_drop P n xs all.1
 
 one_more : {X : Type 0} (xs : List X) (x : X) → length (xs ++ x ∷ []) ≡ suc (length xs)
 one_more xs x = length-append xs (x ∷ []) ∙ (omega arith)
@@ -68,8 +76,8 @@ formed_holds most span k side texts t h is room all long = record {
     few_more : (u v w most : ℕ) → u ≡ suc v → v < w → w ≡ most → u ≤ most
     few_more u v w most e f g = omega arith
 
-pub formed_stands : (k : Kept) (side : Sending) (texts : List (List ℕ)) (t : List ℕ) (l : Link (List Slot)) (m : List Slot) → Stands k l → side.span ≡ k.sending.span → Sends side (suc (length l.sent)) l.known → texts ≡ k.texts ++ t ∷ [] → t ≡ run_payload k.ids k.sending.span false (formed_frame l m) → Stands (record k { sending = side; texts = texts }) (form_message l m)
-formed_stands k side texts t l m h e sends all is = record {
+pub formed_stands : (k : Kept) (side : Sending) (texts : List (List ℕ)) (t : List ℕ) (l : Link (List Slot)) (m : List Slot) → Stands k l → side.span ≡ k.sending.span → Sends side (suc (length l.sent)) l.known → texts ≡ k.texts ++ t ∷ [] → t ≡ run_payload k.ids k.sending.span false (formed_frame l m) → IsMessage k.sending.span m → Stands (record k { sending = side; texts = texts }) (form_message l m)
+formed_stands k side texts t l m h e sends all is fair = record {
   sends = sides.formed side l m sends;
   takes = h.takes;
   texts = subst (λ s. AreTexts k.ids s l.known (drop l.known (l.sent ++ m ∷ [])) texts) (sym e)
@@ -77,6 +85,8 @@ formed_stands k side texts t l m h e sends all is = record {
       (subst (λ ms. AreTexts k.ids k.sending.span l.known ms (k.texts ++ t ∷ [])) (sym (drop-append-le l.known l.sent (m ∷ []) known_sent))
       (texts_push k.ids k.sending.span l.known (drop l.known l.sent) k.texts m t h.texts
       (subst (λ n. IsText k.ids k.sending.span (suc n) m t) (sym number) (record { acknowledgement = length l.came; is = is })))));
+  messages = subst (λ s. Each (IsMessage s) (drop l.known (l.sent ++ m ∷ []))) (sym e)
+      (subst (λ ms. Each (IsMessage k.sending.span) ms) (sym (drop-append-le l.known l.sent (m ∷ []) known_sent)) (each_append (IsMessage k.sending.span) (drop l.known l.sent) (m ∷ []) h.messages (fair, tt)));
 }
   where
     known_sent : l.known ≤ length l.sent
@@ -96,6 +106,9 @@ acked_stands k side texts l a d h e less sent fact sends kept = record {
       (subst (λ ts. AreTexts k.ids k.sending.span (l.known + d) (drop (l.known + d) l.sent) ts) (sym (kept ∙ ap (λ i. drop i k.texts) left))
       (subst (λ ms. AreTexts k.ids k.sending.span (l.known + d) ms (drop d k.texts)) (drop-drop d l.known l.sent)
       (texts_drop k.ids k.sending.span l.known d (drop l.known l.sent) k.texts h.texts))));
+  messages = subst (λ s. Each (IsMessage s) (drop (ack_in l a).known l.sent)) (sym e)
+      (subst (λ n. Each (IsMessage k.sending.span) (drop n l.sent)) is_known
+      (subst (λ ms. Each (IsMessage k.sending.span) ms) (drop-drop d l.known l.sent) (each_drop (IsMessage k.sending.span) d (drop l.known l.sent) h.messages)));
 }
   where
     is_known : l.known + d ≡ (ack_in l a).known

@@ -1,13 +1,15 @@
 -- What one end keeps of its numbered messages, and the messages of the model that it stands for.
-use Rattle.std.specs.Prelude.{◌≡◌, ℕ, suc, ◌*◌, ◌<◌, ◌≤◌, false, List, [], ◌∷◌, length, drop, Some}
+use Rattle.std.specs.Prelude.{◌≡◌, ℕ, suc, ◌+◌, ◌*◌, ◌<◌, ◌≤◌, false, List, [], ◌∷◌, length, drop, Some}
 use Rattle.std.specs.List.{All}
+use Rattle.lat_model.specs.Lists.{Each}
 use Rattle.lat_model.specs.numbers.Link.{Link}
 use Rattle.lat_model.specs.sessions.Slots.{Slot}
 use Rattle.lat_seq.specs.declared.span.Span.{Span}
 use Rattle.lat_seq.specs.Spans.{half}
 use Rattle.lat_seq.specs.Sides.{Sending, Receiving, Sends, Takes}
+use Rattle.lat_stream.specs.Wire.{IsFormed}
 use Rattle.lat_link.specs.declared.ids.Ids.{Ids}
-use Rattle.lat_link.specs.Payloads.{run_payload}
+use Rattle.lat_link.specs.Payloads.{head_size, slots_as_text, run_payload}
 
 pub record Kept : Type 0 where
   pub ids : Ids
@@ -48,7 +50,14 @@ AreTexts ids span k (m ∷ ms) (t ∷ ts) = IsText ids span (suc k) m t × AreTe
 AreTexts ids span k [] (t ∷ ts) = ⊥
 AreTexts ids span k (m ∷ ms) [] = ⊥
 
+-- slots that a RUN of this span can carry
+pub record IsMessage (span : Span) (m : List Slot) : Type 0 where
+  pub slots : Each IsFormed m
+  pub count : length m < 256
+  pub room : head_size span + length (slots_as_text m) ≤ 1500
+
 pub record Stands (k : Kept) (l : Link (List Slot)) : Type 0 where
   pub sends : Sends k.sending (length l.sent) l.known
   pub takes : Takes k.receiving (length l.came)
   pub texts : AreTexts k.ids k.sending.span l.known (drop l.known l.sent) k.texts
+  pub messages : Each (IsMessage k.sending.span) (drop l.known l.sent)

@@ -3,7 +3,7 @@
 ghost use Rattle.std.specs.Prelude.{◌≡◌, ◌<◌, ◌≤◌, ◌++◌, List, [], length, false, map, slice_get, Some};
 ghost use Rattle.lat_model.specs.numbers.Link as model;
 ghost use Rattle.lat_model.specs.sessions.Slots.{Slot};
-ghost use Rattle.lat_link.specs.Links.{Stands};
+ghost use Rattle.lat_link.specs.Links.{Stands, IsMessage};
 ghost use Rattle.lat_link.specs.Payloads.{head_size, slots_as_text, run_payload, frame_head};
 
 use crate::head::{behind, write_head};
@@ -38,7 +38,7 @@ impl Link {
         requires open { self.old.sending.unacknowledged < self.old.sending.window }
         requires head { head_size self.old.sending.span ≤ length payload.old }
         ensures text { (l : model.Link (List Slot)) (m : List Slot) → Stands self.old l → payload.old ≡ frame_head self.old.ids self.old.sending.span false (model.formed_frame l m) 0 ++ slots_as_text m → length m ≡ slots → payload.new ≡ run_payload self.old.ids self.old.sending.span false (model.formed_frame l m) }
-        ensures state { (l : model.Link (List Slot)) (m : List Slot) → Stands self.old l → payload.old ≡ frame_head self.old.ids self.old.sending.span false (model.formed_frame l m) 0 ++ slots_as_text m → length m ≡ slots → Stands self.new (model.form_message l m) }
+        ensures state { (l : model.Link (List Slot)) (m : List Slot) → Stands self.old l → IsMessage self.old.sending.span m → payload.old ≡ frame_head self.old.ids self.old.sending.span false (model.formed_frame l m) 0 ++ slots_as_text m → length m ≡ slots → Stands self.new (model.form_message l m) }
         ensures same { (self.new.ids ≡ self.old.ids) × (self.new.sending.span ≡ self.old.sending.span) × (self.new.sending.window ≡ self.old.sending.window) × (self.new.receiving ≡ self.old.receiving) }
     {
         set_slots(payload, slots);

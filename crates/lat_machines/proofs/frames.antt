@@ -5,3 +5,4 @@ pub mod Homes
 pub mod Passes
 pub mod Reads
 pub mod TrueFrames
+pub mod Refused

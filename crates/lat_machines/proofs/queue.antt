@@ -4,3 +4,5 @@ pub mod Rooms
 pub mod Grants
 pub mod Quiet
 pub mod Alone
+pub mod Served
+pub mod Settled

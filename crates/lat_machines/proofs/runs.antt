@@ -1,5 +1,7 @@
 -- Every run, every history, and computed examples.
 pub mod Stories
+pub mod Own
+pub mod Places
 pub mod Safety
 pub mod Words
 pub mod Sessions

@@ -2,6 +2,7 @@
 
 pub mod Machines
 pub mod Young
+pub mod Bears
 pub mod Reports
 pub mod Ties
 pub mod Spans
@@ -9,3 +10,4 @@ pub mod Safe
 pub mod Histories
 pub mod Tally
 pub mod Home
+pub mod Refusals

@@ -7,10 +7,12 @@ ghost use Rattle.lat_machines.specs.server.Queue.{LegalQueue};
 ghost use Rattle.lat_machines.specs.server.Server.{ServerConfig, open_server};
 ghost use Rattle.lat_machines.specs.node.Node.{NodeConfig, Node, node_step, SameButFrames};
 ghost use Rattle.lat_machines.specs.world.Machines.{Setups, Move, run, open_machines};
-ghost use Rattle.lat_machines.specs.world.Safe.{Fit, IsCircuits, EndsAgree, StreamsInOrder, SlotsCredited, FramesAreTrue, NeverBreaks, NeverMalformed, HeardByBytes, NoGrant, Safe};
-ghost use Rattle.lat_machines.specs.world.Histories.{server_run, HistoriesAreAWorld};
+ghost use Rattle.lat_machines.specs.world.Safe.{Fit, IsCircuits, EndsAgree, SharedMatch, GenerationsArePlaces, StreamsInOrder, SlotsCredited};
+ghost use Rattle.lat_machines.specs.world.Safe.{FramesAreTrue, NeverBreaks, HeardByBytes, NoGrant, Safe};
+ghost use Rattle.lat_machines.specs.world.Histories.{server_run, HasHistories, HistoriesAreAWorld};
 ghost use Rattle.lat_machines.specs.world.Spans.{OneSpan};
-ghost use Rattle.lat_machines.specs.world.Tally.{ServerTallies, NodeTallies};
+ghost use Rattle.lat_machines.specs.world.Tally.{ServerTallies, NodeTallies, MachinesTally, YouthIsTallied};
+ghost use Rattle.lat_machines.specs.world.Refusals.{ServerUnchanged, NodeUnchanged, ServerHearsNoLayout, NodeHearsNoLayout, ServerBadOnly, NodeBadOnly};
 ghost use Rattle.lat_machines.specs.world.Home.{ServerHearsAtHome, ServerStaysHome, NodeStaysHome};
 
 // of every world
@@ -34,6 +36,18 @@ pub fn both_ends_agree()
     ensures { (u : Setups) (moves : List Move) → Fit u → EndsAgree u (run u moves (open_machines u)) }
 {}
 
+/// Each such circuit of the node has the server's address and runs, and both ends of it are wide exactly where both
+/// configurations are.
+pub fn shared_circuits_match()
+    ensures { (u : Setups) (moves : List Move) → Fit u → SharedMatch u (run u moves (open_machines u)) }
+{}
+
+/// On such a circuit a generation is the place of its ask: among all messages that the server's end formed, the first ask has
+/// the generation 1, and each later one the next.
+pub fn generations_are_places()
+    ensures { (u : Setups) (moves : List Move) → Fit u → GenerationsArePlaces u (run u moves (open_machines u)) }
+{}
+
 /// Of each session on such a circuit, both ways: what one end took is a prefix of what it heard, that of what the other end
 /// framed, and that of what was put there.
 pub fn streams_are_in_order()
@@ -46,8 +60,8 @@ pub fn slots_are_credited()
     ensures { (u : Setups) (moves : List Move) → Fit u → SlotsCredited u (run u moves (open_machines u)) }
 {}
 
-/// Each RUN that one end sent the other is true to the circuit that sent it: its number and acknowledgement are reached, and
-/// its slots are those of the message of its number.
+/// Each RUN that one end sent the other is true to the circuit that sent it: its number and acknowledgement are reached; a
+/// new or a repeated one bears the slots of the message of its number, which has some, and a bare one bears none.
 pub fn frames_are_true()
     ensures { (u : Setups) (moves : List Move) → Fit u → FramesAreTrue u (run u moves (open_machines u)) }
 {}
@@ -55,11 +69,6 @@ pub fn frames_are_true()
 /// No frame that one end sent breaks a circuit of the other, at any moment and any number of times.
 pub fn no_frame_breaks()
     ensures { (u : Setups) (moves : List Move) → Fit u → NeverBreaks u (run u moves (open_machines u)) }
-{}
-
-/// No frame that one end sent is refused by the other as one of no layout.
-pub fn no_frame_is_malformed()
-    ensures { (u : Setups) (moves : List Move) → NeverMalformed u (run u moves (open_machines u)) }
 {}
 
 /// A young frame, less than half a range behind in both numbers, is heard by its number fields as by its numbers.
@@ -71,6 +80,11 @@ pub fn young_frames_are_heard_by_bytes()
 /// configurations are, and each RUN that one end sends the other is of this kind.
 pub fn both_ends_have_one_span()
     ensures { (u : Setups) (moves : List Move) → Fit u → OneSpan u (run u moves (open_machines u)) }
+{}
+
+/// In every run of the two each machine is the run of a history of its own, so what the laws of one machine say holds there.
+pub fn runs_are_histories()
+    ensures { (u : Setups) (moves : List Move) → HasHistories u (run u moves (open_machines u)) }
 {}
 
 /// A history of a server and one of a node, in any order in which each frame that one heard from the other's address is a
@@ -106,6 +120,26 @@ pub fn node_heard_stays_home()
     ensures { NodeStaysHome }
 {}
 
+/// A frame of no layout changes nothing but the moment: the answer is `Bad` with its first bad field, no frame goes out, and
+/// the grant pass that follows at the server grants nothing. Of a server behind every history, and of a node in every state.
+pub fn frames_of_no_layout_change_nothing()
+    ensures server { ServerHearsNoLayout }
+    ensures node { NodeHearsNoLayout }
+{}
+
+/// Only a frame of no layout is answered `Bad`, with the bad field that it was read as.
+pub fn bad_is_of_no_layout()
+    ensures server { ServerBadOnly }
+    ensures node { NodeBadOnly }
+{}
+
+/// Behind every history: where an event is refused, or a notice means nothing here (`changes_nothing` lists the answers),
+/// nothing has changed but the moment, and no frame goes out; nor does the server grant anything then.
+pub fn refusals_change_nothing()
+    ensures server { ServerUnchanged }
+    ensures node { NodeUnchanged }
+{}
+
 /// The ratings that a node's hook gives change the frames of an event alone: state and answer don't depend on them.
 pub fn ratings_change_frames_alone()
     ensures { (config : NodeConfig) (rates others : List ℕ) (state : Node) (event : Event) →
@@ -114,9 +148,17 @@ pub fn ratings_change_frames_alone()
 
 /// The two numbers of each frame are those that are tallied: a new message has the next number of its circuit, a repeated
 /// one the newest less its mark, a RUN without slots the newest; and a frame acknowledges as many messages as its circuit
-/// had answered as taken, one in the same event counted. Of a server's frames (`server`) and a node's (`node`), at every
-/// event of every history.
+/// had answered as taken, one in the same event counted. A new or a repeated RUN bears the slots of the message of its
+/// number, which has some; a bare one bears none. What a circuit has shown is raised by its RUNs alone, to all that it took.
+/// Of a server's frames (`server`) and a node's (`node`), at every event of every history; and of both in every run of the
+/// two (`machines`).
 pub fn numbers_are_tallied()
     ensures server { ServerTallies }
     ensures node { NodeTallies }
+    ensures machines { MachinesTally }
+{}
+
+/// A frame is young exactly where the test says so that a program makes from its tallies.
+pub fn youth_is_tallied()
+    ensures { YouthIsTallied }
 {}

@@ -11,9 +11,9 @@
 //!    (`Cores`), lines and their sessions (`Lines`, `Books`, `LineCalls`).
 //! 3. `server`: what it heard announced (`Directory`), the requests (`Queue`, `Records`), and `server_step` (`Server`).
 //! 4. `node`: `node_step`.
-//! 5. `world`: both machines and all frames between them (`Machines`), which frames are `Young`, what a run shows
-//!    (`Reports`), the histories of the two machines (`Histories`), the numbers of their frames (`Tally`), and what holds of
-//!    every run (`Safe`, with `Ties` to the world of circuits, `Spans`, and `Home`).
+//! 5. `world`: both machines and all frames between them (`Machines`), which frames are `Young`, what each `Bears`, what a
+//!    run shows (`Reports`), the histories of the two machines (`Histories`), the numbers of their frames (`Tally`), and what
+//!    holds of every run (`Safe`, with `Ties` to the world of circuits, `Spans`, `Home`, and `Refusals`).
 #![tactic(auto)]
 
 pub mod laws;

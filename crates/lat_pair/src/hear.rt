@@ -4,11 +4,11 @@ use crate::play::{Play, Side, side_at};
 use crate::post::Post;
 use crate::print::answer_onto;
 use crate::station::Station;
-use crate::words::{address, bytes, number, short, word};
-use lat_base::{Addr, Answer, Bytes, EVERYONE, Event, Memory, OutBox, Payload};
+use crate::words::{address, bytes, name, number, short, word};
+use lat_base::{Addr, Answer, Bytes, EVERYONE, Event, Memory, Name, OutBox, Payload};
 use std::alloc::Global;
 
-/// Where the announcements of `announcers` come from.
+/// Where the announcements of `announcers` and the commands of `askers` come from.
 const ANNOUNCERS: Addr = Addr([0x02, 0x00, 0x00, 0x00, 0x00, 0x0a]);
 
 /// A core hears a payload; the box is cleared first.
@@ -113,6 +113,36 @@ impl<S: Station, N: Station> Play<S, N> {
         }
         answer_onto(alloc, text, &last)
     }
+
+    /// Hands the server the commands of a node's requests from one number up to another, all of one service.
+    pub fn askers(&mut self, alloc: Global, line: &str, text: &mut String) -> Result<(), Memory> {
+        let Some(service) = name(line, 3) else {
+            return Ok(text.push_str("no name\n")?);
+        };
+        let mut out = OutBox::make(alloc)?;
+        let mut last = Answer::Done;
+        for request in number(line, 1)..number(line, 2).min(65_536) {
+            let payload = command(alloc, request as u16, &service)?;
+            last = hand(
+                alloc,
+                &mut self.server,
+                ANNOUNCERS,
+                &payload,
+                self.latest,
+                &mut out,
+            )?;
+        }
+        answer_onto(alloc, text, &last)
+    }
+}
+
+// The command of node N1, incarnation 1, which asks for a service under this request id.
+fn command(alloc: Global, request: u16, service: &Name) -> Result<Vec<u8>, Memory> {
+    let [low, high] = request.to_le_bytes();
+    let mut payload = Vec::from_slice(alloc, &[0x30, 5, 1, 0, low, high, 1, 2, b'N', b'1'])?;
+    payload.push(service.bytes().len() as u8)?;
+    payload.extend_from_slice(service.bytes())?;
+    Ok(payload)
 }
 
 // The announcement of a service X with rating 1 by a node whose name is N and a number, counted from 1; its timer is 30.

@@ -23,6 +23,7 @@
 //! | `deliver I [T]` | hands frame I to the core that it was sent to, as from its sender's address, at T or at the latest moment so far |
 //! | `inject E ADDRESS HEX [T]` | hands a payload to core E as from this address |
 //! | `announcers N` | hands the server the announcements of N nodes, and prints the last answer |
+//! | `askers FROM TO NAME` | hands the server the commands by which node N1 at 02000000000a asks for the service under each request id from FROM to one less than TO, and prints the last answer |
 //! | `draw N NAME` | so many times connects the server's line 1 to the service and ends its circuit by a STOP from the node's address; prints the last answer |
 //! | `pump PATTERN` | puts 1,000 bytes at line 1 of both, then gives both a moment 80 ms on, delivers each frame, and takes at both, until all have come or 20,000 rounds have passed. The digits of PATTERN say in turn how often a frame is delivered. Prints the rounds, the frames made and delivered, and whether the items are the bytes that were put, in order |
 //!
@@ -33,7 +34,7 @@
 //! | `names E ADDRESS TO FROM`, `span E CIRCUIT` | whether a RUN names a living circuit, and how far a circuit's numbers count |
 //! | `record I` | the server's record of a request |
 //!
-//! Frames are numbered from 0 in the order in which they are made, at either core; those of `announcers`, `draw` and `pump`
+//! Frames are numbered from 0 in the order in which they are made, at either core; those of `announcers`, `askers`, `draw` and `pump`
 //! aren't kept. Of each the program prints its number, its mark (`fresh`, `again` with how far its number lies below the
 //! newest, `bare`, `plain`), where it is sent and its circuit's id at the sender, and then what `lat show` prints of it.
 #![tactic(auto)]

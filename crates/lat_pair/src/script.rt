@@ -32,6 +32,7 @@ impl<S: Station, N: Station> Play<S, N> {
             "deliver" => self.deliver(alloc, line, text),
             "inject" => self.inject(alloc, line, text),
             "announcers" => self.announcers(alloc, line, text),
+            "askers" => self.askers(alloc, line, text),
             "draw" => self.draw(alloc, line, text),
             "pump" => self.pump(alloc, line, text),
             _ => self.tell(alloc, line, text),

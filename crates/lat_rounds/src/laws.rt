@@ -1,5 +1,4 @@
-//! The laws of rounds, and of what stands below them. That all which was put is taken after so many of them is
-//! `RoundsSettle` of `specs/Settles.antt`; no law says it yet.
+//! The laws of rounds, and of what stands below them.
 
 ghost use Rattle.std.specs.Prelude.{◌≡◌, ◌≢◌, ℕ, ◌+◌, ◌<◌, ◌≤◌, true, false, Bool, List, [], length, Some, slice_get};
 ghost use Rattle.lat_model.specs.Lists.{Each};
@@ -22,7 +21,7 @@ ghost use Rattle.lat_rounds.specs.Plain.{WorldPlain, ShortWorldEvent};
 ghost use Rattle.lat_machines.specs.world.Machines.{Setups, Machines, Move, run, open_machines};
 ghost use Rattle.lat_rounds.specs.Lossless.{is_in, Lossless};
 ghost use Rattle.lat_rounds.specs.Rounds.{rounds};
-ghost use Rattle.lat_rounds.specs.Settles.{Begins, ShortMove, RoundsAreYoung};
+ghost use Rattle.lat_rounds.specs.Settles.{Begins, ShortMove, RoundsAreYoung, RoundsSettle};
 ghost use Rattle.lat_rounds.specs.Carried.{flying, server_end, node_end, Kinds, Carried, IsNext, Orderly, done_all};
 ghost use Rattle.lat_rounds.specs.Progress.{Still, Ready, Brings};
 
@@ -138,4 +137,11 @@ pub fn nothing_is_lost_in_rounds()
 /// Each frame that rounds deliver is young, also one of an end that has ended since.
 pub fn rounds_are_young()
     ensures { RoundsAreYoung }
+{}
+
+/// Where nothing was lost, rounds bring all that was put: behind whole rounds, four for each item put, twenty for each session
+/// and twenty more, each session that the server still holds and neither end has closed has taken, both ways, what the other
+/// end has put.
+pub fn rounds_settle()
+    ensures { RoundsSettle }
 {}

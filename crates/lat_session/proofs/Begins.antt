@@ -32,6 +32,7 @@ empty_stands m agreed ceiling n l h = record {
   small = λ k. tt;
   opens = λ k. refl;
   begun = λ k q. absurd (true≢false q);
+  sources = λ k q. absurd (false≢true q);
   apart = λ q. record { one = λ p j k u v. absurd (false≢true u); low = λ p k u. absurd (false≢true u) };
   within = λ i q. refl;
   low = omega (arith, size, h);

@@ -3,7 +3,7 @@ use Rattle.std.proofs.Common.{◌≡◌, ◌≢◌, ℕ, zero, suc, ◌+◌, ◌
 use Rattle.std.proofs.lemmas.List.{map-append}
 use Rattle.lat_model.specs.Lists.{updated, upwards, keep, is_empty, any_up_to}
 use Rattle.lat_model.specs.sessions.Slots.{Slot, Start, starts, turned}
-use Rattle.lat_model.specs.sessions.Session.{Session, free, waits, rejecting}
+use Rattle.lat_model.specs.sessions.Session.{Session, free, waits, rejecting, peer}
 use Rattle.lat_model.specs.sessions.Sessions.{Sessions, least_free}
 use Rattle.lat_model.specs.sessions.Hearing.{names, is_full, asked_session, ask_in}
 use Rattle.lat_model.specs.sessions.EndOk.{EndOk}
@@ -107,6 +107,7 @@ ask_stands t u e from c size service request st m some byte none l is =
     (ap (λ b. cond b None (Some (ask_in e x service request))) (ap (λ b. b || any_up_to (λ k. names from (e.session k)) e.made) m ∙ none))
     (λ j. upd_all (λ z. (is_empty z.came || (starts z.came || turned z.came)) ≡ true) e.session (suc e.made) new refl st.opens j)
     (λ j. upd_all (λ z. z.refused ≡ false → cond e.master z.accepted (starts z.came) ≡ true) e.session (suc e.made) new (λ r. ap (λ b. cond b false true) m) st.begun j)
+    (λ j. upd_all (λ z. starts z.came ≡ true → peer z ≢ 0) e.session (suc e.made) new (λ h. some) st.sources j)
     refl refl refl l is
   where
     x : Slot

@@ -3,7 +3,7 @@ use Rattle.std.proofs.Common.{◌≡◌, ◌≢◌, ℕ, ◌+◌, ◌-◌, ◌<�
 use Rattle.std.proofs.lemmas.Bool.{true≢false, false≢true, and_parts, or_parts, not-true}
 use Rattle.std.specs.Option.{is_some}
 use Rattle.lat_model.specs.Lists.{upwards, is_empty}
-use Rattle.lat_model.specs.sessions.Slots.{Slot, destination, source, is_start, is_reject, is_stop, items_of, starts, turned, has_stop, credits, costs, cost_of}
+use Rattle.lat_model.specs.sessions.Slots.{Slot, Start, DataA, DataB, Attention, Reject, Stop, destination, source, is_start, is_reject, is_stop, items_of, starts, starter, turned, has_stop, credits, costs, cost_of}
 use Rattle.lat_model.specs.sessions.Session.{Session, answered, peer, rejected, stopped, gone, runs, waits, rejecting, blank}
 use Rattle.lat_model.specs.sessions.Sessions.{Sessions, named}
 use Rattle.lat_model.specs.sessions.Hearing.{heard, hear_at, hear_behind, behind_fits, hear_slot}
@@ -15,7 +15,7 @@ use Rattle.lat_model.proofs.sessions.Peers.{hear_apart}
 use Rattle.lat_model.proofs.sessions.Low.{hear_within}
 use Rattle.lat_stream.specs.Kept.{Kept, kept_of}
 use Rattle.lat_session.specs.Table.{Table, table_of, ask_is_open, open_asks}
-use Rattle.lat_session.specs.Stands.{Stands, AllOpen, AllBegun}
+use Rattle.lat_session.specs.Stands.{Stands, AllOpen, AllBegun, AllSources}
 use Rattle.lat_session.specs.Hears.{Hears}
 use Rattle.lat_session.proofs.PackTable.{Changed, kept_at, changed_sessions, changed_asks}
 use Rattle.lat_session.proofs.PackTurn.{answered_closed}
@@ -27,13 +27,14 @@ pub record Fair (m : Bool) (x : Slot) : Type 0 where
   pub small : length (items_of x) ≤ 255
 
 -- the table that keeps what is heard stands for it
-pub hear_stands : (t u : Table) (e f : Sessions) (x : Slot) → Stands t e → Fair e.master x → hear_slot e x ≡ Some f → AllOpen f → AllBegun f → f.master ≡ e.master → f.agreed ≡ e.agreed → f.served ≡ e.served → length u.sessions ≡ length t.sessions → u ≡ table_of (length t.sessions) f → Stands u f
-hear_stands t u e f x st w h opens begun m a s l is = record {
+pub hear_stands : (t u : Table) (e f : Sessions) (x : Slot) → Stands t e → Fair e.master x → hear_slot e x ≡ Some f → AllOpen f → AllBegun f → AllSources f → f.master ≡ e.master → f.agreed ≡ e.agreed → f.served ≡ e.served → length u.sessions ≡ length t.sessions → u ≡ table_of (length t.sessions) f → Stands u f
+hear_stands t u e f x st w h opens begun sources m a s l is = record {
   is = is ∙ ap (λ n. table_of n f) (sym l);
   good = hear_alone e f x w.sends st.good h;
   small = hear_small e f x w.small st.small h;
   opens = opens;
   begun = begun;
+  sources = sources;
   apart = λ q. hear_apart e f x (sym m ∙ q) st.good (st.apart (sym m ∙ q)) (w.byte (sym m ∙ q)) h;
   within = subst (λ n. IdsWithin n f) (sym l) (hear_within (length t.sessions) e f x st.good st.agreed st.within h);
   low = subst (λ n. n ≤ 64) (sym l) st.low;
@@ -45,10 +46,11 @@ hear_stands t u e f x st w h opens begun m a s l is = record {
 pub record Goes (m : Bool) (s : Session) (x : Slot) : Type 0 where
   pub opens : (is_empty (s.came ++ x ∷ []) || (starts (s.came ++ x ∷ []) || turned (s.came ++ x ∷ []))) ≡ true
   pub begun : s.refused ≡ false → cond m s.accepted (starts (s.came ++ x ∷ [])) ≡ true
+  pub sources : starts (s.came ++ x ∷ []) ≡ true → starter (s.came ++ x ∷ []) ≢ 0
   pub starts : starts s.came ≡ true → starts (s.came ++ x ∷ []) ≡ true
 
-pub goes : (m : Bool) (s : Session) (x : Slot) → (is_empty s.came || (starts s.came || turned s.came)) ≡ true → (s.refused ≡ false → cond m s.accepted (starts s.came) ≡ true) → (s.came ≡ [] → (m ≡ true) × ((is_start x || is_reject x) ≡ true)) → Goes m s x
-goes m s x o b f = record { opens = opened s.came o f; begun = begins s.came b f; starts = started s.came }
+pub goes : (m : Bool) (s : Session) (x : Slot) → (is_empty s.came || (starts s.came || turned s.came)) ≡ true → (s.refused ≡ false → cond m s.accepted (starts s.came) ≡ true) → (starts s.came ≡ true → peer s ≢ 0) → (is_start x ≡ true → source x ≢ 0) → (s.came ≡ [] → (m ≡ true) × ((is_start x || is_reject x) ≡ true)) → Goes m s x
+goes m s x o b n w f = record { opens = opened s.came o f; begun = begins s.came b f; starts = started s.came; sources = sources s.came n }
   where
     opened : (xs : List Slot) → (is_empty xs || (starts xs || turned xs)) ≡ true → (xs ≡ [] → (m ≡ true) × ((is_start x || is_reject x) ≡ true)) → (is_empty (xs ++ x ∷ []) || (starts (xs ++ x ∷ []) || turned (xs ++ x ∷ []))) ≡ true
     opened [] o f = (f refl).1
@@ -61,6 +63,26 @@ goes m s x o b f = record { opens = opened s.came o f; begun = begins s.came b f
     started : (xs : List Slot) → starts xs ≡ true → starts (xs ++ x ∷ []) ≡ true
     started [] h = absurd (false≢true h)
     started (y ∷ ys) h = h
+
+    sent : (y : Slot) → is_start y ≡ true → starter (y ∷ []) ≡ source y
+    sent (Start to from c size service request) h = refl
+    sent (DataA to from c bytes) h = absurd (false≢true h)
+    sent (DataB to from c setting) h = absurd (false≢true h)
+    sent (Attention to from flag) h = absurd (false≢true h)
+    sent (Reject to from reason) h = absurd (false≢true h)
+    sent (Stop to from reason) h = absurd (false≢true h)
+
+    first : (y : Slot) (ys zs : List Slot) → starter (y ∷ ys) ≡ starter (y ∷ zs)
+    first (Start to from c size service request) ys zs = refl
+    first (DataA to from c bytes) ys zs = refl
+    first (DataB to from c setting) ys zs = refl
+    first (Attention to from flag) ys zs = refl
+    first (Reject to from reason) ys zs = refl
+    first (Stop to from reason) ys zs = refl
+
+    sources : (xs : List Slot) → (starts xs ≡ true → starter xs ≢ 0) → starts (xs ++ x ∷ []) ≡ true → starter (xs ++ x ∷ []) ≢ 0
+    sources [] n h z = w h (sym (sent x h) ∙ z)
+    sources (y ∷ ys) n h z = n h (first y ys (ys ++ x ∷ []) ∙ z)
 
 changed_heard : (e : Sessions) (k : ℕ) (x : Slot) → Changed e (hear_at e k x) k (heard (e.session k) x)
 changed_heard e k x = record {
@@ -92,6 +114,7 @@ at_stands t u e i id k x st w h next less some g closed kept is =
     ap (λ z. record (table_of n e) { sessions = z }) (sym kept_all) ∙ ap (λ z. record (table_of n f) { asks = z }) (sym asks) in
     hear_stands t u e f x st w h (λ y. upd_all (λ z. (is_empty z.came || (starts z.came || turned z.came)) ≡ true) e.session j (heard (named e id) x) g.opens st.opens y)
     (λ y. upd_all (λ z. z.refused ≡ false → cond e.master z.accepted (starts z.came) ≡ true) e.session j (heard (named e id) x) g.begun st.begun y)
+    (λ y. upd_all (λ z. starts z.came ≡ true → peer z ≢ 0) e.session j (heard (named e id) x) g.sources st.sources y)
     refl refl refl (ap (λ (z : Table). length z.sessions) is ∙ length-set t.sessions i k)
     (is ∙ ap (λ z. record t { sessions = set t.sessions i z }) kept ∙ ap (λ (z : Table). record z { sessions = set z.sessions i (kept_of e.master e.ceiling (heard (named e id) x)) }) st.is ∙ new)
 
@@ -140,7 +163,7 @@ behind_hears {A} {E} t u e i id k x result st w hears d next less answer kept is
         let r : (answered s ≡ true) × (not (gone s) ≡ true) = and_parts (answered s) (not (gone s)) (runs_of s x q) in
         let refused : s.refused ≡ false = (or_parts s.refused (turned s.came) (or_parts (rejected s) (stopped s) (not-true (gone s) r.1)).0).0 in
         let st0 : (s.accepted ≡ true) × (starts s.came ≡ true) = and_parts s.accepted (starts s.came) r.0 in
-        let g : Goes e.master s x = goes e.master s x (st.opens (e.at_id id)) (st.begun (e.at_id id)) (λ z. absurd (starts_some s.came st0.1 z)) in
+        let g : Goes e.master s x = goes e.master s x (st.opens (e.at_id id)) (st.begun (e.at_id id)) (st.sources (e.at_id id)) w.sends (λ z. absurd (starts_some s.came st0.1 z)) in
         let a : answered (heard s x) ≡ true = ap (λ b. b && starts (s.came ++ x ∷ [])) st0.0 ∙ g.starts st0.1 in
         let used : e.at_id id ≢ 0 = λ z. false≢true (sym (ap not (ap (λ j. gone (e.session j)) z ∙ ap gone st.good.none)) ∙ r.1) in
         heard_to u result (hear_behind e x) (hear_at e (e.at_id id) x) some (answer ∙ q)

@@ -63,7 +63,7 @@ waits_hears t u e i id k x result st w h first next less b r kept is =
     let s : Session = named e id in
     let p : (e.master ≡ true) × (waits s ≡ true) = and_parts e.master (waits s) b in
     let q : (not (answered s) ≡ true) × (not (gone s) ≡ true) = and_parts (not (answered s)) (not (gone s)) p.1 in
-    let g : Goes e.master s x = goes e.master s x (st.opens (e.at_id id)) (st.begun (e.at_id id)) (λ z. (p.0, first)) in
+    let g : Goes e.master s x = goes e.master s x (st.opens (e.at_id id)) (st.begun (e.at_id id)) (st.sources (e.at_id id)) w.sends (λ z. (p.0, first)) in
     let used : e.at_id id ≢ 0 = λ z. false≢true (sym (ap not (ap (λ j. gone (e.session j)) z ∙ ap gone st.good.none)) ∙ q.1) in
     heard_to u result _ (hear_at e (e.at_id id) x) h r
     (at_stands t u e i id k x st w h next less used g (ap (λ m. not m && (waits s || rejecting s)) p.0, ap (λ m. not m && (waits (heard s x) || rejecting (heard s x))) p.0) kept is)

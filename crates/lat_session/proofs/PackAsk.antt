@@ -1,5 +1,5 @@
 -- The turn of the ask at one place.
-use Rattle.std.proofs.Common.{◌≡◌, ◌≢◌, ℕ, ◌+◌, ◌-◌, ◌<◌, ◌≤◌, sym, ap, ◌∙◌, refl, subst, arith, Bool, true, false, not, cond, ◌&&◌, ◌||◌, List, [], ◌∷◌, ◌++◌, length, map, get_or, nat_lt, nat_le, ⊎_elim}
+use Rattle.std.proofs.Common.{◌≡◌, ◌≢◌, ℕ, zero, suc, ◌+◌, ◌-◌, ◌<◌, ◌≤◌, sym, ap, ◌∙◌, refl, subst, arith, Bool, true, false, not, cond, ◌&&◌, ◌||◌, List, [], ◌∷◌, ◌++◌, length, map, get_or, nat_lt, nat_le, ⊎_elim}
 use Rattle.std.specs.List.{remove, All}
 use Rattle.std.proofs.lemmas.List.Elements.{All-map}
 use Rattle.std.proofs.lemmas.List.{length-map, get_or-map}
@@ -22,6 +22,7 @@ use Rattle.lat_session.specs.declared.packing.Progress.{Progress}
 use Rattle.lat_session.specs.Table.{Table, table_of, ask_is_open, ask_of, open_asks, waits_as, reason_of}
 use Rattle.lat_session.specs.Stands.{Stands}
 use Rattle.lat_session.specs.Packed.{Packed, open_serials}
+use Rattle.lat_stream.proofs.FormsWritable.{reject_formed}
 use Rattle.lat_session.proofs.PackTable.{Changed, kept_at, map_same, map_keep}
 use Rattle.lat_session.proofs.PackForm.{Forms, forms}
 use Rattle.lat_session.proofs.PackIds.{turn_over, formed_turn, going_turn, unfit_packed}
@@ -137,8 +138,9 @@ pub sent_reject : (before : List ℕ) (t u : Table) (w v : Progress) (payload af
     v.formed ≡ w.formed + 1 →
     v.ended ≡ w.ended →
     after ≡ payload ++ slot_text (wire_slot (Reject from 0 reason)) →
+    reason ≤ 15 →
     Packed before u v after (turn p (serial_at p at)) × (open_serials (turn p (serial_at p at)).after ≡ remove (open_serials p.after) at)
-sent_reject before t u w v payload after p at from reason d pk l q g room is less count ended text =
+sent_reject before t u w v payload after p at from reason d pk l q g room is less count ended text small =
     let e : Sessions = p.after in
     let k : ℕ = serial_at p at in
     let s : Session = e.session k in
@@ -167,10 +169,14 @@ sent_reject before t u w v payload after p at from reason d pk l q g room is les
     let served : (form e k x).served ≡ e.served = f.served ∙ ap (λ z. cond z e.served s.id) b.0 in
     let new : table_of n (form e k x) ≡ record (table_of n e) { asks = remove (table_of n e).asks at } = same_table (table_of n (form e k x)) (record (table_of n e) { asks = remove (table_of n e).asks at }) c.master c.agreed c.ceiling served (map_same (kept_at (form e k x)) (kept_at e) 0 n (λ i h. kept i)) asks in
     let size : length u.sessions ≡ n = ap (λ (z : Table). length z.sessions) is in (
-      formed_turn before t u w v payload after p k x pk g o size (is ∙ ap (λ (z : Table). record z { asks = remove z.asks at }) st.is ∙ sym new ∙ ap (λ z. table_of z (form e k x)) (sym size)) (omega (arith, served, size, st.served)) less count ended text,
+      formed_turn before t u w v payload after p k x pk g o size (is ∙ ap (λ (z : Table). record z { asks = remove z.asks at }) st.is ∙ sym new ∙ ap (λ z. table_of z (form e k x)) (sym size)) (omega (arith, served, size, st.served)) less count ended text (reject_formed from 0 reason (source_some from (λ z. (st.good.each k).peer_some a.slave (st.good.all_named a.slave k a.some a.made) (r.peer ∙ z))) (omega (arith, small))),
       ap (λ (z : Packing). open_serials z.after) (going_turn before t w payload p k (Offers x) pk g o) ∙ serials,
     )
   where
+    source_some : (n : ℕ) → n ≢ 0 → 0 < n
+    source_some zero h = absurd (h refl)
+    source_some (suc n) h = omega arith
+
     leb-true-from : (m n : ℕ) → m ≤ n → nat_le m n ≡ true
     leb-true-from m n h = grind (arith, nat_tests, h)
 

@@ -5,10 +5,10 @@ use Rattle.std.proofs.lemmas.Bool.{true≢false, false≢true, and_parts, not-tr
 use Rattle.std.proofs.lemmas.Bool.Decides.{nat_tests}
 use Rattle.lat_base.specs.declared.state.SessionState as base_state
 use Rattle.lat_base.specs.declared.state.SessionState.TheVariants as kept_states
-use Rattle.lat_model.specs.Lists.{is_empty}
+use Rattle.lat_model.specs.Lists.{is_empty, Each}
 use Rattle.lat_model.specs.ends.End.{wire_of}
 use Rattle.lat_model.specs.sessions.Slots as sessions
-use Rattle.lat_model.specs.sessions.Session.{Session, Free, Calling, Asked, Live, Closing, Left, state, answered, gone, free}
+use Rattle.lat_model.specs.sessions.Session.{Session, Free, Calling, Asked, Live, Closing, Left, state, answered, gone, free, peer}
 use Rattle.lat_model.specs.sessions.Sessions.{Sessions, named}
 use Rattle.lat_model.specs.sessions.Offers.{Offer, offer}
 use Rattle.lat_model.specs.sessions.Offers as offers
@@ -17,7 +17,7 @@ use Rattle.lat_model.proofs.sessions.Forms.{formed_as}
 use Rattle.lat_slots.specs.Layout.{slot_text}
 use Rattle.lat_stream.specs.Kept.{Kept, kept_of, state_shown}
 use Rattle.lat_stream.specs.Sound.{Sound}
-use Rattle.lat_stream.specs.Wire.{formed_as as wire_slot}
+use Rattle.lat_stream.specs.Wire.{IsFormed, formed_as as wire_slot}
 use Rattle.lat_stream.specs.declared.forming.Formed.{Formed}
 use Rattle.lat_session.specs.declared.packing.Progress.{Progress}
 use Rattle.lat_session.specs.Table.{Table, table_of, ask_is_open}
@@ -70,6 +70,7 @@ pub record Sits (t : Table) (p : Packing) (id : ℕ) (d : Kept) : Type 0 where
   pub sound : Sound t.master p.after.ceiling (named p.after id)
   pub kept : get_or t.sessions (id - 1) d ≡ kept_of t.master p.after.ceiling (named p.after id)
   pub named_so : (named p.after id).id ≡ id
+  pub source : sessions.starts (named p.after id).came ≡ true → peer (named p.after id) ≢ 0
   pub rejecting : reject_due (named p.after id) ≡ false
 
 pub sits : (before : List ℕ) (t : Table) (w : Progress) (payload : List ℕ) (p : Packing) (id : ℕ) (d : Kept) → Packed before t w payload p → 1 ≤ id → id ≤ length t.sessions → is_held (get_or t.sessions (id - 1) d).state ≡ true → Sits t p id d
@@ -86,6 +87,7 @@ sits before t w payload p id d pk lo hi nf =
       sound = subst (λ b. Sound b p.after.ceiling (named p.after id)) (sym m) (record { shape = st.good.each k; accounts = st.good.accounts k; small = st.small k; opens = st.opens k; begun = st.begun k });
       kept = here ∙ ap (λ b. kept_of b p.after.ceiling (named p.after id)) (sym m);
       named_so = st.good.found id used;
+      source = st.sources k;
       rejecting = ap (λ b. (b && is_empty (named p.after id).out) && not (is_empty (named p.after id).came)) (unfree_unrefused (named p.after id) unfree);
     }
 
@@ -99,6 +101,10 @@ text_more before payload os o e =
     more [] = sym (append-nil (slot_text (wire_slot o.slot)))
     more (q ∷ qs) = append_assoc (slot_text (wire_slot q.slot)) (slots_text (wire_of qs)) (slot_text (wire_slot o.slot)) ∙ ap (λ z. slot_text (wire_slot q.slot) ++ z) (more qs)
 
+slots_more : (os : List TaggedSlot) (o : TaggedSlot) → Each IsFormed (wire_of os) → IsFormed o.slot → Each IsFormed (wire_of (os ++ o ∷ []))
+slots_more [] o all one = (one, tt)
+slots_more (q ∷ qs) o all one = (all.0, slots_more qs o all.1 one)
+
 -- the packing after a turn at which a slot is formed, where the table, the progress and the payload are as they are to be
 pub formed_turn : (before : List ℕ) (t u : Table) (w v : Progress) (payload after : List ℕ) (p : Packing) (k : ℕ) (x : sessions.Slot) →
     Packed before t w payload p →
@@ -111,8 +117,9 @@ pub formed_turn : (before : List ℕ) (t u : Table) (w v : Progress) (payload af
     v.formed ≡ w.formed + 1 →
     v.ended ≡ w.ended →
     after ≡ payload ++ slot_text (wire_slot x) →
+    IsFormed x →
     Packed before u v after (turn p k)
-formed_turn before t u w v payload after p k x pk g o l is served room formed ended text =
+formed_turn before t u w v payload after p k x pk g o l is served room formed ended text fair =
     let q : turn p k ≡ turn_by p k (offers.Offers x) = ap (λ b. cond b (turn_by p k (offer p.after.master p.after.ceiling p.room (p.after.session k))) p) (sym pk.going ∙ g) ∙ ap (turn_by p k) o in
     let less : w.formed < 255 = ltb-true w.formed 255 (and_parts (not w.ended) (nat_lt w.formed 255) g).1 in
     let rest : Packed before u v after (turn_by p k (offers.Offers x)) = record {
@@ -122,6 +129,7 @@ formed_turn before t u w v payload after p k x pk g o l is served room formed en
       left = omega (arith, formed, pk.left, less);
       going = ap (λ b. not b && nat_lt v.formed 255) ended ∙ ap (λ b. not b && nat_lt v.formed 255) (not-true w.ended (and_parts (not w.ended) (nat_lt w.formed 255) g).0) ∙ grind (arith, nat_tests, formed, pk.left, less);
       text = text ∙ text_more before payload p.slots (tagged p.after k x) pk.text;
+      slots = slots_more p.slots (tagged p.after k x) pk.slots fair;
     } in
     subst (λ z. Packed before u v after z) (sym q) rest
 
@@ -138,8 +146,9 @@ pub id_formed : (before : List ℕ) (t u : Table) (w v : Progress) (payload afte
     v.formed ≡ w.formed + 1 →
     v.ended ≡ w.ended →
     after ≡ payload ++ slot_text (wire_slot x) →
+    IsFormed x →
     Packed before u v after (turn p (p.after.at_id id))
-id_formed before t u w v payload after p id d x pk s lo hi g o is room count ended text =
+id_formed before t u w v payload after p id d x pk s lo hi g o is room count ended text fair =
     let e : Sessions = p.after in
     let k : ℕ = e.at_id id in
     let n : ℕ = length t.sessions in
@@ -159,7 +168,7 @@ id_formed before t u w v payload after p id d x pk s lo hi g o is room count end
     formed_turn before t u w v payload after p k x pk g o l
     (is ∙ old ∙ sym new ∙ ap (λ z. table_of z (form e k x)) (sym l))
     (omega (arith, served, l, hi))
-    room count ended text
+    room count ended text fair
   where
     same_table : (a b : Table) → a.master ≡ b.master → a.agreed ≡ b.agreed → a.ceiling ≡ b.ceiling → a.served ≡ b.served → a.sessions ≡ b.sessions → a.asks ≡ b.asks → a ≡ b
     same_table a b h i j k l m = rw (h, i, j, k, l, m) refl
@@ -170,7 +179,7 @@ going_turn before t w payload p k o pk g q = ap (λ b. cond b (turn_by p k (offe
 -- nothing goes on behind a slot that doesn't fit
 pub unfit_packed : (before : List ℕ) (t : Table) (w v : Progress) (payload : List ℕ) (p : Packing) (k : ℕ) → Packed before t w payload p → (not w.ended && nat_lt w.formed 255) ≡ true → offer p.after.master p.after.ceiling p.room (p.after.session k) ≡ offers.Unfit → v ≡ record w { ended = true } → Packed before t v payload (turn p k)
 unfit_packed before t w v payload p k pk g q is =
-    let u : Packed before t (record w { ended = true }) payload (record p { going = false }) = record { stands = pk.stands; room = pk.room; formed = pk.formed; left = pk.left; going = refl; text = pk.text } in
+    let u : Packed before t (record w { ended = true }) payload (record p { going = false }) = record { stands = pk.stands; room = pk.room; formed = pk.formed; left = pk.left; going = refl; text = pk.text; slots = pk.slots } in
     subst (λ z. Packed before t z payload (turn p k)) (sym is) (subst (λ z. Packed before t (record w { ended = true }) payload z) (sym (going_turn before t w payload p k offers.Unfit pk g q)) u)
 
 -- a session that is free, or after the end
@@ -200,10 +209,11 @@ pub id_packed : (before : List ℕ) (t u : Table) (w v : Progress) (payload afte
     (not w.ended && nat_lt w.formed 255) ≡ true →
     Does t.master p.after.ceiling (named p.after id) (offer t.master p.after.ceiling w.room (named p.after id)) (get_or t.sessions (id - 1) d) new payload after formed →
     ((x : sessions.Slot) → offer t.master p.after.ceiling w.room (named p.after id) ≡ offers.Offers x → length after ≡ length payload + sessions.slot_len x) →
+    ((x : sessions.Slot) → offer t.master p.after.ceiling w.room (named p.after id) ≡ offers.Offers x → IsFormed x) →
     u ≡ record t { served = served_next formed id t.served; sessions = set t.sessions (id - 1) new } →
     v ≡ counted formed (length after - length payload) w →
     Packed before u v after (turn p (p.after.at_id id))
-id_packed before t u w v payload after p id d new formed pk s lo hi g does len is counts =
+id_packed before t u w v payload after p id d new formed pk s lo hi g does len fair is counts =
     go (offer t.master p.after.ceiling w.room (named p.after id)) refl does len
   where
     same_offer : offer p.after.master p.after.ceiling p.room (named p.after id) ≡ offer t.master p.after.ceiling w.room (named p.after id)
@@ -232,4 +242,4 @@ id_packed before t u w v payload after p id d new formed pk s lo hi g does len i
         let ut : u ≡ record t { served = id; sessions = set t.sessions (id - 1) (kept_of t.master p.after.ceiling (after_slot (named p.after id) x)) } = is ∙ ap (λ f. record t { served = served_next f id t.served; sessions = set t.sessions (id - 1) new }) h.0 ∙ ap (λ z. record t { served = id; sessions = set t.sessions (id - 1) z }) h.1 in
         let vw : v ≡ record w { room = w.room - (length after - length payload); formed = w.formed + 1 } = counts ∙ ap (λ f. counted f (length after - length payload) w) h.0 in
         let room : v.room ≡ w.room - sessions.slot_len x = ap (λ (z : Progress). z.room) vw ∙ omega (arith, len x refl) in
-        id_formed before t u w v payload after p id d x pk s lo hi g (same_offer ∙ q) ut room (ap (λ (z : Progress). z.formed) vw) (ap (λ (z : Progress). z.ended) vw) h.2
+        id_formed before t u w v payload after p id d x pk s lo hi g (same_offer ∙ q) ut room (ap (λ (z : Progress). z.formed) vw) (ap (λ (z : Progress). z.ended) vw) h.2 (fair x q)

@@ -2,7 +2,7 @@
 use Rattle.std.proofs.Common.{◌≡◌, ℕ, ◌≤◌, sym, ap, ◌∙◌, refl, subst, Bool, true, false, not, cond, ◌&&◌, ◌||◌, List, [], ◌∷◌, length, nat_le, ⊎_elim}
 use Rattle.std.proofs.lemmas.Bool.{true≢false, false≢true, or_parts, cases_eq}
 use Rattle.lat_model.specs.Lists.{is_empty}
-use Rattle.lat_model.specs.sessions.Slots.{Slot, Reject, has_stop, starts, turned, items}
+use Rattle.lat_model.specs.sessions.Slots.{Slot, Reject, has_stop, starts, starter, turned, items}
 use Rattle.lat_model.specs.sessions.Session.{Session, answered, peer, rejected, stopped, free, waits, rejecting}
 use Rattle.lat_model.specs.sessions.Sessions.{Sessions}
 use Rattle.lat_model.specs.sessions.Offers.{Offer, Nothing, Unfit, Offers, fit, offer, start_of, live_offer}
@@ -140,6 +140,7 @@ turn_stands t u p k s l is served =
       small = turn_small p k s.small;
       begun = λ j r. ap (λ m. cond m ((turn p k).after.session j).accepted (starts ((turn p k).after.session j).came)) w.master ∙ ap (λ a. cond p.after.master a (starts ((turn p k).after.session j).came)) (w.accepted j) ∙ ap (λ xs. cond p.after.master (p.after.session j).accepted (starts xs)) (w.came j) ∙ s.begun j (sym (w.refused j) ∙ r);
       opens = λ j. ap (λ xs. is_empty xs || (starts xs || turned xs)) (w.came j) ∙ s.opens j;
+      sources = λ j h z. s.sources j (ap starts (sym (w.came j)) ∙ h) (ap starter (sym (w.came j)) ∙ z);
       apart = λ m. turn_apart p k (s.apart (sym w.master ∙ m));
       within = subst (λ n. IdsWithin n (turn p k).after) (sym l) (turn_within (length t.sessions) p k s.within);
       low = subst (λ n. n ≤ 64) (sym l) s.low;

@@ -18,7 +18,7 @@ abbrev pub empty : ℕ → Sessions → Packing
 empty room e = record { after = e; slots = []; room = room; left = 255; going = true }
 
 pub begins : (t : Table) (e : Sessions) (room : ℕ) (payload : List ℕ) → Stands t e → Packed payload t (record { room = room; formed = 0; ended = false }) payload (empty room e)
-begins t e room payload st = record { stands = st; room = refl; formed = refl; left = refl; going = refl; text = sym (append-nil payload) }
+begins t e room payload st = record { stands = st; room = refl; formed = refl; left = refl; going = refl; text = sym (append-nil payload); slots = tt }
 
 -- ids that were never used have no turn
 past_ids : (n : ℕ) (f : ℕ → ℕ) (a m : ℕ) (p : Packing) → ((i : ℕ) → n < i → f i ≡ 0) → n ≤ a → p.after.session 0 ≡ blank → NoRejects p → turn_all (map f (upwards a m)) p ≡ p

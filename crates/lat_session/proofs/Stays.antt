@@ -1,9 +1,9 @@
 -- What a local call keeps of the sessions that a table stands for.
-use Rattle.std.proofs.Common.{◌≡◌, ℕ, zero, suc, ◌+◌, ◌<◌, ◌≤◌, sym, ap, ◌∙◌, refl, subst, arith, Bool, true, false, not, cond, ◌&&◌, ◌||◌, List, [], ◌∷◌, length, map, take, Some, nat_lt, slice_set, slice_get, length-set, ◌⊎◌}
-use Rattle.std.proofs.lemmas.Bool.{and_parts, true≢false}
+use Rattle.std.proofs.Common.{◌≡◌, ◌≢◌, ℕ, zero, suc, ◌+◌, ◌<◌, ◌≤◌, sym, ap, ◌∙◌, refl, subst, arith, Bool, true, false, not, cond, ◌&&◌, ◌||◌, List, [], ◌∷◌, length, map, take, Some, nat_lt, slice_set, slice_get, length-set, ◌⊎◌}
+use Rattle.std.proofs.lemmas.Bool.{and_parts, true≢false, false≢true}
 use Rattle.lat_model.specs.Lists.{is_empty}
 use Rattle.lat_model.specs.sessions.Slots.{Byte, Setting, starts, turned}
-use Rattle.lat_model.specs.sessions.Session.{Session, waits, rejecting, put_open, take_open, unframed}
+use Rattle.lat_model.specs.sessions.Session.{Session, waits, rejecting, put_open, take_open, unframed, peer}
 use Rattle.lat_model.specs.sessions.Sessions.{Sessions, named, held}
 use Rattle.lat_model.specs.sessions.Calls.{Call, Connect, Put, Set, Attend, Take, Close, Answer, Refuse, call, new_call, connect, touch, put_items, put_count, take_count, answer, reject}
 use Rattle.lat_model.proofs.sessions.Words.{upd_all}
@@ -23,7 +23,7 @@ sound_at t e k st = record { shape = st.good.each k; accounts = st.good.accounts
 
 -- how a session began
 abbrev pub Began : Bool → Session → Type 0
-Began m s = (is_empty s.came || (starts s.came || turned s.came) ≡ true) × (s.refused ≡ false → cond m s.accepted (starts s.came) ≡ true)
+Began m s = (is_empty s.came || (starts s.came || turned s.came) ≡ true) × (s.refused ≡ false → cond m s.accepted (starts s.came) ≡ true) × (starts s.came ≡ true → peer s ≢ 0)
 
 abbrev pub AllBegan : Sessions → Type 0
 AllBegan e = (k : ℕ) → Began e.master (e.session k)
@@ -36,20 +36,20 @@ touch_began : (e : Sessions) (k : ℕ) (s : Session) → Began e.master s → Al
 touch_began e k s h a = upd_all (Began e.master) e.session k s h a
 
 began_accepted : (m : Bool) (s : Session) → Began m s → Began m (record s { accepted = true })
-began_accepted true s h = (h.0, λ q. refl)
-began_accepted false s h = (h.0, h.1)
+began_accepted true s h = (h.0, λ q. refl, h.2)
+began_accepted false s h = (h.0, h.1, h.2)
 
 call_began : (e : Sessions) (c : Call) → AllBegan e → AllBegan (call e c)
 call_began e (Connect service request) a =
     cond_began (e.master && nat_lt (held e) e.agreed) (connect e service request) e
-    (λ h. upd_all (Began e.master) e.session (suc e.made) (new_call e service request) (refl, λ q. ap (λ m. cond m true false) (and_parts e.master (nat_lt (held e) e.agreed) h).0) a) a
+    (λ h. upd_all (Began e.master) e.session (suc e.made) (new_call e service request) (refl, λ q. ap (λ m. cond m true false) (and_parts e.master (nat_lt (held e) e.agreed) h).0, λ q. absurd (false≢true q)) a) a
 call_began e (Put id bs) a = cond_began (put_open (named e id)) _ e (λ h. touch_began e (e.at_id id) (put_items (named e id) (map Byte (take (put_count (named e id) (length bs)) bs))) (a (e.at_id id)) a) a
 call_began e (Set id t) a = cond_began (put_open (named e id) && nat_lt (length (unframed (named e id))) 4096) _ e (λ h. touch_began e (e.at_id id) (put_items (named e id) (Setting t ∷ [])) (a (e.at_id id)) a) a
 call_began e (Attend id flag) a = cond_began (put_open (named e id)) _ e (λ h. touch_began e (e.at_id id) (record (named e id) { attention = Some flag }) (a (e.at_id id)) a) a
 call_began e (Take id n) a = cond_began (take_open (named e id)) _ e (λ h. touch_began e (e.at_id id) (record (named e id) { taken = (named e id).taken + take_count (named e id) n }) (a (e.at_id id)) a) a
 call_began e (Close id) a = cond_began (take_open (named e id)) _ e (λ h. touch_began e (e.at_id id) (record (named e id) { closed = true }) (a (e.at_id id)) a) a
 call_began e (Answer id) a = cond_began (not e.master && waits (named e id)) (answer e id) e (λ h. touch_began e (e.at_id id) (record (named e id) { accepted = true }) (began_accepted e.master (named e id) (a (e.at_id id))) a) a
-call_began e (Refuse id reason) a = cond_began (not e.master && waits (named e id)) (reject e id reason) e (λ h. touch_began e (e.at_id id) (record (named e id) { refused = true; reason = reason }) ((a (e.at_id id)).0, λ q. absurd (true≢false q)) a) a
+call_began e (Refuse id reason) a = cond_began (not e.master && waits (named e id)) (reject e id reason) e (λ h. touch_began e (e.at_id id) (record (named e id) { refused = true; reason = reason }) ((a (e.at_id id)).0, λ q. absurd (true≢false q), (a (e.at_id id)).2) a) a
 
 -- what no call changes
 record Same (e f : Sessions) : Type 0 where
@@ -76,13 +76,14 @@ call_same e (Refuse id reason) = cond_same (not e.master && waits (named e id)) 
 pub call_stands : (t u : Table) (e : Sessions) (c : Call) → Stands t e → length u.sessions ≡ length t.sessions → u ≡ table_of (length t.sessions) (call e c) → Stands u (call e c)
 call_stands t u e c st size is =
     let same : Same e (call e c) = call_same e c in
-    let began : AllBegan (call e c) = call_began e c (λ k. (st.opens k, st.begun k)) in
+    let began : AllBegan (call e c) = call_began e c (λ k. (st.opens k, st.begun k, st.sources k)) in
     record {
       is = is ∙ ap (λ n. table_of n (call e c)) (sym size);
       good = (called e c st.good).ok;
       small = call_small e c st.small;
       opens = λ k. (began k).0;
       begun = λ k. (began k).1;
+      sources = λ k. (began k).2;
       apart = λ m. call_apart e c (sym same.master ∙ m) st.good (st.apart (sym same.master ∙ m));
       within = λ i h. call_within (length t.sessions) e c st.good st.agreed st.within i (subst (λ n. (i ≡ 0) ⊎ (n < i)) size h);
       low = subst (λ n. n ≤ 64) (sym size) st.low;

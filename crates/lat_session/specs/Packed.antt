@@ -6,13 +6,13 @@ use Rattle.lat_base.specs.declared.state.SessionState.TheVariants.{Free}
 use Rattle.lat_stream.specs.declared.forming.Formed.{Formed}
 use Rattle.lat_stream.specs.declared.forming.Formed.TheVariants.{Nothing, Unfit, Slot}
 use Rattle.lat_model.specs.ends.End.{wire_of}
-use Rattle.lat_model.specs.Lists.{keep, upwards}
+use Rattle.lat_model.specs.Lists.{keep, upwards, Each}
 use Rattle.lat_model.specs.sessions.Sessions.{Sessions}
 use Rattle.lat_model.specs.sessions.Packing.{Packing}
 use Rattle.lat_model.specs.sessions.Slots as sessions
 use Rattle.lat_slots.specs.Layout.{slot_text}
 use Rattle.lat_stream.specs.Does.{reject_due}
-use Rattle.lat_stream.specs.Wire.{formed_as}
+use Rattle.lat_stream.specs.Wire.{IsFormed, formed_as}
 use Rattle.lat_session.specs.declared.packing.Progress.{Progress}
 use Rattle.lat_session.specs.Table.{Table, ask_is_open}
 use Rattle.lat_session.specs.Stands.{Stands}
@@ -29,6 +29,7 @@ pub record Packed (before : List ℕ) (t : Table) (w : Progress) (payload : List
   pub left : w.formed + p.left ≡ 255
   pub going : (not w.ended && nat_lt w.formed 255) ≡ p.going
   pub text : payload ≡ before ++ slots_text (wire_of p.slots)
+  pub slots : Each IsFormed (wire_of p.slots)
 
 -- while the packing goes on, no reject waits any more
 abbrev pub NoRejects : Packing → Type 0

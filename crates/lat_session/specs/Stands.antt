@@ -1,7 +1,8 @@
 -- Which sessions of the model a table stands for.
-use Rattle.std.specs.Prelude.{◌≡◌, ℕ, ◌≤◌, true, false, cond, length, ◌||◌}
+use Rattle.std.specs.Prelude.{◌≡◌, ◌≢◌, ℕ, ◌≤◌, true, false, cond, length, ◌||◌}
 use Rattle.lat_model.specs.Lists.{is_empty}
 use Rattle.lat_model.specs.sessions.Slots.{starts, turned}
+use Rattle.lat_model.specs.sessions.Session.{peer}
 use Rattle.lat_model.specs.sessions.Sessions.{Sessions}
 use Rattle.lat_model.specs.sessions.EndOk.{EndOk, AllSmall, IdsWithin}
 use Rattle.lat_model.specs.sessions.PeersApart.{PeersApart}
@@ -16,6 +17,10 @@ abbrev pub AllBegun : Sessions → Type 0
 AllBegun e =
     (k : ℕ) → (e.session k).refused ≡ false → cond e.master (e.session k).accepted (starts (e.session k).came) ≡ true
 
+-- no start came from the id 0
+abbrev pub AllSources : Sessions → Type 0
+AllSources e = (k : ℕ) → starts (e.session k).came ≡ true → peer (e.session k) ≢ 0
+
 -- The table keeps what it is to keep of the sessions, and these are what an end knows of itself beside any peer
 pub record Stands (t : Table) (e : Sessions) : Type 0 where
   pub is : t ≡ table_of (length t.sessions) e
@@ -23,6 +28,7 @@ pub record Stands (t : Table) (e : Sessions) : Type 0 where
   pub small : AllSmall e
   pub opens : AllOpen e
   pub begun : AllBegun e
+  pub sources : AllSources e
   pub apart : e.master ≡ false → PeersApart e
   pub within : IdsWithin (length t.sessions) e
   pub low : length t.sessions ≤ 64

@@ -2,14 +2,14 @@
 
 ghost use Rattle.std.specs.Prelude.{◌≡◌, ◌+◌, ◌-◌, ◌*◌, ◌<◌, ◌≤◌, ◌++◌, ◌&&◌, not, true, false, ℕ, List, cond, map, length, nat_lt, slice_index_or};
 ghost use Rattle.std.specs.List.{remove};
-ghost use Rattle.lat_model.specs.Lists.{upwards};
+ghost use Rattle.lat_model.specs.Lists.{upwards, Each};
 ghost use Rattle.lat_model.specs.ends.End.{wire_of};
 ghost use Rattle.lat_model.specs.sessions.Packing.{Packing, turn, turn_all, waiting_rejects, pack};
 ghost use Rattle.lat_model.specs.sessions.Sessions.{Sessions as States};
 ghost use Rattle.lat_model.specs.sessions.Slots as sessions;
 ghost use Rattle.lat_slots.specs.Layout.{slot_text};
 ghost use Rattle.lat_stream.specs.Kept.{Kept};
-ghost use Rattle.lat_stream.specs.Wire.{formed_as};
+ghost use Rattle.lat_stream.specs.Wire.{IsFormed, formed_as};
 ghost use Rattle.lat_session.specs.Packed.{Packed, NoRejects, is_held, counted, served_next, open_serials, slots_text};
 ghost use Rattle.lat_session.specs.Stands.{Stands};
 ghost use Rattle.lat_session.specs.Table.{SameEnd};
@@ -76,6 +76,7 @@ impl Sessions {
             Stands self.old e →
             out.new ≡ out.old ++ slots_text (wire_of (pack room e).slots) }
         ensures count { (e : States) → Stands self.old e → result ≡ length (pack room e).slots }
+        ensures formed { (e : States) → Stands self.old e → Each IsFormed (wire_of (pack room e).slots) }
         ensures room { (length out.old ≤ length out.new) × (length out.new ≤ length out.old + room) }
         ensures same { SameEnd self.old self.new }
     {
@@ -214,7 +215,8 @@ impl Sessions {
 fn write_reject(out: &mut Payload, peer: u8, reason: u8)
     requires reason { reason ≤ 15 }
     requires room { length out.old + 4 ≤ 1500 }
-    ensures { out.new ≡ out.old ++ slot_text (formed_as (sessions.Reject peer 0 reason)) }
+    ensures text { out.new ≡ out.old ++ slot_text (formed_as (sessions.Reject peer 0 reason)) }
+    ensures small { reason ≤ 15 }
 {
     out.push(peer);
     out.push(0);

@@ -223,7 +223,7 @@ start_same : (m : Bool) (c room : ℕ) (s : Session) → fit room (start_of m c 
 start_same true c room s = refl
 start_same false c room s = refl
 
-no_reject : (room : ℕ) (s : Session) → s.refused ≡ true → reject_due s ≡ false → reject_offer room s ≡ Nothing
+pub no_reject : (room : ℕ) (s : Session) → s.refused ≡ true → reject_due s ≡ false → reject_offer room s ≡ Nothing
 no_reject room s r h = go s.refused (is_empty s.out) (is_empty s.came) r h
   where
     go : (r e n : Bool) → r ≡ true → ((r && e) && not n) ≡ false → cond (e && not n) (fit room (Reject (peer s) 0 s.reason)) Nothing ≡ Nothing

@@ -12,3 +12,4 @@ pub mod Forms
 pub mod FormsAfter
 pub mod FormsTurns
 pub mod FormsLength
+pub mod FormsWritable

@@ -93,7 +93,7 @@ runs_more s x r h i =
 
 -- what the state says
 
-runs_in_is : (m : Bool) (s : Session) → runs_in (state_shown (state m s)) ≡ runs s
+pub runs_in_is : (m : Bool) (s : Session) → runs_in (state_shown (state m s)) ≡ runs s
 runs_in_is m s = go (rejected s) (stopped s) _ (answered s) _
   where
     go : (r t d a e : Bool) → runs_in (state_shown (cond (r || (t && d)) Free (cond (r || t) Left (cond a (cond e Closing Live) (cond m Calling Asked))))) ≡ (a && not (r || t))

@@ -25,7 +25,7 @@ text_len s =
     let q : length (body_of s ++ pad) ≡ length (body_of s) + length pad = length-append (body_of s) pad in
     omega (arith, p, q)
 
-params_have : (request : Option ℕ) → length (params_text (request_params request)) ≡ params_len request
+pub params_have : (request : Option ℕ) → length (params_text (request_params request)) ≡ params_len request
 params_have None = refl
 params_have (Some id) = refl
 

@@ -1,10 +1,11 @@
 -- Slots as sessions speak of them, and as they stand in a message.
-use Rattle.std.specs.Prelude.{ℕ, ◌+◌, ◌*◌, ◌&&◌, cond, List, [], ◌∷◌, length, Option, Some, None, nat_eq}
+use Rattle.std.specs.Prelude.{◌≡◌, ℕ, ◌+◌, ◌*◌, ◌&&◌, cond, List, [], ◌∷◌, length, Option, Some, None, nat_eq}
 use Rattle.lat_fields.specs.declared.params.Param.{Param}
 use Rattle.lat_fields.specs.Texts.{number}
 use Rattle.lat_model.specs.sessions.Slots as sessions
 use Rattle.lat_slots.specs.declared.slot.Slot.{Slot}
 use Rattle.lat_slots.specs.declared.slot.Slot.TheVariants.{Start, DataA, DataB, Attention, Reject, Stop}
+use Rattle.lat_slots.specs.Layout.{IsWritable}
 
 -- the number of two bytes, low byte first
 abbrev pub number_in : List ℕ → ℕ
@@ -42,3 +43,8 @@ formed_as (sessions.DataB to from credits setting) = setting_slot to from credit
 formed_as (sessions.Attention to from flag) = Attention to from flag
 formed_as (sessions.Reject to from reason) = Reject to from reason
 formed_as (sessions.Stop to from reason) = Stop to from reason
+
+-- What is written of the slot can be written, and tells the slot
+pub record IsFormed (x : sessions.Slot) : Type 0 where
+  pub writable : IsWritable (formed_as x)
+  pub tells : told (formed_as x) ≡ x

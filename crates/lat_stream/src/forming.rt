@@ -1,17 +1,19 @@
 //! The slots that a session forms.
 
-ghost use Rattle.std.specs.Prelude.{◌≡◌, ◌≢◌, ℕ, List, ◌+◌, ◌<◌, ◌≤◌, false, ◌++◌, ◌||◌, ◌&&◌, length, take, drop, min, nat_lt, nat_le, slice_get, None};
+ghost use Rattle.std.specs.Prelude.{◌≡◌, ◌≢◌, ℕ, List, ◌+◌, ◌<◌, ◌≤◌, true, false, ◌++◌, ◌||◌, ◌&&◌, length, take, drop, min, nat_lt, nat_le, slice_get, None};
 ghost use Rattle.circular_buffer.specs.Buffer.{buffer};
+ghost use Rattle.lat_base.specs.Names.{IsName};
 ghost use Rattle.lat_base.specs.declared.state.SessionState.TheVariants as states;
 ghost use Rattle.lat_model.specs.Lists.{is_empty};
 ghost use Rattle.lat_model.specs.sessions.Offers as offers;
 ghost use Rattle.lat_model.specs.sessions.Slots as sessions;
-ghost use Rattle.lat_model.specs.sessions.Session.{Session};
+ghost use Rattle.lat_model.specs.sessions.Session.{Session, peer};
 ghost use Rattle.lat_stream.specs.declared.forming.Turn.TheVariants as turns;
 ghost use Rattle.lat_stream.specs.declared.opening.Opening.{Opening};
 ghost use Rattle.lat_stream.specs.Does.{Does, reject_due};
 ghost use Rattle.lat_stream.specs.Kept.{kept_of};
 ghost use Rattle.lat_stream.specs.Sound.{Sound};
+ghost use Rattle.lat_stream.specs.Wire.{IsFormed};
 ghost use Rattle.lat_stream.specs.Turns.{Meets, turn_of, later_turn, over, data_turn, due, gave, framed, stopped, is_byte, leading, next_bytes, start_slot, bytes_offer, credits_offer, kept_after, offer_at};
 
 use crate::opening::Opening;
@@ -62,6 +64,9 @@ impl Stream {
             Sound master ceiling s → self.old ≡ kept_of master ceiling s →
             s.id ≡ id → reject_due s ≡ false → offers.offer master ceiling room s ≡ offers.Offers x →
             length out.new ≡ length out.old + sessions.slot_len x }
+        ensures formed { (ceiling : ℕ) (s : Session) (x : sessions.Slot) →
+            Sound master ceiling s → (sessions.starts s.came ≡ true → peer s ≢ 0) → self.old ≡ kept_of master ceiling s →
+            reject_due s ≡ false → offers.offer master ceiling room s ≡ offers.Offers x → IsFormed x }
         ensures room { (length out.old ≤ length out.new) × (length out.new ≤ length out.old + room) }
     {
         self.form_turn(master, id, room, out)
@@ -72,6 +77,8 @@ impl Stream {
         ensures meets { Meets (offer_at master id room self.old (turn_of self.old)) (kept_after room self.old (turn_of self.old)) self.old self.new out.old out.new result }
         ensures room { (length out.old ≤ length out.new) × (length out.new ≤ length out.old + room) }
         ensures whole { (t : List ℕ) → turn_of self.old ≡ turns.Setting t → length t ≡ 5 }
+        ensures named { (opening : Opening) → turn_of self.old ≡ turns.Start opening → IsName opening.service }
+        ensures most { self.old.credits.ceiling ≤ 15 }
     {
         match self.turn() {
             Turn::Nothing => Formed::Nothing,
@@ -87,6 +94,7 @@ impl Stream {
     // What it sends next.
     fn turn(&self) -> Turn
         ensures value { result ≡ turn_of self.now }
+        ensures most { self.now.credits.ceiling ≤ 15 }
         ensures start { (opening : Opening) → result ≡ turns.Start opening → self.now.state ≢ states.Asked }
     {
         match (self.state, self.start) {
@@ -153,6 +161,7 @@ impl Stream {
         requires room { length out.old + room ≤ 1500 }
         requires answered { self.old.state ≢ states.Asked }
         ensures meets { Meets (offers.fit room (start_slot master id self.old opening.now)) (record (gave self.old) { start = None }) self.old self.new out.old out.new result }
+        ensures named { IsName opening.now.service }
         ensures room { (length out.old ≤ length out.new) × (length out.new ≤ length out.old + room) }
     {
         let to = if master { 0 } else { self.peer };

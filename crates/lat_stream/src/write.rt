@@ -1,6 +1,7 @@
 //! The slots that sessions form, written as they stand in a message. It takes no memory.
 
 ghost use Rattle.std.specs.Prelude.{◌≡◌, ◌+◌, ◌<◌, ◌≤◌, ◌*◌, ◌%◌, [], ◌∷◌, ◌++◌, length, replicate};
+ghost use Rattle.lat_base.specs.Names.{IsName};
 ghost use Rattle.lat_fields.specs.Params.{params_text};
 ghost use Rattle.lat_model.specs.sessions.Slots as sessions;
 ghost use Rattle.lat_slots.specs.Layout.{slot_text};
@@ -69,7 +70,8 @@ fn write_request(out: &mut Payload, request: Option<u16>)
 
 /// How many bytes a start has, with its pad.
 pub fn start_len(service: &Name, request: Option<u16>) -> u16
-    ensures { result ≡ sessions.even_up (9 + length service.now + sessions.params_len request) }
+    ensures value { result ≡ sessions.even_up (9 + length service.now + sessions.params_len request) }
+    ensures name { IsName service.now }
 {
     let len = 9 + service.bytes().len() as u16 + u16::from(request_len(request));
     len + len % 2

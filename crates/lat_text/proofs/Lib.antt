@@ -1,1 +1,4 @@
 pub mod LineEnds
+pub mod Decimals
+pub mod HexRead
+pub mod NamesWritten

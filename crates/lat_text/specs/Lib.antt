@@ -5,3 +5,8 @@ pub mod NameText
 pub mod WrongLine
 pub mod Line
 pub mod Lines
+pub mod Words
+pub mod Numbers
+pub mod Digits
+pub mod NameWritten
+pub mod Reads

@@ -7,7 +7,8 @@ use crate::digits::byte_onto;
 use lat_base::Name;
 use std::alloc::{AllocError, Global};
 
-fn is_plain(byte: u8) -> bool
+// Whether a byte of a name stands for itself.
+pub(crate) fn is_plain(byte: u8) -> bool
     ensures value { result ≡ is_plain byte }
 {
     matches!(byte, 0x21..=0x7e) && byte != b'%'

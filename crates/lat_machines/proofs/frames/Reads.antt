@@ -1,24 +1,23 @@
 -- A frame that reads as a value is never answered as one of no layout.
-use Rattle.std.proofs.Common.{◌≢◌, ℕ, Bool, true, false, not, cond, List, [], ◌∷◌, ◌++◌, Option, Some, None, nat_eq}
+use Rattle.std.proofs.Common.{◌≡◌, ◌≢◌, ℕ, Bool, true, false, cond, List, [], ◌∷◌, ◌++◌, Option, Some, None, nat_eq}
 use Rattle.std.specs.List.{find}
 use Rattle.lat_machines.specs.values.Names.{Name, same}
 use Rattle.lat_machines.specs.values.Addresses.{everyone}
 use Rattle.lat_machines.specs.values.Messages.{RunMessage, WideMessage, StartMessage, StopMessage}
 use Rattle.lat_machines.specs.values.Notices.{Kept, KeptAs, Unknown, Action, Ask, Cancel, Command, AnnouncementNotice, CommandNotice, StatusNotice, SolicitNotice, ResponseNotice}
-use Rattle.lat_machines.specs.values.Frames.{Value, OfCircuit, OfNotice, Whole}
-use Rattle.lat_machines.specs.values.Events.{Numbers, Hears}
+use Rattle.lat_machines.specs.values.Frames.{Value, OfCircuit, OfNotice, Whole, Malformed}
+use Rattle.lat_machines.specs.values.Events.{Numbers}
 use Rattle.lat_machines.specs.values.Answers.{Bad, Announced, Apart, DirectoryFull, NotKept, KeptIs, Ignored}
 use Rattle.lat_machines.specs.server.Directory.{refuses, meets}
 use Rattle.lat_machines.specs.server.Queue.{Cancels}
 use Rattle.lat_machines.specs.server.Records.{kept_of}
 use Rattle.lat_machines.specs.cores.Hearing.{StartFact, Repeats, Makes, Refuses, start_fact}
 use Rattle.lat_machines.specs.cores.Cores.{at_moment}
-use Rattle.lat_machines.specs.server.Server.{ServerConfig, Server, ServerStep, key_of}
+use Rattle.lat_machines.specs.server.Server.{ServerConfig, Server, ServerStep, key_of, server_step}
 use Rattle.lat_machines.specs.server.Server as Server
-use Rattle.lat_machines.specs.node.Node.{NodeConfig, Node, start_answer}
+use Rattle.lat_machines.specs.node.Node.{NodeConfig, Node, start_answer, node_step}
 use Rattle.lat_machines.specs.node.Node as Node
-use Rattle.lat_machines.specs.world.Machines.{Setups, Machines, own_of}
-use Rattle.lat_machines.specs.world.Safe.{answer_by, NeverMalformed}
+use Rattle.lat_machines.specs.world.Refusals.{ServerBadOnly, NodeBadOnly}
 
 announced : (x y : Bool) (f a : ℕ) → cond x DirectoryFull (cond y Announced Apart) ≢ Bad f a
 announced true y f a q = let z : ⊥ = cc in z
@@ -72,23 +71,24 @@ node_value config rates st from (OfNotice (SolicitNotice x)) k f a q = go (find 
     go None q = let z : ⊥ = cc in z
     go (Some s) q = let z : ⊥ = cc in z
 
-value_reads : (u : Setups) (m : Machines) (b : Bool) (from : ℕ) (v : Value) (k : Option Numbers) (now f a : ℕ) → answer_by u m b (Hears from (Whole v) k now) ≢ Bad f a
-value_reads u m true from v k now f a q = go (nat_eq from everyone) q
+pub server_bad_only : ServerBadOnly
+server_bad_only config st from (Malformed g b) k now f a q = let x : g ≡ f = cc in let y : b ≡ a = cc in cc
+server_bad_only config st from (Whole v) k now f a q = absurd (go (nat_eq from everyone) q)
   where
     x : Server
-    x = record (m.server) { core = at_moment now m.server.core }
+    x = record st { core = at_moment now st.core }
 
-    go : (n : Bool) → (cond n (Server.tells x Ignored) (Server.hears_value u.server x from v k)).answer ≢ Bad f a
+    go : (n : Bool) → (cond n (Server.tells x Ignored) (Server.hears_value config x from v k)).answer ≢ Bad f a
     go true q = let z : ⊥ = cc in z
-    go false q = server_value u.server x from v k f a q
-value_reads u m false from v k now f a q = go (nat_eq from everyone) q
+    go false q = server_value config x from v k f a q
+
+pub node_bad_only : NodeBadOnly
+node_bad_only config rates st from (Malformed g b) k now f a q = let x : g ≡ f = cc in let y : b ≡ a = cc in cc
+node_bad_only config rates st from (Whole v) k now f a q = absurd (go (nat_eq from everyone) q)
   where
     x : Node
-    x = record (m.node) { core = at_moment now m.node.core }
+    x = record st { core = at_moment now st.core }
 
-    go : (n : Bool) → (cond n (Node.tells x Ignored) (Node.hears_value u.node [] x from v k)).answer ≢ Bad f a
+    go : (n : Bool) → (cond n (Node.tells x Ignored) (Node.hears_value config rates x from v k)).answer ≢ Bad f a
     go true q = let z : ⊥ = cc in z
-    go false q = node_value u.node [] x from v k f a q
-
-pub never_malformed : (u : Setups) (m : Machines) → NeverMalformed u m
-never_malformed u m now p field at = value_reads u m (not p.by_server) (own_of u p.by_server) p.frame.value (Some (record { number = p.frame.number; acknowledgement = p.frame.acknowledgement })) now field at
+    go false q = node_value config rates x from v k f a q

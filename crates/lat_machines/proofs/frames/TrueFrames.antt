@@ -11,17 +11,21 @@ use Rattle.lat_machines.specs.values.Notices.{Notice}
 use Rattle.lat_machines.specs.values.Frames.{Value, OfCircuit, OfNotice, OutFrame}
 use Rattle.lat_machines.specs.values.Runs.{run_head, slots_in}
 use Rattle.lat_machines.specs.cores.Cores.{Side, Core, sent_frame}
-use Rattle.lat_machines.specs.world.Machines.{Setups, Machines}
+use Rattle.lat_machines.specs.world.Machines.{Setups, Posted, Machines, core_of}
 use Rattle.lat_machines.specs.world.Ties.{Shown, Ties}
 use Rattle.lat_machines.specs.world.Young.{link_of}
+use Rattle.lat_machines.specs.world.Bears.{messages_of, Bears}
 use Rattle.lat_machines.specs.world.Safe.{TrueValue, FramesAreTrue}
 use Rattle.lat_machines.proofs.events.Tied.{Beside, shows_at, to_other}
 
 abbrev TrueBy : Machines → Bool → OutFrame → Type 0
 TrueBy m b f = TrueValue (link_of m b f.circuit) f f.value
 
-run_true : (u : Setups) (m : Machines) (w : World) (b : Bool) (circuit to destination source : ℕ) (s : Sent) → Ties u m w → Says w b circuit to destination source s → to ≡ (table w (not b)).own → (k : Side) (c : Core) → TrueBy m b (sent_frame k c (record { by_server = b; circuit = circuit; to = to; destination = destination; source = source; sent = s }))
-run_true u m w true circuit to destination source (Run mark ask f) t y a k c = go (c.circuits.circuit_at circuit).end.wide (c.circuits.circuit_at circuit).end.wide
+abbrev BearsOn : Machines → Bool → OutFrame → Type 0
+BearsOn m b f = Bears (messages_of (core_of m b)) f
+
+run_true : (u : Setups) (m : Machines) (w : World) (b : Bool) (circuit to destination source : ℕ) (s : Sent) → Ties u m w → Says w b circuit to destination source s → to ≡ (table w (not b)).own → (k : Side) (c : Core) → BearsOn m b (sent_frame k c (record { by_server = b; circuit = circuit; to = to; destination = destination; source = source; sent = s })) → TrueBy m b (sent_frame k c (record { by_server = b; circuit = circuit; to = to; destination = destination; source = source; sent = s }))
+run_true u m w true circuit to destination source (Run mark ask f) t y a k c g = go (c.circuits.circuit_at circuit).end.wide (c.circuits.circuit_at circuit).end.wide g
   where
     holds : FrameOf (List Slot) (link_of m true circuit) f
     holds = subst (λ (z : Table). FrameOf (List Slot) (z.circuit_at circuit).end.half.link f) t.server (y a).1.frame
@@ -29,10 +33,13 @@ run_true u m w true circuit to destination source (Run mark ask f) t y a k c = g
     made : Value → OutFrame
     made v = record (sent_frame k c (record { by_server = true; circuit = circuit; to = to; destination = destination; source = source; sent = Run mark ask f })) { value = v }
 
-    go : (n v : Bool) → TrueBy m true (made (OfCircuit (cond n (WideMessage (run_head true v ask destination source f) (slots_in f)) (RunMessage (run_head true v ask destination source f) (slots_in f)))))
-    go true v = record { frame = f; number = refl; acknowledgement = refl; bears = refl; holds = holds }
-    go false v = record { frame = f; number = refl; acknowledgement = refl; bears = refl; holds = holds }
-run_true u m w false circuit to destination source (Run mark ask f) t y a k c = go (c.circuits.circuit_at circuit).end.wide (c.circuits.circuit_at circuit).end.wide
+    value : Bool → Bool → Value
+    value n v = OfCircuit (cond n (WideMessage (run_head true v ask destination source f) (slots_in f)) (RunMessage (run_head true v ask destination source f) (slots_in f)))
+
+    go : (n v : Bool) → BearsOn m true (made (value n v)) → TrueBy m true (made (value n v))
+    go true v g = record { frame = f; number = refl; acknowledgement = refl; bears = refl; holds = holds; marked = g }
+    go false v g = record { frame = f; number = refl; acknowledgement = refl; bears = refl; holds = holds; marked = g }
+run_true u m w false circuit to destination source (Run mark ask f) t y a k c g = go (c.circuits.circuit_at circuit).end.wide (c.circuits.circuit_at circuit).end.wide g
   where
     holds : FrameOf (List Slot) (link_of m false circuit) f
     holds = subst (λ (z : Table). FrameOf (List Slot) (z.circuit_at circuit).end.half.link f) t.node (y a).1
@@ -40,15 +47,18 @@ run_true u m w false circuit to destination source (Run mark ask f) t y a k c = 
     made : Value → OutFrame
     made v = record (sent_frame k c (record { by_server = false; circuit = circuit; to = to; destination = destination; source = source; sent = Run mark ask f })) { value = v }
 
-    go : (n v : Bool) → TrueBy m false (made (OfCircuit (cond n (WideMessage (run_head false v ask destination source f) (slots_in f)) (RunMessage (run_head false v ask destination source f) (slots_in f)))))
-    go true v = record { frame = f; number = refl; acknowledgement = refl; bears = refl; holds = holds }
-    go false v = record { frame = f; number = refl; acknowledgement = refl; bears = refl; holds = holds }
-run_true u m w b circuit to destination source CallStart t y a k c = tt
-run_true u m w b circuit to destination source ReplyStart t y a k c = tt
-run_true u m w b circuit to destination source (Stopped r) t y a k c = tt
+    value : Bool → Bool → Value
+    value n v = OfCircuit (cond n (WideMessage (run_head false v ask destination source f) (slots_in f)) (RunMessage (run_head false v ask destination source f) (slots_in f)))
 
-pub frames_true : (u : Setups) (m : Machines) (w : World) → Beside u m w → WorldOk w → FramesAreTrue u m
-frames_true u m w h ok i p q t = ⊎_elim {C = TrueBy m p.by_server p.frame} (λ n. notice n.0 n.1) (λ f. found f.0 f.1 f.2 f.3) (shows_at m.posts w.frames i p h.ties.shows q)
+    go : (n v : Bool) → BearsOn m false (made (value n v)) → TrueBy m false (made (value n v))
+    go true v g = record { frame = f; number = refl; acknowledgement = refl; bears = refl; holds = holds; marked = g }
+    go false v g = record { frame = f; number = refl; acknowledgement = refl; bears = refl; holds = holds; marked = g }
+run_true u m w b circuit to destination source CallStart t y a k c g = tt
+run_true u m w b circuit to destination source ReplyStart t y a k c g = tt
+run_true u m w b circuit to destination source (Stopped r) t y a k c g = tt
+
+pub frames_true : (u : Setups) (m : Machines) (w : World) → Beside u m w → WorldOk w → ((i : ℕ) (p : Posted) → slice_get m.posts i ≡ Some p → BearsOn m p.by_server p.frame) → FramesAreTrue u m
+frames_true u m w h ok bears i p q t = ⊎_elim {C = TrueBy m p.by_server p.frame} (λ n. notice n.0 n.1) (λ f. found f.0 f.1 f.2 f.3) (shows_at m.posts w.frames i p h.ties.shows q)
   where
     notice : (n : Notice) → p.frame.value ≡ OfNotice n → TrueBy m p.by_server p.frame
     notice n e = subst (λ (v : Value). TrueValue (link_of m p.by_server p.frame.circuit) p.frame v) (sym e) tt
@@ -56,5 +66,5 @@ frames_true u m w h ok i p q t = ⊎_elim {C = TrueBy m p.by_server p.frame} (λ
     found : (j : ℕ) (v : Wired) → slice_get w.frames j ≡ Some v → Shown p v → TrueBy m p.by_server p.frame
     found j v e x =
         let says : Says w v.by_server v.circuit v.to v.destination v.source v.sent = each_at (λ (f : Wired). Says w f.by_server f.circuit f.to f.destination f.source f.sent) w.frames j v ok.says e in
-        let y : TrueBy m v.by_server (sent_frame x.side x.core v) = run_true u m w v.by_server v.circuit v.to v.destination v.source v.sent h.ties says (to_other u m w p v j h e x t) x.side x.core in
+        let y : TrueBy m v.by_server (sent_frame x.side x.core v) = run_true u m w v.by_server v.circuit v.to v.destination v.source v.sent h.ties says (to_other u m w p v j h e x t) x.side x.core (subst (λ (z : OutFrame). BearsOn m v.by_server z) x.frame (subst (λ z. BearsOn m z p.frame) x.by_server (bears i p q))) in
         subst (λ z. TrueBy m z p.frame) (sym x.by_server) (subst (λ (z : OutFrame). TrueBy m v.by_server z) (sym x.frame) y)

@@ -47,7 +47,7 @@ legal_history config (e ∷ es) st l = legal_history config es (server_step conf
 
 -- its circuits are masters, and those that weren't drawn don't live
 
-record Sound (t : Table) : Type 0 where
+pub record Sound (t : Table) : Type 0 where
   pub masters : (x : ℕ) → (t.circuit_at x).end.half.sessions.master ≡ true
   pub new : (k : ℕ) → t.drawn < k → lives (t.circuit_at k).end ≡ false
 
@@ -198,7 +198,7 @@ value_sound config st from (OfNotice (ResponseNotice m)) k r = r
 value_sound config st from (OfNotice (StatusNotice m)) k r = r
 value_sound config st from (OfNotice (SolicitNotice m)) k r = r
 
-event_sound : (config : ServerConfig) (st : Server) (e : Event) → Sound st.core.circuits → Sound (server_event config st e).state.core.circuits
+pub event_sound : (config : ServerConfig) (st : Server) (e : Event) → Sound st.core.circuits → Sound (server_event config st e).state.core.circuits
 event_sound config st (Hears from (Malformed field at) k now) r = r
 event_sound config st (Hears from (Whole v) k now) r =
     let s : Server = record st { core = at_moment now st.core } in
@@ -218,12 +218,12 @@ event_sound config st Announces r = r
 
 -- the grant pass
 
-line_grants_sound : (config : ServerConfig) (line : ℕ) (o : Option Name) (g : Option Request) (p : Passing) → Sound p.state.core.circuits → Sound (grants_by config line o g p).state.core.circuits
+pub line_grants_sound : (config : ServerConfig) (line : ℕ) (o : Option Name) (g : Option Request) (p : Passing) → Sound p.state.core.circuits → Sound (grants_by config line o g p).state.core.circuits
 line_grants_sound config line None g p r = r
 line_grants_sound config line (Some service) None p r = r
 line_grants_sound config line (Some service) (Some g) p r = opens_sound config line g.from g.key.node service (Some g.key) (Some g.key.request) p.state.core r
 
-pass_sound : (config : ServerConfig) (lines : List ℕ) (p : Passing) → Sound p.state.core.circuits → Sound (grant_lines config lines p).state.core.circuits
+pub pass_sound : (config : ServerConfig) (lines : List ℕ) (p : Passing) → Sound p.state.core.circuits → Sound (grant_lines config lines p).state.core.circuits
 pass_sound config [] p r = r
 pass_sound config (line ∷ lines) p r = pass_sound config lines (grant_line config p line) (line_grants_sound config line (offer_on line config.offers) (grantable p.state line (offer_on line config.offers)) p r)
 
@@ -236,12 +236,15 @@ none_left_on config (e ∷ es) st pos r g =
     let h : Sound (server_event config st e).state.core.circuits = event_sound config st e r in
     none_left_on config es (server_step config st e).state pos (pass_sound config (upwards 0 config.lines) (record { state = s; frames = [] }) h) (no_grant config s pos (record { masters = h.masters; new = h.new }))
 
-pub none_left : (config : ServerConfig) (es : List Event) → 0 < config.timing.sessions → NoGrant config (server_run config es (open_server config))
-none_left config es pos = none_left_on config es (open_server config) pos (record { masters = λ x. refl; new = λ k l. refl }) (λ line a b. at_first (offer_on line config.offers) line)
+pub first_quiet : (config : ServerConfig) → NoGrant config (open_server config)
+first_quiet config line a b = go (offer_on line config.offers)
   where
-    at_first : (o : Option Name) (line : ℕ) → grantable (open_server config) line o ≡ None
-    at_first None line = refl
-    at_first (Some s) line = refl
+    go : (o : Option Name) → grantable (open_server config) line o ≡ None
+    go None = refl
+    go (Some s) = refl
+
+pub none_left : (config : ServerConfig) (es : List Event) → 0 < config.timing.sessions → NoGrant config (server_run config es (open_server config))
+none_left config es pos = none_left_on config es (open_server config) pos (record { masters = λ x. refl; new = λ k l. refl }) (first_quiet config)
 
 pub legal_alone : (config : ServerConfig) (es : List Event) → LegalQueue (server_run config es (open_server config)).queue
 legal_alone config es = legal_history config es (open_server config) legal_none

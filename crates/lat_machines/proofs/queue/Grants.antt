@@ -22,14 +22,15 @@ use Rattle.lat_machines.proofs.queue.Rooms.{Ready, Grown, Called, call_opens, Co
 
 -- opening a session
 
-pub record Opened (c : Core) (line : ℕ) (d : Core) : Type 0 where
+pub record Opened (c : Core) (line : ℕ) (key : Option Key) (d : Core) : Type 0 where
   pub grown : Grown c d
   pub seat : Seat
   pub seats : d.seats ≡ c.seats ++ seat ∷ []
   pub here : seat.line ≡ line
+  pub has_key : seat.key ≡ key
   pub held : over d seat ≡ false
 
-connect_at : (config : ServerConfig) (line x : ℕ) (service : Name) (key : Option Key) (request : Option ℕ) (c : Core) → Ready c → lives (c.circuits.circuit_at x).end ≡ true → has_room c x ≡ true → Opened c line (connects_on config line x service key request c).core
+connect_at : (config : ServerConfig) (line x : ℕ) (service : Name) (key : Option Key) (request : Option ℕ) (c : Core) → Ready c → lives (c.circuits.circuit_at x).end ≡ true → has_room c x ≡ true → Opened c line key (connects_on config line x service key request c).core
 connect_at config line x service key request c r l room =
     let e : Sessions = (c.circuits.circuit_at x).end.half.sessions in
     let s : Seat = record { line = line; circuit = x; id = least_free e; serial = suc e.made; key = key } in
@@ -40,10 +41,11 @@ connect_at config line x service key request c r l room =
       seat = s;
       seats = refl;
       here = refl;
+      has_key = refl;
       held = ap₂ (λ a b. not a || b) o.alive o.session;
     }
 
-pub opens_at : (config : ServerConfig) (line address : ℕ) (node service : Name) (key : Option Key) (request : Option ℕ) (c : Core) → 0 < config.timing.sessions → Ready c → can_open c address ≡ true → Opened c line (opens config line address node service key request c).core
+pub opens_at : (config : ServerConfig) (line address : ℕ) (node service : Name) (key : Option Key) (request : Option ℕ) (c : Core) → 0 < config.timing.sessions → Ready c → can_open c address ≡ true → Opened c line key (opens config line address node service key request c).core
 opens_at config line address node service key request c pos r can = go (nat_eq (circuit_to c address) 0) refl can
   where
     named : Core
@@ -55,27 +57,27 @@ opens_at config line address node service key request c pos r can = go (nat_eq (
     after : Doing → Core
     after d = (connects_on config line (circuit_to d.core address) service key request d.core).core
 
-    go : (b : Bool) → nat_eq (circuit_to c address) 0 ≡ b → cond b (may_call c) (has_room c (circuit_to c address)) ≡ true → Opened c line (after (cond b made (rests c)))
+    go : (b : Bool) → nat_eq (circuit_to c address) 0 ≡ b → cond b (may_call c) (has_room c (circuit_to c address)) ≡ true → Opened c line key (after (cond b made (rests c)))
     go false i can = connect_at config line (circuit_to c address) service key request c r (and_parts (nat_eq (c.circuits.circuit_at (circuit_to c address)).address address) (lives (c.circuits.circuit_at (circuit_to c address)).end) (least_true (test_of c.circuits address) 0 c.circuits.drawn (eqb-false (circuit_to c address) 0 i))).1 can
     go true i can =
         let k : Called named address (with_circuits named (call_at (setup_of config.timing) named.circuits address named.moment).table) = call_opens (setup_of config.timing) named address named.moment pos (record { masters = r.masters; new = r.new }) (eqb-true (circuit_to c address) 0 i) can in
         let g : Grown c made.core = record { kept = k.grown.kept; room = k.grown.room; ready = record { masters = k.grown.ready.masters; new = k.grown.ready.new } } in
-        let o : Opened made.core line (after made) = connect_at config line (circuit_to made.core address) service key request made.core g.ready (ap (λ z. lives (made.core.circuits.circuit_at z).end) k.at ∙ k.alive) (ap (has_room made.core) k.at ∙ k.some) in
-        record { grown = grown_then c made.core (after made) g o.grown; seat = o.seat; seats = o.seats; here = o.here; held = o.held }
+        let o : Opened made.core line key (after made) = connect_at config line (circuit_to made.core address) service key request made.core g.ready (ap (λ z. lives (made.core.circuits.circuit_at z).end) k.at ∙ k.alive) (ap (has_room made.core) k.at ∙ k.some) in
+        record { grown = grown_then c made.core (after made) g o.grown; seat = o.seat; seats = o.seats; here = o.here; has_key = o.has_key; held = o.held }
 
 last_more : (line : ℕ) (s : Seat) (xs : List Seat) (y : Seat) → last_on line s (xs ++ y ∷ []) ≡ cond (nat_eq y.line line) y (last_on line s xs)
 last_more line s [] y = refl
 last_more line s (x ∷ xs) y = last_more line (cond (nat_eq x.line line) x s) xs y
 
-over_kept : (c d : Core) (s : Seat) → Grown c d → over c s ≡ false → over d s ≡ false
+pub over_kept : (c d : Core) (s : Seat) → Grown c d → over c s ≡ false → over d s ≡ false
 over_kept c d s g h =
     let o : (not (lives (end_of c s)) ≡ false) × (free (session_of c s) ≡ false) = or_parts (not (lives (end_of c s))) (free (session_of c s)) h in
     let k : (lives (end_of d s) ≡ true) × (free (session_of d s) ≡ false) = g.kept s.circuit s.serial (not-false (lives (end_of c s)) o.0) o.1 in
     ap₂ (λ a b. not a || b) k.0 k.1
 
 -- after an opening the line has a session, and those that had one have one still
-holds_opened : (c d : Core) (line other : ℕ) → Opened c line d → (nat_eq line other || holds c other) ≡ true → holds d other ≡ true
-holds_opened c d line other o h = ap (λ z. not (over d (last_on other no_seat z))) o.seats ∙ (ap (λ z. not (over d z)) (last_more other no_seat c.seats o.seat) ∙ go (nat_eq o.seat.line other) (ap (λ z. nat_eq z other || holds c other) o.here ∙ h))
+holds_opened : (c d : Core) (line other : ℕ) (key : Option Key) → Opened c line key d → (nat_eq line other || holds c other) ≡ true → holds d other ≡ true
+holds_opened c d line other key o h = ap (λ z. not (over d (last_on other no_seat z))) o.seats ∙ (ap (λ z. not (over d z)) (last_more other no_seat c.seats o.seat) ∙ go (nat_eq o.seat.line other) (ap (λ z. nat_eq z other || holds c other) o.here ∙ h))
   where
     go : (b : Bool) → (b || holds c other) ≡ true → not (over d (cond b o.seat (seat_at c other))) ≡ true
     go true h = ap not o.held
@@ -87,7 +89,7 @@ holds_opened c d line other o h = ap (λ z. not (over d (last_on other no_seat z
 
 -- the queue with one more grant
 
-abbrev extend : QueueEvent → Request → Request
+abbrev pub extend : QueueEvent → Request → Request
 extend g r = record r { later = r.later ++ g ∷ [] }
 
 first_more : (seen : List Key) (h : List QueueEvent) (k : Key) (s : Name) → first_asks seen (h ++ Grants k s ∷ []) ≡ map (extend (Grants k s)) (first_asks seen h)
@@ -140,7 +142,7 @@ same_sym a b q =
 
 -- no two first asks have one key
 
-abbrev Distinct : List Request → Type 0
+abbrev pub Distinct : List Request → Type 0
 Distinct [] = Unit {0}
 Distinct (x ∷ xs) = Each (λ (y : Request). same_key y.key x.key ≡ false) xs × Distinct xs
 
@@ -159,7 +161,7 @@ unseen seen (Cancels k ∷ h) = unseen seen h
 unseen seen (Grants k s ∷ h) = unseen seen h
 unseen seen (Finishes k ∷ h) = unseen seen h
 
-distinct_asks : (seen : List Key) (h : List QueueEvent) → Distinct (first_asks seen h)
+pub distinct_asks : (seen : List Key) (h : List QueueEvent) → Distinct (first_asks seen h)
 distinct_asks seen [] = tt
 distinct_asks seen (Asks k from service answer ∷ h) = go (list_any (same_key k) seen) (distinct_asks seen h) (distinct_asks (k ∷ seen) h)
   where
@@ -170,7 +172,7 @@ distinct_asks seen (Cancels k ∷ h) = distinct_asks seen h
 distinct_asks seen (Grants k s ∷ h) = distinct_asks seen h
 distinct_asks seen (Finishes k ∷ h) = distinct_asks seen h
 
-distinct_filter : (test : Request → Bool) (xs : List Request) → Distinct xs → Distinct (filter test xs)
+pub distinct_filter : (test : Request → Bool) (xs : List Request) → Distinct xs → Distinct (filter test xs)
 distinct_filter test [] d = tt
 distinct_filter test (x ∷ xs) d = go (test x) (distinct_filter test xs d.1)
   where
@@ -187,7 +189,7 @@ first_has P test (x ∷ xs) r p q = go (test x) (first_has P test xs r p.1) q
     go false i q = i q
 
 -- whoever has the key of the first that passes is that one
-only_one : (test : Request → Bool) (xs : List Request) (r : Request) → Distinct xs → first (filter test xs) ≡ Some r → Each (λ (x : Request). same_key x.key r.key ≡ true → x ≡ r) xs
+pub only_one : (test : Request → Bool) (xs : List Request) (r : Request) → Distinct xs → first (filter test xs) ≡ Some r → Each (λ (x : Request). same_key x.key r.key ≡ true → x ≡ r) xs
 only_one test [] r d q = tt
 only_one test (x ∷ xs) r d q = go (test x) (only_one test xs r d.1) q
   where
@@ -203,7 +205,7 @@ only_one test (x ∷ xs) r d q = go (test x) (only_one test xs r d.1) q
 test_for : Name → Request → Bool
 test_for service r = waits r && same r.service service
 
-any_more : (f : QueueEvent → Bool) (xs : List QueueEvent) (g : QueueEvent) → list_any f (xs ++ g ∷ []) ≡ list_any f xs || f g
+pub any_more : (f : QueueEvent → Bool) (xs : List QueueEvent) (g : QueueEvent) → list_any f (xs ++ g ∷ []) ≡ list_any f xs || f g
 any_more f [] g = or_false (f g)
   where
     or_false : (b : Bool) → b || false ≡ b
@@ -253,7 +255,7 @@ next_none c d g h r s service q can n =
     (each_all (λ (x : Request). same_key x.key r.key ≡ true → x ≡ r) (λ (x : Request). same_key x.key r.key ≡ true → can_open c x.from ≡ true) (records h) (λ x f k. ap (λ (z : Request). can_open c z.from) (f k) ∙ can) (only_one (test_for s) (records h) r (distinct_filter (λ (x : Request). not (is_overfull x.answer)) (first_asks [] h) (distinct_asks [] h)) q))
     n
 
-grant_can : (st : Server) (line : ℕ) (service : Name) (r : Request) → grantable st line (Some service) ≡ Some r → can_open st.core r.from ≡ true
+pub grant_can : (st : Server) (line : ℕ) (service : Name) (r : Request) → grantable st line (Some service) ≡ Some r → can_open st.core r.from ≡ true
 grant_can st line service r q = go (holds st.core line) (next_request service st.queue) q
   where
     fit : (b : Bool) (x : Request) → can_open st.core x.from ≡ b → cond b (Some x) None ≡ Some r → can_open st.core r.from ≡ true
@@ -279,11 +281,11 @@ quiet_after config p line other s r (Some service) pos rd q n = go (holds p.stat
     st : Server
     st = (granting config line s p r).state
 
-    o : Opened c line st.core
+    o : Opened c line (Some r.key) st.core
     o = opens_at config line r.from r.key.node s (Some r.key) (Some r.key.request) c pos rd (grant_can p.state line s r q)
 
     held_still : (nat_eq line other || holds c other) ≡ true → Quiet st other (Some service)
-    held_still h = ap (λ b. cond b None (fitting st.core (next_request service st.queue))) (holds_opened c st.core line other o h)
+    held_still h = ap (λ b. cond b None (fitting st.core (next_request service st.queue))) (holds_opened c st.core line other (Some r.key) o h)
 
     or_true : (b : Bool) → b || true ≡ true
     or_true true = refl
@@ -301,8 +303,8 @@ quiet_after config p line other s r (Some service) pos rd q n = go (holds p.stat
 quiet_own : (config : ServerConfig) (p : Passing) (line : ℕ) (s : Name) (r : Request) → 0 < config.timing.sessions → Ready p.state.core → grantable p.state line (Some s) ≡ Some r → Quiet (granting config line s p r).state line (Some s)
 quiet_own config p line s r pos rd q =
     let st : Server = (granting config line s p r).state in
-    let o : Opened p.state.core line st.core = opens_at config line r.from r.key.node s (Some r.key) (Some r.key.request) p.state.core pos rd (grant_can p.state line s r q) in
-    ap (λ b. cond b None (fitting st.core (next_request s st.queue))) (holds_opened p.state.core st.core line line o (ap (λ b. b || holds p.state.core line) (eqb_same line)))
+    let o : Opened p.state.core line (Some r.key) st.core = opens_at config line r.from r.key.node s (Some r.key) (Some r.key.request) p.state.core pos rd (grant_can p.state line s r q) in
+    ap (λ b. cond b None (fitting st.core (next_request s st.queue))) (holds_opened p.state.core st.core line line (Some r.key) o (ap (λ b. b || holds p.state.core line) (eqb_same line)))
   where
     eqb_same : (n : ℕ) → nat_eq n n ≡ true
     eqb_same n = go (nat_eq n n) refl

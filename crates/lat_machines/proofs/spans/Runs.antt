@@ -1,5 +1,5 @@
 -- In every run both ends of a circuit have one span, and each RUN is of its kind.
-use Rattle.std.proofs.Common.{◌≡◌, ◌≢◌, ℕ, ⊎_elim, refl, sym, ap, ◌∙◌, subst, Bool, true, false, not, cond, ◌&&◌, List, [], ◌∷◌, Option, Some, None, slice_get, nat_eq}
+use Rattle.std.proofs.Common.{◌≡◌, ◌≢◌, ℕ, ◌≤◌, arith, ⊎_elim, refl, sym, ap, ◌∙◌, subst, Bool, true, false, not, cond, ◌&&◌, List, [], ◌∷◌, Option, Some, None, slice_get, nat_eq}
 use Rattle.std.proofs.lemmas.Bool.{or_parts, false≢true, true≢false, eqb-false}
 use Rattle.lat_model.specs.Lists.{Each}
 use Rattle.lat_model.specs.circuits.World.{Wired, World}
@@ -116,8 +116,8 @@ run_ok u (e ∷ es) m w h s =
 
 open_ok : (u : Setups) → Spans u (open_machines u)
 open_ok u = record {
-  server = record { wide = λ x q a. absurd (false≢true q); alive = λ q x l. absurd (true≢false q) };
-  node = record { wide = λ x q a. absurd (false≢true q); alive = λ q x l. absurd (false≢true l) };
+  server = record { wide = λ x q a. absurd (false≢true q); alive = λ q x l. absurd (true≢false q); drawn = λ q x n l. absurd (true≢false q) };
+  node = record { wide = λ x q a. absurd (false≢true q); alive = λ q x l. absurd (false≢true l); drawn = λ q x n l. absurd (omega (arith, n, l)) };
   posts = tt;
 }
 
@@ -128,6 +128,13 @@ of_span b s z (OfCircuit (StartMessage master ask to from info)) p = tt
 of_span b s z (OfCircuit (StopMessage master ask to from reason text)) p = tt
 of_span b s z (OfNotice n) p = tt
 
+every_span : (u : Setups) (es : List Move) → Fit u → Spans u (run u es (open_machines u))
+every_span u es f = run_ok u es (open_machines u) (circuits_open u) (open_beside u f) (open_ok u)
+
+-- each circuit that the node drew runs
+pub node_runs : (u : Setups) (es : List Move) → Fit u → (x : ℕ) → x ≢ 0 → x ≤ (run u es (open_machines u)).node.core.circuits.drawn → ((run u es (open_machines u)).node.core.circuits.circuit_at x).end.running ≡ true
+node_runs u es f = (every_span u es f).node.drawn refl
+
 pub one_span : (u : Setups) (es : List Move) → Fit u → OneSpan u (run u es (open_machines u))
 one_span u es f = record { ends = λ b x. ends b x; frames = λ i p q a. of_span p.by_server u.server.timing.wide (both_wide u) p.frame.value (each_at (PostOk u) m.posts i p s.posts q a) }
   where
@@ -135,7 +142,7 @@ one_span u es f = record { ends = λ b x. ends b x; frames = λ i p q a. of_span
     m = run u es (open_machines u)
 
     s : Spans u m
-    s = run_ok u es (open_machines u) (circuits_open u) (open_beside u f) (open_ok u)
+    s = every_span u es f
 
     ends : (b : Bool) (x : ℕ) → ((core_of m b).circuits.circuit_at x).end.running ≡ true → ((core_of m b).circuits.circuit_at x).address ≡ own_of u (not b) → ((core_of m b).circuits.circuit_at x).end.wide ≡ both_wide u
     ends true x = s.server.wide x

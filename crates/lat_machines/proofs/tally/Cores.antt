@@ -1,229 +1,49 @@
--- Tallied numbers, act by act: what a core's circuits form and take, and what its frames bear.
-use Rattle.std.proofs.Common.{◌≡◌, ◌≢◌, ℕ, suc, ◌+◌, ◌<◌, arith, refl, sym, ap, ap₂, ◌∙◌, subst, Bool, true, false, not, cond, ◌&&◌, ◌||◌, List, [], ◌∷◌, ◌++◌, map, Option, Some, nat_eq, nat_lt, eqb-true}
-use Rattle.std.proofs.lemmas.Bool.{and_parts, true≢false, eqb-false}
+-- Tallied numbers, act by act, of a core.
+use Rattle.std.proofs.Common.{◌≡◌, ℕ, suc, ◌+◌, arith, refl, sym, ap, ◌∙◌, subst, Bool, true, false, not, cond, ◌&&◌, ◌||◌, List, [], ◌∷◌, map, Option, Some, nat_eq, nat_lt}
+use Rattle.std.proofs.lemmas.Bool.{and_parts, eqb-false}
 use Rattle.lat_model.specs.sessions.Slots.{Slot}
 use Rattle.lat_model.specs.sessions.Session.{put_open, take_open}
 use Rattle.lat_model.specs.sessions.Calls.{Call, Put, Set, Attend, Take, Close}
 use Rattle.lat_model.specs.numbers.Link.{Frame}
-use Rattle.lat_model.specs.ends.End.{Mark, Fresh, Bare, Sent, Run, CallStart, ReplyStart, Stopped, End, Step, still, lives, call_end}
-use Rattle.lat_model.specs.ends.End as End
-use Rattle.lat_model.specs.ends.Timers.{note_empty, time_step}
+use Rattle.lat_model.specs.ends.End.{End, Step, still, lives, call_end}
 use Rattle.lat_model.specs.ends.Run.{RunStep, RunAnswer, RunTaken, RunRepeated, RunAckOnly, RunBroke, run_end}
 use Rattle.lat_model.specs.ends.Starting.{Agreed, Setup, reply_end, noted, replied, make_slave, again_start, hear_reply, hear_stop}
-use Rattle.lat_model.specs.circuits.World.{CircuitEntry, Table, wire_all, first_end}
+use Rattle.lat_model.specs.circuits.World.{CircuitEntry, Table, first_end}
 use Rattle.lat_model.specs.circuits.Arriving.{is_of, living, slave_of}
-use Rattle.lat_model.proofs.sessions.Words.{upd_same, upd_other}
 use Rattle.lat_machines.specs.values.Messages.{Head}
-use Rattle.lat_machines.specs.values.Frames.{Value, FrameMark, OfRun, OutFrame, plain}
+use Rattle.lat_machines.specs.values.Notices.{Notice}
+use Rattle.lat_machines.specs.values.Frames.{Value, OfNotice, Plain, OutFrame, plain}
 use Rattle.lat_machines.specs.values.Names.{Name}
 use Rattle.lat_machines.specs.values.Timing.{Timing}
 use Rattle.lat_machines.specs.values.Events.{Numbers}
 use Rattle.lat_machines.specs.values.Answers.{Answer, Closed, NoLine, Heard, Running, Taken, Again, AckOnly, Foreign, Broke, Ended}
-use Rattle.lat_machines.specs.cores.Acts.{Acted, idle, put_at, steps_at, call_at, called, local_at, time_at, move_at}
+use Rattle.lat_machines.specs.cores.Acts.{idle, steps_at, local_at, time_at, move_at}
 use Rattle.lat_machines.specs.cores.Hearing.{HeardAct, foreign, answer_of, names, fits_kind, numbers_at, run_frame, run_at, hear_run, hear_stop_at, hear_reply_at, StartFact, Repeats, Makes, Refuses, start_fact, start_at}
 use Rattle.lat_machines.specs.cores.Cores.{Seat, Side, Core, sent_frame, with_circuits, Doing, then_doing, acts, time_each}
 use Rattle.lat_machines.specs.cores.Lines.{session_of, seat_at, holds, line_exists}
 use Rattle.lat_machines.specs.cores.LineCalls.{Said, says, calls_on, put_on, set_on, attend_on, take_on, close_on, on_line}
-use Rattle.lat_machines.specs.world.Tally.{formed_in, taken_in, new_messages, new_of, number_of, TalliedBy, Tallied}
+use Rattle.lat_machines.specs.world.Bears.{BearsValue}
+use Rattle.lat_machines.specs.world.Tally.{formed_in, taken_in, new_of}
 use Rattle.lat_machines.proofs.events.Leads.{append_nil}
 use Rattle.lat_machines.proofs.queue.Rooms.{least_true}
 use Rattle.lat_machines.proofs.spans.Frames.{side_of}
-use Rattle.lat_machines.proofs.tally.Ends.{formed, taken, new_by, new_in, SentTallied, plus_zero, Counts, quiet, counts_time, RunCounts, taken_by_run, counts_run}
+use Rattle.lat_machines.proofs.tally.Ends.{plus_zero, Counts, plainly, quiet, RunCounts, taken_by_run, counts_run}
+use Rattle.lat_machines.proofs.tally.Tables.{CoreCounts, Same, Steady, act_cond, cond_none, core_none, core_then, idle_same, local_counts, messages_on, more_as, new_counts, steps_counts, steps_same, tallied_same, time_counts}
 
--- counts
-
-none_more : ℕ → ℕ
-none_more x = 0
-
-by_same : (m : FrameMark) (n n' a a' : ℕ) (f : OutFrame) → n ≡ n' → a ≡ a' → TalliedBy m n a f → TalliedBy m n' a' f
-by_same m n n' a a' f p q h = subst (λ z. TalliedBy m z a' f) p (subst (λ z. TalliedBy m n z f) q h)
-
-tallied_same : (n n' a a' : ℕ → ℕ) → ((x : ℕ) → n x ≡ n' x) → ((x : ℕ) → a x ≡ a' x) → (fs : List OutFrame) → Tallied n a fs → Tallied n' a' fs
-tallied_same n n' a a' p q [] h = tt
-tallied_same n n' a a' p q (f ∷ fs) h = (by_same f.mark (n f.circuit) (n' f.circuit) (a f.circuit) (a' f.circuit) f (p f.circuit) (q f.circuit) h.0, tallied_same (λ x. n x + cond (nat_eq f.circuit x) (new_messages f.mark) 0) (λ x. n' x + cond (nat_eq f.circuit x) (new_messages f.mark) 0) a a' (λ x. ap (λ z. z + cond (nat_eq f.circuit x) (new_messages f.mark) 0) (p x)) q fs h.1)
-
-tallied_more : (n a : ℕ → ℕ) (xs ys : List OutFrame) → Tallied n a xs → Tallied (λ x. n x + new_of x xs) a ys → Tallied n a (xs ++ ys)
-tallied_more n a [] ys p q = tallied_same (λ x. n x + 0) n a a (λ x. sym (plus_zero (n x))) (λ x. refl) ys q
-tallied_more n a (f ∷ xs) ys p q = (p.0, tallied_more (λ x. n x + cond (nat_eq f.circuit x) (new_messages f.mark) 0) a xs ys p.1 (tallied_same _ _ a a (λ x. plus_three (n x) (cond (nat_eq f.circuit x) (new_messages f.mark) 0) (new_of x xs)) (λ x. refl) ys q))
-  where
-    plus_three : (i j k : ℕ) → i + (j + k) ≡ (i + j) + k
-    plus_three i j k = omega arith
-
-new_more : (x : ℕ) (xs ys : List OutFrame) → new_of x (xs ++ ys) ≡ new_of x xs + new_of x ys
-new_more x [] ys = omega arith
-new_more x (f ∷ xs) ys = let h : new_of x (xs ++ ys) ≡ new_of x xs + new_of x ys = new_more x xs ys in omega (arith, h)
-
--- circuits that weren't drawn don't live, and have formed and taken nothing
-abbrev pub Unused : Table → Type 0
-Unused t = (x : ℕ) → t.drawn < x → (lives (t.circuit_at x).end ≡ false) × (formed (t.circuit_at x).end ≡ 0) × (taken (t.circuit_at x).end ≡ 0)
-
--- from one core to another, with the frames between; each circuit took so many messages more
-pub record CoreCounts (c : Core) (d : Core) (fs : List OutFrame) (more : ℕ → ℕ) : Type 0 where
-  pub numbers : Tallied (formed_in c) (taken_in d) fs
-  pub formed : (x : ℕ) → formed_in d x ≡ formed_in c x + new_of x fs
-  pub taken : (x : ℕ) → taken_in d x ≡ taken_in c x + more x
-  pub unused : Unused d.circuits
-
-abbrev pub Same : Core → Core → List OutFrame → Type 0
-Same c d fs = CoreCounts c d fs (λ x. 0)
-
-pub core_none : (c : Core) → Unused c.circuits → Same c c []
-core_none c r = record { numbers = tt; formed = λ x. plus_zero (formed_in c x); taken = λ x. plus_zero (taken_in c x); unused = r }
-
-pub core_then : (c d e : Core) (fs gs : List OutFrame) (more : ℕ → ℕ) → CoreCounts c d fs more → Same d e gs → CoreCounts c e (fs ++ gs) more
-core_then c d e fs gs more p q = record {
-  numbers = tallied_more (formed_in c) (taken_in e) fs gs
-      (tallied_same (formed_in c) (formed_in c) (taken_in d) (taken_in e) (λ x. refl) (λ x. sym (q.taken x ∙ sym (plus_zero (taken_in d x)))) fs p.numbers)
-      (tallied_same (formed_in d) (λ x. formed_in c x + new_of x fs) (taken_in e) (taken_in e) p.formed (λ x. refl) gs q.numbers);
-  formed = λ x. (let a : formed_in d x ≡ formed_in c x + new_of x fs = p.formed x in let b : formed_in e x ≡ formed_in d x + new_of x gs = q.formed x in let h : new_of x (fs ++ gs) ≡ new_of x fs + new_of x gs = new_more x fs gs in omega (arith, a, b, h));
-  taken = λ x. (let a : taken_in d x ≡ taken_in c x + more x = p.taken x in let b : taken_in e x ≡ taken_in d x + 0 = q.taken x in omega (arith, a, b));
-  unused = q.unused;
+-- a frame without a circuit's mark
+plain_more : (c d : Core) (to : ℕ) (v : Value) (fs : List OutFrame) → BearsValue (messages_on d.circuits 0) Plain 0 v → Same c d fs → Same c d (plain to 0 v ∷ fs)
+plain_more c d to v fs h p = record {
+  numbers = (tt, tallied_same (formed_in c) (λ x. formed_in c x + cond (nat_eq 0 x) 0 0) (taken_in d) (taken_in d) (λ x. plus_zero (formed_in c x) ∙ ap (λ z. formed_in c x + z) (sym (cond_none (nat_eq 0 x)))) (λ x. refl) fs p.numbers);
+  bears = (h, p.bears);
+  formed = λ x. (let a : formed_in d x ≡ formed_in c x + new_of x fs = p.formed x in let z : cond {A = ℕ} (nat_eq 0 x) 0 0 ≡ 0 = cond_none (nat_eq 0 x) in omega (arith, a, z));
+  taken = p.taken;
+  shown = p.shown;
+  grows = p.grows;
+  steady = p.steady;
 }
 
--- frames of one circuit
-
-eqb_same : (n : ℕ) → nat_eq n n ≡ true
-eqb_same n = go (nat_eq n n) refl
-  where
-    go : (b : Bool) → nat_eq n n ≡ b → b ≡ true
-    go true q = refl
-    go false q = absurd (eqb-false n n q refl)
-
-eqb_not : (x y : ℕ) → x ≢ y → nat_eq x y ≡ false
-eqb_not x y h = go (nat_eq x y) refl
-  where
-    go : (b : Bool) → nat_eq x y ≡ b → b ≡ false
-    go true q = absurd (h (eqb-true x y q))
-    go false q = refl
-
-mark_new : (m : Mark) → new_messages (OfRun m) ≡ new_by m
-mark_new Fresh = refl
-mark_new (End.Again back) = refl
-mark_new Bare = refl
-
-pub cond_none : (b : Bool) → cond {A = ℕ} b 0 0 ≡ 0
-cond_none true = refl
-cond_none false = refl
-
-wires_tallied : (k : Side) (d : Core) (b : Bool) (x to destination : ℕ) (n a : ℕ → ℕ) (m i : ℕ) → n x ≡ m → a x ≡ i → (ss : List Sent) → SentTallied m i ss → Tallied n a (map (sent_frame k d) (wire_all b x to destination ss))
-wires_tallied k d b x to destination n a m i p q [] h = tt
-wires_tallied k d b x to destination n a m i p q (Run mark ask f ∷ ss) h = (
-  (h.0 ∙ ap (number_of mark) (sym p), h.1 ∙ sym q),
-  wires_tallied k d b x to destination (λ y. n y + cond (nat_eq x y) (new_messages (OfRun mark)) 0) a (m + new_by mark) i (ap₂ (λ y z. y + cond z (new_messages (OfRun mark)) 0) p (eqb_same x) ∙ ap (λ z. m + z) (mark_new mark)) q ss h.2,
-)
-wires_tallied k d b x to destination n a m i p q (CallStart ∷ ss) h = (tt, wires_tallied k d b x to destination (λ y. n y + cond (nat_eq x y) 0 0) a m i (ap (λ z. n x + z) (cond_none (nat_eq x x)) ∙ (sym (plus_zero (n x)) ∙ p)) q ss h)
-wires_tallied k d b x to destination n a m i p q (ReplyStart ∷ ss) h = (tt, wires_tallied k d b x to destination (λ y. n y + cond (nat_eq x y) 0 0) a m i (ap (λ z. n x + z) (cond_none (nat_eq x x)) ∙ (sym (plus_zero (n x)) ∙ p)) q ss h)
-wires_tallied k d b x to destination n a m i p q (Stopped r ∷ ss) h = (tt, wires_tallied k d b x to destination (λ y. n y + cond (nat_eq x y) 0 0) a m i (ap (λ z. n x + z) (cond_none (nat_eq x x)) ∙ (sym (plus_zero (n x)) ∙ p)) q ss h)
-
-wires_new : (k : Side) (d : Core) (b : Bool) (x to destination y : ℕ) (ss : List Sent) → new_of y (map (sent_frame k d) (wire_all b x to destination ss)) ≡ cond (nat_eq x y) (new_in ss) 0
-wires_new k d b x to destination y [] = sym (cond_none (nat_eq x y))
-wires_new k d b x to destination y (Run mark ask f ∷ ss) = ap₂ (λ i j. cond (nat_eq x y) i 0 + j) (mark_new mark) (wires_new k d b x to destination y ss) ∙ go (nat_eq x y)
-  where
-    go : (c : Bool) → cond c (new_by mark) 0 + cond c (new_in ss) 0 ≡ cond c (new_by mark + new_in ss) 0
-    go true = refl
-    go false = refl
-wires_new k d b x to destination y (CallStart ∷ ss) = let h : new_of y (map (sent_frame k d) (wire_all b x to destination ss)) ≡ cond (nat_eq x y) (new_in ss) 0 = wires_new k d b x to destination y ss in let z : cond (nat_eq x y) 0 0 ≡ 0 = cond_none (nat_eq x y) in omega (arith, h, z)
-wires_new k d b x to destination y (ReplyStart ∷ ss) = let h : new_of y (map (sent_frame k d) (wire_all b x to destination ss)) ≡ cond (nat_eq x y) (new_in ss) 0 = wires_new k d b x to destination y ss in let z : cond (nat_eq x y) 0 0 ≡ 0 = cond_none (nat_eq x y) in omega (arith, h, z)
-wires_new k d b x to destination y (Stopped r ∷ ss) = let h : new_of y (map (sent_frame k d) (wire_all b x to destination ss)) ≡ cond (nat_eq x y) (new_in ss) 0 = wires_new k d b x to destination y ss in let z : cond (nat_eq x y) 0 0 ≡ 0 = cond_none (nat_eq x y) in omega (arith, h, z)
-
--- a step at one circuit, which took so many messages
-record StepCounts (e : End) (s : Step) (i : ℕ) : Type 0 where
-  pub sent : SentTallied (formed e) (taken s.end) s.sent
-  pub forms : formed s.end ≡ formed e + new_in s.sent
-  pub takes : taken s.end ≡ taken e + i
-
-of_counts : (e : End) (s : Step) → Counts e s → StepCounts e s 0
-of_counts e s p = record { sent = subst (λ z. SentTallied (formed e) z s.sent) (sym p.takes) p.sent; forms = p.forms; takes = p.takes ∙ plus_zero (taken e) }
-
-put_counts : (b : Bool) (k : Side) (c : Core) (drawn x address : ℕ) (s : Step) (i : ℕ) → Unused c.circuits → ((y : ℕ) → drawn < y → (y ≢ x) × (c.circuits.drawn < y)) → StepCounts (c.circuits.circuit_at x).end s i → CoreCounts c (acts k c (put_at b c.circuits drawn x address s)).core (acts k c (put_at b c.circuits drawn x address s)).frames (λ y. cond (nat_eq x y) i 0)
-put_counts b k c drawn x address s i r far p = record {
-  numbers = wires_tallied k d b x address s.end.peer (formed_in c) (taken_in d) (formed e) (taken s.end) refl (at_x taken) s.sent p.sent;
-  formed = λ y. forms_at y (nat_eq y x) refl;
-  taken = λ y. takes_at y (nat_eq y x) refl;
-  unused = λ y l. (let h : (y ≢ x) × (c.circuits.drawn < y) = far y l in subst (λ (z : CircuitEntry). (lives z.end ≡ false) × (formed z.end ≡ 0) × (taken z.end ≡ 0)) (sym (upd_other t.circuit_at x new y h.0)) (r y h.1));
-}
-  where
-    t : Table
-    t = c.circuits
-
-    e : End
-    e = (t.circuit_at x).end
-
-    new : CircuitEntry
-    new = record { address = address; end = s.end }
-
-    d : Core
-    d = (acts k c (put_at b t drawn x address s)).core
-
-    at_x : (f : End → ℕ) → f (d.circuits.circuit_at x).end ≡ f s.end
-    at_x f = ap (λ (z : CircuitEntry). f z.end) (upd_same t.circuit_at x new)
-
-    at_other : (f : End → ℕ) (y : ℕ) → y ≢ x → f (d.circuits.circuit_at y).end ≡ f (t.circuit_at y).end
-    at_other f y h = ap (λ (z : CircuitEntry). f z.end) (upd_other t.circuit_at x new y h)
-
-    turned : (y : ℕ) → y ≢ x → nat_eq x y ≡ false
-    turned y h = eqb_not x y (λ q. h (sym q))
-
-    forms_at : (y : ℕ) (n : Bool) → nat_eq y x ≡ n → formed_in d y ≡ formed_in c y + new_of y (acts k c (put_at b t drawn x address s)).frames
-    forms_at y true q =
-        subst (λ z. formed_in d z ≡ formed_in c z + new_of z (acts k c (put_at b t drawn x address s)).frames) (sym (eqb-true y x q))
-        (at_x formed ∙ (p.forms ∙ ap (λ z. formed e + z) (sym (wires_new k d b x address s.end.peer x s.sent ∙ ap (λ z. cond z (new_in s.sent) 0) (eqb_same x)))))
-    forms_at y false q =
-        let h : y ≢ x = eqb-false y x q in
-        at_other formed y h ∙ (plus_zero (formed_in c y) ∙ ap (λ z. formed_in c y + z) (sym (wires_new k d b x address s.end.peer y s.sent ∙ ap (λ z. cond z (new_in s.sent) 0) (turned y h))))
-
-    takes_at : (y : ℕ) (n : Bool) → nat_eq y x ≡ n → taken_in d y ≡ taken_in c y + cond (nat_eq x y) i 0
-    takes_at y true q =
-        subst (λ z. taken_in d z ≡ taken_in c z + cond (nat_eq x z) i 0) (sym (eqb-true y x q))
-        (at_x taken ∙ (p.takes ∙ ap (λ z. taken e + cond z i 0) (sym (eqb_same x))))
-    takes_at y false q =
-        let h : y ≢ x = eqb-false y x q in
-        at_other taken y h ∙ (plus_zero (taken_in c y) ∙ ap (λ z. taken_in c y + cond z i 0) (sym (turned y h)))
-
--- the count of messages taken, said otherwise
-pub more_as : (c d : Core) (fs : List OutFrame) (m n : ℕ → ℕ) → ((x : ℕ) → m x ≡ n x) → CoreCounts c d fs m → CoreCounts c d fs n
-more_as c d fs m n h p = record { numbers = p.numbers; formed = p.formed; taken = λ x. p.taken x ∙ ap (λ z. taken_in c x + z) (h x); unused = p.unused }
-
--- a step of a living circuit
-steps_counts : (b : Bool) (k : Side) (c : Core) (x : ℕ) (s : Step) (i : ℕ) → Unused c.circuits → lives (c.circuits.circuit_at x).end ≡ true → StepCounts (c.circuits.circuit_at x).end s i → CoreCounts c (acts k c (steps_at b c.circuits x s)).core (acts k c (steps_at b c.circuits x s)).frames (λ y. cond (nat_eq x y) i 0)
-steps_counts b k c x s i r l p =
-    put_counts b k c c.circuits.drawn x (c.circuits.circuit_at x).address (note_empty (c.circuits.circuit_at x).end s) i r
-    (λ y h. (λ q. true≢false (sym l ∙ (ap (λ z. lives (c.circuits.circuit_at z).end) (sym q) ∙ (r y h).0)), h))
-    (record { sent = p.sent; forms = p.forms; takes = p.takes })
-
-steps_same : (b : Bool) (k : Side) (c : Core) (x : ℕ) (s : Step) → Unused c.circuits → lives (c.circuits.circuit_at x).end ≡ true → Counts (c.circuits.circuit_at x).end s → Same c (acts k c (steps_at b c.circuits x s)).core (acts k c (steps_at b c.circuits x s)).frames
-steps_same b k c x s r l p = more_as c (acts k c (steps_at b c.circuits x s)).core (acts k c (steps_at b c.circuits x s)).frames _ (λ y. 0) (λ y. cond_none (nat_eq x y)) (steps_counts b k c x s 0 r l (of_counts (c.circuits.circuit_at x).end s p))
-
-idle_same : (k : Side) (c : Core) → Unused c.circuits → Same c (acts k c (idle c.circuits)).core (acts k c (idle c.circuits)).frames
-idle_same k c r = record { numbers = tt; formed = λ x. plus_zero (formed_in c x); taken = λ x. plus_zero (taken_in c x); unused = r }
-
-act_cond : (k : Side) (c : Core) (n : Bool) (x y : Acted) → (n ≡ true → Same c (acts k c x).core (acts k c x).frames) → (n ≡ false → Same c (acts k c y).core (acts k c y).frames) → Same c (acts k c (cond n x y)).core (acts k c (cond n x y)).frames
-act_cond k c true x y p q = p refl
-act_cond k c false x y p q = q refl
-
-pub local_counts : (b : Bool) (k : Side) (c : Core) (x : ℕ) (call : Call) → Unused c.circuits → Same c (acts k c (local_at b c.circuits x call)).core (acts k c (local_at b c.circuits x call)).frames
-local_counts b k c x call r =
-    let e : End = (c.circuits.circuit_at x).end in
-    let s : Step = record { end = call_end call e; sent = [] } in
-    act_cond k c (lives e) (steps_at b c.circuits x s) (idle c.circuits) (λ i. steps_same b k c x s r i (quiet e s refl refl refl)) (λ i. idle_same k c r)
-
-pub time_counts : (b : Bool) (k : Side) (c : Core) (x now : ℕ) → Unused c.circuits → Same c (acts k c (time_at b c.circuits x now)).core (acts k c (time_at b c.circuits x now)).frames
-time_counts b k c x now r =
-    let e : End = (c.circuits.circuit_at x).end in
-    act_cond k c (lives e) (steps_at b c.circuits x (time_step now e)) (idle c.circuits) (λ i. steps_same b k c x (time_step now e) r i (counts_time now e)) (λ i. idle_same k c r)
-
--- a new circuit has formed and taken nothing
-new_counts : (b : Bool) (k : Side) (c : Core) (address : ℕ) (s : Step) → Unused c.circuits → formed s.end ≡ 0 → taken s.end ≡ 0 → ((n a : ℕ) → SentTallied n a s.sent) → new_in s.sent ≡ 0 → Same c (acts k c (put_at b c.circuits (suc c.circuits.drawn) (suc c.circuits.drawn) address s)).core (acts k c (put_at b c.circuits (suc c.circuits.drawn) (suc c.circuits.drawn) address s)).frames
-new_counts b k c address s r f t h z =
-    let n : ℕ = suc c.circuits.drawn in
-    let e : End = (c.circuits.circuit_at n).end in
-    let u : (lives e ≡ false) × (formed e ≡ 0) × (taken e ≡ 0) = r n (omega arith) in
-    more_as c (acts k c (put_at b c.circuits n n address s)).core (acts k c (put_at b c.circuits n n address s)).frames _ (λ y. 0) (λ y. cond_none (nat_eq n y))
-    (put_counts b k c n n address s 0 r (λ y l. (λ q. absurd (omega (arith, q, l)), omega (arith, l)))
-    (record { sent = h (formed e) (taken s.end); forms = f ∙ sym (ap₂ (λ i j. i + j) u.1 z); takes = t ∙ sym (ap (λ i. i + 0) u.2) }))
-
-pub call_counts : (k : Side) (c : Core) (u : Setup) (address now : ℕ) → Unused c.circuits → Same c (acts k c (call_at u c.circuits address now)).core (acts k c (call_at u c.circuits address now)).frames
-call_counts k c u address now r = new_counts true k c address (called u now) r refl refl (λ n a. tt) refl
+pub notice_more : (c d : Core) (to : ℕ) (n : Notice) (fs : List OutFrame) → Same c d fs → Same c d (plain to 0 (OfNotice n) ∷ fs)
+notice_more c d to n fs p = plain_more c d to (OfNotice n) fs refl p
 
 -- hearing
 
@@ -238,10 +58,10 @@ stop_steps now r e = go (lives e)
     yes = still (record e { ended = Some r; moment = now })
 
     go : (n : Bool) → Counts e (cond n yes (still e))
-    go true = quiet e yes refl refl refl
-    go false = quiet e (still e) refl refl refl
+    go true = quiet e yes refl refl
+    go false = quiet e (still e) refl refl
 
-pub stop_counts : (b : Bool) (k : Side) (c : Core) (from to source now reason : ℕ) → Unused c.circuits → Same c (acts k c (hear_stop_at b c.circuits from to source now reason).act).core (acts k c (hear_stop_at b c.circuits from to source now reason).act).frames
+pub stop_counts : (b : Bool) (k : Side) (c : Core) (from to source now reason : ℕ) → Steady c.circuits → Same c (acts k c (hear_stop_at b c.circuits from to source now reason).act).core (acts k c (hear_stop_at b c.circuits from to source now reason).act).frames
 stop_counts b k c from to source now reason r =
     let x : CircuitEntry = c.circuits.circuit_at to in
     heard_cond k c (nat_eq x.address from && (nat_eq x.end.peer source || nat_eq source 0) && lives x.end) (record { act = steps_at b c.circuits to (hear_stop now reason x.end); answer = Ended reason }) (foreign c.circuits)
@@ -251,11 +71,11 @@ reply_steps : (now source : ℕ) (g : Agreed) (e : End) → Counts e (hear_reply
 reply_steps now source g e = go (lives e) e.running
   where
     go : (n m : Bool) → Counts e (cond n (cond m (noted now e) (still (reply_end now source g e))) (still e))
-    go true true = quiet e (noted now e) refl refl refl
-    go true false = quiet e (still (reply_end now source g e)) refl refl refl
-    go false m = quiet e (still e) refl refl refl
+    go true true = quiet e (noted now e) refl refl
+    go true false = quiet e (still (reply_end now source g e)) refl refl
+    go false m = quiet e (still e) refl refl
 
-pub reply_counts : (k : Side) (c : Core) (from to source now : ℕ) (g : Agreed) → Unused c.circuits → Same c (acts k c (hear_reply_at c.circuits from to source now g).act).core (acts k c (hear_reply_at c.circuits from to source now g).act).frames
+pub reply_counts : (k : Side) (c : Core) (from to source now : ℕ) (g : Agreed) → Steady c.circuits → Same c (acts k c (hear_reply_at c.circuits from to source now g).act).core (acts k c (hear_reply_at c.circuits from to source now g).act).frames
 reply_counts k c from to source now g r =
     let x : CircuitEntry = c.circuits.circuit_at to in
     heard_cond k c (nat_eq x.address from && lives x.end && (not x.end.running || nat_eq x.end.peer source)) (record { act = steps_at true c.circuits to (hear_reply now source g x.end); answer = cond x.end.running Again Running }) (foreign c.circuits)
@@ -265,11 +85,11 @@ again_steps : (now : ℕ) (e : End) → Counts e (again_start now e)
 again_steps now e = go (lives e && not e.heard_run) (lives e)
   where
     go : (n m : Bool) → Counts e (cond n (replied now e) (cond m (noted now e) (still e)))
-    go true m = record { sent = tt; forms = plus_zero (formed e); takes = refl }
-    go false true = quiet e (noted now e) refl refl refl
-    go false false = quiet e (still e) refl refl refl
+    go true m = plainly e (replied now e) tt refl
+    go false true = quiet e (noted now e) refl refl
+    go false false = quiet e (still e) refl refl
 
-pub start_counts : (k : Side) (c : Core) (u : Setup) (from source now : ℕ) (g : Agreed) → Unused c.circuits → Same c (acts k c (start_at u c.circuits from source now g (start_fact c.circuits from source))).core (acts k c (start_at u c.circuits from source now g (start_fact c.circuits from source))).frames
+pub start_counts : (k : Side) (c : Core) (u : Setup) (from source now : ℕ) (g : Agreed) → Steady c.circuits → Same c (acts k c (start_at u c.circuits from source now g (start_fact c.circuits from source))).core (acts k c (start_at u c.circuits from source now g (start_fact c.circuits from source))).frames
 start_counts k c u from source now g r = go (nat_eq n 0) refl (nat_lt (living t) 8 && nat_lt t.drawn 65535)
   where
     t : Table
@@ -282,18 +102,18 @@ start_counts k c u from source now g r = go (nat_eq n 0) refl (nat_lt (living t)
     fact i m = cond i (cond m (Makes (suc t.drawn)) Refuses) (Repeats n)
 
     go : (i : Bool) → nat_eq n 0 ≡ i → (m : Bool) → Same c (acts k c (start_at u t from source now g (fact i m))).core (acts k c (start_at u t from source now g (fact i m))).frames
-    go true q true = new_counts false k c from (make_slave now source g (first_end false false u)) r refl refl (λ n a. tt) refl
-    go true q false = record { numbers = (tt, tt); formed = λ x. (let z : cond (nat_eq 0 x) 0 0 ≡ 0 = cond_none (nat_eq 0 x) in omega (arith, z)); taken = λ x. plus_zero (taken_in c x); unused = r }
+    go true q true = new_counts false k c from (make_slave now source g (first_end false false u)) r refl tt
+    go true q false = plain_more c c from _ [] refl (core_none c r)
     go false q m =
         steps_same false k c n (again_start now (t.circuit_at n).end) r
         (and_parts (is_of (t.circuit_at n) from source) (lives (t.circuit_at n).end) (least_true (λ j. is_of (t.circuit_at j) from source && lives (t.circuit_at j).end) 0 t.drawn (eqb-false n 0 q))).1
         (again_steps now (t.circuit_at n).end)
 
-move_counts : (b : Bool) (k : Side) (c : Core) (x now : ℕ) → Unused c.circuits → Same c (acts k c (move_at b c.circuits x now)).core (acts k c (move_at b c.circuits x now)).frames
+move_counts : (b : Bool) (k : Side) (c : Core) (x now : ℕ) → Steady c.circuits → Same c (acts k c (move_at b c.circuits x now)).core (acts k c (move_at b c.circuits x now)).frames
 move_counts b k c x now r =
     let e : End = (c.circuits.circuit_at x).end in
     let s : Step = record { end = record e { moment = now }; sent = [] } in
-    act_cond k c (lives e) (steps_at b c.circuits x s) (idle c.circuits) (λ i. steps_same b k c x s r i (quiet e s refl refl refl)) (λ i. idle_same k c r)
+    act_cond k c (lives e) (steps_at b c.circuits x s) (idle c.circuits) (λ i. steps_same b k c x s r i (quiet e s refl refl)) (λ i. idle_same k c r)
 
 -- how many messages an answer says were taken
 abbrev pub taken_of : Heard → ℕ
@@ -311,7 +131,7 @@ says_taken RunRepeated = refl
 says_taken RunAckOnly = refl
 says_taken RunBroke = refl
 
-pub run_counts : (b : Bool) (k : Side) (c : Core) (from : ℕ) (wide : Bool) (h : Head) (slots : List Slot) (n : Option Numbers) (now : ℕ) → Unused c.circuits → CoreCounts c (acts k c (hear_run b c.circuits from wide h slots n now).act).core (acts k c (hear_run b c.circuits from wide h slots n now).act).frames (λ y. cond (nat_eq h.to y) (taken_of (hear_run b c.circuits from wide h slots n now).answer) 0)
+pub run_counts : (b : Bool) (k : Side) (c : Core) (from : ℕ) (wide : Bool) (h : Head) (slots : List Slot) (n : Option Numbers) (now : ℕ) → Steady c.circuits → CoreCounts c (acts k c (hear_run b c.circuits from wide h slots n now).act).core (acts k c (hear_run b c.circuits from wide h slots n now).act).frames (λ y. cond (nat_eq h.to y) (taken_of (hear_run b c.circuits from wide h slots n now).answer) 0)
 run_counts b k c from wide h slots n now r = go (names t from h.to h.from) refl (fits_kind e h.master wide)
   where
     t : Table
@@ -324,7 +144,7 @@ run_counts b k c from wide h slots n now r = go (names t from h.to h.from) refl 
     f = run_frame (numbers_at e h n) slots
 
     none : (d : Core) (fs : List OutFrame) → Same c d fs → CoreCounts c d fs (λ y. cond (nat_eq h.to y) 0 0)
-    none d fs p = more_as c d fs (λ y. 0) (λ y. cond (nat_eq h.to y) 0 0) (λ y. sym (cond_none (nat_eq h.to y))) p
+    none d fs p = more_as c.circuits d.circuits fs (λ y. 0) (λ y. cond (nat_eq h.to y) 0 0) (λ y. sym (cond_none (nat_eq h.to y))) p
 
     go : (i : Bool) → names t from h.to h.from ≡ i → (m : Bool) → CoreCounts c (acts k c (cond i (run_at b t h.to m now h.ask f) (foreign t)).act).core (acts k c (cond i (run_at b t h.to m now h.ask f) (foreign t)).act).frames (λ y. cond (nat_eq h.to y) (taken_of (cond i (run_at b t h.to m now h.ask f) (foreign t)).answer) 0)
     go false q m = none (acts k c (idle t)).core (acts k c (idle t)).frames (idle_same k c r)
@@ -333,12 +153,12 @@ run_counts b k c from wide h slots n now r = go (names t from h.to h.from) refl 
         let s : RunStep = run_end now h.ask f e in
         let p : RunCounts e s = counts_run now h.ask f e in
         let l : lives e ≡ true = (and_parts (is_of (t.circuit_at h.to) from h.from) (lives e) (and_parts (is_of (t.circuit_at h.to) from h.from && lives e) e.running q).0).1 in
-        more_as c (acts k c (steps_at b t h.to s.step)).core (acts k c (steps_at b t h.to s.step)).frames (λ y. cond (nat_eq h.to y) (taken_by_run s.answer) 0) (λ y. cond (nat_eq h.to y) (taken_of (answer_of s.answer)) 0) (λ y. ap (λ z. cond (nat_eq h.to y) z 0) (says_taken s.answer))
-        (steps_counts b k c h.to s.step (taken_by_run s.answer) r l (record { sent = p.sent; forms = p.forms; takes = p.takes }))
+        more_as c.circuits (acts k c (steps_at b t h.to s.step)).core.circuits (acts k c (steps_at b t h.to s.step)).frames (λ y. cond (nat_eq h.to y) (taken_by_run s.answer) 0) (λ y. cond (nat_eq h.to y) (taken_of (answer_of s.answer)) 0) (λ y. ap (λ z. cond (nat_eq h.to y) z 0) (says_taken s.answer))
+        (steps_counts b k c h.to s.step (taken_by_run s.answer) r l (record { sent = p.sent; forms = p.forms; takes = p.takes; shows = p.shows; bears = p.bears; grows = p.grows; full = p.full }))
 
 -- calls and time
 
-pub local_quiet : (b : Bool) (k : Side) (c : Core) (x : ℕ) (call : Call) → Unused c.circuits → Same c (acts k c (local_at b c.circuits x call)).core []
+pub local_quiet : (b : Bool) (k : Side) (c : Core) (x : ℕ) (call : Call) → Steady c.circuits → Same c (acts k c (local_at b c.circuits x call)).core []
 local_quiet b k c x call r = subst (Same c (acts k c (local_at b c.circuits x call)).core) (go (lives (c.circuits.circuit_at x).end)) (local_counts b k c x call r)
   where
     s : Step
@@ -351,44 +171,36 @@ local_quiet b k c x call r = subst (Same c (acts k c (local_at b c.circuits x ca
 pub core_quiet : (c d e : Core) (fs : List OutFrame) (more : ℕ → ℕ) → CoreCounts c d fs more → Same d e [] → CoreCounts c e fs more
 core_quiet c d e fs more p q = subst (λ z. CoreCounts c e z more) (append_nil fs) (core_then c d e fs [] more p q)
 
-pub notice_more : (c d : Core) (to : ℕ) (v : Value) (fs : List OutFrame) → Same c d fs → Same c d (plain to 0 v ∷ fs)
-notice_more c d to v fs p = record {
-  numbers = (tt, tallied_same (formed_in c) (λ x. formed_in c x + cond (nat_eq 0 x) 0 0) (taken_in d) (taken_in d) (λ x. plus_zero (formed_in c x) ∙ ap (λ z. formed_in c x + z) (sym (cond_none (nat_eq 0 x)))) (λ x. refl) fs p.numbers);
-  formed = λ x. (let a : formed_in d x ≡ formed_in c x + new_of x fs = p.formed x in let z : cond {A = ℕ} (nat_eq 0 x) 0 0 ≡ 0 = cond_none (nat_eq 0 x) in omega (arith, a, z));
-  taken = p.taken;
-  unused = p.unused;
-}
-
 pub times_counts : (b : Bool) (t : Timing) (name : Name) (xs : List ℕ) (c : Core) (d : Doing) → Same c d.core d.frames → Same c (time_each (side_of b t name) xs d).core (time_each (side_of b t name) xs d).frames
 times_counts b t name [] c d p = p
 times_counts b t name (x ∷ xs) c d p =
     let e : Doing = acts (side_of b t name) d.core (time_at b d.core.circuits x d.core.moment) in
     times_counts b t name xs c (then_doing d (λ y. acts (side_of b t name) y (time_at b y.circuits x y.moment)))
-    (core_then c d.core e.core d.frames e.frames (λ y. 0) p (time_counts b (side_of b t name) d.core x d.core.moment p.unused))
+    (core_then c d.core e.core d.frames e.frames (λ y. 0) p (time_counts b (side_of b t name) d.core x d.core.moment p.steady))
 
 said_cond : (c : Core) (n : Bool) (x y : Said) → Same c x.core [] → Same c y.core [] → Same c (cond n x y).core []
 said_cond c true x y f g = f
 said_cond c false x y f g = g
 
-pub line_counts : (lines : ℕ) (c : Core) (line : ℕ) (f : Seat → Said) → Unused c.circuits → ((s : Seat) → Same c (f s).core []) → Same c (on_line lines c line f).core []
+pub line_counts : (lines : ℕ) (c : Core) (line : ℕ) (f : Seat → Said) → Steady c.circuits → ((s : Seat) → Same c (f s).core []) → Same c (on_line lines c line f).core []
 line_counts lines c line f r h =
     said_cond c (line_exists lines line) (cond (holds c line) (f (seat_at c line)) (says c Closed)) (says c NoLine)
     (said_cond c (holds c line) (f (seat_at c line)) (says c Closed) (h (seat_at c line)) (core_none c r)) (core_none c r)
 
-call_if : (b : Bool) (t : Timing) (name : Name) (c : Core) (s : Seat) (n : Bool) (x : Call) (y z : Answer) → Unused c.circuits → Same c (cond n (says (calls_on (side_of b t name) c s x) y) (says c z)).core []
+call_if : (b : Bool) (t : Timing) (name : Name) (c : Core) (s : Seat) (n : Bool) (x : Call) (y z : Answer) → Steady c.circuits → Same c (cond n (says (calls_on (side_of b t name) c s x) y) (says c z)).core []
 call_if b t name c s n x y z r = said_cond c n (says (calls_on (side_of b t name) c s x) y) (says c z) (local_quiet b (side_of b t name) c s.circuit x r) (core_none c r)
 
-pub put_same : (b : Bool) (t : Timing) (name : Name) (c : Core) (s : Seat) (bs : List ℕ) → Unused c.circuits → Same c (put_on (side_of b t name) c s bs).core []
+pub put_same : (b : Bool) (t : Timing) (name : Name) (c : Core) (s : Seat) (bs : List ℕ) → Steady c.circuits → Same c (put_on (side_of b t name) c s bs).core []
 put_same b t name c s bs r = call_if b t name c s (put_open (session_of c s)) (Put s.id bs) _ Closed r
 
-pub set_same : (b : Bool) (t : Timing) (name : Name) (c : Core) (s : Seat) (setting : List ℕ) → Unused c.circuits → Same c (set_on (side_of b t name) c s setting).core []
+pub set_same : (b : Bool) (t : Timing) (name : Name) (c : Core) (s : Seat) (setting : List ℕ) → Steady c.circuits → Same c (set_on (side_of b t name) c s setting).core []
 set_same b t name c s setting r = said_cond c (put_open (session_of c s)) _ (says c Closed) (call_if b t name c s _ (Set s.id setting) _ _ r) (core_none c r)
 
-pub attend_same : (b : Bool) (t : Timing) (name : Name) (c : Core) (s : Seat) (flag : ℕ) → Unused c.circuits → Same c (attend_on (side_of b t name) c s flag).core []
+pub attend_same : (b : Bool) (t : Timing) (name : Name) (c : Core) (s : Seat) (flag : ℕ) → Steady c.circuits → Same c (attend_on (side_of b t name) c s flag).core []
 attend_same b t name c s flag r = call_if b t name c s (put_open (session_of c s)) (Attend s.id flag) _ Closed r
 
-pub take_same : (b : Bool) (t : Timing) (name : Name) (c : Core) (s : Seat) (n : ℕ) → Unused c.circuits → Same c (take_on (side_of b t name) c s n).core []
+pub take_same : (b : Bool) (t : Timing) (name : Name) (c : Core) (s : Seat) (n : ℕ) → Steady c.circuits → Same c (take_on (side_of b t name) c s n).core []
 take_same b t name c s n r = call_if b t name c s (take_open (session_of c s)) (Take s.id n) _ Closed r
 
-pub close_same : (b : Bool) (t : Timing) (name : Name) (c : Core) (s : Seat) → Unused c.circuits → Same c (close_on (side_of b t name) c s).core []
+pub close_same : (b : Bool) (t : Timing) (name : Name) (c : Core) (s : Seat) → Steady c.circuits → Same c (close_on (side_of b t name) c s).core []
 close_same b t name c s r = call_if b t name c s (take_open (session_of c s)) (Close s.id) _ Closed r

@@ -21,11 +21,12 @@ use Rattle.lat_machines.specs.cores.Cores.{Core, setup_of, rests, acts, at_momen
 use Rattle.lat_machines.specs.cores.LineCalls.{put_on, set_on, attend_on, take_on, close_on}
 use Rattle.lat_machines.specs.node.Node.{NodeConfig, Requested, Node, NodeStep, node_side, open_node, tells, request_of, Verdict, Accepts, Rejects, verdict, judged, asked_at, answers_one, answers_in, asked_on, answers_asked, heard_at, hears_run, names_for, hears_start, solicited, hears_value, requests_again, withdraws, node_step}
 use Rattle.lat_machines.specs.world.Histories.{RatedEvent, node_run}
-use Rattle.lat_machines.specs.world.Tally.{taken_by, TalliesOn}
-use Rattle.lat_machines.proofs.tally.Cores.{Unused, CoreCounts, Same, core_none, core_quiet, more_as, local_quiet, stop_counts, start_counts, run_counts, taken_of, notice_more, times_counts, line_counts, put_same, set_same, attend_same, take_same, close_same}
+use Rattle.lat_machines.specs.world.Tally.{taken_by, NodeTallied}
+use Rattle.lat_machines.proofs.tally.Tables.{Steady, CoreCounts, Same, core_none, more_as}
+use Rattle.lat_machines.proofs.tally.Cores.{core_quiet, local_quiet, stop_counts, start_counts, run_counts, taken_of, notice_more, times_counts, line_counts, put_same, set_same, attend_same, take_same, close_same}
 use Rattle.lat_machines.proofs.tally.Servers.{run_says, wide_says}
 
-abbrev StepCounts : Event → Node → NodeStep → Type 0
+abbrev pub StepCounts : Event → Node → NodeStep → Type 0
 StepCounts e st s = CoreCounts st.core s.state.core s.frames (taken_by e s.answer)
 
 abbrev StepSame : Node → NodeStep → Type 0
@@ -37,11 +38,9 @@ same_cond st false s t f g = g
 
 -- answering
 
-judged_same : (config : NodeConfig) (st : Node) (x id : ℕ) (request : Option ℕ) (v : Verdict) → Unused st.core.circuits → Same st.core (judged config st x id request v).core []
+judged_same : (config : NodeConfig) (st : Node) (x id : ℕ) (request : Option ℕ) (v : Verdict) → Steady st.core.circuits → Same st.core (judged config st x id request v).core []
 judged_same config st x id request (Rejects reason) r = local_quiet false (node_side config) st.core x (Refuse id reason) r
-judged_same config st x id request (Accepts line) r =
-    let p : Same st.core _ [] = local_quiet false (node_side config) st.core x (Calls.Answer id) r in
-    record { numbers = p.numbers; formed = p.formed; taken = p.taken; unused = p.unused }
+judged_same config st x id request (Accepts line) r = local_quiet false (node_side config) st.core x (Calls.Answer id) r
 
 answers_same : (config : NodeConfig) (x : ℕ) (ids : List ℕ) (c : Core) (st : Node) → Same c st.core [] → Same c (answers_in config x ids st).core []
 answers_same config x [] c st p = p
@@ -51,10 +50,10 @@ answers_same config x (id ∷ ids) c st p = answers_same config x ids c (answers
     s = asked_at st x id
 
     go : (b : Bool) → Same st.core (cond b (judged config st x id s.request (verdict config st s.service s.request)) st).core []
-    go true = judged_same config st x id s.request (verdict config st s.service s.request) p.unused
-    go false = core_none st.core p.unused
+    go true = judged_same config st x id s.request (verdict config st s.service s.request) p.steady
+    go false = core_none st.core p.steady
 
-asked_same : (config : NodeConfig) (x : ℕ) (st : Node) → Unused st.core.circuits → Same st.core (answers_asked config x st).core []
+asked_same : (config : NodeConfig) (x : ℕ) (st : Node) → Steady st.core.circuits → Same st.core (answers_asked config x st).core []
 asked_same config x st r = go (lives (st.core.circuits.circuit_at x).end)
   where
     left : Node
@@ -66,7 +65,7 @@ asked_same config x st r = go (lives (st.core.circuits.circuit_at x).end)
 
 -- hearing
 
-hears_run_counts : (config : NodeConfig) (st : Node) (from : ℕ) (wide : Bool) (h : Head) (slots : List Slot) (k : Option Numbers) → Unused st.core.circuits → CoreCounts st.core (hears_run config st from wide h slots k).state.core (hears_run config st from wide h slots k).frames (λ y. cond (nat_eq h.to y) (taken_of (hear_run false st.core.circuits from wide h slots k st.core.moment).answer) 0)
+hears_run_counts : (config : NodeConfig) (st : Node) (from : ℕ) (wide : Bool) (h : Head) (slots : List Slot) (k : Option Numbers) → Steady st.core.circuits → CoreCounts st.core (hears_run config st from wide h slots k).state.core (hears_run config st from wide h slots k).frames (λ y. cond (nat_eq h.to y) (taken_of (hear_run false st.core.circuits from wide h slots k st.core.moment).answer) 0)
 hears_run_counts config st from wide h slots k r = go (names st.core.circuits from h.to h.from)
   where
     act : HeardAct
@@ -82,30 +81,27 @@ hears_run_counts config st from wide h slots k r = go (names st.core.circuits fr
     p = run_counts false (node_side config) st.core from wide h slots k st.core.moment r
 
     go : (b : Bool) → CoreCounts st.core (cond b (answers_asked config h.to s.state) s.state).core s.frames (λ y. cond (nat_eq h.to y) (taken_of act.answer) 0)
-    go true = core_quiet st.core s.state.core (answers_asked config h.to s.state).core s.frames (λ y. cond (nat_eq h.to y) (taken_of act.answer) 0) p (asked_same config h.to s.state p.unused)
+    go true = core_quiet st.core s.state.core (answers_asked config h.to s.state).core s.frames (λ y. cond (nat_eq h.to y) (taken_of act.answer) 0) p (asked_same config h.to s.state p.steady)
     go false = p
 
 started_same : (config : NodeConfig) (st : Node) (from source : ℕ) (info : StartInfo) (fact : StartFact) → ((c : Core) → c.circuits ≡ st.core.circuits → Same c (acts (node_side config) c (start_at (setup_of config.timing) c.circuits from source st.core.moment (agreed_by config.timing info) fact)).core (acts (node_side config) c (start_at (setup_of config.timing) c.circuits from source st.core.moment (agreed_by config.timing info) fact)).frames) → StepSame st (hears_start config st from source info fact)
-started_same config st from source info (Makes k) h =
-    let c : Core = names_for (Makes k) info.name st.core in
-    let p : Same c _ _ = h c refl in
-    record { numbers = p.numbers; formed = p.formed; taken = p.taken; unused = p.unused }
+started_same config st from source info (Makes k) h = h (names_for (Makes k) info.name st.core) refl
 started_same config st from source info (Repeats k) h = h st.core refl
 started_same config st from source info Refuses h = h st.core refl
 
-solicited_same : (config : NodeConfig) (rates : List ℕ) (st : Node) (from id : ℕ) (o : Option Name) → Unused st.core.circuits → StepSame st (solicited config rates st from id o)
+solicited_same : (config : NodeConfig) (rates : List ℕ) (st : Node) (from id : ℕ) (o : Option Name) → Steady st.core.circuits → StepSame st (solicited config rates st from id o)
 solicited_same config rates st from id None r = core_none st.core r
 solicited_same config rates st from id (Some service) r = notice_more st.core st.core from _ _ (notice_more st.core st.core everyone _ [] (core_none st.core r))
 
-start_same : (config : NodeConfig) (st : Node) (from source : ℕ) (info : StartInfo) → Unused st.core.circuits → StepSame st (hears_start config st from source info (start_fact st.core.circuits from source))
+start_same : (config : NodeConfig) (st : Node) (from source : ℕ) (info : StartInfo) → Steady st.core.circuits → StepSame st (hears_start config st from source info (start_fact st.core.circuits from source))
 start_same config st from source info r = started_same config st from source info (start_fact st.core.circuits from source) (λ c q. at c q)
   where
     at : (c : Core) → c.circuits ≡ st.core.circuits → Same c (acts (node_side config) c (start_at (setup_of config.timing) c.circuits from source st.core.moment (agreed_by config.timing info) (start_fact st.core.circuits from source))).core (acts (node_side config) c (start_at (setup_of config.timing) c.circuits from source st.core.moment (agreed_by config.timing info) (start_fact st.core.circuits from source))).frames
     at c q =
         subst (λ (t : Table). Same c (acts (node_side config) c (start_at (setup_of config.timing) c.circuits from source st.core.moment (agreed_by config.timing info) (start_fact t from source))).core (acts (node_side config) c (start_at (setup_of config.timing) c.circuits from source st.core.moment (agreed_by config.timing info) (start_fact t from source))).frames) q
-        (start_counts (node_side config) c (setup_of config.timing) from source st.core.moment (agreed_by config.timing info) (subst Unused (sym q) r))
+        (start_counts (node_side config) c (setup_of config.timing) from source st.core.moment (agreed_by config.timing info) (subst Steady (sym q) r))
 
-value_counts : (config : NodeConfig) (rates : List ℕ) (st : Node) (from : ℕ) (v : Value) (k : Option Numbers) (now : ℕ) → Unused st.core.circuits → StepCounts (Hears from (Whole v) k now) st (hears_value config rates st from v k)
+value_counts : (config : NodeConfig) (rates : List ℕ) (st : Node) (from : ℕ) (v : Value) (k : Option Numbers) (now : ℕ) → Steady st.core.circuits → StepCounts (Hears from (Whole v) k now) st (hears_value config rates st from v k)
 value_counts config rates st from (OfCircuit (RunMessage h slots)) k now r = more_as _ _ _ _ _ (λ x. run_says from h slots k now x (hear_run false st.core.circuits from false h slots k st.core.moment).answer) (hears_run_counts config st from false h slots k r)
 value_counts config rates st from (OfCircuit (WideMessage h slots)) k now r = more_as _ _ _ _ _ (λ x. wide_says from h slots k now x (hear_run false st.core.circuits from true h slots k st.core.moment).answer) (hears_run_counts config st from true h slots k r)
 value_counts config rates st from (OfCircuit (StartMessage true ask to source info)) k now r = start_same config st from source info r
@@ -119,23 +115,23 @@ value_counts config rates st from (OfNotice (ResponseNotice m)) k now r = core_n
 
 -- requests
 
-again_same : (config : NodeConfig) (st : Node) (to id : ℕ) (service : Name) (o : Option Requested) → Unused st.core.circuits → StepSame st (requests_again config st to id service o)
+again_same : (config : NodeConfig) (st : Node) (to id : ℕ) (service : Name) (o : Option Requested) → Steady st.core.circuits → StepSame st (requests_again config st to id service o)
 again_same config st to id service None r = notice_more st.core st.core to _ [] (core_none st.core r)
 again_same config st to id service (Some x) r = same_cond st (nat_eq x.to to && same x.service service) _ (tells st IdUsed) (notice_more st.core st.core to _ [] (core_none st.core r)) (core_none st.core r)
 
-withdraw_same : (config : NodeConfig) (st : Node) (o : Option Requested) → Unused st.core.circuits → StepSame st (withdraws config st o)
+withdraw_same : (config : NodeConfig) (st : Node) (o : Option Requested) → Steady st.core.circuits → StepSame st (withdraws config st o)
 withdraw_same config st None r = core_none st.core r
 withdraw_same config st (Some x) r = notice_more st.core st.core x.to _ [] (core_none st.core r)
 
-step_counts : (config : NodeConfig) (rates : List ℕ) (st : Node) (e : Event) → Unused st.core.circuits → StepCounts e st (node_step config rates st e)
-step_counts config rates st (Hears from (Malformed field at) k now) r = record { numbers = (core_none st.core r).numbers; formed = (core_none st.core r).formed; taken = (core_none st.core r).taken; unused = r }
+pub step_counts : (config : NodeConfig) (rates : List ℕ) (st : Node) (e : Event) → Steady st.core.circuits → StepCounts e st (node_step config rates st e)
+step_counts config rates st (Hears from (Malformed field at) k now) r = core_none st.core r
 step_counts config rates st (Hears from (Whole v) k now) r = go (nat_eq from everyone)
   where
     s : Node
     s = record st { core = at_moment now st.core }
 
     none : Same st.core s.core []
-    none = record { numbers = (core_none st.core r).numbers; formed = (core_none st.core r).formed; taken = (core_none st.core r).taken; unused = r }
+    none = core_none st.core r
 
     ignored : (v : Value) → StepCounts (Hears from (Whole v) k now) st (tells s Ignored)
     ignored (OfCircuit (RunMessage h slots)) = none
@@ -145,15 +141,13 @@ step_counts config rates st (Hears from (Whole v) k now) r = go (nat_eq from eve
     ignored (OfNotice n) = none
 
     heard : StepCounts (Hears from (Whole v) k now) st (hears_value config rates s from v k)
-    heard = let p : StepCounts (Hears from (Whole v) k now) s (hears_value config rates s from v k) = value_counts config rates s from v k now r in record { numbers = p.numbers; formed = p.formed; taken = p.taken; unused = p.unused }
+    heard = value_counts config rates s from v k now r
 
     go : (b : Bool) → StepCounts (Hears from (Whole v) k now) st (cond b (tells s Ignored) (hears_value config rates s from v k))
     go true = ignored v
     go false = heard
 step_counts config rates st (Time now) r =
-    let c : Core = at_moment now st.core in
-    let none : Same st.core c [] = record { numbers = (core_none st.core r).numbers; formed = (core_none st.core r).formed; taken = (core_none st.core r).taken; unused = r } in
-    times_counts false config.timing config.name (upwards 0 st.core.circuits.drawn) st.core (rests c) none
+    times_counts false config.timing config.name (upwards 0 st.core.circuits.drawn) st.core (rests (at_moment now st.core)) (core_none st.core r)
 step_counts config rates st (Connects line service) r = core_none st.core r
 step_counts config rates st (Puts line bytes) r = line_counts config.lines st.core line (λ s. put_on (node_side config) st.core s bytes) r (λ s. put_same false config.timing config.name st.core s bytes r)
 step_counts config rates st (Sets line setting) r = line_counts config.lines st.core line (λ s. set_on (node_side config) st.core s setting) r (λ s. set_same false config.timing config.name st.core s setting r)
@@ -164,12 +158,18 @@ step_counts config rates st (Requests to id service) r = again_same config st to
 step_counts config rates st (Withdraws id) r = withdraw_same config st (request_of id st) r
 step_counts config rates st Announces r = notice_more st.core st.core everyone _ [] (core_none st.core r)
 
-unused_on : (config : NodeConfig) (es : List RatedEvent) (st : Node) → Unused st.core.circuits → Unused (node_run config es st).core.circuits
-unused_on config [] st r = r
-unused_on config (e ∷ es) st r = unused_on config es (node_step config e.rates st e.event).state (step_counts config e.rates st e.event r).unused
+steady_on : (config : NodeConfig) (es : List RatedEvent) (st : Node) → Steady st.core.circuits → Steady (node_run config es st).core.circuits
+steady_on config [] st r = r
+steady_on config (e ∷ es) st r = steady_on config es (node_step config e.rates st e.event).state (step_counts config e.rates st e.event r).steady
 
-pub node_tallies : (config : NodeConfig) (es : List RatedEvent) (rates : List ℕ) (e : Event) → TalliesOn (node_run config es (open_node config)).core (node_step config rates (node_run config es (open_node config)) e).state.core e (node_step config rates (node_run config es (open_node config)) e).answer (node_step config rates (node_run config es (open_node config)) e).frames
-node_tallies config es rates e =
-    let st : Node = node_run config es (open_node config) in
-    let p : StepCounts e st (node_step config rates st e) = step_counts config rates st e (unused_on config es (open_node config) (λ x l. (refl, refl, refl))) in
-    record { numbers = p.numbers; formed = p.formed; taken = p.taken }
+-- a core that has no circuits
+pub open_steady : (config : NodeConfig) → Steady (open_node config).core.circuits
+open_steady config = record { unused = λ x l. (refl, refl); full = λ x. tt }
+
+pub tallies : (config : NodeConfig) (rates : List ℕ) (st : Node) (e : Event) → Steady st.core.circuits → NodeTallied config rates st e
+tallies config rates st e r =
+    let p : StepCounts e st (node_step config rates st e) = step_counts config rates st e r in
+    record { numbers = p.numbers; bears = p.bears; formed = p.formed; taken = p.taken; shown = p.shown }
+
+pub node_tallies : (config : NodeConfig) (es : List RatedEvent) (rates : List ℕ) (e : Event) → NodeTallied config rates (node_run config es (open_node config)) e
+node_tallies config es rates e = tallies config rates (node_run config es (open_node config)) e (steady_on config es (open_node config) (open_steady config))

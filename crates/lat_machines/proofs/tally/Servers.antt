@@ -9,7 +9,7 @@ use Rattle.lat_machines.specs.values.Names.{Name}
 use Rattle.lat_machines.specs.values.Addresses.{everyone}
 use Rattle.lat_machines.specs.values.Messages.{Head, RunMessage, WideMessage, StartMessage, StopMessage}
 use Rattle.lat_machines.specs.values.Notices.{Kept, KeptAs, Unknown, Action, Ask, Cancel, Command, AnnouncementNotice, CommandNotice, StatusNotice, SolicitNotice, ResponseNotice}
-use Rattle.lat_machines.specs.values.Frames.{Value, OfCircuit, OfNotice, Whole, Malformed, OutFrame}
+use Rattle.lat_machines.specs.values.Frames.{Value, OfCircuit, OfNotice, Whole, Malformed}
 use Rattle.lat_machines.specs.values.Timing.{agreed_by}
 use Rattle.lat_machines.specs.values.Keys.{Key}
 use Rattle.lat_machines.specs.values.Events.{Numbers, Event, Hears, Time, Connects, Puts, Sets, Takes, Attends, Closes, Requests, Withdraws, Announces}
@@ -24,10 +24,11 @@ use Rattle.lat_machines.specs.cores.Lines.{holds, line_exists}
 use Rattle.lat_machines.specs.cores.LineCalls.{put_on, set_on, attend_on, take_on, close_on}
 use Rattle.lat_machines.specs.server.Server.{ServerConfig, Server, ServerStep, server_side, open_server, offer_on, tells, does, has_room, connects_on, opens, connects_to, solicits_for, connect_event, status_frame, key_of, hears_command, hears_value, server_event, finished_requests, Passing, grantable, grants_by, grant_line, grant_lines, server_step}
 use Rattle.lat_machines.specs.world.Histories.{server_run}
-use Rattle.lat_machines.specs.world.Tally.{taken_by, TalliesOn}
-use Rattle.lat_machines.proofs.tally.Cores.{Unused, CoreCounts, Same, core_none, core_then, more_as, local_counts, call_counts, stop_counts, reply_counts, run_counts, taken_of, notice_more, times_counts, line_counts, put_same, set_same, attend_same, take_same, close_same, cond_none}
+use Rattle.lat_machines.specs.world.Tally.{taken_by, ServerTallied}
+use Rattle.lat_machines.proofs.tally.Tables.{Steady, CoreCounts, Same, core_none, core_then, more_as, local_counts, call_counts, cond_none}
+use Rattle.lat_machines.proofs.tally.Cores.{stop_counts, reply_counts, run_counts, taken_of, notice_more, times_counts, line_counts, put_same, set_same, attend_same, take_same, close_same}
 
-abbrev StepCounts : Event → Server → ServerStep → Type 0
+abbrev pub StepCounts : Event → Server → ServerStep → Type 0
 StepCounts e st s = CoreCounts st.core s.state.core s.frames (taken_by e s.answer)
 
 -- an event that takes no message
@@ -38,7 +39,7 @@ same_cond : (st : Server) (n : Bool) (s t : ServerStep) → StepSame st s → St
 same_cond st true s t f g = f
 same_cond st false s t f g = g
 
-opens_counts : (config : ServerConfig) (line address : ℕ) (node service : Name) (key : Option Key) (request : Option ℕ) (c : Core) → Unused c.circuits → Same c (opens config line address node service key request c).core (opens config line address node service key request c).frames
+opens_counts : (config : ServerConfig) (line address : ℕ) (node service : Name) (key : Option Key) (request : Option ℕ) (c : Core) → Steady c.circuits → Same c (opens config line address node service key request c).core (opens config line address node service key request c).frames
 opens_counts config line address node service key request c r = go (nat_eq (circuit_to c address) 0)
   where
     named : Core
@@ -53,20 +54,16 @@ opens_counts config line address node service key request c r = go (nat_eq (circ
     all : Doing → Doing
     all d = record { core = (after d).core; frames = d.frames ++ (after d).frames }
 
-    plain_counts : (d e : Core) (fs : List OutFrame) → Same named d fs → Same c d fs
-    plain_counts d e fs p = record { numbers = p.numbers; formed = p.formed; taken = p.taken; unused = p.unused }
-
     connected : (d : Doing) → Same c d.core d.frames → Same c (all d).core (all d).frames
     connected d h =
         let e : Core = record (d.core) { seats = (after d).core.seats } in
-        let q : Same e (after d).core (after d).frames = local_counts true (server_side config) e (circuit_to d.core address) (Connect service request) h.unused in
-        core_then c d.core (after d).core d.frames (after d).frames (λ x. 0) h (record { numbers = q.numbers; formed = q.formed; taken = q.taken; unused = q.unused })
+        core_then c d.core (after d).core d.frames (after d).frames (λ x. 0) h (local_counts true (server_side config) e (circuit_to d.core address) (Connect service request) h.steady)
 
     go : (b : Bool) → Same c (all (cond b made (rests c))).core (all (cond b made (rests c))).frames
-    go true = connected made (plain_counts made.core c made.frames (call_counts (server_side config) named (setup_of config.timing) address named.moment r))
+    go true = connected made (call_counts (server_side config) named (setup_of config.timing) address named.moment r)
     go false = connected (rests c) (core_none c r)
 
-connect_counts : (config : ServerConfig) (st : Server) (line : ℕ) (service : Name) → Unused st.core.circuits → StepSame st (connect_event config st line service)
+connect_counts : (config : ServerConfig) (st : Server) (line : ℕ) (service : Name) → Steady st.core.circuits → StepSame st (connect_event config st line service)
 connect_counts config st line service r = go (line_exists config.lines line) (holds st.core line) (best config.groups service st.core.moment st.heard)
   where
     none : Same st.core st.core []
@@ -89,7 +86,7 @@ connect_counts config st line service r = go (line_exists config.lines line) (ho
     go true false None = notice_more st.core st.core everyone _ [] none
     go true false (Some b) = reaches b
 
-command_counts : (config : ServerConfig) (st : Server) (from : ℕ) (m : Command) (a : Action) → Unused st.core.circuits → StepSame st (hears_command config st from m a)
+command_counts : (config : ServerConfig) (st : Server) (from : ℕ) (m : Command) (a : Action) → Steady st.core.circuits → StepSame st (hears_command config st from m a)
 command_counts config st from m Ask r = notice_more st.core st.core from _ [] (core_none st.core r)
 command_counts config st from m Cancel r = go (kept_of (key_of m) (st.queue ++ Cancels (key_of m) ∷ []))
   where
@@ -121,7 +118,7 @@ wide_says from h slots n now x Foreign = cond_none (nat_eq h.to x)
 wide_says from h slots n now x (Broke r) = cond_none (nat_eq h.to x)
 wide_says from h slots n now x (Ended r) = cond_none (nat_eq h.to x)
 
-value_counts : (config : ServerConfig) (st : Server) (from : ℕ) (v : Value) (k : Option Numbers) (now : ℕ) → Unused st.core.circuits → StepCounts (Hears from (Whole v) k now) st (hears_value config st from v k)
+value_counts : (config : ServerConfig) (st : Server) (from : ℕ) (v : Value) (k : Option Numbers) (now : ℕ) → Steady st.core.circuits → StepCounts (Hears from (Whole v) k now) st (hears_value config st from v k)
 value_counts config st from (OfCircuit (RunMessage h slots)) k now r = more_as _ _ _ _ _ (λ x. run_says from h slots k now x (hear_run true st.core.circuits from false h slots k st.core.moment).answer) (run_counts true (server_side config) st.core from false h slots k st.core.moment r)
 value_counts config st from (OfCircuit (WideMessage h slots)) k now r = more_as _ _ _ _ _ (λ x. wide_says from h slots k now x (hear_run true st.core.circuits from true h slots k st.core.moment).answer) (run_counts true (server_side config) st.core from true h slots k st.core.moment r)
 value_counts config st from (OfCircuit (StartMessage true ask to source info)) k now r = core_none st.core r
@@ -133,15 +130,15 @@ value_counts config st from (OfNotice (ResponseNotice m)) k now r = core_none st
 value_counts config st from (OfNotice (StatusNotice m)) k now r = core_none st.core r
 value_counts config st from (OfNotice (SolicitNotice m)) k now r = core_none st.core r
 
-event_counts : (config : ServerConfig) (st : Server) (e : Event) → Unused st.core.circuits → StepCounts e st (server_event config st e)
-event_counts config st (Hears from (Malformed field at) k now) r = record { numbers = (core_none st.core r).numbers; formed = (core_none st.core r).formed; taken = (core_none st.core r).taken; unused = r }
+event_counts : (config : ServerConfig) (st : Server) (e : Event) → Steady st.core.circuits → StepCounts e st (server_event config st e)
+event_counts config st (Hears from (Malformed field at) k now) r = core_none st.core r
 event_counts config st (Hears from (Whole v) k now) r = go (nat_eq from everyone)
   where
     s : Server
     s = record st { core = at_moment now st.core }
 
     none : Same st.core s.core []
-    none = record { numbers = (core_none st.core r).numbers; formed = (core_none st.core r).formed; taken = (core_none st.core r).taken; unused = r }
+    none = core_none st.core r
 
     ignored : (v : Value) → StepCounts (Hears from (Whole v) k now) st (tells s Ignored)
     ignored (OfCircuit (RunMessage h slots)) = none
@@ -151,15 +148,13 @@ event_counts config st (Hears from (Whole v) k now) r = go (nat_eq from everyone
     ignored (OfNotice n) = none
 
     heard : StepCounts (Hears from (Whole v) k now) st (hears_value config s from v k)
-    heard = let p : StepCounts (Hears from (Whole v) k now) s (hears_value config s from v k) = value_counts config s from v k now r in record { numbers = p.numbers; formed = p.formed; taken = p.taken; unused = p.unused }
+    heard = value_counts config s from v k now r
 
     go : (b : Bool) → StepCounts (Hears from (Whole v) k now) st (cond b (tells s Ignored) (hears_value config s from v k))
     go true = ignored v
     go false = heard
 event_counts config st (Time now) r =
-    let c : Core = at_moment now st.core in
-    let none : Same st.core c [] = record { numbers = (core_none st.core r).numbers; formed = (core_none st.core r).formed; taken = (core_none st.core r).taken; unused = r } in
-    times_counts true config.timing config.name (upwards 0 st.core.circuits.drawn) st.core (rests c) none
+    times_counts true config.timing config.name (upwards 0 st.core.circuits.drawn) st.core (rests (at_moment now st.core)) (core_none st.core r)
 event_counts config st (Connects line service) r = connect_counts config st line service r
 event_counts config st (Puts line bytes) r = line_counts config.lines st.core line (λ s. put_on (server_side config) st.core s bytes) r (λ s. put_same true config.timing config.name st.core s bytes r)
 event_counts config st (Sets line setting) r = line_counts config.lines st.core line (λ s. set_on (server_side config) st.core s setting) r (λ s. set_same true config.timing config.name st.core s setting r)
@@ -180,25 +175,31 @@ line_grants_counts config line None g c x p = p
 line_grants_counts config line (Some service) None c x p = p
 line_grants_counts config line (Some service) (Some g) c x p =
     let d : Doing = opens config line g.from g.key.node service (Some g.key) (Some g.key.request) x.state.core in
-    core_then c x.state.core d.core x.frames _ (λ y. 0) p (notice_more x.state.core d.core g.from _ d.frames (opens_counts config line g.from g.key.node service (Some g.key) (Some g.key.request) x.state.core p.unused))
+    core_then c x.state.core d.core x.frames _ (λ y. 0) p (notice_more x.state.core d.core g.from _ d.frames (opens_counts config line g.from g.key.node service (Some g.key) (Some g.key.request) x.state.core p.steady))
 
 pass_counts : (config : ServerConfig) (lines : List ℕ) (c : Core) (x : Passing) → PassSame c x → PassSame c (grant_lines config lines x)
 pass_counts config [] c x p = p
 pass_counts config (line ∷ lines) c x p = pass_counts config lines c (grant_line config x line) (line_grants_counts config line (offer_on line config.offers) (grantable x.state line (offer_on line config.offers)) c x p)
 
-step_counts : (config : ServerConfig) (st : Server) (e : Event) → Unused st.core.circuits → StepCounts e st (server_step config st e)
+pub step_counts : (config : ServerConfig) (st : Server) (e : Event) → Steady st.core.circuits → StepCounts e st (server_step config st e)
 step_counts config st e r =
     let s : ServerStep = server_event config st e in
     let p : StepCounts e st s = event_counts config st e r in
     let z : Passing = grant_lines config (upwards 0 config.lines) (record { state = finished_requests s.state; frames = [] }) in
-    core_then st.core s.state.core z.state.core s.frames z.frames (taken_by e s.answer) p (pass_counts config (upwards 0 config.lines) s.state.core (record { state = finished_requests s.state; frames = [] }) (core_none s.state.core p.unused))
+    core_then st.core s.state.core z.state.core s.frames z.frames (taken_by e s.answer) p (pass_counts config (upwards 0 config.lines) s.state.core (record { state = finished_requests s.state; frames = [] }) (core_none s.state.core p.steady))
 
-unused_on : (config : ServerConfig) (es : List Event) (st : Server) → Unused st.core.circuits → Unused (server_run config es st).core.circuits
-unused_on config [] st r = r
-unused_on config (e ∷ es) st r = unused_on config es (server_step config st e).state (step_counts config st e r).unused
+steady_on : (config : ServerConfig) (es : List Event) (st : Server) → Steady st.core.circuits → Steady (server_run config es st).core.circuits
+steady_on config [] st r = r
+steady_on config (e ∷ es) st r = steady_on config es (server_step config st e).state (step_counts config st e r).steady
 
-pub server_tallies : (config : ServerConfig) (es : List Event) (e : Event) → TalliesOn (server_run config es (open_server config)).core (server_step config (server_run config es (open_server config)) e).state.core e (server_step config (server_run config es (open_server config)) e).answer (server_step config (server_run config es (open_server config)) e).frames
-server_tallies config es e =
-    let st : Server = server_run config es (open_server config) in
-    let p : StepCounts e st (server_step config st e) = step_counts config st e (unused_on config es (open_server config) (λ x l. (refl, refl, refl))) in
-    record { numbers = p.numbers; formed = p.formed; taken = p.taken }
+-- a core that has no circuits
+pub open_steady : (config : ServerConfig) → Steady (open_server config).core.circuits
+open_steady config = record { unused = λ x l. (refl, refl); full = λ x. tt }
+
+pub tallies : (config : ServerConfig) (st : Server) (e : Event) → Steady st.core.circuits → ServerTallied config st e
+tallies config st e r =
+    let p : StepCounts e st (server_step config st e) = step_counts config st e r in
+    record { numbers = p.numbers; bears = p.bears; formed = p.formed; taken = p.taken; shown = p.shown }
+
+pub server_tallies : (config : ServerConfig) (es : List Event) (e : Event) → ServerTallied config (server_run config es (open_server config)) e
+server_tallies config es e = tallies config (server_run config es (open_server config)) e (steady_on config es (open_server config) (open_steady config))

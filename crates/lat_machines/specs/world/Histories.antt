@@ -42,6 +42,11 @@ node_answers config [] state = []
 node_answers config (e ∷ es) state =
     (node_step config e.rates state e.event).answer ∷ node_answers config es (node_step config e.rates state e.event).state
 
+-- each machine of a world is the run of some history
+pub record HasHistories (u : Setups) (m : Machines) : Type 0 where
+  pub server : (events : List Event) × (m.server ≡ server_run u.server events (open_server u.server))
+  pub node : (events : List RatedEvent) × (m.node ≡ node_run u.node events (open_node u.node))
+
 -- Both histories in some order. A frame that was heard from the other end's address names the frame that it is
 pub record Passed : Type 0 where
   pub server : Bool

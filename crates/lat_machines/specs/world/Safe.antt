@@ -3,27 +3,30 @@ use Rattle.std.specs.Prelude.{◌≡◌, ◌≢◌, ℕ, ◌≤◌, ◌<◌, Boo
 use Rattle.lat_model.specs.sessions.Slots.{Slot}
 use Rattle.lat_model.specs.sessions.Session.{Session}
 use Rattle.lat_model.specs.sessions.Sessions.{of_generation}
+use Rattle.lat_model.specs.sessions.Joined.{AsksFrom, asks}
 use Rattle.lat_model.specs.numbers.Link.{Link, Frame}
 use Rattle.lat_model.specs.numbers.NetOk.{FrameOf}
 use Rattle.lat_model.specs.ends.End.{Half}
 use Rattle.lat_model.specs.circuits.World.{World}
 use Rattle.lat_model.specs.circuits.Events.{WorldEvent, go_on, open_world}
 use Rattle.lat_model.specs.circuits.InOrder.{Stream}
-use Rattle.lat_model.specs.circuits.History.{Credited}
+use Rattle.lat_model.specs.circuits.History.{History, Credited}
 use Rattle.lat_model.specs.circuits.Agree.{Agree}
+use Rattle.lat_model.specs.circuits.Together.{flat}
 use Rattle.lat_machines.specs.values.Addresses.{everyone}
 use Rattle.lat_machines.specs.values.Messages.{RunMessage, WideMessage, StartMessage, StopMessage}
 use Rattle.lat_machines.specs.values.Frames.{Value, OfCircuit, OfNotice, Whole, OutFrame}
 use Rattle.lat_machines.specs.values.Runs.{slots_in}
 use Rattle.lat_machines.specs.server.Queue.{LegalQueue}
 use Rattle.lat_machines.specs.values.Events.{Event, Hears}
-use Rattle.lat_machines.specs.values.Answers.{Answer, Circuit, Broke, Bad}
+use Rattle.lat_machines.specs.values.Answers.{Answer, Circuit, Broke}
 use Rattle.lat_machines.specs.cores.Cores.{setup_of}
 use Rattle.lat_machines.specs.server.Server.{ServerConfig, Server, server_step, offer_on, grantable}
 use Rattle.lat_machines.specs.node.Node.{node_step}
 use Rattle.lat_machines.specs.world.Machines.{Setups, Posted, Machines, core_of, own_of, tell, is_for_other, heard_as}
 use Rattle.lat_machines.specs.world.Young.{link_of, IsYoung}
-use Rattle.lat_machines.specs.world.Spans.{OneSpan}
+use Rattle.lat_machines.specs.world.Bears.{BearsMarked}
+use Rattle.lat_machines.specs.world.Spans.{both_wide, OneSpan}
 use Rattle.lat_machines.specs.world.Ties.{Ties}
 
 -- what the laws ask of two configurations
@@ -56,6 +59,16 @@ pub record Shared (u : Setups) (m : Machines) (p : ℕ) (q : ℕ) : Type 0 where
   pub running : (m.server.core.circuits.circuit_at p).end.running ≡ true
   pub peer : (m.server.core.circuits.circuit_at p).end.peer ≡ q
 
+-- such a circuit of the node has the server's address and runs, and both ends have one span
+pub record OneCircuit (u : Setups) (m : Machines) (p : ℕ) (q : ℕ) : Type 0 where
+  pub address : (m.node.core.circuits.circuit_at q).address ≡ u.server.own
+  pub running : (m.node.core.circuits.circuit_at q).end.running ≡ true
+  pub server_wide : (m.server.core.circuits.circuit_at p).end.wide ≡ both_wide u
+  pub node_wide : (m.node.core.circuits.circuit_at q).end.wide ≡ both_wide u
+
+abbrev pub SharedMatch : Setups → Machines → Type 0
+SharedMatch u m = (p q : ℕ) → Shared u m p q → OneCircuit u m p q
+
 -- the whole invariant of two ends: numbers, streams, sessions, credits, ids
 abbrev pub EndsAgree : Setups → Machines → Type 0
 EndsAgree u m = (p q : ℕ) → Shared u m p q → Agree (half_of m true p) (half_of m false q)
@@ -71,14 +84,24 @@ StreamsInOrder u m =
 abbrev pub SlotsCredited : Setups → Machines → Type 0
 SlotsCredited u m = (p q : ℕ) → Shared u m p q → Credited (half_of m true p) × Credited (half_of m false q)
 
+-- A generation is the place of an ask: the first ask among all messages of this end has the generation 1, and so on
+pub record AsksInOrder (a : Half) : Type 0 where
+  pub history : History a
+  pub places : AsksFrom 0 (flat history.formed)
+  pub count : a.sessions.generations ≡ asks (flat history.formed)
+
+abbrev pub GenerationsArePlaces : Setups → Machines → Type 0
+GenerationsArePlaces u m = (p q : ℕ) → Shared u m p q → AsksInOrder (half_of m true p)
+
 -- A RUN is true to its sender: its number is at most that of the newest message, its acknowledgement was shown, and its slots
--- are those of the message of its number
+-- are those of the message of its number, if it is a new or a repeated one; a bare one has none
 pub record TrueFrame (l : Link (List Slot)) (f : OutFrame) (slots : List Slot) : Type 0 where
   pub frame : Frame (List Slot)
   pub number : f.number ≡ frame.number
   pub acknowledgement : f.acknowledgement ≡ frame.acknowledgement
   pub bears : slots ≡ slots_in frame
   pub holds : FrameOf (List Slot) l frame
+  pub marked : BearsMarked l.sent f.mark f.number slots
 
 abbrev pub TrueValue : Link (List Slot) → OutFrame → Value → Type 0
 TrueValue l f (OfCircuit (RunMessage h slots)) = TrueFrame l f slots
@@ -107,12 +130,6 @@ NeverBreaks u m =
     is_for_other u p ≡ true →
     answer_by u m (not p.by_server) (heard_as u p now) ≢ Circuit (Broke r)
 
--- nor is one refused as of no layout
-abbrev pub NeverMalformed : Setups → Machines → Type 0
-NeverMalformed u m =
-    (now : ℕ) (p : Posted) (field at : ℕ) →
-    answer_by u m (not p.by_server) (heard_as u p now) ≢ Bad field at
-
 -- A young frame of one end is heard by the other as its bytes tell, whenever it comes
 abbrev pub HeardByBytes : Setups → Machines → Type 0
 HeardByBytes u m =
@@ -133,10 +150,11 @@ NoGrant config state =
 pub record Safe (u : Setups) (m : Machines) : Type 0 where
   pub circuits : IsCircuits u m
   pub agree : EndsAgree u m
+  pub shared : SharedMatch u m
+  pub places : GenerationsArePlaces u m
   pub spans : OneSpan u m
   pub true_frames : FramesAreTrue u m
   pub queue : LegalQueue m.server.queue
   pub whole : NeverBreaks u m
-  pub readable : NeverMalformed u m
   pub bytes : HeardByBytes u m
   pub grants : NoGrant u.server m.server

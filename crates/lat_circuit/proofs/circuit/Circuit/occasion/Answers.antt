@@ -1,7 +1,7 @@
-use Rattle.std.proofs.Common.{true, ◌++◌, sym, ap, subst, ◌∙◌}
+use Rattle.std.proofs.Common.{◌≡◌, ◌+◌, ◌≤◌, true, ◌++◌, sym, ap, subst, ◌∙◌, arith, length, length-append}
 use Rattle.lat_model.specs.ends.End.{wire_of, occasion}
 use Rattle.lat_model.specs.sessions.Packing.{pack}
-use Rattle.lat_link.specs.Payloads.{slots_as_text}
+use Rattle.lat_link.specs.Payloads.{head_size, slots_as_text}
 use Rattle.lat_circuit.specs.Kept.{Kept}
 use Rattle.lat_circuit.specs.Stands.{Did}
 use Rattle.lat_circuit.proofs.Packs.{length_wire, texts_are}
@@ -27,7 +27,11 @@ returns-clause-did c =
     c.pack-slots.ensures.state c.pack-slots.ensures.count c.if-slots-eq0.false
     (λ e st there.
     let m = wire_of (pack c.self.inside.room e.half.sessions).slots in
+    let text = c.pack-slots.ensures.text e.half.sessions st.sessions ∙ ap (λ z. c.begin.new.payload ++ z) (texts_are m) in
+    let count = length_wire (pack c.self.inside.room e.half.sessions).slots ∙ sym (c.pack-slots.ensures.count e.half.sessions st.sessions) in
+    let room : head_size c.self.inside.link.sending.span + length (slots_as_text m) ≤ 1500 = omega (arith, ap length text, length-append c.begin.new.payload (slots_as_text m), c.begin.ensures.size, c.pack-slots.ensures.room.1, c.self.invariant.0.head_and_room) in
     c.send_message.ensures.did _ m there
-    (c.pack-slots.ensures.text e.half.sessions st.sessions ∙ ap (λ z. c.begin.new.payload ++ z) (texts_are m) ∙ ap (λ z. z ++ slots_as_text m) (c.begin.ensures.text e.half.link m st.link))
-    (length_wire (pack c.self.inside.room e.half.sessions).slots ∙ sym (c.pack-slots.ensures.count e.half.sessions st.sessions)))
+    (record { slots = c.pack-slots.ensures.formed e.half.sessions st.sessions; count = omega (arith, count); room = room })
+    (text ∙ ap (λ z. z ++ slots_as_text m) (c.begin.ensures.text e.half.link m st.link))
+    count)
     )

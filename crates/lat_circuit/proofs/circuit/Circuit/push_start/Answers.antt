@@ -1,4 +1,4 @@
 use Rattle.lat_circuit.proofs.circuit.Circuit.push_start.Goals as goal
 
-pub returns : goal.returns
-returns c = rw c.write.ensures at c.push.ensures
+pub returns-clause-frame : goal.returns-clause-frame
+returns-clause-frame c = rw c.write.ensures.text at c.push.ensures

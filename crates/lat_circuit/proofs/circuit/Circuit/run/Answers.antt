@@ -1,10 +1,12 @@
-use Rattle.std.proofs.Common.{sym, ap, subst, ◌∙◌}
+use Rattle.std.proofs.Common.{◌≡◌, ◌+◌, ◌<◌, ◌≤◌, sym, ap, subst, ◌∙◌, arith}
+use Rattle.std.proofs.lemmas.Bool.{true≢false}
 use Rattle.lat_machines.specs.values.Timing.{agreed_by}
 use Rattle.lat_model.specs.ends.End.{End}
 use Rattle.lat_model.specs.ends.Starting.{Agreed, reply_end}
 use Rattle.lat_seq.specs.declared.span.Span.{Span}
 use Rattle.lat_link.specs.declared.ids.Ids.{Ids}
-use Rattle.lat_link.specs.Links.{fresh_kept}
+use Rattle.lat_link.specs.Links.{fresh_kept, Kept as LinkKept}
+use Rattle.lat_link.specs.Payloads.{head_size}
 use Rattle.lat_circuit.specs.Frames.{timing_shown, info_shown}
 use Rattle.lat_circuit.specs.Kept.{Kept}
 use Rattle.lat_circuit.specs.Shown.{shown}
@@ -31,4 +33,24 @@ returns-clause-did c =
     c.start.ensures.state
     c.agree_sessions.ensures.state
     )
+    )
+
+pub invariant_of-self : goal.invariant_of-self
+invariant_of-self c =
+    let g = c.agreed_by-agreed.result in
+    let holds = c.self.invariant.0 in
+    let knows = c.self.invariant.1 in
+    let span = ap (λ (k : LinkKept). k.sending.span) c.start.ensures.value ∙ c.span_of.ensures in
+    let ids : c.start.new.self.ids ≡ record { master = c.ids.result.master; to = c.args.from; from = c.ids.result.from } = ap (λ (k : LinkKept). k.ids) c.start.ensures.value in (
+      record {
+        few_rounds = omega arith;
+        head_and_room = subst (λ s. head_size s + g.room ≤ 1500) (sym span) c.agreed_by-agreed.ensures.works.fits;
+        in_time = record { due_at = holds.in_time.due_at; heard_at = holds.in_time.heard_at; sent_at = holds.in_time.sent_at; since = holds.in_time.since; start_at = holds.in_time.start_at; empty_at = omega arith };
+      },
+      record {
+        timing = knows.timing;
+        own = subst (λ (i : Ids). 0 < i.from) (sym ids) (subst (λ (i : Ids). 0 < i.from) (sym c.ids.ensures) knows.own);
+        peer = λ h. subst (λ (i : Ids). 0 < i.to) (sym ids) c.requires.source;
+        calls = λ h. absurd (true≢false h);
+      },
     )

@@ -11,3 +11,8 @@ returns-clause-state c = λ e st.
     c.note_empty.ensures.state e (call_end (Set c.args.id c.args.setting) e)
     (with_sessions c.self.inside c.set-answer.new.self e (call e.half.sessions (Set c.args.id c.args.setting)) here (c.set-answer.ensures.state e.half.sessions here.sessions))
     (c.is_held-was_held.ensures e st)
+
+pub returns-clause-answer : goal.returns-clause-answer
+returns-clause-answer c = λ e st.
+    let here = subst (λ k. Stands k e) (sym c.self.view_is) st in
+    c.set-answer.ensures.answer e.half.sessions here.sessions

@@ -1,5 +1,5 @@
 use Rattle.std.proofs.Common.{◌≡◌, ◌<◌, ◌≤◌, ◌∙◌, false, sym, ap, subst, ◌++◌, length, slice_set}
-use Rattle.lat_link.specs.Links.{Stands}
+use Rattle.lat_link.specs.Links.{IsMessage, Stands}
 use Rattle.lat_fields.specs.Payloads.{padded}
 use Rattle.lat_model.specs.numbers.Link.{formed_frame}
 use Rattle.lat_seq.specs.Sides.{Sends}
@@ -20,7 +20,7 @@ invariant_of-self c =
 pub returns-clause-state : goal.returns-clause-state
 returns-clause-state c =
     let room = subst (λ k. k.sending.unacknowledged < k.sending.window) (sym c.self.view_is) c.requires.open in
-    λ l m h text count. formed_stands _ c.push.new.self c.push_back.new.self.items c.copy.result l m
+    λ l m h fair text count. formed_stands _ c.push.new.self c.push_back.new.self.items c.copy.result l m
     (subst (λ k. Stands k l) (sym c.self.view_is) h)
     (ap (λ s. s.span) c.push.ensures.value)
     (c.push.ensures.after (length l.sent) l.known (subst (λ k. Sends k.sending (length l.sent) l.known) (sym c.self.view_is) h.sends))
@@ -28,3 +28,4 @@ returns-clause-state c =
     (c.copy.ensures ∙ (c.write_padding.ensures ∙ ap padded (c.set_slots.ensures ∙ (ap (λ t. slice_set t 1 c.args.slots)
     (subst (λ k. c.args.payload.now ≡ frame_head k.ids k.sending.span false (formed_frame l m) 0 ++ slots_as_text m) (sym c.self.view_is) text)
     ∙ run_formed _ _ _ _ m c.args.slots count))))
+    (subst (λ k. IsMessage k.sending.span m) (sym c.self.view_is) fair)

@@ -25,5 +25,6 @@ returns-clause-packed c = λ before p h.
     id_packed before t _ c.args.progress.now c.count.new.self c.args.out.now c.form-formed.new.out p id d c.form-formed.new.self c.form-formed.result pk s c.requires.id.0 hi c.requires.goes
     (subst (λ z. Does t.master p.after.ceiling (named p.after id) (offer t.master p.after.ceiling c.args.progress.now.room (named p.after id)) z c.form-formed.new.self c.args.out.now c.form-formed.new.out c.form-formed.result) old does)
     (λ x o. c.form-formed.ensures.len p.after.ceiling (named p.after id) x s.sound (old ∙ s.kept) s.named_so s.rejecting o)
+    (λ x o. c.form-formed.ensures.formed p.after.ceiling (named p.after id) x s.sound s.source (old ∙ s.kept) s.rejecting o)
     (ap (λ n. record t { served = n; sessions = set t.sessions (id - 1) c.form-formed.new.self }) c.served_after-self-inside.ensures)
     (c.count.ensures ∙ ap (λ n. counted c.form-formed.result n c.args.progress.now) bytes)

@@ -43,7 +43,7 @@ returns-clause-packed c = λ before p h.
     let g : (not c.args.progress.now.ended && nat_lt c.args.progress.now.formed 255) ≡ true = sym c.goes.ensures ∙ search rules in
     (sent_reject before c.args.self.now _ c.args.progress.now c.count-2.new.self c.args.out.now c.write_reject.new.out p c.args.at c.in-Rejected.peer c.in-Rejected.reason d h c.requires.at q g (search rules)
     (ap (λ z. record (the_view c.self.inside) { asks = z }) c.remove.ensures.items ∙ ap (λ (z : Table). record z { asks = remove z.asks c.args.at }) c.self.view_is)
-    (ap (λ (z : Progress). z.room) c.count-2.ensures) (ap (λ (z : Progress). z.formed) c.count-2.ensures) (ap (λ (z : Progress). z.ended) c.count-2.ensures) c.write_reject.ensures).0
+    (ap (λ (z : Progress). z.room) c.count-2.ensures) (ap (λ (z : Progress). z.formed) c.count-2.ensures) (ap (λ (z : Progress). z.ended) c.count-2.ensures) c.write_reject.ensures.text c.write_reject.ensures.small).0
 
 pub returns-clause-open : goal.returns-clause-open
 returns-clause-open c = λ before p h.
@@ -51,4 +51,4 @@ returns-clause-open c = λ before p h.
     let q : get_or c.args.self.now.asks c.args.at d ≡ Rejected c.in-Rejected.peer c.in-Rejected.reason = ap (λ (z : Table). get_or z.asks c.args.at d) (sym c.self.view_is) ∙ sym c.index.ensures ∙ c.in-Rejected.is in
     let g : (not c.args.progress.now.ended && nat_lt c.args.progress.now.formed 255) ≡ true = sym c.goes.ensures ∙ search rules in
     (sent_reject before c.args.self.now (record c.args.self.now { asks = remove c.args.self.now.asks c.args.at }) c.args.progress.now c.count-2.new.self c.args.out.now c.write_reject.new.out p c.args.at c.in-Rejected.peer c.in-Rejected.reason d h c.requires.at q g (search rules) refl
-    (ap (λ (z : Progress). z.room) c.count-2.ensures) (ap (λ (z : Progress). z.formed) c.count-2.ensures) (ap (λ (z : Progress). z.ended) c.count-2.ensures) c.write_reject.ensures).1
+    (ap (λ (z : Progress). z.room) c.count-2.ensures) (ap (λ (z : Progress). z.formed) c.count-2.ensures) (ap (λ (z : Progress). z.ended) c.count-2.ensures) c.write_reject.ensures.text c.write_reject.ensures.small).1

@@ -1,0 +1,11 @@
+pub mod Verbs
+pub mod EventLines
+pub mod Events
+pub mod SetupLines
+pub mod Setups
+pub mod Places
+pub mod Front
+pub mod Groups
+pub mod ScheduleText
+pub mod EventText
+pub mod ReadsAll

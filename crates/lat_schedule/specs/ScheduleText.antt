@@ -1,0 +1,99 @@
+-- The text of a schedule: its lines in order, and the first one that is wrong or missing.
+use Rattle.std.specs.Prelude.{◌≡◌, ℕ, ◌+◌, ◌-◌, ◌^◌, min, List, length, Option, Some, None, Result, Ok, Err, nat_lt, bytes_eq, codes, if◌then◌else◌}
+use Rattle.lat_node.specs.declared.config.NodeConfig.{NodeConfig}
+use Rattle.lat_server.specs.declared.config.Offer.{Offer}
+use Rattle.lat_server.specs.declared.config.ServerConfig.{ServerConfig}
+use Rattle.lat_text.specs.Lines.{lines_of}
+use Rattle.lat_schedule.specs.declared.front.Front.{Front}
+use Rattle.lat_schedule.specs.declared.groups.Groups.{Groups}
+use Rattle.lat_schedule.specs.declared.schedule.Schedule.{Schedule}
+use Rattle.lat_schedule.specs.declared.schedule.ScheduleFault.{ScheduleFault}
+use Rattle.lat_schedule.specs.declared.schedule.ScheduleFault.TheVariants.{Form, Events, Memory}
+use Rattle.lat_schedule.specs.declared.setup.Setup.{Setup}
+use Rattle.lat_schedule.specs.EventLines.{event_of}
+use Rattle.lat_schedule.specs.Front.{front_at}
+use Rattle.lat_schedule.specs.Groups.{groups_at}
+use Rattle.lat_schedule.specs.Places.{Place, must, many, nothing_at, ◌>>=◌}
+use Rattle.lat_schedule.specs.SetupLines.{service_of, offer_of}
+
+-- what the server is made of
+abbrev pub server_made : Front → (groups : List ℕ) → List Offer → ServerConfig
+server_made front groups offers = record {
+  own = front.server.own;
+  name = front.server.name;
+  lines = front.server.lines;
+  offers = offers;
+  groups = groups;
+  timing = front.circuit.server;
+}
+
+-- what the node is made of
+abbrev pub node_made : Front → (groups : List ℕ) → (services : List (List ℕ)) → NodeConfig
+node_made front groups services = record {
+  own = front.node.own;
+  name = front.node.name;
+  incarnation = front.node.incarnation;
+  lines = front.node.lines;
+  services = services;
+  timer = front.node.timer;
+  groups = groups;
+  timing = front.circuit.node;
+}
+
+abbrev pub setup_of : Front → Groups → List (List ℕ) → List Offer → Setup
+setup_of front groups services offers = record { server = server_made front groups.server offers; node = node_made front groups.node services }
+
+-- a line of one word
+abbrev pub if_word : List ℕ → List ℕ → Option (Unit {0})
+if_word word line = if bytes_eq line word then Some tt else None
+
+-- the lines behind a line that must be this word
+abbrev pub word_at : List ℕ → Place → Result Place ℕ
+word_at word at = do
+  next ← must (if_word word) at
+  Ok next.1
+
+-- `end`, with nothing behind it
+abbrev pub ending_at : Place → Result (Unit {0}) ℕ
+ending_at at = do
+  behind ← word_at (codes "end") at
+  nothing_at behind
+
+-- a line number as it is told
+abbrev pub told_number : ℕ → ℕ
+told_number number = min number (2 ^ 32 - 1)
+
+-- The schedule that lines say: the first four, the groups, the services, the offers, `go`, the events, and `end` with
+-- nothing behind it. Or the number of the first line that is wrong or missing
+abbrev pub schedule_at : Place → Result Schedule ℕ
+schedule_at at = do
+  front ← front_at at
+  groups ← Ok (groups_at front.0.version front.1)
+  services ← Ok (many service_of groups.1)
+  offers ← Ok (many (offer_of front.0.server.lines) services.1)
+  began ← word_at (codes "go") offers.1
+  events ← Ok (many (λ before. event_of front.0.server.own) began)
+  ended ← ending_at events.1
+  Ok (record { setup = setup_of front.0 groups.0 services.0 offers.0; first = told_number began.number; events = events.0 })
+
+abbrev pub form_at : ℕ → ScheduleFault
+form_at number = Form (told_number number)
+
+-- a schedule has 100,000 events at most
+abbrev pub within_limit : Schedule → Result Schedule ScheduleFault
+within_limit s = if nat_lt 100000 (length s.events) then Err (Events (told_number (s.first + 100000))) else Ok s
+
+abbrev pub answer_of : Result Schedule ℕ → Result Schedule ScheduleFault
+answer_of (Ok schedule) = within_limit schedule
+answer_of (Err number) = Err (form_at number)
+
+-- the schedule that a text is, or why it is none
+abbrev pub schedule_of : List ℕ → Result Schedule ScheduleFault
+schedule_of text = answer_of (schedule_at (record { number = 1; lines = lines_of text }))
+
+-- what a call that reads a schedule answers; want of memory may stand in place of any answer
+abbrev pub ReadsSchedule : Result Schedule ScheduleFault → List ℕ → Type 0
+ReadsSchedule (Err Memory) text = Unit {0}
+ReadsSchedule (Err (Form line)) text = Err (Form line) ≡ schedule_of text
+ReadsSchedule (Err (Events line)) text = Err (Events line) ≡ schedule_of text
+ReadsSchedule (Ok schedule) text = Ok schedule ≡ schedule_of text

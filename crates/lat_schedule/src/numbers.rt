@@ -1,0 +1,24 @@
+//! Numbers of one and two bytes as they are written.
+
+ghost use Rattle.std.specs.Prelude.{◌≡◌, ◌≤◌, IfSome};
+ghost use Rattle.lat_text.specs.Numbers.{number_within};
+
+use lat_text::number_within;
+
+/// The number of one byte that a text is: so much at least and so much at most.
+pub fn byte_within(least: u8, most: u8, text: &[u8]) -> Option<u8>
+    ensures value { result ≡ number_within least most text.now }
+    ensures range { IfSome result (λ n. (least ≤ n) × (n ≤ most)) }
+{
+    let number = number_within(u64::from(least), u64::from(most), text)?;
+    Some(number as u8)
+}
+
+/// The number of two bytes that a text is, at most so much.
+pub fn short_up_to(most: u16, text: &[u8]) -> Option<u16>
+    ensures value { result ≡ number_within 0 most text.now }
+    ensures most { IfSome result (λ n. n ≤ most) }
+{
+    let number = number_within(0, u64::from(most), text)?;
+    Some(number as u16)
+}

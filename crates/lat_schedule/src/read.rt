@@ -1,0 +1,187 @@
+//! The whole of a schedule.
+
+ghost use Rattle.std.specs.Prelude.{◌≡◌, ◌≤◌, length, IfOk};
+ghost use Rattle.std.specs.Result.{result_map_both};
+ghost use Rattle.lat_model.specs.Lists.{Each};
+ghost use Rattle.lat_node.specs.Config as nodes;
+ghost use Rattle.lat_server.specs.Config as servers;
+ghost use Rattle.lat_server.specs.Config.{AreOffers};
+ghost use Rattle.lat_text.specs.Lines.{lines_of};
+ghost use Rattle.lat_schedule.specs.Events.{IsEvent};
+ghost use Rattle.lat_schedule.specs.Front.{FitsFront};
+ghost use Rattle.lat_schedule.specs.Places.{place};
+ghost use Rattle.lat_schedule.specs.Setups.{IsSetup};
+ghost use Rattle.lat_schedule.specs.ScheduleText.{ReadsSchedule, told_number, form_at, word_at, ending_at, server_made, node_made, schedule_at, within_limit};
+ghost use Rattle.lat_schedule.specs.ReadsAll.{ReadsAll};
+
+use crate::front::{Front, front_of};
+use crate::groups::groups_of;
+use crate::listed::{events_of, offers_of, services_of};
+use crate::rest::Rest;
+use crate::schedule::{Schedule, ScheduleFault};
+use crate::setup::Setup;
+use lat_base::{Bytes, Memory};
+use lat_node::NodeConfig;
+use lat_queue::Services16;
+use lat_server::{Offers, ServerConfig};
+use std::alloc::Global;
+
+/// The greatest number of events.
+const EVENTS: usize = 100_000;
+
+// A line number as it is told.
+fn told_number(number: usize) -> u32
+    ensures { result ≡ told_number number }
+{
+    number.min(u32::MAX as usize) as u32
+}
+
+// The first wrong line.
+fn form_at(number: usize) -> ScheduleFault
+    ensures { result ≡ form_at number }
+{
+    ScheduleFault::Form {
+        line: told_number(number),
+    }
+}
+
+// The lines behind one that must be this word.
+fn word_at<'a>(word: &str, at: Rest<'a>) -> Result<Rest<'a>, usize>
+    ensures { result_map_both place (λ number. number) result ≡ word_at word.now (place at.entry) }
+{
+    let (line, behind) = at.line()?;
+    if line == word.as_bytes() {
+        Ok(behind)
+    } else {
+        Err(at.number)
+    }
+}
+
+// `end`, with nothing behind it.
+fn ending_at(at: Rest<'_>) -> Result<(), usize>
+    ensures { result_map_both (λ done. tt) (λ number. number) result ≡ ending_at (place at.entry) }
+{
+    let behind = word_at("end", at)?;
+    if behind.text.is_empty() {
+        Ok(())
+    } else {
+        Err(behind.number)
+    }
+}
+
+fn server_made(front: &Front, groups: [u8; 32], offers: Offers) -> ServerConfig
+    requires front { FitsFront front.now }
+    requires offers { AreOffers front.now.server.lines offers }
+    ensures value { result ≡ server_made front.now groups offers }
+    ensures valid { servers.IsConfig result }
+{
+    ServerConfig {
+        own: front.server.own,
+        name: front.server.name,
+        lines: front.server.lines,
+        offers,
+        groups,
+        timing: front.circuit.server,
+    }
+}
+
+fn node_made(front: &Front, groups: Bytes, services: Services16) -> NodeConfig
+    requires front { FitsFront front.now }
+    requires groups { length groups ≤ 32 }
+    ensures value { result ≡ node_made front.now groups services }
+    ensures valid { nodes.IsConfig result }
+{
+    NodeConfig {
+        own: front.node.own,
+        name: front.node.name,
+        incarnation: front.node.incarnation,
+        lines: front.node.lines,
+        services,
+        timer: front.node.timer,
+        groups,
+        timing: front.circuit.node,
+    }
+}
+
+// A schedule has 100,000 events at most.
+fn within_limit(schedule: Schedule) -> Result<Schedule, ScheduleFault>
+    ensures value { result ≡ within_limit schedule }
+    ensures few { IfOk result (λ s. length s.events ≤ 100000) }
+{
+    if schedule.events.as_slice().len() > EVENTS {
+        return Err(ScheduleFault::Events {
+            line: schedule.first.saturating_add(EVENTS as u32),
+        });
+    }
+    Ok(schedule)
+}
+
+// Why no schedule is read: a wrong line, by its number, or want of memory.
+enum Stop {
+    Line(usize),
+    Memory,
+}
+
+impl From<usize> for Stop {
+    ghost use Rattle.std.specs.Prelude.{◌≡◌};
+    ghost use Rattle.lat_schedule.specs.declared.read.Stop.TheVariants as stops;
+
+    ghost from_gives = { λ number stop. stop ≡ stops.Line number };
+
+    fn from(number: usize) -> Stop {
+        Stop::Line(number)
+    }
+}
+
+impl From<Memory> for Stop {
+    ghost use Rattle.std.specs.Prelude.{◌≡◌};
+    ghost use Rattle.lat_schedule.specs.declared.read.Stop.TheVariants as stops;
+
+    ghost from_gives = { λ _ stop. stop ≡ stops.Memory };
+
+    fn from(_e: Memory) -> Stop {
+        Stop::Memory
+    }
+}
+
+// The schedule that a text is, whatever the number of its events.
+fn schedule_at(alloc: Global, text: &[u8]) -> Result<Schedule, Stop>
+    ensures value { ReadsAll result (schedule_at (record { number = 1; lines = lines_of text.now })) }
+    ensures setup { IfOk result (λ schedule. IsSetup schedule.setup) }
+    ensures events { IfOk result (λ schedule. Each (IsEvent schedule.setup.server.own) schedule.events) }
+{
+    let (front, at) = match front_of(&Rest::new(text)) {
+        Ok(found) => found,
+        Err(number) => return Err(Stop::Line(number)),
+    };
+    let (groups, at) = groups_of(alloc, front.version, at)?;
+    let (services, at) = services_of(alloc, at)?;
+    let (offers, at) = offers_of(alloc, front.server.lines, at)?;
+    let at = word_at("go", at)?;
+    let first = told_number(at.number);
+    let (events, at) = events_of(alloc, front.server.own, at)?;
+    ending_at(at)?;
+    let server = server_made(&front, groups.server, offers);
+    let node = node_made(&front, groups.node, services);
+    Ok(Schedule {
+        setup: Setup { server, node },
+        first,
+        events,
+    })
+}
+
+/// The schedule that a text is: what both cores are made of, and the events. `Form` exactly where the text is none, with
+/// the first line that is wrong or missing, and `Events` exactly where it is one with more than 100,000 events, with the
+/// line of the first one too many. `docs/FORMATS.md`, "Schedules", has the lines. Takes memory for what it gives.
+pub fn read_schedule(alloc: Global, text: &[u8]) -> Result<Schedule, ScheduleFault>
+    ensures reads { ReadsSchedule result text.now }
+    ensures setup { IfOk result (λ schedule. IsSetup schedule.setup) }
+    ensures events { IfOk result (λ schedule. Each (IsEvent schedule.setup.server.own) schedule.events) }
+    ensures few { IfOk result (λ schedule. length schedule.events ≤ 100000) }
+{
+    match schedule_at(alloc, text) {
+        Ok(schedule) => within_limit(schedule),
+        Err(Stop::Line(number)) => Err(form_at(number)),
+        Err(Stop::Memory) => Err(ScheduleFault::Memory),
+    }
+}
