@@ -1,0 +1,27 @@
+-- What a worker may have put, by what its line gave.
+use Rattle.std.specs.Prelude.{◌≡◌, ℕ, ◌+◌, ◌≤◌, List, length, Option, Some, None, Result, Ok, Err, Bool, true, false}
+use Rattle.lat_outside.specs.declared.line_end.LineGot.{LineGot}
+use Rattle.lat_mind.specs.declared.mind.Move.{Move}
+use Rattle.lat_mind.specs.declared.mind.Move.TheVariants as moves
+use Rattle.lat_cell.specs.declared.desk.Held.{Held}
+use Rattle.lat_cell.specs.declared.desk.Held.TheVariants as helds
+use Rattle.lat_outside.specs.LineEnds.{bytes_got}
+
+-- the count rose by at most what the line gave, where it tells; who tells goes on telling
+abbrev pub Within : Option (List ℕ) → Option (List ℕ) → ℕ → ℕ → Type 0
+Within None None before now = Unit {0}
+Within None (Some left) before now = ⊥
+Within (Some old) None before now = ⊥
+Within (Some old) (Some left) before now = now + length left ≤ before + length old
+
+abbrev pub got_of : {E : Type 0} → Result LineGot E → ℕ
+got_of (Ok g) = bytes_got g
+got_of (Err e) = 0
+
+abbrev pub is_put : Move → Bool
+is_put moves.Put = true
+is_put _ = false
+
+abbrev pub is_read : Held → Bool
+is_read helds.Read = true
+is_read _ = false

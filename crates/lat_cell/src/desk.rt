@@ -1,0 +1,175 @@
+//! What a line's worker has before it.
+
+ghost use Rattle.std.specs.Prelude.{◌≡◌, ◌+◌, ◌≤◌, IfSome, IfOk, length, true, false};
+ghost use Rattle.lat_history.specs.Counts.{seat_of, put_by, put_of};
+ghost use Rattle.lat_cell.specs.Within.{is_put, is_read};
+
+use lat_base::{Answer, Bytes, Core, Event, Items, Memory, Name, SessionState};
+use lat_history::{Cell, CellFault, LineShare, Receipt};
+use lat_mind::{Fact, LineMind, Move};
+use lat_outside::Tx;
+use std::alloc::Global;
+use std::sync::ledger::Ledger;
+
+/// The mind, and the bytes that it speaks of.
+#[derive(Drop)]
+pub struct Desk {
+    pub mind: LineMind,
+    pub buf: [u8; 1024],
+    pub at: usize,
+}
+
+/// What came of one hold of the lock.
+#[derive(Drop)]
+pub enum Held {
+    Finish,
+    Applied(u64),
+    Took(u64, Items),
+    Read,
+    Rest,
+    Full,
+    Memory,
+}
+
+impl Desk {
+    /// A desk with nothing on it.
+    pub fn new(calls: bool) -> Desk
+        ensures { result.mind.left ≡ 0 }
+    {
+        Desk {
+            mind: LineMind::make(calls),
+            buf: [0; 1024],
+            at: 0,
+        }
+    }
+
+    // The bytes that were read and not yet put.
+    fn rest(&self) -> &[u8]
+        ensures { length result.now ≤ self.now.mind.left }
+    {
+        let start = self.at.min(1024);
+        let end = (start + self.mind.left() as usize).min(1024);
+        &self.buf[start..end]
+    }
+}
+
+// The event of a move, and none for a move that is no event.
+fn event_of(
+    alloc: Global,
+    desk: &Desk,
+    line: u8,
+    service: Option<Name>,
+    go: Move,
+) -> Result<Option<Event>, Memory>
+    ensures seat { IfOk result (λ r. IfSome r (λ e. seat_of e ≡ line)) }
+    ensures put { IfOk result (λ r. IfSome r (λ e. put_by e ≤ desk.now.mind.left)) }
+    ensures other { IfOk result (λ r. IfSome r (λ e. is_put go ≡ false → put_by e ≡ 0)) }
+{
+    match go {
+        Move::Connect => match service {
+            Some(service) => Ok(Some(Event::Connect { line, service })),
+            None => Ok(None),
+        },
+        Move::Take => Ok(Some(Event::Take { line, n: 4096 })),
+        Move::Put => {
+            let bytes = Bytes::copy(alloc, desk.rest())?;
+            Ok(Some(Event::Put { line, bytes }))
+        }
+        Move::Close => Ok(Some(Event::Close { line })),
+        _ => Ok(None),
+    }
+}
+
+// How many bytes were put.
+fn took(answer: &Answer) -> u16
+    ensures { result ≡ put_of answer.now }
+{
+    match answer {
+        Answer::Put(n) => *n,
+        _ => 0,
+    }
+}
+
+// The mind is told what came of its move.
+fn tell(desk: &mut Desk, go: Move, answer: &Answer, moment: u64)
+    requires put { put_of answer.now ≤ desk.old.mind.left }
+    requires other { is_put go ≡ false → put_of answer.now ≡ 0 }
+    ensures { desk.new.mind.left + put_of answer.now ≡ desk.old.mind.left }
+{
+    match go {
+        Move::Connect => {
+            let ok = matches!(answer, Answer::Connected { .. });
+            desk.mind.told(Fact::Connect { ok, moment });
+        }
+        Move::Put => {
+            let n = took(answer);
+            desk.mind.told(Fact::Put { took: n, moment });
+            desk.at = (desk.at.min(1024)) + n as usize;
+        }
+        Move::Close => desk.mind.told(Fact::Closed),
+        _ => {}
+    }
+}
+
+// Applies the event of a move.
+fn applied<C: Core, T: Tx, E: Ledger, B: Ledger, F: Ledger>(
+    desk: &mut Desk,
+    alloc: Global,
+    cell: &mut Cell<C, T, E, B, F>,
+    share: &mut LineShare<E, B, F>,
+    event: Event,
+    go: Move,
+    moment: u64,
+) -> Held
+    requires seat { seat_of event ≡ share.old.seat }
+    requires put { put_by event ≤ desk.old.mind.left }
+    requires other { is_put go ≡ false → put_by event ≡ 0 }
+    ensures counts { share.new.bytes + desk.new.mind.left ≤ share.old.bytes + desk.old.mind.left }
+    ensures seat { (share.new.seat ≡ share.old.seat) × (share.new.parts ≡ share.old.parts) }
+    ensures full { result ≡ Held.Full → share.new.full ≡ true }
+    ensures read { is_read result ≡ false }
+{
+    match cell.apply(alloc, event, share) {
+        Ok(Receipt { place, answer }) => {
+            tell(desk, go, &answer, moment);
+            match answer {
+                Answer::Took(items) => Held::Took(place, items),
+                _ => Held::Applied(place),
+            }
+        }
+        Err(CellFault::Full(_)) => Held::Full,
+        Err(CellFault::Memory) => Held::Memory,
+    }
+}
+
+/// What is done under one hold of the lock.
+pub fn hold<C: Core, T: Tx, E: Ledger, B: Ledger, F: Ledger>(
+    desk: &mut Desk,
+    alloc: Global,
+    cell: &mut Cell<C, T, E, B, F>,
+    share: &mut LineShare<E, B, F>,
+    service: Option<Name>,
+) -> Held
+    ensures counts { share.new.bytes + desk.new.mind.left ≤ share.old.bytes + desk.old.mind.left }
+    ensures seat { (share.new.seat ≡ share.old.seat) × (share.new.parts ≡ share.old.parts) }
+    ensures full { result ≡ Held.Full → share.new.full ≡ true }
+    ensures read { result ≡ Held.Read → desk.new.mind.left ≡ 0 }
+{
+    let line = share.seat();
+    let see = cell.look(line);
+    if matches!(see.state, SessionState::Free) {
+        desk.mind.told(Fact::Free);
+    }
+    let go = desk.mind.next(&see);
+    match go {
+        Move::Finish => return Held::Finish,
+        Move::Read => return Held::Read,
+        Move::Rest => return Held::Rest,
+        _ => {}
+    }
+    match event_of(alloc, desk, line, service, go) {
+        Ok(Some(event)) => applied(desk, alloc, cell, share, event, go, see.moment),
+        Ok(None) => Held::Rest,
+        Err(Memory) => Held::Memory,
+    }
+}

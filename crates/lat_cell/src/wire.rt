@@ -1,0 +1,64 @@
+//! The wire's worker.
+
+ghost use Rattle.std.specs.Prelude.{◌≡◌, ◌≤◌, length};
+
+use lat_base::{Addr, Bytes, Core, Event};
+use lat_history::{Cell, LineShare};
+use lat_outside::{Got, Rx, Tx};
+use std::alloc::Global;
+use std::sync::ledger::Ledger;
+use std::sync::{Mutex, Wait};
+
+fn over<C: Core, T: Tx, E: Ledger, B: Ledger, F: Ledger>(cell: &Cell<C, T, E, B, F>) -> bool {
+    cell.stopping() || cell.full().is_some()
+}
+
+// Applies what was heard, with the cell's moment. An event without memory is left out.
+fn hear<C: Core, T: Tx, E: Ledger, B: Ledger, F: Ledger>(
+    alloc: Global,
+    cell: &mut Cell<C, T, E, B, F>,
+    share: &mut LineShare<E, B, F>,
+    from: Addr,
+    payload: &[u8],
+)
+    requires { share.old.seat ≡ 0 }
+    ensures { (share.new.seat ≡ share.old.seat) × (share.new.parts ≡ share.old.parts) }
+{
+    let Ok(payload) = Bytes::copy(alloc, payload) else {
+        return;
+    };
+    let now = cell.moment();
+    let event = Event::Heard { from, payload, now };
+    let _ = cell.apply(alloc, event, share);
+}
+
+/// Applies what the wire brings, until the cell stops or is full.
+pub fn wire_worker<C: Core, T: Tx, X: Rx, E: Ledger, B: Ledger, F: Ledger, R: Wait>(
+    rt: &R,
+    alloc: Global,
+    cell: &Mutex<Cell<C, T, E, B, F>>,
+    share: LineShare<E, B, F>,
+    rx: X,
+) -> LineShare<E, B, F>
+    requires { share.seat ≡ 0 }
+    ensures { (result.seat ≡ share.seat) × (result.parts ≡ share.parts) }
+{
+    let mut share = share;
+    let mut rx = rx;
+    for _ in rt.forever() {
+        if over(&cell.lock(rt)) {
+            return share;
+        }
+        let mut buf = [0; 1500];
+        if let Ok(Got::Frame { from, len }) = rx.recv(&mut buf) {
+            hear(
+                alloc,
+                &mut cell.lock(rt),
+                &mut share,
+                from,
+                &buf[..len as usize],
+            );
+        }
+    }
+    unreachable!()
+}

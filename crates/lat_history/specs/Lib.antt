@@ -1,0 +1,5 @@
+pub mod Counts
+pub mod History
+pub mod CellView
+pub mod Audits
+pub mod Seats

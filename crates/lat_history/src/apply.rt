@@ -1,0 +1,118 @@
+//! One event, under one hold of the lock.
+
+ghost use Rattle.std.specs.Prelude.{◌≡◌, ◌≢◌, ◌+◌, ◌<◌, ◌++◌, ◌≤◌, ◌∷◌, [], length, vec_len, vec_capacity, true, Some, Err, IfOk, OnOk, OnErr};
+ghost use Rattle.lat_history.specs.Counts.{seat_of, bytes_in, put_of, put_by, past, ShowsLimit, IsFullAt, HasRoom};
+ghost use Rattle.lat_history.specs.History.{Grew, SameBefore, run_of};
+
+use crate::cell::{BYTES, Cell, MOST};
+use crate::fault::{CellFault, FullAt, Receipt};
+use crate::past::{Past, bytes, put};
+use crate::share::LineShare;
+use lat_base::{Core, Event, ItemsRoom, Memory, OutFrame};
+use lat_outside::Tx;
+use std::alloc::Global;
+use std::sync::ledger::Ledger;
+
+impl<C: Core, T: Tx, E: Ledger, B: Ledger, F: Ledger> Cell<C, T, E, B, F> {
+    // An event found no room.
+    fn refuse(&mut self, at: FullAt, share: &mut LineShare<E, B, F>)
+        requires { ShowsLimit (Some at) }
+        ensures core { (self.new.core ≡ self.old.core) × (self.new.tx ≡ self.old.tx) × (self.new.sent ≡ self.old.sent) }
+        ensures history { (self.new.history ≡ self.old.history) × (self.new.stopping ≡ self.old.stopping) }
+        ensures share { share.new ≡ record share.old { full = true } }
+        ensures full { 0 < self.new.full_seats }
+    {
+        let Cell { full, fulls, .. } = self;
+        share.refused(fulls);
+        if full.is_none() {
+            *full = Some(at);
+        }
+    }
+
+    /// Applies an event of the share's seat, hands its frames to the carrier (a send that fails is a lost frame), and keeps
+    /// the event with its answer behind all others. The share counts it, and the bytes that a put took.
+    ///
+    /// `Full` exactly where 1,000,000 events are kept, or where the bytes in events would pass 268,435,456: nothing changes but
+    /// that the cell and the share are full. `Memory` where none is found: nothing changes, since all memory is taken first.
+    pub fn apply(
+        &mut self,
+        alloc: Global,
+        event: Event,
+        share: &mut LineShare<E, B, F>,
+    ) -> Result<Receipt, CellFault>
+        requires { share.old.seat ≡ seat_of event }
+        ensures history { IfOk result (λ r. self.new.history ≡ self.old.history ++ past event r.answer ∷ []) }
+        ensures place { IfOk result (λ r. r.place ≡ length self.old.history) }
+        ensures answer { IfOk result (λ r. r.answer ≡ C.answer (run_of C.next (C.opening self.old.core) self.old.history) event) }
+        ensures opening { C.opening self.new.core ≡ C.opening self.old.core }
+        ensures before { SameBefore (T.tried self.old.tx) self.old.sent (T.tried self.new.tx) self.new.sent }
+        ensures share { IfOk result (λ r. share.new ≡ record share.old { events = share.old.events + 1; bytes = share.old.bytes + put_of r.answer }) }
+        ensures put { IfOk result (λ r. put_of r.answer ≤ put_by event) }
+        ensures stopping { self.new.stopping ≡ self.old.stopping }
+        ensures limit { (at : FullAt) → result ≡ Err (CellFault.Full at) → IsFullAt self.old.history event at }
+        ensures room { HasRoom self.old.history event → (at : FullAt) → result ≢ Err (CellFault.Full at) }
+        ensures full { (at : FullAt) → result ≡ Err (CellFault.Full at) → (share.new ≡ record share.old { full = true }) × (0 < self.new.full_seats) }
+        ensures memory { result ≡ Err CellFault.Memory → (share.new ≡ share.old) × (self.new ≡ self.old) }
+        ensures err { OnErr result ((self.new.core ≡ self.old.core) × (self.new.history ≡ self.old.history)) }
+    {
+        let more = bytes(&event);
+        let place = self.history.len();
+        if place >= MOST || more > BYTES - self.kept {
+            let at = FullAt {
+                events: place as u64,
+                bytes: self.kept,
+                more,
+            };
+            self.refuse(at, share);
+            return Err(CellFault::Full(at));
+        }
+        let Cell {
+            core,
+            tx,
+            sent,
+            history,
+            kept,
+            out,
+            events,
+            bytes,
+            ..
+        } = self;
+        let room = ItemsRoom::take(alloc, event.asked())?;
+        reserved(history)?;
+        let answer = core.step(alloc, &event, out)?;
+        let frames = out.frames();
+        *sent += frames.len() as u64;
+        send_all(tx, frames);
+        out.clear();
+        let copy = answer.copy_in(room);
+        share.count(events, bytes, put(&answer));
+        history.push_reserved(Past {
+            event,
+            answer: copy,
+        });
+        *kept += more;
+        Ok(Receipt {
+            place: place as u64,
+            answer,
+        })
+    }
+}
+
+// Hands each frame to the carrier. One that fails is lost.
+fn send_all<T: Tx>(tx: &mut T, frames: &[OutFrame])
+    ensures { Grew (T.tried tx.old) (T.tried tx.new) frames.now }
+{
+    for frame in frames {
+        let _ = tx.send(frame.to, frame.payload.bytes());
+    }
+}
+
+// Makes room for one more.
+fn reserved(history: &mut Vec<Past>) -> Result<(), Memory>
+    ensures items { history.new.items ≡ history.old.items }
+    ensures len { vec_len history.new ≡ vec_len history.old }
+    ensures ok { OnOk result (vec_len history.new < vec_capacity history.new) }
+{
+    history.reserve(1)?;
+    Ok(())
+}
