@@ -2,3 +2,4 @@
 pub mod Goes
 pub mod Walk
 pub mod Tables
+pub mod Ids

@@ -48,7 +48,7 @@ pub record Onto (e : Sessions) (f : Sessions) : Type 0 where
 abbrev pub Goes : Sessions → Sessions → Type 0
 Goes e f = Good e → Onto e f
 
-append_nil : {A : Type 0} → (xs : List A) → xs ++ [] ≡ xs
+pub append_nil : {A : Type 0} → (xs : List A) → xs ++ [] ≡ xs
 append_nil [] = refl
 append_nil (x ∷ xs) = ap (λ z. x ∷ z) (append_nil xs)
 
@@ -84,7 +84,7 @@ goes_then a b c f h g =
       each = λ k l. one_then (a.session k) (b.session k) (c.session k) (x.each k l) (y.each k (omega (arith, l, x.made)));
     }
 
-off : (b : Bool) → not b ≡ true → b ≡ false
+pub off : (b : Bool) → not b ≡ true → b ≡ false
 off true h = sym h
 off false h = refl
 
@@ -228,7 +228,7 @@ goes_form e k room x o = go (nat_eq (e.session k).generation 0) refl
 
 -- hearing
 
-free_blank : (s : Session) → free s ≡ false → s ≡ blank → ⊥
+pub free_blank : (s : Session) → free s ≡ false → s ≡ blank → ⊥
 free_blank s f b = true≢false (ap free (sym b) ∙ f)
 
 -- a session that isn't free gets these fields
@@ -318,7 +318,7 @@ IsQuiet (Take id n) = ⊥
 IsQuiet _ = Unit {0}
 
 -- a slave's session that waits isn't ours
-waits_alien : (e : Sessions) (id : ℕ) → e.master ≡ false → waits (named e id) ≡ true → Good e → Ours (named e id) → ⊥
+pub waits_alien : (e : Sessions) (id : ℕ) → e.master ≡ false → waits (named e id) ≡ true → Good e → Ours (named e id) → ⊥
 waits_alien e id m w g o = true≢false (sym (g.asked m (e.at_id id) (some (nat_eq (e.at_id id) 0) refl) (g.at_made id)) ∙ unstarted)
   where
     f : free (named e id) ≡ false

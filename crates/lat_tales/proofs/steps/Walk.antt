@@ -1,5 +1,5 @@
 -- What every event of a core keeps, where each of its acts does. A session is opened, or accepted, on a line without one.
-use Rattle.std.proofs.Common.{◌≡◌, ◌≢◌, ℕ, zero, suc, ◌+◌, ◌<◌, ◌≤◌, refl, sym, ap, ◌∙◌, arith, Bool, true, false, not, cond, ◌&&◌, List, [], ◌∷◌, ◌++◌, length, Option, Some, None, nat_eq, nat_lt, nat_le, find, eqb-true}
+use Rattle.std.proofs.Common.{◌≡◌, ◌≢◌, ℕ, zero, suc, ◌+◌, ◌<◌, ◌≤◌, refl, sym, ap, ◌∙◌, subst, arith, Bool, true, false, not, cond, ◌&&◌, List, [], ◌∷◌, ◌++◌, length, Option, Some, None, nat_eq, nat_lt, nat_le, find, eqb-true}
 use Rattle.std.proofs.lemmas.Bool.{eqb-false, and_from, and_parts, lt-ltb, le-leb, not-true}
 use Rattle.std.specs.List.{list_any}
 use Rattle.lat_model.specs.sessions.Slots.{Slot}
@@ -46,16 +46,19 @@ pub record Acts (k : Side) (A : Call → Type 0) (Q : Core → Type 0) : Type 0 
   pub runs : (c : Core) (from : ℕ) (wide : Bool) (h : Head) (slots : List Slot) (n : Option Numbers) → Q c → Q (with_circuits c (hear_run k.server c.circuits from wide h slots n c.moment).act.table)
   pub stops : (c : Core) (from to source reason : ℕ) → Q c → Q (with_circuits c (hear_stop_at k.server c.circuits from to source c.moment reason).act.table)
 
-pub record ServerActs (config : ServerConfig) (A : Call → Type 0) (Q : Core → Type 0) : Type 0 where
-  pub acts : Acts (server_side config) A Q
-  pub replies : (c : Core) (from to source : ℕ) (g : Agreed) → Q c → Q (with_circuits c (hear_reply_at c.circuits from to source c.moment g).act.table)
+-- `P` holds until the acts of an event are done, `Q` while sessions are opened or answered behind them
+pub record ServerActs (config : ServerConfig) (A : Call → Type 0) (P : Core → Type 0) (Q : Core → Type 0) : Type 0 where
+  pub acts : Acts (server_side config) A P
+  pub replies : (c : Core) (from to source : ℕ) (g : Agreed) → P c → P (with_circuits c (hear_reply_at c.circuits from to source c.moment g).act.table)
+  pub done : (c : Core) → P c → Q c
   pub opens : (line address : ℕ) (node service : Name) (key : Option Key) (request : Option ℕ) (c : Core) → can_open c address ≡ true → line_exists config.lines line ≡ true → holds c line ≡ false → Q c → Q (opens config line address node service key request c).core
 
-pub record NodeActs (config : NodeConfig) (A : Call → Type 0) (Q : Core → Type 0) : Type 0 where
-  pub acts : Acts (node_side config) A Q
-  pub starts : (c : Core) (from source : ℕ) (g : Agreed) → Q c → Q (with_circuits c (start_at (setup_of config.timing) c.circuits from source c.moment g (start_fact c.circuits from source)).table)
-  pub accepts : (st : Node) (x id line : ℕ) (request : Option ℕ) → waits (asked_at st x id) ≡ true → lives (st.core.circuits.circuit_at x).end ≡ true → line_exists config.lines line ≡ true → holds st.core line ≡ false → Q st.core → Q (judged config st x id request (Accepts line)).core
-  pub refuses : (id reason : ℕ) → A (Refuse id reason)
+pub record NodeActs (config : NodeConfig) (A : Call → Type 0) (P : Core → Type 0) (Q : Core → Type 0) : Type 0 where
+  pub acts : Acts (node_side config) A P
+  pub starts : (c : Core) (from source : ℕ) (g : Agreed) → P c → P (with_circuits c (start_at (setup_of config.timing) c.circuits from source c.moment g (start_fact c.circuits from source)).table)
+  pub done : (c : Core) → P c → Q c
+  pub accepts : (st : Node) (x id line : ℕ) (request : Option ℕ) (service : Name) → waits (asked_at st x id) ≡ true → verdict config st service request ≡ Accepts line → lives (st.core.circuits.circuit_at x).end ≡ true → line_exists config.lines line ≡ true → holds st.core line ≡ false → Q st.core → Q (judged config st x id request (Accepts line)).core
+  pub refuses : (c : Core) (x id reason : ℕ) → Q c → Q (with_circuits c (local_at false c.circuits x (Refuse id reason)).table)
 
 -- what both cores do
 
@@ -103,10 +106,13 @@ both_true : (a b : Bool) → a ≡ true → b ≡ true → (a && b) ≡ true
 both_true true b p q = q
 both_true false b p q = p
 
-module _ (config : ServerConfig) (A : Call → Type 0) (Q : Core → Type 0) (h : ServerActs config A Q) where
-  connect_keeps : (st : Server) (line : ℕ) (service : Name) → Q st.core → Q (connect_event config st line service).state.core
-  connect_keeps st line service r = go (line_exists config.lines line) refl (holds st.core line) refl (best config.groups service st.core.moment st.heard)
+module _ (config : ServerConfig) (A : Call → Type 0) (P : Core → Type 0) (Q : Core → Type 0) (h : ServerActs config A P Q) where
+  connect_keeps : (st : Server) (line : ℕ) (service : Name) → P st.core → Q (connect_event config st line service).state.core
+  connect_keeps st line service p = go (line_exists config.lines line) refl (holds st.core line) refl (best config.groups service st.core.moment st.heard)
     where
+      r : Q st.core
+      r = h.done st.core p
+
       reaches : line_exists config.lines line ≡ true → holds st.core line ≡ false → (b : Best) → Q (connects_to config st line service b).state.core
       reaches ex fr b =
           let x : ℕ = circuit_to st.core b.from in
@@ -129,7 +135,7 @@ module _ (config : ServerConfig) (A : Call → Type 0) (Q : Core → Type 0) (h 
       go true i false j None = r
       go true i false j (Some b) = reaches i j b
 
-  command_keeps : (st : Server) (from : ℕ) (m : Command) (a : Action) → Q st.core → Q (hears_command config st from m a).state.core
+  command_keeps : (st : Server) (from : ℕ) (m : Command) (a : Action) → P st.core → P (hears_command config st from m a).state.core
   command_keeps st from m Ask r = r
   command_keeps st from m Cancel r = go (kept_of (key_of m) (st.queue ++ Cancels (key_of m) ∷ []))
     where
@@ -139,11 +145,11 @@ module _ (config : ServerConfig) (A : Call → Type 0) (Q : Core → Type 0) (h 
         | Some k ↦ record { state = record st { queue = st.queue ++ Cancels (key_of m) ∷ [] }; answer = KeptIs k; frames = status_frame from m (KeptAs k) ∷ [] }
       ]
 
-      go : (o : Option Kept) → Q (told o).state.core
+      go : (o : Option Kept) → P (told o).state.core
       go None = r
       go (Some k) = r
 
-  value_keeps : (st : Server) (from : ℕ) (v : Value) (k : Option Numbers) → Q st.core → Q (hears_value config st from v k).state.core
+  value_keeps : (st : Server) (from : ℕ) (v : Value) (k : Option Numbers) → P st.core → P (hears_value config st from v k).state.core
   value_keeps st from (OfCircuit (RunMessage hd slots)) k r = h.acts.runs st.core from false hd slots k r
   value_keeps st from (OfCircuit (WideMessage hd slots)) k r = h.acts.runs st.core from true hd slots k r
   value_keeps st from (OfCircuit (StartMessage true ask to source info)) k r = r
@@ -155,22 +161,22 @@ module _ (config : ServerConfig) (A : Call → Type 0) (Q : Core → Type 0) (h 
   value_keeps st from (OfNotice (StatusNotice m)) k r = r
   value_keeps st from (OfNotice (SolicitNotice m)) k r = r
 
-  pub event_keeps : (st : Server) (e : Event) → EventAllows A e → Q st.core → Q (server_event config st e).state.core
-  event_keeps st (Hears from (Malformed field at) k now) w r = h.acts.moment st.core now r
+  pub event_keeps : (st : Server) (e : Event) → EventAllows A e → P st.core → Q (server_event config st e).state.core
+  event_keeps st (Hears from (Malformed field at) k now) w r = h.done _ (h.acts.moment st.core now r)
   event_keeps st (Hears from (Whole v) k now) w r =
       let t : Server = record st { core = at_moment now st.core } in
-      let q : Q t.core = h.acts.moment st.core now r in
-      step_cond Q (nat_eq from everyone) (tells t Ignored) (hears_value config t from v k) (λ y. q) (λ y. value_keeps t from v k q)
-  event_keeps st (Time now) w r = times_keep A Q (server_side config) h.acts (upwards 0 st.core.circuits.drawn) (rests (at_moment now st.core)) (h.acts.moment st.core now r)
+      let q : P t.core = h.acts.moment st.core now r in
+      step_cond Q (nat_eq from everyone) (tells t Ignored) (hears_value config t from v k) (λ y. h.done _ q) (λ y. h.done _ (value_keeps t from v k q))
+  event_keeps st (Time now) w r = h.done _ (times_keep A P (server_side config) h.acts (upwards 0 st.core.circuits.drawn) (rests (at_moment now st.core)) (h.acts.moment st.core now r))
   event_keeps st (Connects line service) w r = connect_keeps st line service r
-  event_keeps st (Puts line bytes) w r = put_keeps A Q (server_side config) h.acts config.lines st.core line r bytes w
-  event_keeps st (Sets line setting) w r = set_keeps A Q (server_side config) h.acts config.lines st.core line r setting w
-  event_keeps st (Takes line n) w r = take_keeps A Q (server_side config) h.acts config.lines st.core line r n w
-  event_keeps st (Attends line flag) w r = attend_keeps A Q (server_side config) h.acts config.lines st.core line r flag w
-  event_keeps st (Closes line) w r = close_keeps A Q (server_side config) h.acts config.lines st.core line r w
-  event_keeps st (Requests to id service) w r = r
-  event_keeps st (Withdraws id) w r = r
-  event_keeps st Announces w r = r
+  event_keeps st (Puts line bytes) w r = h.done _ (put_keeps A P (server_side config) h.acts config.lines st.core line r bytes w)
+  event_keeps st (Sets line setting) w r = h.done _ (set_keeps A P (server_side config) h.acts config.lines st.core line r setting w)
+  event_keeps st (Takes line n) w r = h.done _ (take_keeps A P (server_side config) h.acts config.lines st.core line r n w)
+  event_keeps st (Attends line flag) w r = h.done _ (attend_keeps A P (server_side config) h.acts config.lines st.core line r flag w)
+  event_keeps st (Closes line) w r = h.done _ (close_keeps A P (server_side config) h.acts config.lines st.core line r w)
+  event_keeps st (Requests to id service) w r = h.done _ r
+  event_keeps st (Withdraws id) w r = h.done _ r
+  event_keeps st Announces w r = h.done _ r
 
   -- the grant pass
 
@@ -202,7 +208,7 @@ module _ (config : ServerConfig) (A : Call → Type 0) (Q : Core → Type 0) (h 
   pub passed_keeps : (st : Server) (e : Event) → Q (server_event config st e).state.core → Q (server_step config st e).state.core
   passed_keeps st e r = pass_keeps (upwards 0 config.lines) (record { state = finished_requests (server_event config st e).state; frames = [] }) (lines_exist config.lines 0 config.lines (omega arith)) r
 
-  pub server_keeps : (st : Server) (e : Event) → EventAllows A e → Q st.core → Q (server_step config st e).state.core
+  pub server_keeps : (st : Server) (e : Event) → EventAllows A e → P st.core → Q (server_step config st e).state.core
   server_keeps st e w r = passed_keeps st e (event_keeps st e w r)
 
 -- the node
@@ -221,38 +227,49 @@ node_cond : (Q : Core → Type 0) (n : Bool) (s t : NodeStep) → Q s.state.core
 node_cond Q true s t p q = p
 node_cond Q false s t p q = q
 
+-- who is accepted gets a line that exists and has no session
+verdict_line : (config : NodeConfig) (st : Node) (service : Name) (request : Option ℕ) (line : ℕ) → verdict config st service request ≡ Accepts line → (line_exists config.lines line ≡ true) × (holds st.core line ≡ false)
+verdict_line config st service request line e = by request e
+  where
+    l : ℕ
+    l = free_line config st.core
+
+    wrong : (n : ℕ) → Rejects n ≡ Accepts line → ⊥
+    wrong n q = cc
+
+    is_it : Accepts l ≡ Accepts line → l ≡ line
+    is_it q = cc
+
+    on_line : (b : Bool) → nat_eq l 0 ≡ b → cond b (Rejects 7) (Accepts l) ≡ Accepts line → (line_exists config.lines line ≡ true) × (holds st.core line ≡ false)
+    on_line true q r = absurd (wrong 7 r)
+    on_line false q r =
+        let n : l ≢ 0 = eqb-false l 0 q in
+        let m : l ≤ 0 + config.lines = least_in (λ y. not (holds st.core y)) 0 config.lines in
+        subst (λ y. (line_exists config.lines y ≡ true) × (holds st.core y ≡ false)) (is_it r)
+        (and_from (nat_lt 0 l) (nat_le l config.lines) (lt-ltb 0 l (omega (arith, n))) (le-leb l config.lines (omega (arith, m))), not-true (holds st.core l) (least_true (λ y. not (holds st.core y)) 0 config.lines n))
+
+    either : (b : Bool) (n : ℕ) → cond b (on_free_line l) (Rejects n) ≡ Accepts line → (line_exists config.lines line ≡ true) × (holds st.core line ≡ false)
+    either true n r = on_line (nat_eq l 0) refl r
+    either false n r = absurd (wrong n r)
+
+    by : (o : Option ℕ) → verdict config st service o ≡ Accepts line → (line_exists config.lines line ≡ true) × (holds st.core line ≡ false)
+    by None r = either (is_offered config service) 4 r
+    by (Some k) r = either (was_requested service (request_of k st) && not (list_any (nat_eq k) st.accepted)) 5 r
+
 -- Answering a circuit that lives
 record Answering (Q : Core → Type 0) (x : ℕ) (c : Core) : Type 0 where
   pub keeps : Q c
   pub alive : lives (c.circuits.circuit_at x).end ≡ true
 
-module _ (config : NodeConfig) (A : Call → Type 0) (Q : Core → Type 0) (h : NodeActs config A Q) where
+module _ (config : NodeConfig) (A : Call → Type 0) (P : Core → Type 0) (Q : Core → Type 0) (h : NodeActs config A P Q) where
   judged_keeps : (st : Node) (x id : ℕ) (request : Option ℕ) (service : Name) → waits (asked_at st x id) ≡ true → Answering Q x st.core → Answering Q x (judged config st x id request (verdict config st service request)).core
-  judged_keeps st x id request service w a = by request
+  judged_keeps st x id request service w a = go (verdict config st service request) refl
     where
-      l : ℕ
-      l = free_line config st.core
-
-      refused : (n : ℕ) → Answering Q x (judged config st x id request (Rejects n)).core
-      refused n = record { keeps = h.acts.calls st.core x (Refuse id n) (h.refuses id n) a.keeps; alive = local_alive false st.core.circuits x (Refuse id n) ∙ a.alive }
-
-      on_line : (b : Bool) → nat_eq l 0 ≡ b → Answering Q x (judged config st x id request (cond b (Rejects 7) (Accepts l))).core
-      on_line true q = refused 7
-      on_line false q =
-          let n : l ≢ 0 = eqb-false l 0 q in
-          let m : l ≤ 0 + config.lines = least_in (λ line. not (holds st.core line)) 0 config.lines in
-          record {
-            keeps = h.accepts st x id l request w a.alive (and_from (nat_lt 0 l) (nat_le l config.lines) (lt-ltb 0 l (omega (arith, n))) (le-leb l config.lines (omega (arith, m)))) (not-true (holds st.core l) (least_true (λ line. not (holds st.core line)) 0 config.lines n)) a.keeps;
-            alive = local_alive false st.core.circuits x (Calls.Answer id) ∙ a.alive;
-          }
-
-      either : (b : Bool) (n : ℕ) → Answering Q x (judged config st x id request (cond b (on_free_line l) (Rejects n))).core
-      either true n = on_line (nat_eq l 0) refl
-      either false n = refused n
-
-      by : (o : Option ℕ) → Answering Q x (judged config st x id request (verdict config st service o)).core
-      by None = either (is_offered config service) 4
-      by (Some k) = either (was_requested service (request_of k st) && not (list_any (nat_eq k) st.accepted)) 5
+      go : (v : Verdict) → verdict config st service request ≡ v → Answering Q x (judged config st x id request v).core
+      go (Rejects n) e = record { keeps = h.refuses st.core x id n a.keeps; alive = local_alive false st.core.circuits x (Refuse id n) ∙ a.alive }
+      go (Accepts line) e =
+          let f : (line_exists config.lines line ≡ true) × (holds st.core line ≡ false) = verdict_line config st service request line e in
+          record { keeps = h.accepts st x id line request service w e a.alive f.0 f.1 a.keeps; alive = local_alive false st.core.circuits x (Calls.Answer id) ∙ a.alive }
 
   answers_keep : (x : ℕ) (ids : List ℕ) (st : Node) → Answering Q x st.core → Answering Q x (answers_in config x ids st).core
   answers_keep x [] st a = a
@@ -275,17 +292,20 @@ module _ (config : NodeConfig) (A : Call → Type 0) (Q : Core → Type 0) (h : 
       go true q = (answers_keep x (upwards 0 64) st (record { keeps = r; alive = q })).keeps
       go false q = r
 
-  hears_run_keeps : (st : Node) (from : ℕ) (wide : Bool) (hd : Head) (slots : List Slot) (k : Option Numbers) → Q st.core → Q (hears_run config st from wide hd slots k).state.core
+  hears_run_keeps : (st : Node) (from : ℕ) (wide : Bool) (hd : Head) (slots : List Slot) (k : Option Numbers) → P st.core → Q (hears_run config st from wide hd slots k).state.core
   hears_run_keeps st from wide hd slots k r = go (names st.core.circuits from hd.to hd.from)
     where
       s : NodeStep
       s = N.heard_at config st (hear_run false st.core.circuits from wide hd slots k st.core.moment)
 
-      go : (b : Bool) → Q (cond b (answers_asked config hd.to s.state) s.state).core
-      go true = asked_keeps hd.to s.state (h.acts.runs st.core from wide hd slots k r)
-      go false = h.acts.runs st.core from wide hd slots k r
+      q : Q s.state.core
+      q = h.done s.state.core (h.acts.runs st.core from wide hd slots k r)
 
-  start_keeps : (st : Node) (from source : ℕ) (info : StartInfo) → Q st.core → Q (hears_start config st from source info (start_fact st.core.circuits from source)).state.core
+      go : (b : Bool) → Q (cond b (answers_asked config hd.to s.state) s.state).core
+      go true = asked_keeps hd.to s.state q
+      go false = q
+
+  start_keeps : (st : Node) (from source : ℕ) (info : StartInfo) → P st.core → P (hears_start config st from source info (start_fact st.core.circuits from source)).state.core
   start_keeps st from source info r = go (nat_eq (slave_of st.core.circuits from source) 0) (nat_lt (living st.core.circuits) 8 && nat_lt st.core.circuits.drawn 65535) (h.starts st.core from source (agreed_by config.timing info) r)
     where
       t : Table
@@ -294,26 +314,26 @@ module _ (config : NodeConfig) (A : Call → Type 0) (Q : Core → Type 0) (h : 
       fact : Bool → Bool → StartFact
       fact a b = cond a (cond b (Makes (suc t.drawn)) Refuses) (Repeats (slave_of t from source))
 
-      go : (a b : Bool) → Q (with_circuits st.core (start_at (setup_of config.timing) t from source st.core.moment (agreed_by config.timing info) (fact a b)).table) → Q (hears_start config st from source info (fact a b)).state.core
+      go : (a b : Bool) → P (with_circuits st.core (start_at (setup_of config.timing) t from source st.core.moment (agreed_by config.timing info) (fact a b)).table) → P (hears_start config st from source info (fact a b)).state.core
       go true true q = h.acts.renames _ _ q
       go true false q = q
       go false b q = q
 
-  node_value_keeps : (rates : List ℕ) (st : Node) (from : ℕ) (v : Value) (k : Option Numbers) → Q st.core → Q (N.hears_value config rates st from v k).state.core
+  node_value_keeps : (rates : List ℕ) (st : Node) (from : ℕ) (v : Value) (k : Option Numbers) → P st.core → Q (N.hears_value config rates st from v k).state.core
   node_value_keeps rates st from (OfCircuit (RunMessage hd slots)) k r = hears_run_keeps st from false hd slots k r
   node_value_keeps rates st from (OfCircuit (WideMessage hd slots)) k r = hears_run_keeps st from true hd slots k r
-  node_value_keeps rates st from (OfCircuit (StartMessage true ask to source info)) k r = start_keeps st from source info r
-  node_value_keeps rates st from (OfCircuit (StartMessage false ask to source info)) k r = r
-  node_value_keeps rates st from (OfCircuit (StopMessage master ask to source reason text)) k r = h.acts.stops st.core from to source reason r
-  node_value_keeps rates st from (OfNotice (StatusNotice m)) k r = r
+  node_value_keeps rates st from (OfCircuit (StartMessage true ask to source info)) k r = h.done _ (start_keeps st from source info r)
+  node_value_keeps rates st from (OfCircuit (StartMessage false ask to source info)) k r = h.done _ r
+  node_value_keeps rates st from (OfCircuit (StopMessage master ask to source reason text)) k r = h.done _ (h.acts.stops st.core from to source reason r)
+  node_value_keeps rates st from (OfNotice (StatusNotice m)) k r = h.done _ r
   node_value_keeps rates st from (OfNotice (SolicitNotice m)) k r = go (find (same m.service) config.services)
     where
       go : (o : Option Name) → Q (solicited config rates st from m.id o).state.core
-      go None = r
-      go (Some n) = r
-  node_value_keeps rates st from (OfNotice (AnnouncementNotice a)) k r = r
-  node_value_keeps rates st from (OfNotice (CommandNotice m)) k r = r
-  node_value_keeps rates st from (OfNotice (ResponseNotice m)) k r = r
+      go None = h.done _ r
+      go (Some n) = h.done _ r
+  node_value_keeps rates st from (OfNotice (AnnouncementNotice a)) k r = h.done _ r
+  node_value_keeps rates st from (OfNotice (CommandNotice m)) k r = h.done _ r
+  node_value_keeps rates st from (OfNotice (ResponseNotice m)) k r = h.done _ r
 
   again_keeps : (st : Node) (to id : ℕ) (service : Name) (o : Option Requested) → Q st.core → Q (requests_again config st to id service o).state.core
   again_keeps st to id service None r = r
@@ -323,19 +343,19 @@ module _ (config : NodeConfig) (A : Call → Type 0) (Q : Core → Type 0) (h : 
   withdraw_keeps st None r = r
   withdraw_keeps st (Some x) r = r
 
-  pub node_keeps : (rates : List ℕ) (st : Node) (e : Event) → EventAllows A e → Q st.core → Q (node_step config rates st e).state.core
-  node_keeps rates st (Hears from (Malformed field at) k now) w r = h.acts.moment st.core now r
+  pub node_keeps : (rates : List ℕ) (st : Node) (e : Event) → EventAllows A e → P st.core → Q (node_step config rates st e).state.core
+  node_keeps rates st (Hears from (Malformed field at) k now) w r = h.done _ (h.acts.moment st.core now r)
   node_keeps rates st (Hears from (Whole v) k now) w r =
       let t : Node = record st { core = at_moment now st.core } in
-      let q : Q t.core = h.acts.moment st.core now r in
-      node_cond Q (nat_eq from everyone) (N.tells t Ignored) (N.hears_value config rates t from v k) q (node_value_keeps rates t from v k q)
-  node_keeps rates st (Time now) w r = times_keep A Q (node_side config) h.acts (upwards 0 st.core.circuits.drawn) (rests (at_moment now st.core)) (h.acts.moment st.core now r)
-  node_keeps rates st (Connects line service) w r = r
-  node_keeps rates st (Puts line bytes) w r = put_keeps A Q (node_side config) h.acts config.lines st.core line r bytes w
-  node_keeps rates st (Sets line setting) w r = set_keeps A Q (node_side config) h.acts config.lines st.core line r setting w
-  node_keeps rates st (Takes line n) w r = take_keeps A Q (node_side config) h.acts config.lines st.core line r n w
-  node_keeps rates st (Attends line flag) w r = attend_keeps A Q (node_side config) h.acts config.lines st.core line r flag w
-  node_keeps rates st (Closes line) w r = close_keeps A Q (node_side config) h.acts config.lines st.core line r w
-  node_keeps rates st (Requests to id service) w r = again_keeps st to id service (request_of id st) r
-  node_keeps rates st (Withdraws id) w r = withdraw_keeps st (request_of id st) r
-  node_keeps rates st Announces w r = r
+      let q : P t.core = h.acts.moment st.core now r in
+      node_cond Q (nat_eq from everyone) (N.tells t Ignored) (N.hears_value config rates t from v k) (h.done _ q) (node_value_keeps rates t from v k q)
+  node_keeps rates st (Time now) w r = h.done _ (times_keep A P (node_side config) h.acts (upwards 0 st.core.circuits.drawn) (rests (at_moment now st.core)) (h.acts.moment st.core now r))
+  node_keeps rates st (Connects line service) w r = h.done _ r
+  node_keeps rates st (Puts line bytes) w r = h.done _ (put_keeps A P (node_side config) h.acts config.lines st.core line r bytes w)
+  node_keeps rates st (Sets line setting) w r = h.done _ (set_keeps A P (node_side config) h.acts config.lines st.core line r setting w)
+  node_keeps rates st (Takes line n) w r = h.done _ (take_keeps A P (node_side config) h.acts config.lines st.core line r n w)
+  node_keeps rates st (Attends line flag) w r = h.done _ (attend_keeps A P (node_side config) h.acts config.lines st.core line r flag w)
+  node_keeps rates st (Closes line) w r = h.done _ (close_keeps A P (node_side config) h.acts config.lines st.core line r w)
+  node_keeps rates st (Requests to id service) w r = again_keeps st to id service (request_of id st) (h.done _ r)
+  node_keeps rates st (Withdraws id) w r = withdraw_keeps st (request_of id st) (h.done _ r)
+  node_keeps rates st Announces w r = h.done _ r
