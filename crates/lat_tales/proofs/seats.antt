@@ -2,3 +2,5 @@
 pub mod Sound
 pub mod Opens
 pub mod Accepts
+pub mod Steps
+pub mod Follows

@@ -30,6 +30,10 @@ put_by (Puts line bytes) a = accepted_bytes bytes a
 put_by (Sets line setting) a = accepted_setting setting a
 put_by _ a = []
 
-abbrev pub taken_by : Answer → List Item
-taken_by (Took xs) = xs
-taken_by _ = []
+abbrev pub taken_items : Answer → List Item
+taken_items (Took xs) = xs
+taken_items _ = []
+
+abbrev pub taken_by : Event → Answer → List Item
+taken_by (Takes line n) a = taken_items a
+taken_by _ a = []
