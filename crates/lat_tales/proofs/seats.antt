@@ -4,3 +4,5 @@ pub mod Opens
 pub mod Accepts
 pub mod Steps
 pub mod Follows
+pub mod Calls
+pub mod Told

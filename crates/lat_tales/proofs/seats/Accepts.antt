@@ -20,10 +20,10 @@ use Rattle.lat_rounds.proofs.ready.Laters.{waits_goes}
 use Rattle.lat_rounds.proofs.ready.Seats.{is_either}
 use Rattle.lat_rounds.proofs.ready.Opens.{Answering, judged_answering}
 use Rattle.lat_rounds.proofs.ready.Tables.{local_later}
-use Rattle.lat_tales.proofs.steps.Goes.{Good, Ours, waits_alien, off}
+use Rattle.lat_tales.proofs.steps.Goes.{Good, Ours, Untouched, waits_alien, off}
 use Rattle.lat_tales.proofs.steps.Tables.{sess, Turned, turned_then, local_turn}
 use Rattle.lat_tales.proofs.steps.Walk.{local_alive}
-use Rattle.lat_tales.proofs.seats.Sound.{Apart, Distinct, Rest, Sound, Fresh, sound_act, distinct_more, each_then, each_of, append_seat, seat_behind}
+use Rattle.lat_tales.proofs.seats.Sound.{Apart, Distinct, Rest, Sound, IsNew, Fresh, new_act, sound_act, distinct_more, each_then, append_seat, seat_behind}
 
 carry : (P : Seat → Type 0) (y s : Seat) → y ≡ s → P s → P y
 carry P y s q h = subst P (sym q) h
@@ -118,15 +118,18 @@ module _ (config : NodeConfig) (x id : ℕ) (c : Core) (h : Sound false config.l
   new_held line =
       ap₂ (λ a b. not a || b) (alives x ∙ l) (ap (λ k. free ((sess answering x).session k)) serial_is ∙ (frees x ((sess c.circuits x).at_id id) ∙ waits_goes (named (sess c.circuits x) id) w))
 
+  new_untouched : Untouched ((sess answering x).session ((sess answering x).at_id id))
+  new_untouched = (let u : Untouched (named (sess c.circuits x) id) = (h.rest.good x).unseen ((sess c.circuits x).at_id id) (unaccepted (sess c.circuits x) id (h.seated.good.masters x) (h.rest.good x) w) in subst Untouched (sym new_session) (record { put = u.put; taken = u.taken }))
+
   -- what it leaves, but for the lines
   pub record Accepted (line : ℕ) (v : Table) : Type 0 where
     pub rest : Rest false (core_with v line)
     pub table : Turned c.circuits v
-    pub new : over (core_with v line) (seat line ((v.circuit_at x).end.half.sessions.at_id id)) ≡ false
+    pub new : IsNew (core_with v line) (seat line ((v.circuit_at x).end.half.sessions.at_id id))
     pub old : (s : Seat) → over (core_with v line) s ≡ over c s
 
   pub accepted_one : (line : ℕ) → Accepted line (local_at false c.circuits x (Answer id)).table
-  accepted_one line = subst (Accepted line) (sym table_is) (record { rest = rest line; table = onward; new = new_held line; old = λ s. over_same line s })
+  accepted_one line = subst (Accepted line) (sym table_is) (record { rest = rest line; table = onward; new = record { held = new_held line; untouched = new_untouched }; old = λ s. over_same line s })
 
 pub accepts_fresh : (config : NodeConfig) (b : Core) (st : Node) (x id line : ℕ) (request : Option ℕ) (service : Name) → waits (asked_at st x id) ≡ true → verdict config st service request ≡ Accepts line → lives (st.core.circuits.circuit_at x).end ≡ true → Fresh false config.lines b st.core → Fresh false config.lines b (judged config st x id request (Accepts line)).core
 accepts_fresh config b st x id line request service w v l f = record {
@@ -137,7 +140,7 @@ accepts_fresh config b st x id line request service w v l f = record {
   table = turned_then b.circuits st.core.circuits d.circuits f.table a.table;
   more = f.more ++ s ∷ [];
   seats = ap (λ z. z ++ s ∷ []) f.seats ∙ append_seat b.seats f.more s;
-  new = each_then (λ y. over d y ≡ false) f.more (s ∷ []) (each_of (λ y. over st.core y ≡ false) (λ y. over d y ≡ false) f.more f.new (λ y i o. a.old y ∙ o)) (a.new, tt);
+  new = each_then (IsNew d) f.more (s ∷ []) (new_act false config.lines st.core d f.more f.sound a.table (λ y i. subst (IsSeat y) (sym f.seats) (seat_behind y b.seats f.more i)) (λ y i o. a.old y ∙ o) f.new) (a.new, tt);
 }
   where
     a : Accepted config x id st.core f.sound l w line (local_at false st.core.circuits x (Answer id)).table
@@ -184,7 +187,7 @@ refuses_fresh lines b c x id reason f = record {
   table = turned_then b.circuits c.circuits d.circuits f.table t;
   more = f.more;
   seats = f.seats;
-  new = each_of (λ y. over c y ≡ false) (λ y. over d y ≡ false) f.more f.new (λ y i o. refuse_over c x id reason y f.sound.rest.good f.sound.seated.good.masters (f.sound.rest.ours y (subst (IsSeat y) (sym f.seats) (seat_behind y b.seats f.more i))) ∙ o);
+  new = new_act false lines c d f.more f.sound t (λ y i. subst (IsSeat y) (sym f.seats) (seat_behind y b.seats f.more i)) (λ y i o. refuse_over c x id reason y f.sound.rest.good f.sound.seated.good.masters (f.sound.rest.ours y i) ∙ o) f.new;
 }
   where
     d : Core

@@ -21,9 +21,16 @@ use Rattle.lat_rounds.specs.Seated.{IsSeat, Placed, Seated}
 use Rattle.lat_rounds.proofs.ready.Seats.{is_either, seated_later}
 use Rattle.lat_rounds.proofs.ready.Opens.{opens_seated}
 use Rattle.lat_rounds.proofs.ready.Tables.{call_at_later}
-use Rattle.lat_tales.proofs.steps.Goes.{Ours}
+use Rattle.lat_tales.proofs.steps.Goes.{Ours, Untouched}
 use Rattle.lat_tales.proofs.steps.Tables.{sess, Turned, turned_then, local_turn, call_turn}
-use Rattle.lat_tales.proofs.seats.Sound.{Apart, Distinct, last_serial, Rest, Sound, Fresh, distinct_more, serial_more, each_then, each_of, append_seat}
+use Rattle.lat_tales.proofs.seats.Sound.{Apart, Distinct, last_serial, Rest, Sound, IsNew, Fresh, new_act, distinct_more, serial_more, each_then, append_seat, seat_behind}
+
+-- a line session more, with nothing put or taken
+pub record Opens (m : Bool) (c : Core) (d : Core) : Type 0 where
+  pub rest : Rest m d
+  pub seat : Seat
+  pub seats : d.seats ≡ c.seats ++ seat ∷ []
+  pub untouched : Untouched (session_of d seat)
 
 -- a session connected on a circuit that lives and has room
 
@@ -89,8 +96,8 @@ module _ (config : ServerConfig) (line x : ℕ) (service : Name) (key : Option K
     named = λ w. named;
   }
 
-  pub connects_rest : Rest true (connects_on config line x service key request c).core
-  connects_rest = subst (λ (z : Table). Rest true (record c { circuits = z; seats = c.seats ++ s ∷ [] })) (sym table_is) rest
+  pub connects_rest : Opens true c (connects_on config line x service key request c).core
+  connects_rest = subst (λ (z : Table). Opens true c (record c { circuits = z; seats = c.seats ++ s ∷ [] })) (sym table_is) (record { rest = rest; seat = s; seats = refl; untouched = subst Untouched (sym new_session) (record { put = refl; taken = refl }) })
 
 -- a session opened, on a circuit that is called where none lives
 
@@ -125,7 +132,7 @@ called_rest config address c h = record {
         ∙ sym (ap (λ z. (sess t z).at_id i) (eqb-true y (suc c.circuits.drawn) q) ∙ ap (λ (z : CircuitEntry). z.end.half.sessions.at_id i) (upd_same c.circuits.circuit_at (suc c.circuits.drawn) new))
     named y i false q = h.rest.named refl y i ∙ sym (ap (λ (z : CircuitEntry). z.end.half.sessions.at_id i) (upd_other c.circuits.circuit_at (suc c.circuits.drawn) new y (eqb-false y (suc c.circuits.drawn) q)))
 
-opens_rest : (config : ServerConfig) (line address : ℕ) (node service : Name) (key : Option Key) (request : Option ℕ) (c : Core) → 0 < config.timing.sessions → can_open c address ≡ true → Sound true config.lines c → Rest true (opens config line address node service key request c).core
+opens_rest : (config : ServerConfig) (line address : ℕ) (node service : Name) (key : Option Key) (request : Option ℕ) (c : Core) → 0 < config.timing.sessions → can_open c address ≡ true → Sound true config.lines c → Opens true c (opens config line address node service key request c).core
 opens_rest config line address node service key request c pos can h = go (nat_eq (circuit_to c address) 0) refl can
   where
     named_core : Core
@@ -137,17 +144,18 @@ opens_rest config line address node service key request c pos can h = go (nat_eq
     after : Doing → Core
     after d = (connects_on config line (circuit_to d.core address) service key request d.core).core
 
-    go : (b : Bool) → nat_eq (circuit_to c address) 0 ≡ b → cond b (may_call c) (has_room c (circuit_to c address)) ≡ true → Rest true (after (cond b made (rests c)))
+    go : (b : Bool) → nat_eq (circuit_to c address) 0 ≡ b → cond b (may_call c) (has_room c (circuit_to c address)) ≡ true → Opens true c (after (cond b made (rests c)))
     go false i can = connects_rest config line (circuit_to c address) service key request c h (and_parts (nat_eq (c.circuits.circuit_at (circuit_to c address)).address address) (lives (c.circuits.circuit_at (circuit_to c address)).end) (least_true (test_of c.circuits address) 0 c.circuits.drawn (eqb-false (circuit_to c address) 0 i))).1 can
     go true i can =
         let k : Called named_core address (with_circuits named_core (call_at (setup_of config.timing) named_core.circuits address named_core.moment).table) = call_opens (setup_of config.timing) named_core address named_core.moment pos (record { masters = h.seated.good.masters; new = h.seated.good.new }) (eqb-true (circuit_to c address) 0 i) can in
         let r : Rest true (with_circuits c (call_at (setup_of config.timing) c.circuits address c.moment).table) = called_rest config address c h in
-        connects_rest config line (circuit_to made.core address) service key request made.core
+        let z : Opens true made.core (after made) = connects_rest config line (circuit_to made.core address) service key request made.core
         (record {
           seated = seated_later true config.lines c made.core refl (call_at_later (setup_of config.timing) c.circuits address c.moment) h.seated;
           rest = record { good = r.good; distinct = r.distinct; ours = r.ours; named = r.named };
         })
-        (ap (λ z. lives (made.core.circuits.circuit_at z).end) k.at ∙ k.alive) (ap (has_room made.core) k.at ∙ k.some)
+        (ap (λ z. lives (made.core.circuits.circuit_at z).end) k.at ∙ k.alive) (ap (has_room made.core) k.at ∙ k.some) in
+        record { rest = z.rest; seat = z.seat; seats = z.seats; untouched = z.untouched }
 
 opens_turned : (config : ServerConfig) (line address : ℕ) (node service : Name) (key : Option Key) (request : Option ℕ) (c : Core) → Sound true config.lines c → Turned c.circuits (opens config line address node service key request c).core.circuits
 opens_turned config line address node service key request c h = go (nat_eq (circuit_to c address) 0)
@@ -174,13 +182,17 @@ over_kept c d s g h =
     let k : (lives (end_of d s) ≡ true) × (free (session_of d s) ≡ false) = g.kept s.circuit s.serial (not-false (lives (end_of c s)) o.0) o.1 in
     ap₂ (λ a b. not a || b) k.0 k.1
 
+last_same : (xs : List Seat) (a b : Seat) → xs ++ a ∷ [] ≡ xs ++ b ∷ [] → a ≡ b
+last_same [] a b q = cc
+last_same (x ∷ xs) a b q = last_same xs a b (let r : xs ++ a ∷ [] ≡ xs ++ b ∷ [] = cc in r)
+
 pub opens_fresh : (config : ServerConfig) (b : Core) (line address : ℕ) (node service : Name) (key : Option Key) (request : Option ℕ) (c : Core) → 0 < config.timing.sessions → can_open c address ≡ true → line_exists config.lines line ≡ true → holds c line ≡ false → Fresh true config.lines b c → Fresh true config.lines b (opens config line address node service key request c).core
 opens_fresh config b line address node service key request c pos can ex fr f = record {
-  sound = record { seated = opens_seated config line address node service key request c pos f.sound.seated can ex fr; rest = opens_rest config line address node service key request c pos can f.sound };
-  table = turned_then b.circuits c.circuits d.circuits f.table (opens_turned config line address node service key request c f.sound);
-  more = f.more ++ o.seat ∷ [];
-  seats = o.seats ∙ (ap (λ z. z ++ o.seat ∷ []) f.seats ∙ append_seat b.seats f.more o.seat);
-  new = each_then (λ s. over d s ≡ false) f.more (o.seat ∷ []) (each_of (λ s. over c s ≡ false) (λ s. over d s ≡ false) f.more f.new (λ s i. over_kept c d s o.grown)) (o.held, tt);
+  sound = record { seated = opens_seated config line address node service key request c pos f.sound.seated can ex fr; rest = r.rest };
+  table = turned_then b.circuits c.circuits d.circuits f.table t;
+  more = f.more ++ r.seat ∷ [];
+  seats = r.seats ∙ (ap (λ z. z ++ r.seat ∷ []) f.seats ∙ append_seat b.seats f.more r.seat);
+  new = each_then (IsNew d) f.more (r.seat ∷ []) (new_act true config.lines c d f.more f.sound t (λ s i. subst (IsSeat s) (sym f.seats) (seat_behind s b.seats f.more i)) (λ s i. over_kept c d s o.grown) f.new) (record { held = ap (over d) (last_same c.seats r.seat o.seat (sym r.seats ∙ o.seats)) ∙ o.held; untouched = r.untouched }, tt);
 }
   where
     d : Core
@@ -188,3 +200,9 @@ opens_fresh config b line address node service key request c pos can ex fr f = r
 
     o : Opened c line d
     o = opens_at config line address node service key request c pos (record { masters = f.sound.seated.good.masters; new = f.sound.seated.good.new }) can
+
+    r : Opens true c d
+    r = opens_rest config line address node service key request c pos can f.sound
+
+    t : Turned c.circuits d.circuits
+    t = opens_turned config line address node service key request c f.sound

@@ -18,7 +18,7 @@ use Rattle.lat_rounds.specs.Seated.{IsSeat, LaterTable, Placed, Seated}
 use Rattle.lat_rounds.proofs.ready.Seats.{seated_later}
 use Rattle.lat_rounds.proofs.ready.Laters.{accepts_none}
 use Rattle.lat_rounds.proofs.ready.Tables as Laters
-use Rattle.lat_tales.proofs.steps.Goes.{Ours, OneGoes, IsQuiet}
+use Rattle.lat_tales.proofs.steps.Goes.{Ours, OneGoes, Untouched, went_untouched, IsQuiet}
 use Rattle.lat_tales.proofs.steps.Tables.{sess, TableGood, Turned, turned_same, turned_then, local_turn, time_turn, run_turn, stop_turn}
 use Rattle.lat_tales.proofs.steps.Ids.{NoConnect, TableIds, table_same, local_ids, time_ids, run_ids, stop_ids}
 use Rattle.lat_tales.proofs.steps.Walk.{Acts}
@@ -71,13 +71,17 @@ pub record Still (m : Bool) (lines : ℕ) (c : Core) (d : Core) : Type 0 where
   pub table : Turned c.circuits d.circuits
   pub seats : d.seats ≡ c.seats
 
--- the new ones are all held
+-- a line session that is held, and nothing was put or taken
+pub record IsNew (d : Core) (s : Seat) : Type 0 where
+  pub held : over d s ≡ false
+  pub untouched : Untouched (session_of d s)
+
 pub record Fresh (m : Bool) (lines : ℕ) (c : Core) (d : Core) : Type 0 where
   pub sound : Sound m lines d
   pub table : Turned c.circuits d.circuits
   pub more : List Seat
   pub seats : d.seats ≡ c.seats ++ more
-  pub new : Each (λ s. over d s ≡ false) more
+  pub new : Each (IsNew d) more
 
 append_nil : {A : Type 0} → (xs : List A) → xs ++ [] ≡ xs
 append_nil [] = refl
@@ -120,6 +124,20 @@ still_acts lines k c = record {
   runs = λ d from wide h slots n s. still_act k.server lines c d (with_circuits d (hear_run k.server d.circuits from wide h slots n d.moment).act.table) refl (Laters.run_at_later k.server k.server d.circuits from wide h slots n d.moment) (run_turn k.server d.circuits from wide h slots n d.moment) (λ w. run_ids k.server d.circuits from wide h slots n d.moment) s;
   stops = λ d from to source reason s. still_act k.server lines c d (with_circuits d (hear_stop_at k.server d.circuits from to source d.moment reason).act.table) refl (Laters.stop_at_later k.server k.server d.circuits from to source d.moment reason) (stop_turn k.server d.circuits from to source d.moment reason) (λ w. stop_ids k.server d.circuits from to source d.moment reason) s;
 }
+
+-- what was new is so behind an act that holds it
+pub new_act : (m : Bool) (lines : ℕ) (c d : Core) (xs : List Seat) → Sound m lines c → Turned c.circuits d.circuits → ((s : Seat) → IsSeat s xs → IsSeat s c.seats) → ((s : Seat) → IsSeat s c.seats → over c s ≡ false → over d s ≡ false) → Each (IsNew c) xs → Each (IsNew d) xs
+new_act m lines c d [] h t i o n = tt
+new_act m lines c d (x ∷ xs) h t i o n = (one, new_act m lines c d xs h t (λ s j. i s (inr j)) o n.1)
+  where
+    there : IsSeat x c.seats
+    there = i x (inl refl)
+
+    p : Placed lines c x
+    p = h.seated.placed x there
+
+    one : IsNew d x
+    one = record { held = o x there n.0.held; untouched = went_untouched (session_of c x) (session_of d x) ((t.at x.circuit p.drawn).sessions.each x.serial p.made) n.0.untouched }
 
 -- one seat more
 
