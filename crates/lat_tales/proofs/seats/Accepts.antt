@@ -23,7 +23,7 @@ use Rattle.lat_rounds.proofs.ready.Tables.{local_later}
 use Rattle.lat_tales.proofs.steps.Goes.{Good, Ours, Untouched, waits_alien, off}
 use Rattle.lat_tales.proofs.steps.Tables.{sess, Turned, turned_then, local_turn}
 use Rattle.lat_tales.proofs.steps.Walk.{local_alive}
-use Rattle.lat_tales.proofs.seats.Sound.{Apart, Distinct, Rest, Sound, IsNew, Fresh, new_act, sound_act, distinct_more, each_then, append_seat, seat_behind}
+use Rattle.lat_tales.proofs.seats.Sound.{Apart, Distinct, Rest, Sound, IsNew, IsFirst, Fresh, new_act, sound_act, distinct_more, each_then, each_of, append_seat, seat_behind}
 
 carry : (P : Seat → Type 0) (y s : Seat) → y ≡ s → P s → P y
 carry P y s q h = subst P (sym q) h
@@ -121,15 +121,33 @@ module _ (config : NodeConfig) (x id : ℕ) (c : Core) (h : Sound false config.l
   new_untouched : Untouched ((sess answering x).session ((sess answering x).at_id id))
   new_untouched = (let u : Untouched (named (sess c.circuits x) id) = (h.rest.good x).unseen ((sess c.circuits x).at_id id) (unaccepted (sess c.circuits x) id (h.seated.good.masters x) (h.rest.good x) w) in subst Untouched (sym new_session) (record { put = u.put; taken = u.taken }))
 
+  new_first : IsFirst ((sess answering x).session ((sess answering x).at_id id))
+  new_first =
+      let g : gone (named (sess c.circuits x) id) ≡ false = waits_here (named (sess c.circuits x) id) w in
+      subst IsFirst (sym new_session) (record { going = g; out = (h.rest.good x).silent ((sess c.circuits x).at_id id) (unaccepted (sess c.circuits x) id (h.seated.good.masters x) (h.rest.good x) w) (unrefused (named (sess c.circuits x) id) g) })
+
+  stays : (y k : ℕ) → IsFirst ((sess c.circuits y).session k) → IsFirst ((sess answering y).session k)
+  stays y k f = go (nat_eq y x) refl
+    where
+      at : (b : Bool) → nat_eq k ((sess c.circuits x).at_id id) ≡ b → IsFirst ((sess c.circuits x).session k) → IsFirst (cond b (record (named (sess c.circuits x) id) { accepted = true }) ((sess c.circuits x).session k))
+      at true q i = (let j : IsFirst (named (sess c.circuits x) id) = subst (λ z. IsFirst ((sess c.circuits x).session z)) (eqb-true k ((sess c.circuits x).at_id id) q) i in record { going = j.going; out = j.out })
+      at false q i = i
+
+      go : (b : Bool) → nat_eq y x ≡ b → IsFirst ((cond b new (c.circuits.circuit_at y)).end.half.sessions.session k)
+      go true q = at (nat_eq k ((sess c.circuits x).at_id id)) refl (subst (λ z. IsFirst ((sess c.circuits z).session k)) (eqb-true y x q) f)
+      go false q = f
+
   -- what it leaves, but for the lines
   pub record Accepted (line : ℕ) (v : Table) : Type 0 where
     pub rest : Rest false (core_with v line)
     pub table : Turned c.circuits v
     pub new : IsNew (core_with v line) (seat line ((v.circuit_at x).end.half.sessions.at_id id))
+    pub first : IsFirst ((v.circuit_at x).end.half.sessions.session ((v.circuit_at x).end.half.sessions.at_id id))
+    pub stay : (s : Seat) → IsFirst (session_of c s) → IsFirst (session_of (core_with v line) s)
     pub old : (s : Seat) → over (core_with v line) s ≡ over c s
 
   pub accepted_one : (line : ℕ) → Accepted line (local_at false c.circuits x (Answer id)).table
-  accepted_one line = subst (Accepted line) (sym table_is) (record { rest = rest line; table = onward; new = record { held = new_held line; untouched = new_untouched }; old = λ s. over_same line s })
+  accepted_one line = subst (Accepted line) (sym table_is) (record { rest = rest line; table = onward; new = record { held = new_held line; untouched = new_untouched }; first = new_first; stay = λ s. stays s.circuit s.serial; old = λ s. over_same line s })
 
 pub accepts_fresh : (config : NodeConfig) (b : Core) (st : Node) (x id line : ℕ) (request : Option ℕ) (service : Name) → waits (asked_at st x id) ≡ true → verdict config st service request ≡ Accepts line → lives (st.core.circuits.circuit_at x).end ≡ true → Fresh false config.lines b st.core → Fresh false config.lines b (judged config st x id request (Accepts line)).core
 accepts_fresh config b st x id line request service w v l f = record {
@@ -141,6 +159,7 @@ accepts_fresh config b st x id line request service w v l f = record {
   more = f.more ++ s ∷ [];
   seats = ap (λ z. z ++ s ∷ []) f.seats ∙ append_seat b.seats f.more s;
   new = each_then (IsNew d) f.more (s ∷ []) (new_act false config.lines st.core d f.more f.sound a.table (λ y i. subst (IsSeat y) (sym f.seats) (seat_behind y b.seats f.more i)) (λ y i o. a.old y ∙ o) f.new) (a.new, tt);
+  first = λ q. each_then (λ y. IsFirst (session_of d y)) f.more (s ∷ []) (each_of (λ y. IsFirst (session_of st.core y)) (λ y. IsFirst (session_of d y)) f.more (f.first q) (λ y i o. a.stay y o)) (a.first, tt);
 }
   where
     a : Accepted config x id st.core f.sound l w line (local_at false st.core.circuits x (Answer id)).table
@@ -160,6 +179,25 @@ refuse_same e id reason k g m o = go (not e.master && waits (named e id)) refl
     go : (b : Bool) → (not e.master && waits (named e id)) ≡ b → (cond b (reject e id reason) e).session k ≡ e.session k
     go false q = refl
     go true q = upd_other e.session (e.at_id id) (record (named e id) { refused = true; reason = reason }) k (λ z. waits_alien e id m (and_parts (not e.master) (waits (named e id)) q).1 g (subst (λ y. Ours (e.session y)) z o))
+
+refuse_session : (c : Core) (x id reason : ℕ) (s : Seat) → ((y : ℕ) → Good (sess c.circuits y)) → ((y : ℕ) → (sess c.circuits y).master ≡ false) → Ours (session_of c s) → session_of (with_circuits c (local_at false c.circuits x (Refuse id reason)).table) s ≡ session_of c s
+refuse_session c x id reason s g m o = go (lives (c.circuits.circuit_at x).end)
+  where
+    step : Step
+    step = record { end = call_end (Refuse id reason) (c.circuits.circuit_at x).end; sent = [] }
+
+    new : CircuitEntry
+    new = record { address = (c.circuits.circuit_at x).address; end = (note_empty (c.circuits.circuit_at x).end step).end }
+
+    at : (b : Bool) → nat_eq s.circuit x ≡ b → (cond b new (c.circuits.circuit_at s.circuit)).end.half.sessions.session s.serial ≡ session_of c s
+    at true q =
+        let e : s.circuit ≡ x = eqb-true s.circuit x q in
+        refuse_same (sess c.circuits x) id reason s.serial (g x) (m x) (subst (λ z. Ours ((sess c.circuits z).session s.serial)) e o) ∙ ap (λ z. (sess c.circuits z).session s.serial) (sym e)
+    at false q = refl
+
+    go : (l : Bool) → session_of (with_circuits c (cond {A = Acted} l (steps_at false c.circuits x step) (idle c.circuits)).table) s ≡ session_of c s
+    go true = at (nat_eq s.circuit x) refl
+    go false = refl
 
 refuse_over : (c : Core) (x id reason : ℕ) (s : Seat) → ((y : ℕ) → Good (sess c.circuits y)) → ((y : ℕ) → (sess c.circuits y).master ≡ false) → Ours (session_of c s) → over (with_circuits c (local_at false c.circuits x (Refuse id reason)).table) s ≡ over c s
 refuse_over c x id reason s g m o = go (lives (c.circuits.circuit_at x).end) (nat_eq s.circuit x) refl
@@ -188,6 +226,7 @@ refuses_fresh lines b c x id reason f = record {
   more = f.more;
   seats = f.seats;
   new = new_act false lines c d f.more f.sound t (λ y i. subst (IsSeat y) (sym f.seats) (seat_behind y b.seats f.more i)) (λ y i o. refuse_over c x id reason y f.sound.rest.good f.sound.seated.good.masters (f.sound.rest.ours y i) ∙ o) f.new;
+  first = λ q. each_of (λ y. IsFirst (session_of c y)) (λ y. IsFirst (session_of d y)) f.more (f.first q) (λ y i o. subst IsFirst (sym (refuse_session c x id reason y f.sound.rest.good f.sound.seated.good.masters (f.sound.rest.ours y (subst (IsSeat y) (sym f.seats) (seat_behind y b.seats f.more i))))) o);
 }
   where
     d : Core

@@ -129,6 +129,7 @@ module _ (k : Side) (lines : ℕ) (c : Core) (h : Sound k.server lines c) (s : S
         asked = λ m j a l. starting j (g.asked m j a l);
         within = λ j. upd_all (λ (z : Session). z.taken ≤ length (items z.came)) e.session s.serial new w.within g.within j;
         unseen = λ j. upd_all (λ (z : Session). z.accepted ≡ false → Untouched z) e.session s.serial new (λ a. absurd (true≢false (sym (w.accepted ∙ (h.rest.ours s n).accepted) ∙ a))) g.unseen j;
+        silent = λ j. upd_all (λ (z : Session). z.accepted ≡ false → z.refused ≡ false → z.out ≡ []) e.session s.serial new (λ a b. absurd (true≢false (sym (w.accepted ∙ (h.rest.ours s n).accepted) ∙ a))) g.silent j;
       }
     where
       starting : (j : ℕ) → starts ((sess c.circuits s.circuit).session j).came ≡ true → starts (updated (sess c.circuits s.circuit).session s.serial new j).came ≡ true

@@ -193,6 +193,7 @@ opens_fresh config b line address node service key request c pos can ex fr f = r
   more = f.more ++ r.seat ∷ [];
   seats = r.seats ∙ (ap (λ z. z ++ r.seat ∷ []) f.seats ∙ append_seat b.seats f.more r.seat);
   new = each_then (IsNew d) f.more (r.seat ∷ []) (new_act true config.lines c d f.more f.sound t (λ s i. subst (IsSeat s) (sym f.seats) (seat_behind s b.seats f.more i)) (λ s i. over_kept c d s o.grown) f.new) (record { held = ap (over d) (last_same c.seats r.seat o.seat (sym r.seats ∙ o.seats)) ∙ o.held; untouched = r.untouched }, tt);
+  first = λ q. absurd (true≢false q);
 }
   where
     d : Core

@@ -2,7 +2,7 @@
 use Rattle.std.proofs.Common.{◌≡◌, ◌≢◌, ℕ, suc, ◌<◌, ◌≤◌, ◌⊎◌, inl, inr, ⊎_elim, refl, sym, ap, ap₂, ◌∙◌, subst, arith, Bool, true, false, not, cond, ◌&&◌, ◌||◌, List, [], ◌∷◌, ◌++◌, nat_eq}
 use Rattle.std.proofs.lemmas.Bool.{true≢false, false≢true}
 use Rattle.lat_model.specs.sessions.Slots.{Slot}
-use Rattle.lat_model.specs.sessions.Session.{Session, free}
+use Rattle.lat_model.specs.sessions.Session.{Session, free, gone}
 use Rattle.lat_model.specs.sessions.Calls.{Call, Connect, Put, Set, Attend, Take, Close, Answer, Refuse}
 use Rattle.lat_model.specs.Lists.{Each}
 use Rattle.lat_model.specs.ends.Starting.{Agreed}
@@ -76,12 +76,18 @@ pub record IsNew (d : Core) (s : Seat) : Type 0 where
   pub held : over d s ≡ false
   pub untouched : Untouched (session_of d s)
 
+-- a session that a node has just accepted
+pub record IsFirst (s : Session) : Type 0 where
+  pub going : gone s ≡ false
+  pub out : s.out ≡ []
+
 pub record Fresh (m : Bool) (lines : ℕ) (c : Core) (d : Core) : Type 0 where
   pub sound : Sound m lines d
   pub table : Turned c.circuits d.circuits
   pub more : List Seat
   pub seats : d.seats ≡ c.seats ++ more
   pub new : Each (IsNew d) more
+  pub first : m ≡ false → Each (λ s. IsFirst (session_of d s)) more
 
 append_nil : {A : Type 0} → (xs : List A) → xs ++ [] ≡ xs
 append_nil [] = refl
@@ -91,7 +97,7 @@ pub still_none : (m : Bool) (lines : ℕ) (c : Core) → Sound m lines c → Sti
 still_none m lines c h = record { sound = h; table = turned_same c.circuits h.rest.good; seats = refl }
 
 pub still_fresh : (m : Bool) (lines : ℕ) (c d : Core) → Still m lines c d → Fresh m lines c d
-still_fresh m lines c d s = record { sound = s.sound; table = s.table; more = []; seats = s.seats ∙ sym (append_nil c.seats); new = tt }
+still_fresh m lines c d s = record { sound = s.sound; table = s.table; more = []; seats = s.seats ∙ sym (append_nil c.seats); new = tt; first = λ q. tt }
 
 pub still_act : (m : Bool) (lines : ℕ) (c d e : Core) → e.seats ≡ d.seats → LaterTable m d.circuits e.circuits → (TableGood d.circuits → Turned d.circuits e.circuits) → (m ≡ true → TableIds d.circuits e.circuits) → Still m lines c d → Still m lines c e
 still_act m lines c d e q l t i s =

@@ -18,7 +18,7 @@ use Rattle.lat_rounds.specs.Seated.{IsSeat}
 use Rattle.lat_rounds.proofs.counting.Cores.{EventAllows}
 use Rattle.lat_tales.specs.Items.{taken_of, line_of, accepted_bytes, accepted_setting, put_by, taken_items, taken_by}
 use Rattle.lat_tales.proofs.steps.Tables.{sess, turned_same}
-use Rattle.lat_tales.proofs.seats.Sound.{Sound, IsNew, Fresh, IsPlain}
+use Rattle.lat_tales.proofs.seats.Sound.{Sound, IsNew, IsFirst, Fresh, IsPlain}
 use Rattle.lat_tales.proofs.seats.Steps.{server_fresh, passed_fresh, node_fresh}
 use Rattle.lat_tales.proofs.seats.Follows.{Follows, follows_same, follows_then, turned_follows}
 use Rattle.lat_tales.proofs.seats.Calls.{Touches, Told, told_none, told_touch, line_told, told_cond, id_leads}
@@ -119,6 +119,7 @@ pub record Tale (m : Bool) (lines : ℕ) (c : Core) (d : Core) (e : Event) (a : 
   pub more : List Seat
   pub seats : d.seats ≡ c.seats ++ more
   pub new : Each (IsNew d) more
+  pub first : m ≡ false → Each (λ s. IsFirst (session_of d s)) more
   pub own : (s : Seat) → IsSeat s c.seats → s ≡ seat_at c (line_of e) → Follows c d s (put_by e a) (taken_by e a)
   pub other : (s : Seat) → IsSeat s c.seats → (s ≡ seat_at c (line_of e) → ⊥) → Follows c d s [] []
 
@@ -128,6 +129,7 @@ fresh_tale m lines c d e a p q h f = record {
   more = f.more;
   seats = f.seats;
   new = f.new;
+  first = f.first;
   own = λ s i r. subst (λ z. Follows c d s z (taken_by e a)) (sym p) (subst (Follows c d s []) (sym q) (turned_follows m lines c d s h i f.table));
   other = λ s i r. turned_follows m lines c d s h i f.table;
 }
@@ -138,6 +140,7 @@ told_tale m lines c b d e a q h own other f = record {
   more = f.more;
   seats = f.seats ∙ ap (λ z. z ++ f.more) q;
   new = f.new;
+  first = f.first;
   own = λ s i r. follows_then c b d s (put_by e a) (taken_by e a) (own s i r) (turned_follows m lines b d s h (subst (IsSeat s) (sym q) i) f.table);
   other = λ s i r. follows_then c b d s [] [] (other s i r) (turned_follows m lines b d s h (subst (IsSeat s) (sym q) i) f.table);
 }
@@ -163,7 +166,7 @@ server_tale config st Announces pos h = fresh_tale true config.lines st.core _ A
 
 -- nothing follows an event of a node
 none_follows : (lines : ℕ) (b : Core) → Sound false lines b → Fresh false lines b b
-none_follows lines b h = record { sound = h; table = turned_same b.circuits h.rest.good; more = []; seats = sym (append_nil b.seats); new = tt }
+none_follows lines b h = record { sound = h; table = turned_same b.circuits h.rest.good; more = []; seats = sym (append_nil b.seats); new = tt; first = λ q. tt }
 
 pub node_tale : (config : NodeConfig) (rates : List ℕ) (st : Node) (e : Event) → Sound false config.lines st.core → Tale false config.lines st.core (node_step config rates st e).state.core e (node_step config rates st e).answer
 node_tale config rates st (Hears from payload k now) h = fresh_tale false config.lines st.core _ (Hears from payload k now) _ refl refl h (node_fresh config rates st (Hears from payload k now) tt h)

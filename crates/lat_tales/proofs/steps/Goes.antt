@@ -31,6 +31,7 @@ pub record Good (e : Sessions) : Type 0 where
   pub asked : e.master ≡ false → (k : ℕ) → 0 < k → k ≤ e.made → starts (e.session k).came ≡ true
   pub within : (k : ℕ) → (e.session k).taken ≤ length (items (e.session k).came)
   pub unseen : (k : ℕ) → (e.session k).accepted ≡ false → Untouched (e.session k)
+  pub silent : (k : ℕ) → (e.session k).accepted ≡ false → (e.session k).refused ≡ false → (e.session k).out ≡ []
 
 pub record Ours (s : Session) : Type 0 where
   pub accepted : s.accepted ≡ true
@@ -43,6 +44,8 @@ pub record OneGoes (s : Session) (t : Session) : Type 0 where
   pub came : IsPrefixOf s.came t.came
   pub generation : s.generation ≢ 0 → t.generation ≡ s.generation
   pub accepts : s.accepted ≡ true → t.accepted ≡ true
+  pub refuses : s.refused ≡ true → t.refused ≡ true
+  pub silent : t.accepted ≡ false → t.refused ≡ false → t.out ≡ s.out
   pub ours : Ours s → Ours t
   pub final : Ours s → free s ≡ true → t ≡ s
 
@@ -63,8 +66,13 @@ append_more : {A : Type 0} → (xs ys zs : List A) → xs ++ (ys ++ zs) ≡ (xs 
 append_more [] ys zs = refl
 append_more (x ∷ xs) ys zs = ap (λ z. x ∷ z) (append_more xs ys zs)
 
+-- what was true is true still, so what is false was false
+still_false : (a b : Bool) → (a ≡ true → b ≡ true) → b ≡ false → a ≡ false
+still_false true b h q = absurd (true≢false (sym (h refl) ∙ q))
+still_false false b h q = refl
+
 pub one_same : (s : Session) → OneGoes s s
-one_same s = record { id = refl; put = refl; taken = refl; came = ([], append_nil s.came); generation = λ n. refl; accepts = λ h. h; ours = λ h. h; final = λ h f. refl }
+one_same s = record { id = refl; put = refl; taken = refl; came = ([], append_nil s.came); generation = λ n. refl; accepts = λ h. h; refuses = λ h. h; silent = λ a b. refl; ours = λ h. h; final = λ h f. refl }
 
 pub one_then : (a b c : Session) → OneGoes a b → OneGoes b c → OneGoes a c
 one_then a b c p q = record {
@@ -74,6 +82,8 @@ one_then a b c p q = record {
   came = (p.came.0 ++ q.came.0, append_more a.came p.came.0 q.came.0 ∙ (ap (λ z. z ++ q.came.0) p.came.1 ∙ q.came.1));
   generation = λ n. q.generation (λ z. n (sym (p.generation n) ∙ z)) ∙ p.generation n;
   accepts = λ h. q.accepts (p.accepts h);
+  refuses = λ h. q.refuses (p.refuses h);
+  silent = λ x y. q.silent x y ∙ p.silent (still_false b.accepted c.accepted q.accepts x) (still_false b.refused c.refused q.refuses y);
   ours = λ h. q.ours (p.ours h);
   final = λ h f. (let e : b ≡ a = p.final h f in q.final (p.ours h) (ap free e ∙ f) ∙ e);
 }
@@ -115,13 +125,6 @@ came_within s t o h =
 pub went_untouched : (s t : Session) → OneGoes s t → Untouched s → Untouched t
 went_untouched s t o u = record { put = o.put ∙ u.put; taken = o.taken ∙ u.taken }
 
-unaccepted_before : (s t : Session) → OneGoes s t → t.accepted ≡ false → s.accepted ≡ false
-unaccepted_before s t o h = go s.accepted refl
-  where
-    go : (b : Bool) → s.accepted ≡ b → s.accepted ≡ false
-    go true q = absurd (true≢false (sym (o.accepts q) ∙ h))
-    go false q = q
-
 -- a session that was made takes the place of another
 
 pub touched : (e f : Sessions) (k : ℕ) (s : Session) → f.session ≡ updated e.session k s → ((i : ℕ) → f.at_id i ≡ e.at_id i) → f.made ≡ e.made → f.master ≡ e.master → (e.session k ≡ blank → ⊥) → OneGoes (e.session k) s → Goes e f
@@ -132,7 +135,8 @@ touched e f k s fs fa fm fb n o g = record {
     at_made = λ i. (let q : f.at_id i ≡ e.at_id i = fa i in omega (arith, q, fm, g.at_made i));
     asked = λ m j a l. came_starts (e.session j) (f.session j) (goes j) (g.asked (sym fb ∙ m) j a (omega (arith, l, fm)));
     within = λ j. came_within (e.session j) (f.session j) (goes j) (g.within j);
-    unseen = λ j a. went_untouched (e.session j) (f.session j) (goes j) (g.unseen j (unaccepted_before (e.session j) (f.session j) (goes j) a));
+    unseen = λ j a. went_untouched (e.session j) (f.session j) (goes j) (g.unseen j (still_false (e.session j).accepted (f.session j).accepted (goes j).accepts a));
+    silent = λ j a b. (goes j).silent a b ∙ g.silent j (still_false (e.session j).accepted (f.session j).accepted (goes j).accepts a) (still_false (e.session j).refused (f.session j).refused (goes j).refuses b);
   };
   made = omega (arith, fm);
   master = fb;
@@ -154,8 +158,8 @@ touched e f k s fs fa fm fb n o g = record {
 
 -- a session more
 
-pub added : (e f : Sessions) (s : Session) → f.session ≡ updated e.session (suc e.made) s → (Good e → (i : ℕ) → f.at_id i ≤ suc e.made) → f.made ≡ suc e.made → f.master ≡ e.master → (e.master ≡ false → starts s.came ≡ true) → Untouched s → Goes e f
-added e f s fs fa fm fb st un g = record {
+pub added : (e f : Sessions) (s : Session) → f.session ≡ updated e.session (suc e.made) s → (Good e → (i : ℕ) → f.at_id i ≤ suc e.made) → f.made ≡ suc e.made → f.master ≡ e.master → (e.master ≡ false → starts s.came ≡ true) → Untouched s → s.out ≡ [] → Goes e f
+added e f s fs fa fm fb st un so g = record {
   good = record {
     none = old 0 (omega arith) ∙ g.none;
     past = λ j l. other j (λ q. absurd (omega (arith, q, l, fm))) ∙ g.past j (omega (arith, l, fm));
@@ -163,6 +167,7 @@ added e f s fs fa fm fb st un g = record {
     asked = λ m j a l. asked (sym fb ∙ m) j a (omega (arith, l, fm)) (nat_eq j (suc e.made)) refl;
     within = λ j. within j (nat_eq j (suc e.made)) refl;
     unseen = λ j a. unseen j a (nat_eq j (suc e.made)) refl;
+    silent = λ j a b. silent j a b (nat_eq j (suc e.made)) refl;
   };
   made = omega (arith, fm);
   master = fb;
@@ -188,6 +193,10 @@ added e f s fs fa fm fb st un g = record {
     unseen : (j : ℕ) → (f.session j).accepted ≡ false → (b : Bool) → nat_eq j (suc e.made) ≡ b → Untouched (f.session j)
     unseen j a true q = subst Untouched (sym (at j ∙ ap (λ b. cond b s (e.session j)) q)) un
     unseen j a false q = (let o : f.session j ≡ e.session j = other j (eqb-false j (suc e.made) q) in subst Untouched (sym o) (g.unseen j (sym (ap (λ (z : Session). z.accepted) o) ∙ a)))
+
+    silent : (j : ℕ) → (f.session j).accepted ≡ false → (f.session j).refused ≡ false → (b : Bool) → nat_eq j (suc e.made) ≡ b → (f.session j).out ≡ []
+    silent j a r true q = ap (λ (z : Session). z.out) (at j ∙ ap (λ b. cond b s (e.session j)) q) ∙ so
+    silent j a r false q = (let o : f.session j ≡ e.session j = other j (eqb-false j (suc e.made) q) in ap (λ (z : Session). z.out) o ∙ g.silent j (sym (ap (λ (z : Session). z.accepted) o) ∙ a) (sym (ap (λ (z : Session). z.refused) o) ∙ r))
 
     within : (j : ℕ) (b : Bool) → nat_eq j (suc e.made) ≡ b → (f.session j).taken ≤ length (items (f.session j).came)
     within j true q = subst (λ (z : Session). z.taken ≤ length (items z.came)) (sym (at j ∙ ap (λ b. cond b s (e.session j)) q)) wi
@@ -229,6 +238,13 @@ free_nothing m c room s h f = ap (λ b. cond b (reject_offer room s) rest) h.ref
         ap (λ b. cond b (start_offer m c room s) (later_offer c room s)) (empty_stops s.out p.0)
         ∙ when_false (answered s && not (has_stop s.out)) (live_offer c room s s.attention) (and_false (answered s) (not (has_stop s.out)) (ap not p.0))
 
+unaccepted_nothing : (m : Bool) (c room : ℕ) (s : Session) → s.accepted ≡ false → s.refused ≡ false → offer m c room s ≡ Nothing
+unaccepted_nothing m c room s a r = ap (λ b. cond b (reject_offer room s) (cond (is_empty s.out) (start_offer m c room s) (later_offer c room s))) r ∙ go (is_empty s.out)
+  where
+    go : (b : Bool) → cond b (start_offer m c room s) (later_offer c room s) ≡ Nothing
+    go true = when_false (s.accepted && not (turned s.came)) (fit room (start_of m c s)) (ap (λ b. b && not (turned s.came)) a)
+    go false = when_false (answered s && not (has_stop s.out)) (live_offer c room s s.attention) (ap (λ b. (b && starts s.came) && not (has_stop s.out)) a)
+
 offers_some : (o : Offer) (x : Slot) → o ≡ Nothing → o ≡ Offers x → ⊥
 offers_some o x p q = cc
 
@@ -240,6 +256,8 @@ formed_goes m c room s n x o g = record {
   came = ([], append_nil s.came);
   generation = g;
   accepts = λ h. h;
+  refuses = λ h. h;
+  silent = λ a r. absurd (offers_some (offer m c room s) x (unaccepted_nothing m c room s a r) o);
   ours = λ h. record { accepted = h.accepted; refused = h.refused };
   final = λ h f. absurd (offers_some (offer m c room s) x (free_nothing m c room s h f) o);
 }
@@ -260,11 +278,11 @@ pub free_blank : (s : Session) → free s ≡ false → s ≡ blank → ⊥
 free_blank s f b = true≢false (ap free (sym b) ∙ f)
 
 -- a session that isn't free gets these fields
-held_goes : (s t : Session) → free s ≡ false → t.id ≡ s.id → t.put ≡ s.put → t.taken ≡ s.taken → IsPrefixOf s.came t.came → t.generation ≡ s.generation → (s.accepted ≡ true → t.accepted ≡ true) → (Ours s → Ours t) → OneGoes s t
-held_goes s t f i p k c n a h = record { id = i; put = p; taken = k; came = c; generation = λ z. n; accepts = a; ours = h; final = λ z g. absurd (true≢false (sym g ∙ f)) }
+held_goes : (s t : Session) → free s ≡ false → t.id ≡ s.id → t.put ≡ s.put → t.taken ≡ s.taken → IsPrefixOf s.came t.came → t.generation ≡ s.generation → (s.accepted ≡ true → t.accepted ≡ true) → (s.refused ≡ true → t.refused ≡ true) → t.out ≡ s.out → (Ours s → Ours t) → OneGoes s t
+held_goes s t f i p k c n a r u h = record { id = i; put = p; taken = k; came = c; generation = λ z. n; accepts = a; refuses = r; silent = λ x y. u; ours = h; final = λ z g. absurd (true≢false (sym g ∙ f)) }
 
 goes_heard : (e : Sessions) (k : ℕ) (x : Slot) → free (e.session k) ≡ false → Goes e (hear_at e k x)
-goes_heard e k x f = touched e (hear_at e k x) k (heard (e.session k) x) refl (λ i. refl) refl refl (free_blank (e.session k) f) (held_goes (e.session k) (heard (e.session k) x) f refl refl refl (x ∷ [], refl) refl (λ h. h) (λ h. record { accepted = h.accepted; refused = h.refused }))
+goes_heard e k x f = touched e (hear_at e k x) k (heard (e.session k) x) refl (λ i. refl) refl refl (free_blank (e.session k) f) (held_goes (e.session k) (heard (e.session k) x) f refl refl refl (x ∷ [], refl) refl (λ h. h) (λ h. h) refl (λ h. record { accepted = h.accepted; refused = h.refused }))
 
 new_ids : (e : Sessions) (i j : ℕ) → Good e → updated e.at_id j (suc e.made) i ≤ suc e.made
 new_ids e i j g = go (nat_eq i j)
@@ -274,7 +292,7 @@ new_ids e i j g = go (nat_eq i j)
     go false = omega (arith, g.at_made i)
 
 goes_asked : (e : Sessions) (x : Slot) (service : List ℕ) (request : Option ℕ) → is_start x ≡ true → Goes e (ask_in e x service request)
-goes_asked e x service request st = added e (ask_in e x service request) (asked_session e x service request) refl ids refl refl (λ m. st) (record { put = refl; taken = refl })
+goes_asked e x service request st = added e (ask_in e x service request) (asked_session e x service request) refl ids refl refl (λ m. st) (record { put = refl; taken = refl }) refl
   where
     ids : Good e → (i : ℕ) → (cond (is_full e) e.at_id (updated e.at_id (least_free e) (suc e.made))) i ≤ suc e.made
     ids g i = go (is_full e)
@@ -333,7 +351,7 @@ goes_kept n side = record {
   after = λ x a b c p q l. goes_then a b c (p l) (q l);
   packs = λ x room e l. pack_by Goes goes_same goes_then goes_form room e;
   hears = λ x slots e l. hears_go slots e;
-  agrees = λ x k e l g. record { good = record { none = g.none; past = g.past; at_made = g.at_made; asked = g.asked; within = g.within; unseen = g.unseen }; made = omega arith; master = refl; each = λ j m. one_same (e.session j) };
+  agrees = λ x k e l g. record { good = record { none = g.none; past = g.past; at_made = g.at_made; asked = g.asked; within = g.within; unseen = g.unseen; silent = g.silent }; made = omega arith; master = refl; each = λ j m. one_same (e.session j) };
   news = λ x e k c l m. absurd (omega (arith, l, m));
 }
 
@@ -363,26 +381,26 @@ waits_alien e id m w g o = true≢false (sym (g.asked m (e.at_id id) (some (nat_
     unstarted = sym (ap (λ b. b && starts (named e id).came) o.accepted) ∙ unanswered
 
 pub goes_call : (e : Sessions) (c : Call) → IsQuiet c → Goes e (call e c)
-goes_call e (Connect service request) a = goes_cond (e.master && nat_lt (held e) e.agreed) (connect e service request) e (λ q. added e (connect e service request) (new_call e service request) refl (λ g i. new_ids e i (least_free e) g) refl refl (λ m. absurd (true≢false (sym (and_parts e.master (nat_lt (held e) e.agreed) q).0 ∙ m))) (record { put = refl; taken = refl }))
+goes_call e (Connect service request) a = goes_cond (e.master && nat_lt (held e) e.agreed) (connect e service request) e (λ q. added e (connect e service request) (new_call e service request) refl (λ g i. new_ids e i (least_free e) g) refl refl (λ m. absurd (true≢false (sym (and_parts e.master (nat_lt (held e) e.agreed) q).0 ∙ m))) (record { put = refl; taken = refl }) refl)
 goes_call e (Put id bs) a = absurd a
 goes_call e (Set id t) a = absurd a
 goes_call e (Take id n) a = absurd a
 goes_call e (Attend id flag) a =
     let s : Session = record (named e id) { attention = Some flag } in
-    goes_cond (put_open (named e id)) (touch e (e.at_id id) s) e (λ q. let f : free (named e id) ≡ false = open_goes (named e id) q in touched e (touch e (e.at_id id) s) (e.at_id id) s refl (λ i. refl) refl refl (free_blank (named e id) f) (held_goes (named e id) s f refl refl refl ([], append_nil (named e id).came) refl (λ h. h) (λ h. record { accepted = h.accepted; refused = h.refused })))
+    goes_cond (put_open (named e id)) (touch e (e.at_id id) s) e (λ q. let f : free (named e id) ≡ false = open_goes (named e id) q in touched e (touch e (e.at_id id) s) (e.at_id id) s refl (λ i. refl) refl refl (free_blank (named e id) f) (held_goes (named e id) s f refl refl refl ([], append_nil (named e id).came) refl (λ h. h) (λ h. h) refl (λ h. record { accepted = h.accepted; refused = h.refused })))
 goes_call e (Close id) a =
     let s : Session = record (named e id) { closed = true } in
-    goes_cond (take_open (named e id)) (touch e (e.at_id id) s) e (λ q. let f : free (named e id) ≡ false = takes_goes (named e id) q in touched e (touch e (e.at_id id) s) (e.at_id id) s refl (λ i. refl) refl refl (free_blank (named e id) f) (held_goes (named e id) s f refl refl refl ([], append_nil (named e id).came) refl (λ h. h) (λ h. record { accepted = h.accepted; refused = h.refused })))
+    goes_cond (take_open (named e id)) (touch e (e.at_id id) s) e (λ q. let f : free (named e id) ≡ false = takes_goes (named e id) q in touched e (touch e (e.at_id id) s) (e.at_id id) s refl (λ i. refl) refl refl (free_blank (named e id) f) (held_goes (named e id) s f refl refl refl ([], append_nil (named e id).came) refl (λ h. h) (λ h. h) refl (λ h. record { accepted = h.accepted; refused = h.refused })))
 goes_call e (Answer id) a =
     let s : Session = record (named e id) { accepted = true } in
-    goes_cond (not e.master && waits (named e id)) (answer e id) e (λ q. let f : free (named e id) ≡ false = waits_goes (named e id) (and_parts (not e.master) (waits (named e id)) q).1 in touched e (answer e id) (e.at_id id) s refl (λ i. refl) refl refl (free_blank (named e id) f) (held_goes (named e id) s f refl refl refl ([], append_nil (named e id).came) refl (λ h. refl) (λ h. record { accepted = refl; refused = h.refused })))
+    goes_cond (not e.master && waits (named e id)) (answer e id) e (λ q. let f : free (named e id) ≡ false = waits_goes (named e id) (and_parts (not e.master) (waits (named e id)) q).1 in touched e (answer e id) (e.at_id id) s refl (λ i. refl) refl refl (free_blank (named e id) f) (held_goes (named e id) s f refl refl refl ([], append_nil (named e id).came) refl (λ h. refl) (λ h. h) refl (λ h. record { accepted = refl; refused = h.refused })))
 goes_call e (Refuse id reason) a =
     let s : Session = record (named e id) { refused = true; reason = reason } in
     goes_cond (not e.master && waits (named e id)) (reject e id reason) e
     (λ q g.
         let p : (not e.master ≡ true) × (waits (named e id) ≡ true) = and_parts (not e.master) (waits (named e id)) q in
         let f : free (named e id) ≡ false = waits_goes (named e id) p.1 in
-        touched e (reject e id reason) (e.at_id id) s refl (λ i. refl) refl refl (free_blank (named e id) f) (held_goes (named e id) s f refl refl refl ([], append_nil (named e id).came) refl (λ h. h) (λ h. absurd (waits_alien e id (off e.master p.0) p.1 g h))) g)
+        touched e (reject e id reason) (e.at_id id) s refl (λ i. refl) refl refl (free_blank (named e id) f) (held_goes (named e id) s f refl refl refl ([], append_nil (named e id).came) refl (λ h. h) (λ h. refl) refl (λ h. absurd (waits_alien e id (off e.master p.0) p.1 g h))) g)
 
 pub void_good : (m : Bool) (agreed ceiling : ℕ) → Good (void_sessions m agreed ceiling)
-void_good m agreed ceiling = record { none = refl; past = λ k l. refl; at_made = λ i. omega arith; asked = λ q k a l. absurd (omega (arith, a, l)); within = λ k. omega arith; unseen = λ k a. record { put = refl; taken = refl } }
+void_good m agreed ceiling = record { none = refl; past = λ k l. refl; at_made = λ i. omega arith; asked = λ q k a l. absurd (omega (arith, a, l)); within = λ k. omega arith; unseen = λ k a. record { put = refl; taken = refl }; silent = λ k a b. refl }
