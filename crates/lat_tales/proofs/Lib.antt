@@ -1,2 +1,3 @@
 pub mod steps
 pub mod seats
+pub mod mates

@@ -3,3 +3,4 @@ pub mod Goes
 pub mod Walk
 pub mod Tables
 pub mod Ids
+pub mod Peers
