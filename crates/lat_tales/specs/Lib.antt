@@ -1,3 +1,4 @@
 pub mod Items
 pub mod Mates
 pub mod Rows
+pub mod Keeping

@@ -43,24 +43,24 @@ pub record KeepsRow (u : Setups) (w : Machines) (s : Seat) (r : KeptRow) : Type 
   pub server : (seat_at w.server.core s.line ≡ s → ⊥) → r.server ≡ figures_of w.server.core s
   pub node : (seat_at w.node.core (partner u w s).line ≡ partner u w s → ⊥) → r.node ≡ figures_of w.node.core (partner u w s)
 
--- a row for each session of the server, in order
-abbrev pub KeepsRows : Setups → Machines → List Seat → List KeptRow → Type 0
-KeepsRows u w [] rs = rs ≡ []
-KeepsRows u w (s ∷ ss) [] = ⊥
-KeepsRows u w (s ∷ ss) (r ∷ rs) = KeepsRow u w s r × KeepsRows u w ss rs
+-- each session with its row, in order
+abbrev pub Pairs : (Seat → KeptRow → Type 0) → List Seat → List KeptRow → Type 0
+Pairs P [] rs = rs ≡ []
+Pairs P (s ∷ ss) [] = ⊥
+Pairs P (s ∷ ss) (r ∷ rs) = P s r × Pairs P ss rs
 
 -- the place, from 1 on, of the newest session of a line; `found` where none follows
 abbrev pub newest_place : ℕ → ℕ → ℕ → List Seat → ℕ
 newest_place line place found [] = found
 newest_place line place found (s ∷ ss) = newest_place line (suc place) (cond (nat_eq s.line line) (suc place) found) ss
 
--- The rows, and for each line the row of its newest session, from 1 on; 0 where it has none
+-- The rows, and for each line the place of the row of its newest session; 0 where it has none
 pub record KeptRows : Type 0 where
   pub rows : List KeptRow
   pub server_lines : ℕ → ℕ
   pub node_lines : ℕ → ℕ
 
 pub record Keeps (u : Setups) (w : Machines) (k : KeptRows) : Type 0 where
-  pub rows : KeepsRows u w w.server.core.seats k.rows
+  pub rows : Pairs (KeepsRow u w) w.server.core.seats k.rows
   pub server_lines : (line : ℕ) → k.server_lines line ≡ newest_place line 0 0 w.server.core.seats
   pub node_lines : (line : ℕ) → k.node_lines line ≡ mate u w (seat_at w.node.core line)

@@ -1,0 +1,2 @@
+-- The rows that are kept are those of the report.
+pub mod Pairs
