@@ -1,2 +1,4 @@
 -- The rows that are kept are those of the report.
 pub mod Pairs
+pub mod By
+pub mod Servers

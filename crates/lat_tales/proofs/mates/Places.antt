@@ -176,3 +176,7 @@ newest_more line n found (y ∷ ys) s = newest_more line (suc n) (cond (nat_eq y
   where
     plus : (n m : ℕ) → suc n + m ≡ n + suc m
     plus n m = omega arith
+
+pub is_at : (s : Seat) (n : ℕ) (xs : List Seat) → IsSeat s xs → (k : ℕ) × IsAt s k n xs
+is_at s n [] i = absurd i
+is_at s n (x ∷ xs) i = ⊎_elim {C = (k : ℕ) × IsAt s k n (x ∷ xs)} (λ q. (suc n, inl (q, refl))) (λ q. let h : (k : ℕ) × IsAt s k (suc n) xs = is_at s (suc n) xs q in (h.0, inr h.1)) i
