@@ -2,3 +2,4 @@
 pub mod Pairs
 pub mod By
 pub mod Servers
+pub mod Nodes
