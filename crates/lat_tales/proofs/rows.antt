@@ -3,3 +3,5 @@ pub mod Pairs
 pub mod By
 pub mod Servers
 pub mod Nodes
+pub mod Runs
+pub mod Told

@@ -2,3 +2,4 @@ pub mod Items
 pub mod Mates
 pub mod Rows
 pub mod Keeping
+pub mod Told

@@ -25,7 +25,7 @@ use Rattle.lat_tales.proofs.seats.Told.{Tale, node_tale}
 use Rattle.lat_tales.proofs.mates.Reach.{Reach}
 use Rattle.lat_tales.proofs.mates.Partners.{Mates, mates_of, mates_are, one_server, one_node, none_partner}
 use Rattle.lat_tales.proofs.mates.Places.{IsAt, at_seat, at_above, one_seat, mate_at, mate_none, MateFound, mate_found, partner_none, partner_is, PartnerFound, partner_found, newest_at}
-use Rattle.lat_tales.proofs.mates.Matched.{HasMate, Homed, node_stays, mate_found_by_ids}
+use Rattle.lat_tales.proofs.mates.Matched.{HasMate, Homed, node_stays, new_mate, mate_found_by_ids}
 use Rattle.lat_tales.proofs.rows.Pairs.{pairs_each, Changed, pairs_change}
 use Rattle.lat_tales.proofs.rows.By.{RowBy, by_row, append_nil, line_some, is_newest, none_on_zero, older_over, none_taken, distinct_front, distinct_apart, append_one, drop_front, updated_line, newest_line}
 
@@ -333,3 +333,23 @@ module _ (u : Setups) (w : Machines) (e : Event) (rates : List ℕ) (r : Reach u
 
       b : Beside d.seats (accepts_all u x c.seats (new_seats c d) (adds false (line_of e) (put_by e a) (taken_by e a) k))
       b = accepted_all c.seats (new_seats c d) (adds false (line_of e) (put_by e a) (taken_by e a) k) (tale.seats ∙ ap (λ z. c.seats ++ z) (sym news)) (subst (Each (IsNew d)) (sym news) tale.new) (subst (Each (λ t. IsFirst (session_of d t))) (sym news) (tale.first refl)) (added k h)
+
+  in_each : (t : Seat) (ts : List Seat) → Each (IsNew d) ts → Each (λ t. IsFirst (session_of d t)) ts → IsSeat t ts → IsNew d t × IsFirst (session_of d t)
+  in_each t [] p q i = absurd i
+  in_each t (y ∷ ys) p q i = ⊎_elim {C = IsNew d t × IsFirst (session_of d t)} (λ z. (subst (IsNew d) (sym z) p.0, subst (λ g. IsFirst (session_of d g)) (sym z) q.0)) (λ z. in_each t ys p.1 q.1 z) i
+
+  seat_either : (t : Seat) (xs ys : List Seat) → IsSeat t (xs ++ ys) → IsSeat t xs ⊎ IsSeat t ys
+  seat_either t [] ys i = inr i
+  seat_either t (y ∷ xs) ys i = ⊎_elim {C = IsSeat t (y ∷ xs) ⊎ IsSeat t ys} (λ z. inl (inl z)) (λ z. ⊎_elim {C = IsSeat t (y ∷ xs) ⊎ IsSeat t ys} (λ g. inl (inr g)) (λ g. inr g) (seat_either t xs ys z)) i
+
+  pub node_homed : Homed u (tell u w false e rates)
+  node_homed t i q = ⊎_elim {C = HasMate u x t} old fresh (seat_either t c.seats tale.more (subst (IsSeat t) tale.seats i))
+    where
+      old : IsSeat t c.seats → HasMate u x t
+      old j =
+          let f : (p : List Item) × (q : List Item) × Follows c d t p q = follows t j in
+          let h : HasMate u w t = homed t j (sym f.2.address ∙ q) in
+          record { seat = h.seat; is_seat = h.is_seat; partner = stay_partners h.seat t j h.partner }
+
+      fresh : IsSeat t tale.more → HasMate u x t
+      fresh j = (let n : IsNew d t × IsFirst (session_of d t) = in_each t tale.more tale.new (tale.first refl) j in new_mate u x rx t i n.0 n.1 q)

@@ -242,3 +242,6 @@ module _ (u : Setups) (w : Machines) (e : Event) (rates : List ℕ) (pos : 0 < u
 
       b : Beside d.seats (connects_all d c.seats (new_seats c d) (adds true (line_of e) (put_by e a) (taken_by e a) k))
       b = connected_all c.seats (new_seats c d) (adds true (line_of e) (put_by e a) (taken_by e a) k) (tale.seats ∙ ap (λ z. c.seats ++ z) (sym news)) (subst (Each (IsNew d)) (sym news) tale.new) (λ s i. subst (IsSeat s) news i) (added k h)
+
+  pub server_homed : Homed u (tell u w true e rates)
+  server_homed t i q = (let h : HasMate u w t = homed t i q in record { seat = h.seat; is_seat = old_seat h.seat h.is_seat; partner = stay_partners h.seat t h.is_seat i h.partner })
