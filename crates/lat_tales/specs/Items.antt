@@ -1,5 +1,5 @@
 -- The items that one event adds to what a line's session has put and taken, by its answer alone.
-use Rattle.std.specs.Prelude.{ℕ, Bool, cond, List, [], ◌∷◌, ◌++◌, map, take}
+use Rattle.std.specs.Prelude.{ℕ, List, [], ◌∷◌, map, take}
 use Rattle.lat_model.specs.sessions.Slots.{Item, Byte, Setting, items}
 use Rattle.lat_model.specs.sessions.Session.{Session}
 use Rattle.lat_machines.specs.values.Events.{Event, Puts, Sets, Takes}

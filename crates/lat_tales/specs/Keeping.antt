@@ -1,5 +1,5 @@
 -- What each event does with the rows that are kept.
-use Rattle.std.specs.Prelude.{ℕ, zero, suc, Bool, true, false, not, cond, ◌&&◌, List, [], ◌∷◌, ◌++◌, length, drop, Option, Some, None, nat_eq, slice_get}
+use Rattle.std.specs.Prelude.{ℕ, zero, suc, Bool, true, false, not, cond, List, [], ◌∷◌, ◌++◌, length, drop, Option, Some, None, slice_get}
 use Rattle.lat_model.specs.Lists.{updated}
 use Rattle.lat_model.specs.sessions.Slots.{Item}
 use Rattle.lat_machines.specs.values.Events.{Event, Hears, is_heard}
@@ -8,7 +8,7 @@ use Rattle.lat_machines.specs.cores.Cores.{Seat, no_seat, Core}
 use Rattle.lat_machines.specs.cores.Lines.{last_on}
 use Rattle.lat_machines.specs.server.Server.{server_step}
 use Rattle.lat_machines.specs.node.Node.{node_step}
-use Rattle.lat_machines.specs.world.Machines.{Setups, Posted, Machines, Move, Does, HearsFrame, HearsForeign, core_of, tell, is_for_other, heard_as, marked_delivered, is_own, happens}
+use Rattle.lat_machines.specs.world.Machines.{Setups, Posted, Machines, Move, Does, HearsFrame, HearsForeign, tell, is_for_other, heard_as, is_own, happens}
 use Rattle.lat_tales.specs.Items.{line_of, put_by, taken_by}
 use Rattle.lat_tales.specs.Mates.{mate_by_ids}
 use Rattle.lat_tales.specs.Rows.{Figures, figures_of, KeptRow, KeptRows}

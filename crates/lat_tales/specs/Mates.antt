@@ -1,5 +1,5 @@
 -- How a node's session finds the session of the server that it belongs to: by circuit and id, and the last one of these.
-use Rattle.std.specs.Prelude.{ℕ, suc, Bool, cond, ◌&&◌, List, [], ◌∷◌, nat_eq}
+use Rattle.std.specs.Prelude.{ℕ, suc, cond, ◌&&◌, List, [], ◌∷◌, nat_eq}
 use Rattle.lat_model.specs.sessions.Session.{peer}
 use Rattle.lat_machines.specs.cores.Cores.{Seat}
 use Rattle.lat_machines.specs.cores.Lines.{end_of, session_of}

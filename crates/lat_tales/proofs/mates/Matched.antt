@@ -1,30 +1,28 @@
 -- A node's new session belongs to the server's last session under its circuit and id, and stays so.
-use Rattle.std.proofs.Common.{◌≡◌, ◌≢◌, ℕ, zero, suc, ◌<◌, ◌≤◌, ◌⊎◌, inl, inr, ⊎_elim, refl, sym, ap, ap₂, ◌∙◌, subst, arith, Bool, true, false, cond, ◌&&◌, List, [], ◌∷◌, ◌++◌, nat_eq, eqb-true, eq-eqb}
-use Rattle.std.proofs.lemmas.Bool.{and_parts, or_parts, true≢false, false≢true, eqb-false}
+use Rattle.std.proofs.Common.{◌≡◌, ◌≢◌, ℕ, ◌<◌, ⊎_elim, refl, sym, ap, ◌∙◌, arith, Bool, true, false, cond, List, [], ◌∷◌, ◌++◌, nat_eq, eqb-true}
+use Rattle.std.proofs.lemmas.Bool.{and_parts, or_parts, false≢true, eqb-false}
 use Rattle.lat_model.specs.sessions.Slots.{Item, Slot, has_stop, starts}
-use Rattle.lat_model.specs.sessions.Session.{Session, blank, free, rejected, stopped, peer}
-use Rattle.lat_model.specs.sessions.Sessions.{Sessions, named, of_generation}
-use Rattle.lat_model.specs.Lists.{Each, IsPrefixOf}
-use Rattle.lat_model.specs.ends.End.{End, lives}
-use Rattle.lat_model.specs.circuits.Agree.{Agree}
+use Rattle.lat_model.specs.sessions.Session.{Session, rejected, stopped, peer}
+use Rattle.lat_model.specs.sessions.Sessions.{named, of_generation}
+use Rattle.lat_model.specs.Lists.{IsPrefixOf}
 use Rattle.lat_machines.specs.values.Events.{Event}
-use Rattle.lat_machines.specs.cores.Cores.{Seat, no_seat, Core}
-use Rattle.lat_machines.specs.cores.Lines.{end_of, session_of, over}
+use Rattle.lat_machines.specs.cores.Cores.{Seat}
+use Rattle.lat_machines.specs.cores.Lines.{end_of, session_of}
 use Rattle.lat_machines.specs.server.Server.{server_step}
 use Rattle.lat_machines.specs.node.Node.{node_step}
 use Rattle.lat_machines.specs.world.Machines.{Setups, Machines, tell}
-use Rattle.lat_machines.specs.world.Safe.{Shared, half_of}
+use Rattle.lat_machines.specs.world.Safe.{Shared}
 use Rattle.lat_machines.specs.world.Reports.{is_partner}
 use Rattle.lat_rounds.specs.Seated.{IsSeat, Placed}
 use Rattle.lat_rounds.proofs.ready.Seats.{over_parts}
 use Rattle.lat_tales.specs.Mates.{last_named, mate, mate_by_ids}
 use Rattle.lat_tales.proofs.steps.Tables.{sess}
-use Rattle.lat_tales.proofs.steps.Peers.{KeepsPeers, node_peers}
+use Rattle.lat_tales.proofs.steps.Peers.{node_peers}
 use Rattle.lat_tales.proofs.seats.Sound.{last_serial, IsNew, IsFirst}
 use Rattle.lat_tales.proofs.seats.Follows.{Follows}
 use Rattle.lat_tales.proofs.mates.Reach.{BothOk, Reach}
 use Rattle.lat_tales.proofs.mates.Partners.{Mates, mates_of, mates_are, mates_share, some_generation, one_server}
-use Rattle.lat_tales.proofs.mates.Places.{IsAt, at_seat, mate_at, mate_none, NamedAt, named_at}
+use Rattle.lat_tales.proofs.mates.Places.{at_seat, mate_at, mate_none, NamedAt, named_at}
 
 nil_front : (xs ys : List Slot) → xs ++ ys ≡ [] → xs ≡ []
 nil_front [] ys h = refl

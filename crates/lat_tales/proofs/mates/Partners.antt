@@ -1,8 +1,7 @@
 -- A session of the server and one of the node belong to each other or not: each has at most one partner.
-use Rattle.std.proofs.Common.{◌≡◌, ◌≢◌, ℕ, zero, suc, ◌<◌, ◌≤◌, refl, sym, ap, ap₂, ◌∙◌, subst, arith, Bool, true, false, cond, ◌&&◌, List, nat_eq, eqb-true, eq-eqb}
-use Rattle.std.proofs.lemmas.Bool.{and_parts, true≢false, false≢true, eqb-false}
-use Rattle.lat_model.specs.sessions.Session.{Session, blank}
-use Rattle.lat_model.specs.sessions.Sessions.{Sessions}
+use Rattle.std.proofs.Common.{◌≡◌, ◌≢◌, ℕ, ◌<◌, refl, sym, ap, ap₂, ◌∙◌, arith, Bool, true, false, ◌&&◌, nat_eq, eqb-true, eq-eqb}
+use Rattle.std.proofs.lemmas.Bool.{and_parts, false≢true, eqb-false}
+use Rattle.lat_model.specs.sessions.Session.{Session}
 use Rattle.lat_model.specs.sessions.EndOk.{EndOk}
 use Rattle.lat_model.specs.ends.End.{End}
 use Rattle.lat_machines.specs.cores.Cores.{Seat, no_seat}
@@ -10,10 +9,10 @@ use Rattle.lat_machines.specs.cores.Lines.{end_of, session_of}
 use Rattle.lat_machines.specs.world.Machines.{Setups, Machines}
 use Rattle.lat_machines.specs.world.Safe.{Shared}
 use Rattle.lat_machines.specs.world.Reports.{is_partner}
-use Rattle.lat_rounds.specs.Seated.{IsSeat, Placed}
+use Rattle.lat_rounds.specs.Seated.{IsSeat}
 use Rattle.lat_tales.proofs.steps.Tables.{sess}
 use Rattle.lat_tales.proofs.seats.Calls.{distinct_is}
-use Rattle.lat_tales.proofs.mates.Reach.{BothSound, BothOk, Reach}
+use Rattle.lat_tales.proofs.mates.Reach.{Reach}
 
 -- what the test of a partner says
 pub record Mates (u : Setups) (w : Machines) (s : Seat) (t : Seat) : Type 0 where

@@ -1,6 +1,6 @@
 -- Line sessions by their places in a list, counted from n + 1 on.
-use Rattle.std.proofs.Common.{◌≡◌, ◌≢◌, ℕ, zero, suc, ◌+◌, ◌<◌, ◌≤◌, ◌⊎◌, inl, inr, ⊎_elim, refl, sym, ap, ap₂, ◌∙◌, subst, arith, Bool, true, false, cond, ◌&&◌, List, [], ◌∷◌, ◌++◌, length, nat_eq, eqb-true, eq-eqb}
-use Rattle.std.proofs.lemmas.Bool.{true≢false, and_parts, eqb-false}
+use Rattle.std.proofs.Common.{◌≡◌, ℕ, suc, ◌+◌, ◌<◌, ◌≤◌, ◌⊎◌, inl, inr, ⊎_elim, refl, sym, ap, ◌∙◌, subst, arith, Bool, true, false, cond, ◌&&◌, List, [], ◌∷◌, ◌++◌, length, nat_eq, eqb-true}
+use Rattle.std.proofs.lemmas.Bool.{true≢false, and_parts}
 use Rattle.lat_model.specs.Lists.{Each}
 use Rattle.lat_machines.specs.cores.Cores.{Seat, no_seat}
 use Rattle.lat_machines.specs.cores.Lines.{last_on}

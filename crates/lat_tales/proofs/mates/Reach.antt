@@ -1,12 +1,10 @@
 -- What every world of a run has: sound line sessions, and both ends of each circuit that they share.
 use Rattle.std.proofs.Common.{◌≡◌, ◌≢◌, ℕ, ◌<◌, ⊎_elim, refl, sym, ap, ◌∙◌, subst, Bool, true, false, not, cond, List, [], ◌∷◌, Option, Some, None, slice_get}
 use Rattle.std.proofs.lemmas.Bool.{true≢false, false≢true}
-use Rattle.lat_model.specs.sessions.Session.{Session}
 use Rattle.lat_model.specs.sessions.Sessions.{Sessions, of_generation}
 use Rattle.lat_model.specs.sessions.EndOk.{EndOk}
 use Rattle.lat_model.specs.sessions.Joined.{slots_of}
 use Rattle.lat_model.specs.Lists.{IsPrefixOf}
-use Rattle.lat_model.specs.ends.End.{Half, End}
 use Rattle.lat_model.specs.circuits.World.{CircuitEntry, Table, World}
 use Rattle.lat_model.specs.circuits.Events.{go_on}
 use Rattle.lat_model.specs.circuits.Together.{flat, Together}

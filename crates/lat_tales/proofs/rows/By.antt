@@ -1,6 +1,6 @@
 -- A row by what it is beside: the newest sessions of the lines, and the node's session that belongs to it.
-use Rattle.std.proofs.Common.{◌≡◌, ◌≢◌, ℕ, zero, suc, ◌+◌, ◌<◌, ◌≤◌, ◌⊎◌, inl, inr, ⊎_elim, refl, sym, ap, ap₂, ◌∙◌, subst, arith, Bool, true, false, cond, ◌&&◌, List, [], ◌∷◌, ◌++◌, length, take, drop, nat_eq, nat_lt, eqb-true, ltb-true}
-use Rattle.std.proofs.lemmas.Bool.{and_parts, true≢false, false≢true, eqb-false}
+use Rattle.std.proofs.Common.{◌≡◌, ◌≢◌, ℕ, ◌<◌, ◌⊎◌, inl, inr, ⊎_elim, refl, sym, ap, ◌∙◌, subst, arith, Bool, true, false, cond, List, [], ◌∷◌, ◌++◌, length, take, drop, nat_eq, nat_lt, eqb-true, ltb-true}
+use Rattle.std.proofs.lemmas.Bool.{and_parts, eqb-false}
 use Rattle.lat_model.specs.sessions.Slots.{Item, items}
 use Rattle.lat_model.specs.sessions.Session.{Session}
 use Rattle.lat_model.specs.Lists.{Each, updated}
@@ -8,12 +8,11 @@ use Rattle.lat_machines.specs.cores.Cores.{Seat, no_seat, Core}
 use Rattle.lat_machines.specs.cores.Lines.{session_of, over, last_on, seat_at, line_exists}
 use Rattle.lat_machines.specs.world.Machines.{Setups, Machines}
 use Rattle.lat_machines.specs.world.Reports.{partner}
-use Rattle.lat_rounds.specs.Seated.{IsSeat, Placed}
+use Rattle.lat_rounds.specs.Seated.{IsSeat}
 use Rattle.lat_tales.specs.Items.{taken_of}
-use Rattle.lat_tales.specs.Rows.{Figures, figures_of, KeptRow, KeepsRow, newest_place}
+use Rattle.lat_tales.specs.Rows.{figures_of, KeptRow, KeepsRow, newest_place}
 use Rattle.lat_tales.proofs.steps.Goes.{Untouched}
 use Rattle.lat_tales.proofs.seats.Sound.{Apart, Distinct, Sound}
-use Rattle.lat_tales.proofs.seats.Follows.{Follows}
 use Rattle.lat_tales.proofs.mates.Places.{IsAt, at_seat, at_above, one_place, one_seat, newest_at, is_at}
 
 pub record RowBy (u : Setups) (w : Machines) (newest : ℕ → Seat) (node_newest : ℕ → Seat) (t : Seat) (s : Seat) (r : KeptRow) : Type 0 where

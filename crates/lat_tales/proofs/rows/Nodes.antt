@@ -1,33 +1,33 @@
 -- An event of the node: what it does with the rows keeps them.
-use Rattle.std.proofs.Common.{◌≡◌, ◌≢◌, ℕ, zero, suc, ◌+◌, ◌<◌, ◌≤◌, ◌⊎◌, inl, inr, ⊎_elim, refl, sym, ap, ap₂, ◌∙◌, subst, arith, Bool, true, false, cond, List, [], ◌∷◌, ◌++◌, length, drop, nat_eq, eqb-true, eq-eqb}
-use Rattle.std.proofs.lemmas.Bool.{true≢false, false≢true, eqb-false}
+use Rattle.std.proofs.Common.{◌≡◌, ◌≢◌, ℕ, ◌+◌, ◌<◌, ◌⊎◌, inl, inr, ⊎_elim, refl, sym, ap, ◌∙◌, subst, arith, Bool, true, false, cond, List, [], ◌∷◌, ◌++◌, length, drop, nat_eq, eqb-true, eq-eqb}
+use Rattle.std.proofs.lemmas.Bool.{true≢false}
 use Rattle.lat_model.specs.sessions.Slots.{Item}
 use Rattle.lat_model.specs.sessions.Session.{Session, blank}
-use Rattle.lat_model.specs.Lists.{Each, updated}
+use Rattle.lat_model.specs.Lists.{Each}
 use Rattle.lat_machines.specs.values.Events.{Event}
 use Rattle.lat_machines.specs.values.Answers.{Answer}
 use Rattle.lat_machines.specs.cores.Cores.{Seat, no_seat, Core}
-use Rattle.lat_machines.specs.cores.Lines.{session_of, over, last_on, seat_at}
+use Rattle.lat_machines.specs.cores.Lines.{session_of, last_on, seat_at}
 use Rattle.lat_machines.specs.node.Node.{node_step}
 use Rattle.lat_machines.specs.world.Machines.{Setups, Machines, tell}
 use Rattle.lat_machines.specs.world.Reports.{is_partner, partner_in, partner}
-use Rattle.lat_rounds.specs.Seated.{IsSeat, Placed}
+use Rattle.lat_rounds.specs.Seated.{IsSeat}
 use Rattle.lat_rounds.proofs.ready.Seats.{last_more}
 use Rattle.lat_tales.specs.Items.{taken_of, line_of, put_by, taken_by}
 use Rattle.lat_tales.specs.Mates.{mate_in, mate, mate_by_ids}
 use Rattle.lat_tales.specs.Rows.{Figures, figures_of, KeptRow, KeptRows, KeepsRow, Pairs, Keeps, newest_place}
 use Rattle.lat_tales.specs.Keeping.{change, with_items, adds, accepts, accepts_all, new_seats, kept_told}
 use Rattle.lat_tales.proofs.steps.Goes.{Untouched}
-use Rattle.lat_tales.proofs.seats.Sound.{Apart, Distinct, Sound, IsNew, IsFirst, seat_before, seat_behind}
+use Rattle.lat_tales.proofs.seats.Sound.{Distinct, Sound, IsNew, IsFirst, seat_before, seat_behind}
 use Rattle.lat_tales.proofs.seats.Follows.{Follows}
 use Rattle.lat_tales.proofs.seats.Calls.{seat_or_none}
 use Rattle.lat_tales.proofs.seats.Told.{Tale, node_tale}
 use Rattle.lat_tales.proofs.mates.Reach.{Reach}
-use Rattle.lat_tales.proofs.mates.Partners.{Mates, mates_of, mates_are, one_server, one_node, none_partner}
+use Rattle.lat_tales.proofs.mates.Partners.{mates_of, mates_are, one_server, one_node, none_partner}
 use Rattle.lat_tales.proofs.mates.Places.{IsAt, at_seat, at_above, one_seat, mate_at, mate_none, MateFound, mate_found, partner_none, partner_is, PartnerFound, partner_found, newest_at}
 use Rattle.lat_tales.proofs.mates.Matched.{HasMate, Homed, node_stays, new_mate, mate_found_by_ids}
 use Rattle.lat_tales.proofs.rows.Pairs.{pairs_each, Changed, pairs_change}
-use Rattle.lat_tales.proofs.rows.By.{RowBy, by_row, append_nil, line_some, is_newest, none_on_zero, older_over, none_taken, distinct_front, distinct_apart, append_one, drop_front, updated_line, newest_line}
+use Rattle.lat_tales.proofs.rows.By.{RowBy, by_row, append_nil, line_some, is_newest, none_on_zero, older_over, none_taken, distinct_front, distinct_apart, append_one, drop_front, updated_line}
 
 partner_more : (u : Setups) (w : Machines) (s t : Seat) (xs : List Seat) → is_partner u w s t ≡ false → partner_in u w s (xs ++ t ∷ []) ≡ partner_in u w s xs
 partner_more u w s t [] h = ap (λ b. cond b t no_seat) h

@@ -1,5 +1,5 @@
 -- Rows beside their sessions.
-use Rattle.std.proofs.Common.{◌≡◌, ℕ, zero, suc, ◌+◌, ◌<◌, inl, inr, refl, sym, ap, ◌∙◌, subst, arith, List, [], ◌∷◌, ◌++◌, length}
+use Rattle.std.proofs.Common.{◌≡◌, ℕ, zero, suc, ◌+◌, ◌<◌, inl, inr, refl, ap, arith, List, [], ◌∷◌, ◌++◌, length}
 use Rattle.lat_machines.specs.cores.Cores.{Seat}
 use Rattle.lat_tales.specs.Rows.{KeptRow, Pairs}
 use Rattle.lat_tales.specs.Keeping.{change}
@@ -19,12 +19,14 @@ pairs_change P Q f zero n ss rs h p = pairs_each P Q n ss rs (λ s r j i q. (h s
 pairs_change P Q f (suc k) n [] [] h p = refl
 pairs_change P Q f (suc k) n [] (r ∷ rs) h p = let z : ⊥ = cc in absurd z
 pairs_change P Q f (suc k) n (s ∷ ss) [] h p = absurd p
-pairs_change P Q f (suc zero) n (s ∷ ss) (r ∷ rs) h p =
-    ((h s r (suc n) (inl (refl, refl)) p.0).here (omega arith),
-    pairs_each P Q (suc n) ss rs (λ t v j i q. (h t v j (inr i) q).else (λ e. let l : suc n < j = at_above t j (suc n) ss i in absurd (omega (arith, l, e)))) p.1)
-pairs_change P Q f (suc (suc k)) n (s ∷ ss) (r ∷ rs) h p =
-    ((h s r (suc n) (inl (refl, refl)) p.0).else (λ e. absurd (omega (arith, e))),
-    pairs_change P Q f (suc k) (suc n) ss rs (λ t v j i q. let c : Changed Q t v f j (n + suc (suc k)) = h t v j (inr i) q in record { here = λ e. c.here (omega (arith, e)); else = λ e. c.else (λ z. e (omega (arith, z))) }) p.1)
+pairs_change P Q f (suc zero) n (s ∷ ss) (r ∷ rs) h p = (
+  (h s r (suc n) (inl (refl, refl)) p.0).here (omega arith),
+  pairs_each P Q (suc n) ss rs (λ t v j i q. (h t v j (inr i) q).else (λ e. let l : suc n < j = at_above t j (suc n) ss i in absurd (omega (arith, l, e)))) p.1,
+)
+pairs_change P Q f (suc (suc k)) n (s ∷ ss) (r ∷ rs) h p = (
+  (h s r (suc n) (inl (refl, refl)) p.0).else (λ e. absurd (omega (arith, e))),
+  pairs_change P Q f (suc k) (suc n) ss rs (λ t v j i q. let c : Changed Q t v f j (n + suc (suc k)) = h t v j (inr i) q in record { here = λ e. c.here (omega (arith, e)); else = λ e. c.else (λ z. e (omega (arith, z))) }) p.1,
+)
 
 pub pairs_more : (P : Seat → KeptRow → Type 0) (ss : List Seat) (rs : List KeptRow) (s : Seat) (r : KeptRow) → Pairs P ss rs → P s r → Pairs P (ss ++ s ∷ []) (rs ++ r ∷ [])
 pairs_more P [] [] s r p q = (q, refl)

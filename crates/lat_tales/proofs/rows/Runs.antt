@@ -1,10 +1,9 @@
 -- In every run the rows are kept.
-use Rattle.std.proofs.Common.{◌≡◌, ℕ, ◌<◌, refl, sym, ap, ◌∙◌, subst, Bool, true, false, not, cond, List, [], ◌∷◌, ◌++◌, Option, Some, None, slice_get}
+use Rattle.std.proofs.Common.{◌≡◌, ℕ, ◌<◌, refl, sym, ap, subst, Bool, true, false, not, cond, List, [], ◌∷◌, ◌++◌, Option, Some, None, slice_get}
 use Rattle.lat_machines.specs.values.Events.{Event, Hears, is_heard}
-use Rattle.lat_machines.specs.cores.Cores.{Seat}
 use Rattle.lat_machines.specs.world.Machines.{Setups, Posted, Machines, Move, Does, HearsFrame, HearsForeign, tell, is_for_other, heard_as, counted, marked_delivered, comes, is_own, happens, run, open_machines}
 use Rattle.lat_machines.specs.world.Safe.{Fit, Shared}
-use Rattle.lat_tales.specs.Rows.{KeptRow, KeptRows, KeepsRow, Pairs, Keeps}
+use Rattle.lat_tales.specs.Rows.{KeptRows, KeepsRow, Keeps}
 use Rattle.lat_tales.specs.Keeping.{kept_told, kept_frame, kept_after, no_rows, kept_all}
 use Rattle.lat_tales.proofs.mates.Reach.{BothOk, Reach, reach_run, marked_sound}
 use Rattle.lat_tales.proofs.mates.Matched.{HasMate, Homed}

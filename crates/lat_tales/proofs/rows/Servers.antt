@@ -1,33 +1,33 @@
 -- An event of the server: what it does with the rows keeps them.
-use Rattle.std.proofs.Common.{◌≡◌, ◌≢◌, ℕ, zero, suc, ◌+◌, ◌<◌, ◌≤◌, ◌⊎◌, inl, inr, ⊎_elim, refl, sym, ap, ap₂, ◌∙◌, subst, arith, Bool, true, false, cond, List, [], ◌∷◌, ◌++◌, length, drop, nat_eq, eqb-true, eq-eqb}
-use Rattle.std.proofs.lemmas.Bool.{true≢false, false≢true, eqb-false}
+use Rattle.std.proofs.Common.{◌≡◌, ◌≢◌, ℕ, suc, ◌+◌, ◌<◌, ◌⊎◌, inl, inr, ⊎_elim, refl, sym, ap, ap₂, ◌∙◌, subst, arith, Bool, true, false, cond, List, [], ◌∷◌, ◌++◌, length, drop, nat_eq, eqb-true, eq-eqb}
+use Rattle.std.proofs.lemmas.Bool.{true≢false}
 use Rattle.lat_model.specs.sessions.Slots.{Item}
 use Rattle.lat_model.specs.sessions.Session.{Session, blank}
-use Rattle.lat_model.specs.Lists.{Each, updated}
+use Rattle.lat_model.specs.Lists.{Each}
 use Rattle.lat_machines.specs.values.Events.{Event}
 use Rattle.lat_machines.specs.values.Answers.{Answer}
 use Rattle.lat_machines.specs.cores.Cores.{Seat, no_seat, Core}
-use Rattle.lat_machines.specs.cores.Lines.{session_of, over, last_on, seat_at}
+use Rattle.lat_machines.specs.cores.Lines.{session_of, last_on, seat_at}
 use Rattle.lat_machines.specs.server.Server.{server_step}
 use Rattle.lat_machines.specs.world.Machines.{Setups, Machines, tell}
 use Rattle.lat_machines.specs.world.Reports.{is_partner, partner_in, partner}
-use Rattle.lat_rounds.specs.Seated.{IsSeat, Placed}
+use Rattle.lat_rounds.specs.Seated.{IsSeat}
 use Rattle.lat_rounds.proofs.ready.Seats.{last_more}
 use Rattle.lat_tales.specs.Items.{taken_of, line_of, put_by, taken_by}
 use Rattle.lat_tales.specs.Mates.{mate_in, mate}
 use Rattle.lat_tales.specs.Rows.{Figures, figures_of, KeptRow, KeptRows, KeepsRow, Pairs, Keeps, newest_place}
 use Rattle.lat_tales.specs.Keeping.{change, with_items, adds, new_row, connects, connects_all, new_seats, kept_told}
 use Rattle.lat_tales.proofs.steps.Goes.{Untouched}
-use Rattle.lat_tales.proofs.seats.Sound.{Apart, Distinct, Sound, IsNew, seat_before, seat_behind}
+use Rattle.lat_tales.proofs.seats.Sound.{Apart, Distinct, IsNew, seat_before, seat_behind}
 use Rattle.lat_tales.proofs.seats.Follows.{Follows}
 use Rattle.lat_tales.proofs.seats.Calls.{seat_or_none}
 use Rattle.lat_tales.proofs.seats.Told.{Tale, server_tale}
 use Rattle.lat_tales.proofs.mates.Reach.{Reach}
 use Rattle.lat_tales.proofs.mates.Partners.{Mates, mates_of, mates_are, one_server, one_node, none_partner}
-use Rattle.lat_tales.proofs.mates.Places.{IsAt, at_seat, at_front, one_place, mate_at, mate_none, MateFound, mate_found, partner_none, partner_is, PartnerFound, partner_found, newest_more}
+use Rattle.lat_tales.proofs.mates.Places.{IsAt, at_seat, at_front, mate_at, mate_none, MateFound, mate_found, partner_none, partner_is, PartnerFound, partner_found, newest_more}
 use Rattle.lat_tales.proofs.mates.Matched.{HasMate, Homed, server_stays}
 use Rattle.lat_tales.proofs.rows.Pairs.{pairs_each, Changed, pairs_change, pairs_more, pairs_length}
-use Rattle.lat_tales.proofs.rows.By.{RowBy, row_by, by_row, append_nil, line_some, is_newest, none_on_zero, older_over, none_taken, newest_is_at, at_newest, distinct_front, distinct_apart, append_one, drop_front, updated_line}
+use Rattle.lat_tales.proofs.rows.By.{RowBy, by_row, append_nil, line_some, is_newest, none_on_zero, older_over, none_taken, newest_is_at, at_newest, distinct_front, distinct_apart, append_one, drop_front, updated_line}
 
 module _ (u : Setups) (w : Machines) (e : Event) (rates : List ℕ) (pos : 0 < u.server.timing.sessions) (r : Reach u w) (homed : Homed u w) (rx : Reach u (tell u w true e rates)) where
   abbrev x : Machines

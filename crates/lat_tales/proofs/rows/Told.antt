@@ -1,7 +1,7 @@
 -- What is told of the rows that are kept are the rows of the report.
-use Rattle.std.proofs.Common.{◌≡◌, ◌≢◌, ℕ, zero, suc, ◌+◌, ◌<◌, ◌⊎◌, inl, inr, ⊎_elim, refl, sym, ap, ap₂, ◌∙◌, subst, arith, Bool, true, false, cond, List, [], ◌∷◌, map, take, Option, Some, None, nat_eq, eqb-true}
+use Rattle.std.proofs.Common.{◌≡◌, ◌≢◌, ℕ, suc, ◌<◌, ◌⊎◌, inl, inr, ⊎_elim, refl, sym, ap, ap₂, ◌∙◌, subst, arith, Bool, true, false, cond, List, [], ◌∷◌, map, Some, None, nat_eq, eqb-true}
 use Rattle.std.proofs.lemmas.Bool.{eqb-false}
-use Rattle.lat_model.specs.sessions.Slots.{credits, costs, items}
+use Rattle.lat_model.specs.sessions.Slots.{credits, costs}
 use Rattle.lat_model.specs.sessions.Session.{Session, blank}
 use Rattle.lat_machines.specs.cores.Cores.{Seat, no_seat}
 use Rattle.lat_machines.specs.cores.Lines.{session_of, seat_at}
@@ -9,17 +9,15 @@ use Rattle.lat_machines.specs.world.Machines.{Setups, Machines, Move, run, open_
 use Rattle.lat_machines.specs.world.Safe.{Fit}
 use Rattle.lat_machines.specs.world.Reports.{Direction, Row, is_partner, partner_in, partner, row, report}
 use Rattle.lat_rounds.specs.Seated.{IsSeat}
-use Rattle.lat_tales.specs.Items.{taken_of}
 use Rattle.lat_tales.specs.Mates.{mate}
-use Rattle.lat_tales.specs.Rows.{Figures, figures_of, KeptRow, KeptRows, KeepsRow, Pairs, Keeps, newest_place}
-use Rattle.lat_tales.specs.Keeping.{no_figures, kept_all, no_rows}
+use Rattle.lat_tales.specs.Rows.{Figures, figures_of, KeptRow, KeptRows, KeepsRow, Pairs, Keeps}
+use Rattle.lat_tales.specs.Keeping.{no_figures}
 use Rattle.lat_tales.specs.Told.{server_figures, node_figures, told_row, told_from, told_rows}
 use Rattle.lat_tales.proofs.mates.Reach.{Reach, reach_run}
 use Rattle.lat_tales.proofs.mates.Partners.{one_server, one_node, none_partner}
-use Rattle.lat_tales.proofs.mates.Places.{IsAt, at_seat, at_above, one_seat, mate_at, mate_none, MateFound, mate_found, PartnerFound, partner_found, partner_is}
+use Rattle.lat_tales.proofs.mates.Places.{IsAt, at_seat, at_above, one_seat, mate_at, mate_none, MateFound, mate_found, PartnerFound, partner_found}
 use Rattle.lat_tales.proofs.seats.Calls.{seat_or_none}
-use Rattle.lat_tales.proofs.rows.By.{line_some, none_on_zero, newest_is_at, at_newest}
-use Rattle.lat_tales.proofs.rows.Runs.{run_keeps}
+use Rattle.lat_tales.proofs.rows.By.{line_some, newest_is_at, at_newest}
 
 module _ (u : Setups) (w : Machines) (r : Reach u w) (k : KeptRows) (h : Keeps u w k) where
   figures_server : (s : Seat) (v : KeptRow) (j : ℕ) → IsAt s j 0 w.server.core.seats → KeepsRow u w s v → server_figures w k j v ≡ figures_of w.server.core s

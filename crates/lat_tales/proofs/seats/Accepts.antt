@@ -1,29 +1,27 @@
 -- A node accepts a session: its line session has a session that no other has, and is held.
-use Rattle.std.proofs.Common.{◌≡◌, ◌≢◌, ℕ, zero, suc, ◌<◌, ◌≤◌, inl, inr, ⊎_elim, refl, sym, ap, ap₂, ◌∙◌, subst, arith, Bool, true, false, not, cond, ◌&&◌, ◌||◌, List, [], ◌∷◌, ◌++◌, Option, None, nat_eq, eqb-true, eq-eqb}
-use Rattle.std.proofs.lemmas.Bool.{and_parts, or_parts, true≢false, not-false, eqb-false}
+use Rattle.std.proofs.Common.{◌≡◌, ℕ, ⊎_elim, refl, sym, ap, ap₂, ◌∙◌, subst, Bool, true, false, not, cond, ◌&&◌, ◌||◌, [], ◌∷◌, ◌++◌, Option, None, nat_eq, eqb-true}
+use Rattle.std.proofs.lemmas.Bool.{and_parts, or_parts, true≢false}
 use Rattle.lat_model.specs.sessions.Slots.{turned}
 use Rattle.lat_model.specs.sessions.Session.{Session, free, gone, rejected, stopped, answered, waits}
 use Rattle.lat_model.specs.sessions.Sessions.{Sessions, named}
-use Rattle.lat_model.specs.sessions.Calls.{Call, Answer, Refuse, answer, reject, call}
-use Rattle.lat_model.specs.Lists.{updated, Each}
-use Rattle.lat_model.specs.ends.End.{End, Step, lives, call_end}
+use Rattle.lat_model.specs.sessions.Calls.{Answer, Refuse, answer, reject, call}
+use Rattle.lat_model.specs.ends.End.{Step, lives, call_end}
 use Rattle.lat_model.specs.ends.Timers.{note_empty}
 use Rattle.lat_model.specs.circuits.World.{CircuitEntry, Table}
 use Rattle.lat_model.proofs.sessions.Words.{upd_same, upd_other}
 use Rattle.lat_machines.specs.values.Names.{Name}
 use Rattle.lat_machines.specs.cores.Acts.{Acted, idle, steps_at, local_at}
 use Rattle.lat_machines.specs.cores.Cores.{Seat, Core, with_circuits}
-use Rattle.lat_machines.specs.cores.Lines.{end_of, session_of, over, holds, line_exists}
-use Rattle.lat_machines.specs.node.Node.{NodeConfig, Node, Verdict, Accepts, verdict, judged, asked_at}
-use Rattle.lat_rounds.specs.Seated.{IsSeat, Placed, Seated}
+use Rattle.lat_machines.specs.cores.Lines.{session_of, over}
+use Rattle.lat_machines.specs.node.Node.{NodeConfig, Node, Accepts, verdict, judged, asked_at}
+use Rattle.lat_rounds.specs.Seated.{IsSeat, Placed}
 use Rattle.lat_rounds.proofs.ready.Laters.{waits_goes}
 use Rattle.lat_rounds.proofs.ready.Seats.{is_either}
 use Rattle.lat_rounds.proofs.ready.Opens.{Answering, judged_answering}
 use Rattle.lat_rounds.proofs.ready.Tables.{local_later}
 use Rattle.lat_tales.proofs.steps.Goes.{Good, Ours, Untouched, waits_alien, off}
 use Rattle.lat_tales.proofs.steps.Tables.{sess, Turned, turned_then, local_turn}
-use Rattle.lat_tales.proofs.steps.Walk.{local_alive}
-use Rattle.lat_tales.proofs.seats.Sound.{Apart, Distinct, Rest, Sound, IsNew, IsFirst, Fresh, new_act, sound_act, distinct_more, each_then, each_of, append_seat, seat_behind}
+use Rattle.lat_tales.proofs.seats.Sound.{Rest, Sound, IsNew, IsFirst, Fresh, new_act, sound_act, distinct_more, each_then, each_of, append_seat, seat_behind}
 
 carry : (P : Seat → Type 0) (y s : Seat) → y ≡ s → P s → P y
 carry P y s q h = subst P (sym q) h

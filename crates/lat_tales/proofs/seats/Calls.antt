@@ -1,24 +1,23 @@
 -- A Put, a Set or a Take on a line: its session gets what the answer says, every other stays.
-use Rattle.std.proofs.Common.{◌≡◌, ◌≢◌, ℕ, zero, suc, ◌+◌, ◌-◌, ◌<◌, ◌≤◌, ◌⊎◌, inl, inr, ⊎_elim, refl, sym, ap, ap₂, ◌∙◌, subst, arith, Bool, true, false, not, cond, ◌&&◌, ◌||◌, List, [], ◌∷◌, ◌++◌, map, length, take, drop, min, Option, Some, None, nat_eq, nat_lt, eqb-true}
-use Rattle.std.proofs.lemmas.Bool.{true≢false, false≢true, and_parts, not-true, eqb-false}
-use Rattle.std.proofs.Math.Seq.{take-add}
-use Rattle.lat_model.specs.sessions.Slots.{Item, Byte, Setting, items, starts, credits, costs}
-use Rattle.lat_model.specs.sessions.Session.{Session, blank, free, rejected, put_open, take_open, unframed}
-use Rattle.lat_model.specs.sessions.Sessions.{Sessions, named}
-use Rattle.lat_model.specs.sessions.Calls.{Call, Put, Set, Take, call, touch, put_items, put_count, put_bytes, set, take_items, take_count, took}
+use Rattle.std.proofs.Common.{◌≡◌, ℕ, ◌≤◌, ◌⊎◌, inl, inr, ⊎_elim, refl, sym, ap, ap₂, ◌∙◌, subst, Bool, true, false, not, cond, ◌||◌, List, [], ◌∷◌, ◌++◌, length, Some, None, nat_eq, eqb-true}
+use Rattle.std.proofs.lemmas.Bool.{true≢false, not-true, eqb-false}
+use Rattle.lat_model.specs.sessions.Slots.{Item, items, starts, credits, costs}
+use Rattle.lat_model.specs.sessions.Session.{Session, blank, free, rejected}
+use Rattle.lat_model.specs.sessions.Sessions.{Sessions}
+use Rattle.lat_model.specs.sessions.Calls.{Call, call, touch, took}
 use Rattle.lat_model.specs.Lists.{updated, Each}
-use Rattle.lat_model.specs.ends.End.{End, Step, lives, call_end}
+use Rattle.lat_model.specs.ends.End.{Step, lives, call_end}
 use Rattle.lat_model.specs.ends.Timers.{note_empty}
 use Rattle.lat_model.specs.circuits.World.{CircuitEntry, Table}
 use Rattle.lat_model.proofs.sessions.Words.{upd_same, upd_other, upd_all}
-use Rattle.lat_machines.specs.values.Answers.{Answer, Accepted, Took, Done, NoLine, Closed, Full}
+use Rattle.lat_machines.specs.values.Answers.{Answer, NoLine, Closed}
 use Rattle.lat_machines.specs.cores.Acts.{Acted, idle, steps_at, local_at}
 use Rattle.lat_machines.specs.cores.Cores.{Seat, no_seat, Core, Side}
 use Rattle.lat_machines.specs.cores.Lines.{end_of, session_of, over, last_on, seat_at, holds, line_exists}
-use Rattle.lat_machines.specs.cores.Books.{EndedClosed, EndedRejected, EndedCircuit, SessionEnd, reject_reason, end_reason, seat_end}
-use Rattle.lat_machines.specs.cores.LineCalls.{Said, says, calls_on, put_on, set_on, take_on, on_line}
+use Rattle.lat_machines.specs.cores.Books.{EndedClosed, EndedRejected, EndedCircuit, reject_reason, end_reason}
+use Rattle.lat_machines.specs.cores.LineCalls.{Said, says, calls_on, on_line}
 use Rattle.lat_rounds.specs.Seated.{IsSeat, Placed}
-use Rattle.lat_rounds.proofs.ready.Laters.{accepts_none, open_goes, takes_goes}
+use Rattle.lat_rounds.proofs.ready.Laters.{accepts_none}
 use Rattle.lat_rounds.proofs.ready.Tables.{local_later}
 use Rattle.lat_rounds.proofs.ready.Seats.{over_parts, seated_later}
 use Rattle.lat_tales.specs.Items.{taken_of}
@@ -26,7 +25,7 @@ use Rattle.lat_tales.specs.Rows.{Figures, figures_of}
 use Rattle.lat_tales.proofs.steps.Goes.{Good, Ours, Untouched, free_blank}
 use Rattle.lat_tales.proofs.steps.Tables.{sess}
 use Rattle.lat_tales.proofs.steps.Ids.{NoConnect, local_ids}
-use Rattle.lat_tales.proofs.seats.Sound.{Apart, Distinct, Rest, Sound}
+use Rattle.lat_tales.proofs.seats.Sound.{Apart, Distinct, Sound}
 use Rattle.lat_tales.proofs.seats.Follows.{Follows, follows_same}
 
 append_nil : {A : Type 0} → (xs : List A) → xs ++ [] ≡ xs

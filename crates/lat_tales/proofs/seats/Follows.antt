@@ -1,20 +1,19 @@
 -- What one event leaves of a line session: items are added to what it has put and taken, and when it is over its figures stay.
-use Rattle.std.proofs.Common.{◌≡◌, ◌≢◌, ℕ, ◌<◌, ◌≤◌, refl, sym, ap, ap₂, ◌∙◌, subst, arith, Bool, true, false, not, cond, ◌&&◌, ◌||◌, List, [], ◌∷◌, ◌++◌, length, take, Option, Some, None}
-use Rattle.std.proofs.lemmas.Bool.{true≢false}
+use Rattle.std.proofs.Common.{◌≡◌, ◌≢◌, ℕ, ◌≤◌, refl, sym, ap, ap₂, ◌∙◌, Bool, true, false, not, cond, ◌||◌, List, [], ◌∷◌, ◌++◌, length, take, Some, None}
 use Rattle.std.proofs.lemmas.List.{take-append-le}
-use Rattle.lat_model.specs.sessions.Slots.{Item, Slot, items, credits, costs}
+use Rattle.lat_model.specs.sessions.Slots.{Item, items, credits, costs}
 use Rattle.lat_model.specs.sessions.Session.{Session, free, rejected}
 use Rattle.lat_model.specs.ends.End.{lives}
-use Rattle.lat_model.specs.circuits.World.{CircuitEntry, Table}
+use Rattle.lat_model.specs.circuits.World.{CircuitEntry}
 use Rattle.lat_model.proofs.sessions.Words.{items-append}
 use Rattle.lat_machines.specs.cores.Cores.{Seat, Core}
 use Rattle.lat_machines.specs.cores.Lines.{end_of, session_of, over}
-use Rattle.lat_machines.specs.cores.Books.{EndedClosed, EndedRejected, EndedCircuit, SessionEnd, reject_reason, end_reason, seat_end}
+use Rattle.lat_machines.specs.cores.Books.{EndedClosed, EndedRejected, EndedCircuit, reject_reason, end_reason}
 use Rattle.lat_rounds.specs.Seated.{IsSeat, Placed}
 use Rattle.lat_tales.specs.Items.{taken_of}
 use Rattle.lat_tales.specs.Rows.{Figures, figures_of}
-use Rattle.lat_tales.proofs.steps.Goes.{Ours, OneGoes}
-use Rattle.lat_tales.proofs.steps.Tables.{sess, EntryGoes, Turned}
+use Rattle.lat_tales.proofs.steps.Goes.{OneGoes}
+use Rattle.lat_tales.proofs.steps.Tables.{EntryGoes, Turned}
 use Rattle.lat_tales.proofs.seats.Sound.{Sound}
 
 pub record Follows (c : Core) (d : Core) (s : Seat) (put : List Item) (took : List Item) : Type 0 where

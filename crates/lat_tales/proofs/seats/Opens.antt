@@ -1,11 +1,11 @@
 -- A server opens a session: its line session is the last under its id, and is held.
-use Rattle.std.proofs.Common.{◌≡◌, ◌≢◌, ℕ, suc, ◌<◌, ◌≤◌, inl, inr, ⊎_elim, refl, sym, ap, ap₂, ◌∙◌, subst, arith, Bool, true, false, not, cond, ◌&&◌, ◌||◌, List, [], ◌∷◌, ◌++◌, Option, nat_eq, eqb-true, eq-eqb}
+use Rattle.std.proofs.Common.{◌≡◌, ℕ, suc, ◌<◌, inl, inr, ⊎_elim, refl, sym, ap, ap₂, ◌∙◌, subst, arith, Bool, true, false, not, cond, ◌&&◌, ◌||◌, List, [], ◌∷◌, ◌++◌, Option, nat_eq, eqb-true, eq-eqb}
 use Rattle.std.proofs.lemmas.Bool.{and_parts, or_parts, true≢false, not-false, eqb-false}
-use Rattle.lat_model.specs.sessions.Session.{Session, free}
+use Rattle.lat_model.specs.sessions.Session.{free}
 use Rattle.lat_model.specs.sessions.Sessions.{Sessions, least_free}
 use Rattle.lat_model.specs.sessions.Calls.{Connect, connect, call, new_call}
 use Rattle.lat_model.specs.Lists.{updated}
-use Rattle.lat_model.specs.ends.End.{End, Step, lives}
+use Rattle.lat_model.specs.ends.End.{Step, lives}
 use Rattle.lat_model.specs.ends.Timers.{note_empty}
 use Rattle.lat_model.specs.circuits.World.{CircuitEntry, Table}
 use Rattle.lat_model.proofs.sessions.Words.{upd_same, upd_other}
@@ -17,13 +17,13 @@ use Rattle.lat_machines.specs.cores.Lines.{end_of, session_of, over, holds, line
 use Rattle.lat_machines.specs.server.Server.{ServerConfig, server_side, has_room, may_call, can_open, connects_on, opens}
 use Rattle.lat_machines.proofs.queue.Rooms.{Called, call_opens, test_of, least_true, Grown}
 use Rattle.lat_machines.proofs.queue.Grants.{Opened, opens_at}
-use Rattle.lat_rounds.specs.Seated.{IsSeat, Placed, Seated}
+use Rattle.lat_rounds.specs.Seated.{IsSeat, Placed}
 use Rattle.lat_rounds.proofs.ready.Seats.{is_either, seated_later}
 use Rattle.lat_rounds.proofs.ready.Opens.{opens_seated}
 use Rattle.lat_rounds.proofs.ready.Tables.{call_at_later}
 use Rattle.lat_tales.proofs.steps.Goes.{Ours, Untouched}
 use Rattle.lat_tales.proofs.steps.Tables.{sess, Turned, turned_then, local_turn, call_turn}
-use Rattle.lat_tales.proofs.seats.Sound.{Apart, Distinct, last_serial, Rest, Sound, IsNew, Fresh, new_act, distinct_more, serial_more, each_then, append_seat, seat_behind}
+use Rattle.lat_tales.proofs.seats.Sound.{last_serial, Rest, Sound, IsNew, Fresh, new_act, distinct_more, serial_more, each_then, append_seat, seat_behind}
 
 -- a line session more, with nothing put or taken
 pub record Opens (m : Bool) (c : Core) (d : Core) : Type 0 where

@@ -1,15 +1,8 @@
 -- What holds of the line sessions of a core in every run, and what an act that makes none leaves of it.
-use Rattle.std.proofs.Common.{◌≡◌, ◌≢◌, ℕ, suc, ◌<◌, ◌≤◌, ◌⊎◌, inl, inr, ⊎_elim, refl, sym, ap, ap₂, ◌∙◌, subst, arith, Bool, true, false, not, cond, ◌&&◌, ◌||◌, List, [], ◌∷◌, ◌++◌, nat_eq}
-use Rattle.std.proofs.lemmas.Bool.{true≢false, false≢true}
-use Rattle.lat_model.specs.sessions.Slots.{Slot}
-use Rattle.lat_model.specs.sessions.Session.{Session, free, gone}
+use Rattle.std.proofs.Common.{◌≡◌, ℕ, inl, inr, ⊎_elim, refl, sym, ap, ◌∙◌, subst, Bool, true, false, cond, ◌&&◌, List, [], ◌∷◌, ◌++◌, nat_eq}
+use Rattle.lat_model.specs.sessions.Session.{Session, gone}
 use Rattle.lat_model.specs.sessions.Calls.{Call, Connect, Put, Set, Attend, Take, Close, Answer, Refuse}
 use Rattle.lat_model.specs.Lists.{Each}
-use Rattle.lat_model.specs.ends.Starting.{Agreed}
-use Rattle.lat_model.specs.circuits.World.{Table}
-use Rattle.lat_machines.specs.values.Names.{Name}
-use Rattle.lat_machines.specs.values.Messages.{Head}
-use Rattle.lat_machines.specs.values.Events.{Numbers}
 use Rattle.lat_machines.specs.cores.Acts.{time_at, local_at}
 use Rattle.lat_machines.specs.cores.Hearing.{hear_run, hear_stop_at}
 use Rattle.lat_machines.specs.cores.Cores.{Seat, Core, Side, with_circuits, at_moment}
@@ -18,7 +11,7 @@ use Rattle.lat_rounds.specs.Seated.{IsSeat, LaterTable, Placed, Seated}
 use Rattle.lat_rounds.proofs.ready.Seats.{seated_later}
 use Rattle.lat_rounds.proofs.ready.Laters.{accepts_none}
 use Rattle.lat_rounds.proofs.ready.Tables as Laters
-use Rattle.lat_tales.proofs.steps.Goes.{Ours, OneGoes, Untouched, went_untouched, IsQuiet}
+use Rattle.lat_tales.proofs.steps.Goes.{Ours, Untouched, went_untouched, IsQuiet}
 use Rattle.lat_tales.proofs.steps.Tables.{sess, TableGood, Turned, turned_same, turned_then, local_turn, time_turn, run_turn, stop_turn}
 use Rattle.lat_tales.proofs.steps.Ids.{NoConnect, TableIds, table_same, local_ids, time_ids, run_ids, stop_ids}
 use Rattle.lat_tales.proofs.steps.Walk.{Acts}

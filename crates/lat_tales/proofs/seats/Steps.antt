@@ -1,5 +1,5 @@
 -- What an event that puts and takes nothing leaves of a core, and what follows any event of a server.
-use Rattle.std.proofs.Common.{◌≡◌, ℕ, suc, ◌<◌, refl, sym, Bool, true, false, cond, ◌&&◌, nat_eq, nat_lt, List}
+use Rattle.std.proofs.Common.{ℕ, suc, ◌<◌, refl, sym, Bool, true, false, cond, ◌&&◌, nat_eq, nat_lt, List}
 use Rattle.std.proofs.lemmas.Bool.{true≢false}
 use Rattle.lat_model.specs.ends.Starting.{Agreed, Setup}
 use Rattle.lat_model.specs.circuits.World.{Table}

@@ -1,27 +1,25 @@
 -- What one event of a machine leaves of its line sessions: the line that it names gets the items that the answer tells.
-use Rattle.std.proofs.Common.{◌≡◌, ◌≢◌, ℕ, zero, suc, ◌+◌, ◌-◌, ◌<◌, ◌≤◌, refl, sym, ap, ap₂, ◌∙◌, subst, arith, Bool, true, false, not, cond, ◌&&◌, ◌||◌, List, [], ◌∷◌, ◌++◌, map, length, take, drop, min, nat_eq, nat_lt}
-use Rattle.std.proofs.lemmas.Bool.{true≢false, and_parts}
+use Rattle.std.proofs.Common.{◌≡◌, ℕ, ◌+◌, ◌-◌, ◌<◌, ◌≤◌, refl, sym, ap, ap₂, ◌∙◌, subst, arith, Bool, true, false, cond, ◌&&◌, List, [], ◌∷◌, ◌++◌, map, length, take, drop, min, nat_lt}
 use Rattle.std.proofs.Math.Seq.{take-add}
 use Rattle.lat_model.specs.sessions.Slots.{Item, Byte, Setting, items}
 use Rattle.lat_model.specs.sessions.Session.{Session, put_open, take_open, unframed}
-use Rattle.lat_model.specs.sessions.Sessions.{Sessions, named}
-use Rattle.lat_model.specs.sessions.Calls.{Call, Put, Set, Take, call, touch, put_items, put_count, take_count, took}
+use Rattle.lat_model.specs.sessions.Sessions.{Sessions}
+use Rattle.lat_model.specs.sessions.Calls.{Put, Set, Take, touch, put_items, put_count, take_count, took}
 use Rattle.lat_model.specs.Lists.{Each}
-use Rattle.lat_machines.specs.values.Answers.{Answer, Accepted, Took, Done, NoLine, Closed, Full}
+use Rattle.lat_machines.specs.values.Answers.{Answer, Accepted, Took, Done, Closed, Full}
 use Rattle.lat_machines.specs.values.Events.{Event, Hears, Time, Connects, Puts, Sets, Takes, Attends, Closes, Requests, Withdraws, Announces}
 use Rattle.lat_machines.specs.cores.Cores.{Seat, Core, Side}
 use Rattle.lat_machines.specs.cores.Lines.{session_of, sessions_of, over, seat_at}
-use Rattle.lat_machines.specs.cores.LineCalls.{Said, says, calls_on, put_on, set_on, take_on, on_line}
+use Rattle.lat_machines.specs.cores.LineCalls.{says, calls_on, put_on, set_on, take_on, on_line}
 use Rattle.lat_machines.specs.server.Server.{ServerConfig, Server, server_side, server_event, server_step}
 use Rattle.lat_machines.specs.node.Node.{NodeConfig, Node, node_side, node_step}
 use Rattle.lat_rounds.specs.Seated.{IsSeat}
-use Rattle.lat_rounds.proofs.counting.Cores.{EventAllows}
 use Rattle.lat_tales.specs.Items.{taken_of, line_of, accepted_bytes, accepted_setting, put_by, taken_items, taken_by}
 use Rattle.lat_tales.proofs.steps.Tables.{sess, turned_same}
-use Rattle.lat_tales.proofs.seats.Sound.{Sound, IsNew, IsFirst, Fresh, IsPlain}
+use Rattle.lat_tales.proofs.seats.Sound.{Sound, IsNew, IsFirst, Fresh}
 use Rattle.lat_tales.proofs.seats.Steps.{server_fresh, passed_fresh, node_fresh}
-use Rattle.lat_tales.proofs.seats.Follows.{Follows, follows_same, follows_then, turned_follows}
-use Rattle.lat_tales.proofs.seats.Calls.{Touches, Told, told_none, told_touch, line_told, told_cond, id_leads}
+use Rattle.lat_tales.proofs.seats.Follows.{Follows, follows_then, turned_follows}
+use Rattle.lat_tales.proofs.seats.Calls.{Told, told_none, told_touch, line_told, told_cond, id_leads}
 
 abbrev no_items : Answer → List Item
 no_items a = []

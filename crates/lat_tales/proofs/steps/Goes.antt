@@ -1,17 +1,17 @@
 -- What a step of an end that puts and takes nothing leaves of its sessions: items stay, what came grows, and an accepted
 -- session that is free stays as it is.
-use Rattle.std.proofs.Common.{◌≡◌, ◌≢◌, ℕ, zero, suc, ◌+◌, ◌<◌, ◌≤◌, ◌⊎◌, inl, inr, ⊎_elim, refl, sym, ap, ap₂, ◌∙◌, subst, arith, Bool, true, false, not, cond, ◌&&◌, ◌||◌, List, [], ◌∷◌, ◌++◌, length, length-append, Option, Some, None, nat_eq, nat_lt, nat_le, eqb-true}
-use Rattle.std.proofs.lemmas.Bool.{true≢false, false≢true, or_parts, and_parts, eqb-false}
+use Rattle.std.proofs.Common.{◌≡◌, ◌≢◌, ℕ, zero, suc, ◌+◌, ◌<◌, ◌≤◌, ⊎_elim, refl, sym, ap, ◌∙◌, subst, arith, Bool, true, false, not, cond, ◌&&◌, ◌||◌, List, [], ◌∷◌, ◌++◌, length, length-append, Option, Some, None, nat_eq, nat_lt, nat_le, eqb-true}
+use Rattle.std.proofs.lemmas.Bool.{true≢false, false≢true, and_parts, eqb-false}
 use Rattle.lat_model.specs.sessions.Slots.{Slot, Start, DataA, DataB, Attention, Reject, Stop, destination, source, items, is_start, is_stop, has_stop, starts, turned, costs, cost_of, credits, credits_of}
 use Rattle.lat_model.specs.sessions.Session.{Session, blank, free, gone, stopped, answered, waits, runs, peer, put_open, take_open}
 use Rattle.lat_model.specs.sessions.Sessions.{Sessions, named, held, least_free}
-use Rattle.lat_model.specs.sessions.Offers.{Offer, Nothing, Unfit, Offers, offer, reject_offer, start_offer, later_offer, live_offer, fit, start_of}
-use Rattle.lat_model.specs.sessions.Packing.{form, first_form, next_form, formed, pack}
+use Rattle.lat_model.specs.sessions.Offers.{Offer, Nothing, Offers, offer, reject_offer, start_offer, later_offer, live_offer, fit, start_of}
+use Rattle.lat_model.specs.sessions.Packing.{form, first_form, next_form, formed}
 use Rattle.lat_model.specs.sessions.Hearing.{HeardAll, names, names_running, is_full, heard, hear_at, behind_fits, asked_session, ask_in, hear_slot, hear_all}
 use Rattle.lat_model.specs.sessions.Calls.{Call, Connect, Put, Set, Attend, Take, Close, Answer, Refuse, call, connect, new_call, touch, answer, reject}
-use Rattle.lat_model.specs.Lists.{updated, upwards, any_up_to, is_empty, IsPrefixOf}
+use Rattle.lat_model.specs.Lists.{updated, any_up_to, is_empty, IsPrefixOf}
 use Rattle.lat_model.specs.ends.Starting.{void_sessions}
-use Rattle.lat_model.proofs.sessions.Words.{upd_same, upd_other, items-append}
+use Rattle.lat_model.proofs.sessions.Words.{upd_other, items-append}
 use Rattle.lat_model.proofs.sessions.Starts.{free_goes, free_cases, turned_not_starts}
 use Rattle.lat_model.proofs.sessions.Alone.{some_is, none_is}
 use Rattle.lat_rounds.proofs.counting.Kept.{Kept}
@@ -398,9 +398,9 @@ goes_call e (Refuse id reason) a =
     let s : Session = record (named e id) { refused = true; reason = reason } in
     goes_cond (not e.master && waits (named e id)) (reject e id reason) e
     (λ q g.
-        let p : (not e.master ≡ true) × (waits (named e id) ≡ true) = and_parts (not e.master) (waits (named e id)) q in
-        let f : free (named e id) ≡ false = waits_goes (named e id) p.1 in
-        touched e (reject e id reason) (e.at_id id) s refl (λ i. refl) refl refl (free_blank (named e id) f) (held_goes (named e id) s f refl refl refl ([], append_nil (named e id).came) refl (λ h. h) (λ h. refl) refl (λ h. absurd (waits_alien e id (off e.master p.0) p.1 g h))) g)
+    let p : (not e.master ≡ true) × (waits (named e id) ≡ true) = and_parts (not e.master) (waits (named e id)) q in
+    let f : free (named e id) ≡ false = waits_goes (named e id) p.1 in
+    touched e (reject e id reason) (e.at_id id) s refl (λ i. refl) refl refl (free_blank (named e id) f) (held_goes (named e id) s f refl refl refl ([], append_nil (named e id).came) refl (λ h. h) (λ h. refl) refl (λ h. absurd (waits_alien e id (off e.master p.0) p.1 g h))) g)
 
 pub void_good : (m : Bool) (agreed ceiling : ℕ) → Good (void_sessions m agreed ceiling)
 void_good m agreed ceiling = record { none = refl; past = λ k l. refl; at_made = λ i. omega arith; asked = λ q k a l. absurd (omega (arith, a, l)); within = λ k. omega arith; unseen = λ k a. record { put = refl; taken = refl }; silent = λ k a b. refl }

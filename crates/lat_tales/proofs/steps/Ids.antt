@@ -1,14 +1,12 @@
 -- At a server no step gives an id to another session: only a session that is connected takes one.
-use Rattle.std.proofs.Common.{◌≡◌, ℕ, suc, ◌≤◌, refl, sym, ap, ◌∙◌, subst, arith, Bool, true, false, not, cond, ◌&&◌, ◌||◌, List, [], ◌∷◌, Option, Some, None, nat_eq, nat_lt, eqb-true}
-use Rattle.std.proofs.lemmas.Bool.{and_parts, true≢false}
+use Rattle.std.proofs.Common.{◌≡◌, ℕ, ◌≤◌, refl, sym, ◌∙◌, subst, arith, Bool, true, false, not, cond, ◌&&◌, ◌||◌, List, [], Option, nat_eq, nat_lt, eqb-true}
+use Rattle.std.proofs.lemmas.Bool.{true≢false}
 use Rattle.lat_model.specs.sessions.Slots.{Slot}
-use Rattle.lat_model.specs.sessions.Session.{waits, put_open, take_open, unframed, gone}
+use Rattle.lat_model.specs.sessions.Session.{waits, put_open, take_open}
 use Rattle.lat_model.specs.sessions.Sessions.{Sessions, named}
 use Rattle.lat_model.specs.sessions.Offers.{Offers, offer}
 use Rattle.lat_model.specs.sessions.Packing.{form, first_form, next_form}
-use Rattle.lat_model.specs.sessions.Hearing.{hear_at, ask_in}
 use Rattle.lat_model.specs.sessions.Calls.{Call, Connect, Put, Set, Attend, Take, Close, Answer, Refuse, call, answer, reject}
-use Rattle.lat_model.specs.Lists.{updated}
 use Rattle.lat_model.specs.numbers.Link.{Frame}
 use Rattle.lat_model.specs.ends.End.{End, Step, lives, call_end}
 use Rattle.lat_model.specs.ends.Timers.{note_empty, time_step}

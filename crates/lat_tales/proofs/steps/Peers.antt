@@ -1,5 +1,5 @@
 -- A slave keeps the id of its peer, whatever is heard and called.
-use Rattle.std.proofs.Common.{◌≡◌, ℕ, suc, ◌≤◌, refl, sym, ap, ◌∙◌, arith, Bool, true, false, not, cond, ◌&&◌, ◌||◌, List, [], ◌∷◌, Option, nat_eq, nat_lt, eqb-true}
+use Rattle.std.proofs.Common.{◌≡◌, ℕ, suc, ◌≤◌, refl, sym, ap, ◌∙◌, arith, Bool, true, false, not, cond, ◌&&◌, ◌||◌, List, [], Option, nat_eq, nat_lt, eqb-true}
 use Rattle.lat_model.specs.sessions.Slots.{Slot}
 use Rattle.lat_model.specs.sessions.Calls.{Call, Answer, Refuse}
 use Rattle.lat_model.specs.numbers.Link.{Frame}
@@ -15,10 +15,10 @@ use Rattle.lat_model.proofs.circuits.Begins.{kin_call}
 use Rattle.lat_machines.specs.values.Messages.{Head}
 use Rattle.lat_machines.specs.values.Events.{Numbers, Event, Hears, Time, Connects, Puts, Sets, Takes, Attends, Closes, Requests, Withdraws, Announces}
 use Rattle.lat_machines.specs.values.Answers.{Ended}
-use Rattle.lat_machines.specs.cores.Acts.{Acted, idle, put_at, steps_at, local_at, time_at, move_at}
+use Rattle.lat_machines.specs.cores.Acts.{Acted, idle, steps_at, local_at, time_at, move_at}
 use Rattle.lat_machines.specs.cores.Hearing.{HeardAct, foreign, names, fits_kind, numbers_at, run_frame, run_at, hear_run, hear_stop_at, Repeats, Makes, Refuses, start_fact, start_at}
 use Rattle.lat_machines.specs.cores.Cores.{Core, setup_of}
-use Rattle.lat_machines.specs.node.Node.{NodeConfig, Node, node_side, node_step}
+use Rattle.lat_machines.specs.node.Node.{NodeConfig, Node, node_step}
 use Rattle.lat_rounds.proofs.counting.Cores.{EventAllows}
 use Rattle.lat_tales.proofs.steps.Walk.{NodeActs, node_keeps}
 

@@ -1,6 +1,6 @@
 -- What an act that puts and takes nothing leaves of a table of circuits: one that doesn't live stays as it is, and one that
 -- runs keeps its peer.
-use Rattle.std.proofs.Common.{◌≡◌, ℕ, suc, ◌<◌, ◌≤◌, refl, sym, ap, ◌∙◌, subst, arith, Bool, true, false, not, cond, ◌&&◌, ◌||◌, List, [], ◌∷◌, Option, Some, None, nat_eq, nat_lt, eqb-true}
+use Rattle.std.proofs.Common.{◌≡◌, ℕ, suc, ◌≤◌, refl, sym, ap, ◌∙◌, subst, arith, Bool, true, false, not, cond, ◌&&◌, ◌||◌, List, [], Option, nat_eq, nat_lt, eqb-true}
 use Rattle.std.proofs.lemmas.Bool.{and_parts, true≢false, eqb-false}
 use Rattle.lat_model.specs.sessions.Slots.{Slot}
 use Rattle.lat_model.specs.sessions.Sessions.{Sessions}
@@ -22,7 +22,7 @@ use Rattle.lat_machines.specs.cores.Acts.{Acted, idle, put_at, steps_at, call_at
 use Rattle.lat_machines.specs.cores.Hearing.{HeardAct, foreign, names, fits_kind, numbers_at, run_frame, run_at, hear_run, hear_stop_at, hear_reply_at, Repeats, Makes, Refuses, start_fact, start_at}
 use Rattle.lat_machines.proofs.queue.Rooms.{least_true}
 use Rattle.lat_rounds.proofs.counting.Kept.{to_time, to_run, to_again, to_stop, to_reply}
-use Rattle.lat_tales.proofs.steps.Goes.{Good, Onto, Goes, goes_same, goes_then, goes_kept, one_then, IsQuiet, goes_call, void_good}
+use Rattle.lat_tales.proofs.steps.Goes.{Good, Onto, Goes, goes_same, goes_kept, one_then, IsQuiet, goes_call, void_good}
 
 abbrev pub sess : Table → ℕ → Sessions
 sess t x = (t.circuit_at x).end.half.sessions

@@ -1,13 +1,13 @@
 -- What every event of a core keeps, where each of its acts does. A session is opened, or accepted, on a line without one.
-use Rattle.std.proofs.Common.{◌≡◌, ◌≢◌, ℕ, zero, suc, ◌+◌, ◌<◌, ◌≤◌, refl, sym, ap, ◌∙◌, subst, arith, Bool, true, false, not, cond, ◌&&◌, List, [], ◌∷◌, ◌++◌, length, Option, Some, None, nat_eq, nat_lt, nat_le, find, eqb-true}
-use Rattle.std.proofs.lemmas.Bool.{eqb-false, and_from, and_parts, lt-ltb, le-leb, not-true}
+use Rattle.std.proofs.Common.{◌≡◌, ◌≢◌, ℕ, zero, suc, ◌+◌, ◌≤◌, refl, sym, ap, ◌∙◌, subst, arith, Bool, true, false, not, cond, ◌&&◌, List, [], ◌∷◌, ◌++◌, length, Option, Some, None, nat_eq, nat_lt, nat_le, find}
+use Rattle.std.proofs.lemmas.Bool.{eqb-false, and_from, lt-ltb, le-leb, not-true}
 use Rattle.std.specs.List.{list_any}
 use Rattle.lat_model.specs.sessions.Slots.{Slot}
 use Rattle.lat_model.specs.sessions.Session.{Session, waits, put_open, take_open, unframed}
 use Rattle.lat_model.specs.sessions.Sessions.{least_free}
 use Rattle.lat_model.specs.sessions.Calls.{Call, Put, Set, Attend, Take, Close, Refuse}
 use Rattle.lat_model.specs.sessions.Calls as Calls
-use Rattle.lat_model.specs.Lists.{updated, upwards, Each}
+use Rattle.lat_model.specs.Lists.{upwards, Each}
 use Rattle.lat_model.specs.ends.End.{lives, call_end}
 use Rattle.lat_model.specs.ends.Timers.{note_empty}
 use Rattle.lat_model.specs.ends.Starting.{Agreed}
