@@ -199,7 +199,7 @@ opens_fresh config b line address node service key request c pos can ex fr f = r
     d : Core
     d = (opens config line address node service key request c).core
 
-    o : Opened c line d
+    o : Opened c line key d
     o = opens_at config line address node service key request c pos (record { masters = f.sound.seated.good.masters; new = f.sound.seated.good.new }) can
 
     r : Opens true c d
