@@ -5,3 +5,4 @@ pub mod Servers
 pub mod Nodes
 pub mod Runs
 pub mod Told
+pub mod Books

@@ -3,3 +3,4 @@ pub mod Mates
 pub mod Rows
 pub mod Keeping
 pub mod Told
+pub mod Books
