@@ -1,0 +1,4 @@
+pub mod steps
+pub mod seats
+pub mod mates
+pub mod rows

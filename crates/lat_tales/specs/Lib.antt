@@ -1,0 +1,6 @@
+pub mod Items
+pub mod Mates
+pub mod Rows
+pub mod Keeping
+pub mod Told
+pub mod Books

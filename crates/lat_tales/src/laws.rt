@@ -1,0 +1,29 @@
+//! The laws of the rows of a report.
+
+ghost use Rattle.std.specs.Prelude.{◌≡◌, List};
+ghost use Rattle.lat_machines.specs.world.Machines.{Setups, Move, happens, run, open_machines};
+ghost use Rattle.lat_machines.specs.world.Safe.{Fit};
+ghost use Rattle.lat_machines.specs.world.Reports.{report};
+ghost use Rattle.lat_tales.specs.Rows.{KeptRows, Keeps};
+ghost use Rattle.lat_tales.specs.Keeping.{no_rows, kept_after, kept_all};
+ghost use Rattle.lat_tales.specs.Told.{told_rows};
+
+/// In every run of the two machines what is kept by the answers and by the newest sessions of the lines are the rows of the
+/// report: the items that were put and taken, the line of the node's session, found by its ids when the node accepts it, and
+/// the figures of each session that is no longer the newest of its line (`all`). So each move goes on from what was kept
+/// before it (`next`).
+pub fn rows_are_kept()
+    ensures all { (u : Setups) (moves : List Move) → Fit u → Keeps u (run u moves (open_machines u)) (kept_all u moves (open_machines u) no_rows) }
+    ensures next { (u : Setups) (moves : List Move) (m : Move) (k : KeptRows) →
+        Fit u →
+        Keeps u (run u moves (open_machines u)) k →
+        Keeps u (happens u (run u moves (open_machines u)) m) (kept_after u (run u moves (open_machines u)) m k) }
+{}
+
+/// What is kept, with the figures of the newest session of each line, are the rows of the report.
+pub fn kept_rows_are_the_report()
+    ensures { (u : Setups) (moves : List Move) (k : KeptRows) →
+        Fit u →
+        Keeps u (run u moves (open_machines u)) k →
+        told_rows (run u moves (open_machines u)) k ≡ (report u (run u moves (open_machines u))).sessions }
+{}
