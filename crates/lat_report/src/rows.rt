@@ -158,15 +158,15 @@ fn kept_word(kept: Kept) -> &'static str
 }
 
 /// Adds the line of a request. After want of memory a part of it may stand in the text.
-pub fn request_onto(alloc: Global, text: &mut String, record: &Record) -> Result<(), AllocError>
-    ensures { OnOk result (string_bytes text.new ≡ string_bytes text.old ++ request_text (record_in record.now)) }
+pub fn request_onto(alloc: Global, text: &mut String, request: &Record) -> Result<(), AllocError>
+    ensures { OnOk result (string_bytes text.new ≡ string_bytes text.old ++ request_text (record_in request.now)) }
 {
     text.push_str("request ")?;
-    key_onto(alloc, text, &record.key)?;
+    key_onto(alloc, text, &request.key)?;
     text.push_str(" ")?;
-    name_onto(alloc, text, &record.service)?;
+    name_onto(alloc, text, &request.service)?;
     text.push_str(" ")?;
-    text.push_str(kept_word(record.kept))?;
+    text.push_str(kept_word(request.kept))?;
     text.push_str("\n")
 }
 
