@@ -24,7 +24,10 @@ items_text (item ∷ items) = flat_map item_text (item ∷ items)
 
 -- what went in one direction of a session: the items put and taken, the credits given and the credited slots formed
 abbrev pub direction_text : (word : List ℕ) → Direction → List ℕ
-direction_text word d = line (word ∷ codes " put " ∷ items_text d.put ∷ codes " taken " ∷ items_text d.taken ∷ codes " given " ∷ decimal d.given ∷ codes " used " ∷ decimal d.used_up ∷ [])
+direction_text word d = line (
+    word ∷ codes " put " ∷ items_text d.put ∷ codes " taken " ∷ items_text d.taken
+    ∷ codes " given " ∷ decimal d.given ∷ codes " used " ∷ decimal d.used_up ∷ []
+    )
 
 -- how a session ended
 abbrev pub end_text : Option SessionEnd → List ℕ
@@ -38,8 +41,11 @@ abbrev pub node_line_text : Option ℕ → List ℕ
 node_line_text None = codes "-"
 node_line_text (Some node_line) = decimal node_line
 
-abbrev pub session_line : (number : ℕ) → (server_line : ℕ) → Option ℕ → Option SessionEnd → List ℕ
-session_line number server_line node_line ended = line (codes "session " ∷ decimal number ∷ codes " server-line " ∷ decimal server_line ∷ codes " node-line " ∷ node_line_text node_line ∷ codes " end " ∷ end_text ended ∷ [])
+abbrev pub session_line : (number server_line : ℕ) → (node_line : Option ℕ) → (ended : Option SessionEnd) → List ℕ
+session_line number server_line node_line ended = line (
+    codes "session " ∷ decimal number ∷ codes " server-line " ∷ decimal server_line
+    ∷ codes " node-line " ∷ node_line_text node_line ∷ codes " end " ∷ end_text ended ∷ []
+    )
 
 -- the three lines of the session of this number
 abbrev pub row_text : (number : ℕ) → Row → List ℕ

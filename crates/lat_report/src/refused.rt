@@ -9,11 +9,17 @@ use std::alloc::AllocError;
 #[derive(Clone, Copy, Debug, PartialEq, Eq)]
 pub enum Refused {
     /// Its moment is below the last one.
-    Backward { at: u64, last: u64 },
+    Backward {
+        at: u64,
+        last: u64,
+    },
     /// What is injected bears the address of an end.
     OwnAddress,
     /// No frame has this number; so many were sent.
-    NoFrame { index: u64, sent: u64 },
+    NoFrame {
+        index: u64,
+        sent: u64,
+    },
     /// The frame's message number, or else its acknowledgement, is too old beside the newest.
     Old {
         acknowledgement: bool,

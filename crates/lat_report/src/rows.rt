@@ -72,7 +72,12 @@ fn items_onto(alloc: Global, text: &mut String, items: &[Item]) -> Result<(), Al
     Ok(())
 }
 
-fn flow_onto(alloc: Global, text: &mut String, word: &str, flow: &Flow<'_>) -> Result<(), AllocError>
+fn flow_onto(
+    alloc: Global,
+    text: &mut String,
+    word: &str,
+    flow: &Flow<'_>,
+) -> Result<(), AllocError>
     ensures { OnOk result (string_bytes text.new ≡ string_bytes text.old ++ direction_text word.now (direction_in flow.now)) }
 {
     let (given, used) = (flow.given, flow.used);
