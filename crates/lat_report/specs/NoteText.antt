@@ -21,7 +21,7 @@ all_fields =
 
 -- the word of the field of this number
 abbrev pub field_named : ℕ → List ℕ
-field_named number = option_map_or field_word [] (find (λ f. nat_eq (field_number f) number) all_fields)
+field_named number = option_map_or field_word (find (λ f. nat_eq (field_number f) number) all_fields) []
 
 -- the word of a refusal
 abbrev pub refusal_word : Answer → List ℕ

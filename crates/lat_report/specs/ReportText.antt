@@ -29,23 +29,25 @@ direction_text word d = line (
     ∷ codes " given " ∷ decimal d.given ∷ codes " used " ∷ decimal d.used_up ∷ []
     )
 
--- how a session ended
-abbrev pub end_text : Option SessionEnd → List ℕ
-end_text None = codes "open"
-end_text (Some EndedClosed) = codes "closed"
-end_text (Some (EndedRejected reason)) = codes "rejected " ++ decimal reason
-end_text (Some (EndedCircuit reason)) = codes "circuit " ++ decimal reason
+-- the words on how a session ended
+unfoldable pub end_text : Option SessionEnd → List ℕ
+end_text None = codes " end open"
+end_text (Some EndedClosed) = codes " end closed"
+end_text (Some (EndedRejected reason)) = codes " end rejected " ++ decimal reason
+end_text (Some (EndedCircuit reason)) = codes " end circuit " ++ decimal reason
 
--- the node's line, `-` for none
-abbrev pub node_line_text : Option ℕ → List ℕ
-node_line_text None = codes "-"
-node_line_text (Some node_line) = decimal node_line
+-- the words on the node's line, `-` for none
+unfoldable pub node_line_text : Option ℕ → List ℕ
+node_line_text None = codes " node-line -"
+node_line_text (Some node_line) = codes " node-line " ++ decimal node_line
+
+-- the number of a session and the server's line
+unfoldable pub session_head : (number server_line : ℕ) → List ℕ
+session_head number server_line = codes "session " ++ decimal number ++ codes " server-line " ++ decimal server_line
 
 abbrev pub session_line : (number server_line : ℕ) → (node_line : Option ℕ) → (ended : Option SessionEnd) → List ℕ
-session_line number server_line node_line ended = line (
-    codes "session " ∷ decimal number ∷ codes " server-line " ∷ decimal server_line
-    ∷ codes " node-line " ∷ node_line_text node_line ∷ codes " end " ∷ end_text ended ∷ []
-    )
+session_line number server_line node_line ended =
+    line (session_head number server_line ∷ node_line_text node_line ∷ end_text ended ∷ [])
 
 -- the three lines of the session of this number
 abbrev pub row_text : (number : ℕ) → Row → List ℕ
@@ -56,11 +58,11 @@ abbrev pub rows_text : (number : ℕ) → List Row → List ℕ
 rows_text number [] = []
 rows_text number (r ∷ rows) = row_text number r ++ rows_text (number + 1) rows
 
-abbrev pub key_text : Key → List ℕ
+unfoldable pub key_text : Key → List ℕ
 key_text k = name_text k.node ++ codes " " ++ decimal k.incarnation ++ codes " " ++ decimal k.request
 
 -- what became of a request
-abbrev pub kept_word : Kept → List ℕ
+unfoldable pub kept_word : Kept → List ℕ
 kept_word (Waiting place) = codes "waiting"
 kept_word Granted = codes "granted"
 kept_word Cancelled = codes "cancelled"

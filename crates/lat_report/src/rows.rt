@@ -1,8 +1,9 @@
 //! The lines of sessions, requests and grants.
 
 ghost use Rattle.std.specs.Prelude.{◌≡◌, ◌++◌, OnOk, codes, option_map, string_bytes};
+ghost use Rattle.std.specs.List.{flat_map};
 ghost use Rattle.lat_queue.specs.Histories.{key_in, kept_in};
-ghost use Rattle.lat_report.specs.ReportText.{frames_text, item_text, items_text, direction_text, end_text, node_line_text, session_line, row_text, key_text, kept_word, request_text, grant_text};
+ghost use Rattle.lat_report.specs.ReportText.{frames_text, item_text, items_text, direction_text, end_text, node_line_text, session_head, session_line, row_text, key_text, kept_word, request_text, grant_text};
 ghost use Rattle.lat_report.specs.Rows.{items_in, direction_in, row_in, record_in};
 ghost use Rattle.lat_lines.specs.Answers.{item_in};
 ghost use Rattle.lat_lines.specs.Stands.{end_shown};
@@ -60,16 +61,22 @@ fn item_onto(alloc: Global, text: &mut String, item: Item) -> Result<(), AllocEr
     }
 }
 
+fn each_onto(alloc: Global, text: &mut String, items: &[Item]) -> Result<(), AllocError>
+    ensures { OnOk result (string_bytes text.new ≡ string_bytes text.old ++ flat_map (λ i. item_text (item_in i)) items.now) }
+{
+    for item in items {
+        item_onto(alloc, text, *item)?;
+    }
+    Ok(())
+}
+
 fn items_onto(alloc: Global, text: &mut String, items: &[Item]) -> Result<(), AllocError>
     ensures { OnOk result (string_bytes text.new ≡ string_bytes text.old ++ items_text (items_in items.now)) }
 {
     if items.is_empty() {
         return text.push_str("-");
     }
-    for item in items {
-        item_onto(alloc, text, *item)?;
-    }
-    Ok(())
+    each_onto(alloc, text, items)
 }
 
 fn flow_onto(
@@ -89,24 +96,33 @@ fn flow_onto(
     write!(text, " given {given} used {used}\n")
 }
 
+#[tactic(auto, unfolding(crate::specs::ReportText::end_text))]
 fn end_onto(text: &mut String, ended: Option<SessionEnd>) -> Result<(), AllocError>
     ensures { OnOk result (string_bytes text.new ≡ string_bytes text.old ++ end_text (option_map end_shown ended)) }
 {
     match ended {
-        None => text.push_str("open"),
-        Some(SessionEnd::Closed) => text.push_str("closed"),
-        Some(SessionEnd::Rejected(reason)) => write!(text, "rejected {reason}"),
-        Some(SessionEnd::Circuit(reason)) => write!(text, "circuit {reason}"),
+        None => text.push_str(" end open"),
+        Some(SessionEnd::Closed) => text.push_str(" end closed"),
+        Some(SessionEnd::Rejected(reason)) => write!(text, " end rejected {reason}"),
+        Some(SessionEnd::Circuit(reason)) => write!(text, " end circuit {reason}"),
     }
 }
 
+#[tactic(auto, unfolding(crate::specs::ReportText::node_line_text))]
 fn node_line_onto(text: &mut String, node_line: Option<u8>) -> Result<(), AllocError>
     ensures { OnOk result (string_bytes text.new ≡ string_bytes text.old ++ node_line_text node_line) }
 {
     match node_line {
-        None => text.push_str("-"),
-        Some(node_line) => write!(text, "{node_line}"),
+        None => text.push_str(" node-line -"),
+        Some(node_line) => write!(text, " node-line {node_line}"),
     }
+}
+
+#[tactic(auto, unfolding(crate::specs::ReportText::session_head))]
+fn session_head_onto(text: &mut String, number: u64, line: u8) -> Result<(), AllocError>
+    ensures { OnOk result (string_bytes text.new ≡ string_bytes text.old ++ session_head number line) }
+{
+    write!(text, "session {number} server-line {line}")
 }
 
 fn session_line_onto(
@@ -118,9 +134,8 @@ fn session_line_onto(
 ) -> Result<(), AllocError>
     ensures { OnOk result (string_bytes text.new ≡ string_bytes text.old ++ session_line number line node_line (option_map end_shown ended)) }
 {
-    write!(text, "session {number} server-line {line} node-line ")?;
+    session_head_onto(text, number, line)?;
     node_line_onto(text, node_line)?;
-    text.push_str(" end ")?;
     end_onto(text, ended)?;
     text.push_str("\n")
 }
@@ -140,6 +155,7 @@ pub fn session_onto(
     flow_onto(alloc, text, "down", &row.down)
 }
 
+#[tactic(auto, unfolding(crate::specs::ReportText::key_text))]
 fn key_onto(alloc: Global, text: &mut String, key: &Key) -> Result<(), AllocError>
     ensures { OnOk result (string_bytes text.new ≡ string_bytes text.old ++ key_text (key_in key.now)) }
 {
@@ -148,6 +164,7 @@ fn key_onto(alloc: Global, text: &mut String, key: &Key) -> Result<(), AllocErro
     write!(text, " {incarnation} {request}")
 }
 
+#[tactic(auto, unfolding(crate::specs::ReportText::kept_word))]
 fn kept_word(kept: Kept) -> &'static str
     ensures { result.now ≡ kept_word (kept_in kept) }
 {
