@@ -1,0 +1,50 @@
+//! The circuits that a payload names.
+
+ghost use Rattle.std.specs.Prelude.{◌≡◌, ◌+◌, ◌*◌, ◌<◌, length, slice_index};
+ghost use Rattle.lat_machines.specs.values.Frames.{Value, Whole};
+ghost use Rattle.lat_payload.specs.Reads.{reading_of};
+ghost use Rattle.lat_ledger.specs.Headings.{heading_in, heading_of};
+
+/// The circuits that a RUN names: the one at the end that hears it, and the one at the end that sent it.
+#[derive(Clone, Copy)]
+pub struct Heading {
+    pub to: u16,
+    pub from: u16,
+}
+
+const RUN: u8 = 0;
+
+const WIDE_RUN: u8 = 4;
+
+// A number of two bytes, low byte first.
+fn number_at(payload: &[u8], place: usize) -> u16
+    requires { place + 1 < length payload.now }
+    ensures { result ≡ slice_index payload.now place + slice_index payload.now (place + 1) * 256 }
+{
+    u16::from(payload[place]) + u16::from(payload[place + 1]) * 256
+}
+
+// The circuits that stand behind the first two bytes of a payload of the type of a RUN.
+fn heading_at(payload: &[u8]) -> Option<Heading>
+    ensures { result ≡ heading_in payload.now }
+{
+    if payload.len() < 6 {
+        return None;
+    }
+    match payload[0] / 4 {
+        RUN | WIDE_RUN => Some(Heading {
+            to: number_at(payload, 2),
+            from: number_at(payload, 4),
+        }),
+        _ => None,
+    }
+}
+
+/// The circuits that the payload of a RUN names; `None` of any other payload that has a reading. See "Circuit messages" in
+/// docs/FORMATS.md.
+pub fn heading_of(payload: &[u8]) -> Option<Heading>
+    ensures bytes { result ≡ heading_in payload.now }
+    ensures value { (v : Value) → reading_of payload.now ≡ Whole v → result ≡ heading_of v }
+{
+    heading_at(payload)
+}

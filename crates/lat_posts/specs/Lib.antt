@@ -1,0 +1,4 @@
+pub mod Lossless
+pub mod Tallies
+pub mod Ways
+pub mod Logs
