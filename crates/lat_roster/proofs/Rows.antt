@@ -1,13 +1,21 @@
 -- A row that is changed beside the one that it shows.
-use Rattle.std.proofs.Common.{◌≡◌, ◌≢◌, ℕ, zero, suc, ◌+◌, ◌-◌, ◌*◌, ◌<◌, ◌≤◌, refl, sym, ap, ap₂, ◌∙◌, subst, arith, Bool, true, false, cond, ◌&&◌, List, [], ◌∷◌, ◌++◌, length, length-append, get_or, get_or-set_same, get_or-set_other, slice_set, nat_eq, eqb-true}
+use Rattle.std.proofs.Common.{◌≡◌, ◌≢◌, ℕ, zero, suc, ◌+◌, ◌-◌, ◌*◌, ◌<◌, ◌≤◌, refl, sym, ap, ap₂, ◌∙◌, subst, arith, Bool, true, false, cond, ◌&&◌, List, [], ◌∷◌, ◌++◌, length, length-append, get_or, get_or-set_same, get_or-set_other, slice_set, slice_index, nat_eq, eqb-true}
 use Rattle.std.proofs.lemmas.Bool.{eqb-false}
+use Rattle.std.proofs.lemmas.List.{map-append, append-nil}
+use Rattle.std.specs.Prelude.{map, slice_get, Some}
+use Rattle.lat_base.specs.declared.item.Item.{Item}
+use Rattle.lat_base.specs.declared.item.Item.TheVariants.{Byte}
+use Rattle.lat_model.specs.sessions.Slots as slots
+use Rattle.lat_roster.specs.Shown.{item_shown}
+use Rattle.lat_roster.specs.declared.row.Way.{Way}
+use Rattle.lat_tales.specs.Keeping.{with_items, adds, lines_of}
 use Rattle.lat_tales.specs.Rows as rows
 use Rattle.lat_tales.specs.Rows.{KeptRow}
 use Rattle.lat_roster.specs.declared.figures.Figures.{Figures}
 use Rattle.lat_machines.specs.cores.Cores.{Seat}
 use Rattle.lat_tales.specs.Keeping.{change, new_row, connects, accepts}
 use Rattle.lat_roster.specs.declared.row.Row.{Row}
-use Rattle.lat_roster.specs.Rows.{ShowsFigures, ShowsRow, IsSeat}
+use Rattle.lat_roster.specs.Rows.{ShowsFigures, ShowsRow, IsSeat, HasRoom}
 use Rattle.lat_roster.specs.Roster.{Kept, ShowsRows, Shows, last_row}
 use Rattle.lat_roster.specs.Names.{key_of, place_of}
 
@@ -134,3 +142,75 @@ connected k v r f b s row list line circuit id left h is n l m e g leaves new at
 
     count2 : length v.rows ≡ suc (0 + length changed)
     count2 = omega (arith, count, same)
+
+-- what is put and taken more
+
+pub bytes_shown : (xs : List ℕ) → map item_shown (map slots.Byte xs) ≡ map Byte xs
+bytes_shown [] = refl
+bytes_shown (x ∷ xs) = ap (λ z. Byte x ∷ z) (bytes_shown xs)
+
+
+more_bytes : (xs ys : List Item) (ps : List slots.Item) (bs : List ℕ) → ys ≡ xs ++ map Byte bs → xs ≡ map item_shown ps → ys ≡ map item_shown (ps ++ map slots.Byte bs)
+more_bytes xs ys ps bs e h = e ∙ (ap₂ (λ x y. x ++ y) h (sym (bytes_shown bs)) ∙ sym (map-append item_shown ps (map slots.Byte bs)))
+
+nothing_more : (xs : List Item) (ps : List slots.Item) → xs ≡ map item_shown ps → xs ≡ map item_shown (ps ++ [])
+nothing_more xs ps h = h ∙ ap (map item_shown) (sym (append-nil ps))
+
+pub puts_up : (k v : Row) (r : rows.KeptRow) (bs : List ℕ) → v.up.put.items ≡ k.up.put.items ++ map Byte bs → v.up.taken.items ≡ k.up.taken.items → v.down ≡ k.down → (v.line ≡ k.line) × (v.circuit ≡ k.circuit) × (v.id ≡ k.id) × (v.node_line ≡ k.node_line) × (v.server ≡ k.server) × (v.node ≡ k.node) → ShowsRow k r → ShowsRow v (with_items true (map slots.Byte bs) [] r)
+puts_up k v r bs e t d o h = record {
+  line = o.0 ∙ h.line; circuit = o.1 ∙ h.circuit; id = o.2 ∙ h.id; node_line = o.3 ∙ h.node_line;
+  put_up = more_bytes k.up.put.items v.up.put.items r.put_up bs e h.put_up;
+  taken_up = t ∙ h.taken_up;
+  put_down = ap (λ (w : Way). w.put.items) d ∙ h.put_down;
+  taken_down = nothing_more v.down.taken.items r.taken_down (ap (λ (w : Way). w.taken.items) d ∙ h.taken_down);
+  server = subst (λ z. ShowsFigures z r.server) (sym o.4) h.server;
+  node = subst (λ z. ShowsFigures z r.node) (sym o.5) h.node;
+}
+
+pub puts_down : (k v : Row) (r : rows.KeptRow) (bs : List ℕ) → v.down.put.items ≡ k.down.put.items ++ map Byte bs → v.down.taken.items ≡ k.down.taken.items → v.up ≡ k.up → (v.line ≡ k.line) × (v.circuit ≡ k.circuit) × (v.id ≡ k.id) × (v.node_line ≡ k.node_line) × (v.server ≡ k.server) × (v.node ≡ k.node) → ShowsRow k r → ShowsRow v (with_items false (map slots.Byte bs) [] r)
+puts_down k v r bs e t d o h = record {
+  line = o.0 ∙ h.line; circuit = o.1 ∙ h.circuit; id = o.2 ∙ h.id; node_line = o.3 ∙ h.node_line;
+  put_down = more_bytes k.down.put.items v.down.put.items r.put_down bs e h.put_down;
+  taken_down = t ∙ h.taken_down;
+  put_up = ap (λ (w : Way). w.put.items) d ∙ h.put_up;
+  taken_up = nothing_more v.up.taken.items r.taken_up (ap (λ (w : Way). w.taken.items) d ∙ h.taken_up);
+  server = subst (λ z. ShowsFigures z r.server) (sym o.4) h.server;
+  node = subst (λ z. ShowsFigures z r.node) (sym o.5) h.node;
+}
+
+-- what goes into the row of a line's newest session
+
+pub added : (k v : Kept) (r : rows.KeptRows) (b : Bool) (line place : ℕ) (ps ts : List slots.Item) → Shows k r → line < 256 → place ≡ slice_index (cond b k.server_lines k.node_lines) line → (ShowsRows k.rows r.rows → ShowsRows v.rows (change place (with_items b ps ts) r.rows)) → v.server_lines ≡ k.server_lines → v.node_lines ≡ k.node_lines → v.names ≡ k.names → Shows v (adds b line ps ts r)
+added k v r b line place ps ts h l e changed server node names = record {
+  rows = subst (λ z. ShowsRows v.rows (change z (with_items b ps ts) r.rows)) (e ∙ at b) (changed h.rows);
+  server_lines = λ j m. ap (λ z. slice_index z j) server ∙ h.server_lines j m;
+  node_lines = λ j m. ap (λ z. slice_index z j) node ∙ h.node_lines j m;
+  names = λ c i m. ap (λ z. place_of z (key_of c i)) names ∙ (h.names c i m ∙ sym (last_changed c i 0 0 (lines_of b r line) (with_items b ps ts) r.rows (ids b)));
+}
+  where
+    at : (b : Bool) → slice_index (cond b k.server_lines k.node_lines) line ≡ lines_of b r line
+    at true = h.server_lines line l
+    at false = h.node_lines line l
+
+    ids : (b : Bool) (y : KeptRow) → ((with_items b ps ts y).circuit ≡ y.circuit) × ((with_items b ps ts y).id ≡ y.id)
+    ids true y = (refl, refl)
+    ids false y = (refl, refl)
+
+-- a row that is changed where what it shows stays
+
+change_none : (place : ℕ) (rs : List rows.KeptRow) → change place (λ r. r) rs ≡ rs
+change_none zero rs = refl
+change_none (suc k) [] = refl
+change_none (suc zero) (r ∷ rs) = refl
+change_none (suc (suc k)) (r ∷ rs) = ap (λ z. r ∷ z) (change_none (suc k) rs)
+
+pub shows_stays : (ks : List Row) (rs : List rows.KeptRow) (place : ℕ) (d k : Row) → 0 < place → place ≤ length ks → ShowsRows ks rs → ((r : rows.KeptRow) → ShowsRow (get_or ks (place - 1) d) r → ShowsRow k r) → ShowsRows (slice_set ks (place - 1) k) rs
+shows_stays ks rs place d k a b h g = subst (λ z. ShowsRows (slice_set ks (place - 1) k) z) (change_none place rs) (shows_changed ks rs place d k (λ r. r) a b h g)
+
+got_set : (ks : List Row) (i : ℕ) (x k : Row) → slice_get (slice_set ks i x) i ≡ Some k → x ≡ k
+got_set [] i x k h = let z : ⊥ = cc in absurd z
+got_set (y ∷ ks) zero x k h = cc
+got_set (y ∷ ks) (suc i) x k h = got_set ks i x k h
+
+pub room_set : (ks : List Row) (place i : ℕ) (b : Bool) (put taken : ℕ) (x k : Row) → place ≡ suc i → slice_get (slice_set ks (place - 1) x) i ≡ Some k → HasRoom b put taken x → HasRoom b put taken k
+room_set ks place i b put taken x k e h r = let j : place - 1 ≡ i = omega (arith, e) in subst (λ z. HasRoom b put taken z) (got_set ks i x k (subst (λ z. slice_get (slice_set ks z x) i ≡ Some k) j h)) r

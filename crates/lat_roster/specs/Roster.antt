@@ -1,10 +1,10 @@
 -- Which kept rows a roster shows.
-use Rattle.std.specs.Prelude.{◌≡◌, ◌≢◌, ℕ, suc, ◌+◌, ◌<◌, ◌≤◌, ◌&&◌, Bool, true, false, cond, List, [], ◌∷◌, length, slice_index, nat_eq, vec_len, vec_capacity}
+use Rattle.std.specs.Prelude.{◌≡◌, ◌≢◌, ℕ, suc, ◌+◌, ◌<◌, ◌≤◌, ◌&&◌, Bool, true, false, cond, List, [], ◌∷◌, length, slice_index, slice_get, Some, nat_eq, vec_len, vec_capacity}
 use Rattle.lat_model.specs.Lists.{Each}
 use Rattle.lat_tales.specs.Rows as rows
 use Rattle.lat_roster.specs.declared.row.Row.{Row}
 use Rattle.lat_roster.specs.Names.{Names, key_of, place_of}
-use Rattle.lat_roster.specs.Rows.{ShowsRow}
+use Rattle.lat_roster.specs.Rows.{ShowsRow, HasRoom}
 
 pub record Kept : Type 0 where
   pub rows : List Row
@@ -36,3 +36,7 @@ pub record Holds (k : Kept) : Type 0 where
   pub node_len : length k.node_lines ≡ 256
   pub server_places : (line : ℕ) → slice_index k.server_lines line ≤ length k.rows
   pub node_places : (line : ℕ) → slice_index k.node_lines line ≤ length k.rows
+
+-- the row at this place, if it is one, has room for so many items more
+abbrev pub RoomAt : List Row → ℕ → Bool → ℕ → ℕ → Type 0
+RoomAt ks place b put taken = (i : ℕ) (k : Row) → place ≡ suc i → slice_get ks i ≡ Some k → HasRoom b put taken k

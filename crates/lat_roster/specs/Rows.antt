@@ -1,5 +1,5 @@
 -- What the rows of a roster show.
-use Rattle.std.specs.Prelude.{◌≡◌, ℕ, List, map, option_map}
+use Rattle.std.specs.Prelude.{◌≡◌, ℕ, ◌+◌, ◌≤◌, Bool, true, false, List, map, option_map, vec_len, vec_capacity}
 use Rattle.lat_roster.specs.Shown.{item_shown, end_shown, told_total}
 use Rattle.lat_machines.specs.cores.Cores.{Seat}
 use Rattle.lat_tales.specs.Rows as rows
@@ -29,3 +29,8 @@ pub record IsSeat (s : Seat) (on circuit_id session_id : ℕ) : Type 0 where
   pub line : s.line ≡ on
   pub circuit : s.circuit ≡ circuit_id
   pub id : s.id ≡ session_id
+
+-- a row with room for so many items more that the session at this end puts and takes
+abbrev pub HasRoom : Bool → ℕ → ℕ → Row → Type 0
+HasRoom true put taken k = (vec_len k.up.put + put ≤ vec_capacity k.up.put) × (vec_len k.down.taken + taken ≤ vec_capacity k.down.taken)
+HasRoom false put taken k = (vec_len k.down.put + put ≤ vec_capacity k.down.put) × (vec_len k.up.taken + taken ≤ vec_capacity k.up.taken)

@@ -1,18 +1,20 @@
 //! The roster.
 
-ghost use Rattle.std.specs.Prelude.{◌≡◌, ◌≢◌, ◌+◌, ◌<◌, ◌≤◌, ℕ, length, slice_index, IfOk, OnOk, if◌then◌else◌};
+ghost use Rattle.std.specs.Prelude.{◌≡◌, ◌≢◌, ◌+◌, ◌<◌, ◌≤◌, ℕ, List, [], map, length, slice_index, IfOk, OnOk, if◌then◌else◌};
 ghost use Rattle.lat_machines.specs.cores.Cores.{Seat};
+ghost use Rattle.lat_model.specs.sessions.Slots as slots;
 ghost use Rattle.lat_tales.specs.Rows as rows;
-ghost use Rattle.lat_tales.specs.Keeping.{no_rows, connects, accepts};
+ghost use Rattle.lat_tales.specs.Keeping.{no_rows, adds, connects, accepts};
 ghost use Rattle.lat_roster.specs.Names.{key_of, place_of};
+ghost use Rattle.lat_roster.specs.Shown.{item_shown};
 ghost use Rattle.lat_roster.specs.Rows.{ShowsFigures, IsSeat};
-ghost use Rattle.lat_roster.specs.Roster.{Shows, last_row};
+ghost use Rattle.lat_roster.specs.Roster.{Shows, last_row, RoomAt};
 
-use crate::changes::{hand_over, leave_server};
+use crate::changes::{add_at, hand_over, leave_server, put_at, reserve_at};
 use crate::figures::Figures;
 use crate::names::Names;
 use crate::row::Row;
-use lat_base::Memory;
+use lat_base::{Item, Memory};
 use std::alloc::Global;
 use std::marker::Model;
 
@@ -97,6 +99,37 @@ impl Roster {
         } else {
             self.node_lines[usize::from(line)]
         }
+    }
+
+    /// Takes room in the row of a line's newest session for so many items more that this end puts and takes. `Memory` where
+    /// none is found; the rows stay.
+    pub fn reserve_items(&mut self, server: bool, line: u8, put: usize, taken: usize) -> Result<(), Memory>
+        ensures same { (r : rows.KeptRows) → Shows self.old r → Shows self.new r }
+        ensures items { OnOk result (RoomAt self.new.rows (slice_index (if server then self.new.server_lines else self.new.node_lines) line) server put taken) }
+        ensures rows { self.old.room ≡ self.new.room }
+    {
+        let place = self.newest(server, line);
+        reserve_at(self.rows.as_mut_slice(), place, server, put, taken)
+    }
+
+    /// The newest session of a line has put bytes more, for which there is room.
+    pub fn puts(&mut self, server: bool, line: u8, bytes: &[u8])
+        requires { RoomAt self.old.rows (slice_index (if server then self.old.server_lines else self.old.node_lines) line) server (length bytes.now) 0 }
+        ensures shows { (r : rows.KeptRows) → Shows self.old r → Shows self.new (adds server line (map slots.Byte bytes.now) [] r) }
+        ensures rows { self.old.room ≡ self.new.room }
+    {
+        let place = self.newest(server, line);
+        put_at(self.rows.as_mut_slice(), place, server, bytes);
+    }
+
+    /// The newest session of a line has put and taken items more, for which there is room.
+    pub fn adds(&mut self, server: bool, line: u8, put: &[Item], taken: &[Item])
+        requires { RoomAt self.old.rows (slice_index (if server then self.old.server_lines else self.old.node_lines) line) server (length put.now) (length taken.now) }
+        ensures shows { (r : rows.KeptRows) (ps ts : List slots.Item) → put.now ≡ map item_shown ps → taken.now ≡ map item_shown ts → Shows self.old r → Shows self.new (adds server line ps ts r) }
+        ensures rows { self.old.room ≡ self.new.room }
+    {
+        let place = self.newest(server, line);
+        add_at(self.rows.as_mut_slice(), place, server, put, taken);
     }
 
     /// A line of the server has a session more, with these ids. The figures of the line's session before are written down,

@@ -1,11 +1,14 @@
 //! The row of one session.
 
-ghost use Rattle.std.specs.Prelude.{◌≡◌, ◌+◌, ◌≤◌, ◌++◌, [], ◌∷◌, length, map, vec_len, vec_capacity, OnOk};
+ghost use Rattle.std.specs.Prelude.{◌≡◌, ◌+◌, ◌≤◌, ◌++◌, [], ◌∷◌, ℕ, List, length, map, vec_len, vec_capacity, OnOk};
+ghost use Rattle.lat_model.specs.sessions.Slots as slots;
 ghost use Rattle.lat_base.specs.declared.item.Item.TheVariants.{Byte};
 
 ghost use Rattle.lat_machines.specs.cores.Cores.{Seat};
-ghost use Rattle.lat_tales.specs.Keeping.{new_row};
-ghost use Rattle.lat_roster.specs.Rows.{IsSeat, ShowsRow};
+ghost use Rattle.lat_tales.specs.Rows as rows;
+ghost use Rattle.lat_tales.specs.Keeping.{new_row, with_items};
+ghost use Rattle.lat_roster.specs.Shown.{item_shown};
+ghost use Rattle.lat_roster.specs.Rows.{IsSeat, ShowsRow, HasRoom};
 
 use crate::figures::Figures;
 use lat_base::{Item, Memory};
@@ -63,6 +66,47 @@ impl Row {
             server: Figures::NONE,
             node: Figures::NONE,
         }
+    }
+
+    // The session at this end has put bytes more, for which there is room.
+    pub(crate) fn puts(&mut self, server: bool, bytes: &[u8])
+        requires { HasRoom server (length bytes.now) 0 self.old }
+        ensures { (r : rows.KeptRow) → ShowsRow self.old r → ShowsRow self.new (with_items server (map slots.Byte bytes.now) [] r) }
+    {
+        if server {
+            add_bytes(&mut self.up.put, bytes);
+        } else {
+            add_bytes(&mut self.down.put, bytes);
+        }
+    }
+
+    // The session at this end has put these items more and taken those, for which there is room.
+    pub(crate) fn adds(&mut self, server: bool, put: &[Item], taken: &[Item])
+        requires { HasRoom server (length put.now) (length taken.now) self.old }
+        ensures { (r : rows.KeptRow) (ps ts : List slots.Item) → put.now ≡ map item_shown ps → taken.now ≡ map item_shown ts → ShowsRow self.old r → ShowsRow self.new (with_items server ps ts r) }
+    {
+        if server {
+            add_items(&mut self.up.put, put);
+            add_items(&mut self.down.taken, taken);
+        } else {
+            add_items(&mut self.down.put, put);
+            add_items(&mut self.up.taken, taken);
+        }
+    }
+
+    // Takes room for so many items more that the session at this end puts and takes.
+    pub(crate) fn reserve(&mut self, server: bool, put: usize, taken: usize) -> Result<(), Memory>
+        ensures same { (r : rows.KeptRow) → ShowsRow self.old r → ShowsRow self.new r }
+        ensures room { OnOk result (HasRoom server put taken self.new) }
+    {
+        if server {
+            self.up.put.reserve(put)?;
+            self.down.taken.reserve(taken)?;
+        } else {
+            self.down.put.reserve(put)?;
+            self.up.taken.reserve(taken)?;
+        }
+        Ok(())
     }
 }
 
