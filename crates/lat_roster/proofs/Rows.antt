@@ -31,7 +31,6 @@ shows_changed ks rs (suc i) d k f a b h g =
     let e : suc i - 1 ≡ i = omega arith in
     subst (λ j. ShowsRows (slice_set ks j k) (change (suc i) f rs)) (sym e) (changed_at ks rs i d k f (omega (arith, b)) h (λ r q. g r (subst (λ j. ShowsRow (get_or ks j d) r) (sym e) q)))
 
-
 -- lists of places
 
 pub zeros_more : (xs : List ℕ) (k : ℕ) → ((j : ℕ) → get_or xs j 0 ≡ 0) → get_or (xs ++ 0 ∷ []) k 0 ≡ 0
@@ -149,7 +148,6 @@ pub bytes_shown : (xs : List ℕ) → map item_shown (map slots.Byte xs) ≡ map
 bytes_shown [] = refl
 bytes_shown (x ∷ xs) = ap (λ z. Byte x ∷ z) (bytes_shown xs)
 
-
 more_bytes : (xs ys : List Item) (ps : List slots.Item) (bs : List ℕ) → ys ≡ xs ++ map Byte bs → xs ≡ map item_shown ps → ys ≡ map item_shown (ps ++ map slots.Byte bs)
 more_bytes xs ys ps bs e h = e ∙ (ap₂ (λ x y. x ++ y) h (sym (bytes_shown bs)) ∙ sym (map-append item_shown ps (map slots.Byte bs)))
 
@@ -158,7 +156,10 @@ nothing_more xs ps h = h ∙ ap (map item_shown) (sym (append-nil ps))
 
 pub puts_up : (k v : Row) (r : rows.KeptRow) (bs : List ℕ) → v.up.put.items ≡ k.up.put.items ++ map Byte bs → v.up.taken.items ≡ k.up.taken.items → v.down ≡ k.down → (v.line ≡ k.line) × (v.circuit ≡ k.circuit) × (v.id ≡ k.id) × (v.node_line ≡ k.node_line) × (v.server ≡ k.server) × (v.node ≡ k.node) → ShowsRow k r → ShowsRow v (with_items true (map slots.Byte bs) [] r)
 puts_up k v r bs e t d o h = record {
-  line = o.0 ∙ h.line; circuit = o.1 ∙ h.circuit; id = o.2 ∙ h.id; node_line = o.3 ∙ h.node_line;
+  line = o.0 ∙ h.line;
+  circuit = o.1 ∙ h.circuit;
+  id = o.2 ∙ h.id;
+  node_line = o.3 ∙ h.node_line;
   put_up = more_bytes k.up.put.items v.up.put.items r.put_up bs e h.put_up;
   taken_up = t ∙ h.taken_up;
   put_down = ap (λ (w : Way). w.put.items) d ∙ h.put_down;
@@ -169,7 +170,10 @@ puts_up k v r bs e t d o h = record {
 
 pub puts_down : (k v : Row) (r : rows.KeptRow) (bs : List ℕ) → v.down.put.items ≡ k.down.put.items ++ map Byte bs → v.down.taken.items ≡ k.down.taken.items → v.up ≡ k.up → (v.line ≡ k.line) × (v.circuit ≡ k.circuit) × (v.id ≡ k.id) × (v.node_line ≡ k.node_line) × (v.server ≡ k.server) × (v.node ≡ k.node) → ShowsRow k r → ShowsRow v (with_items false (map slots.Byte bs) [] r)
 puts_down k v r bs e t d o h = record {
-  line = o.0 ∙ h.line; circuit = o.1 ∙ h.circuit; id = o.2 ∙ h.id; node_line = o.3 ∙ h.node_line;
+  line = o.0 ∙ h.line;
+  circuit = o.1 ∙ h.circuit;
+  id = o.2 ∙ h.id;
+  node_line = o.3 ∙ h.node_line;
   put_down = more_bytes k.down.put.items v.down.put.items r.put_down bs e h.put_down;
   taken_down = t ∙ h.taken_down;
   put_up = ap (λ (w : Way). w.put.items) d ∙ h.put_up;

@@ -1,6 +1,5 @@
 -- Which kept rows a roster shows.
-use Rattle.std.specs.Prelude.{◌≡◌, ◌≢◌, ℕ, suc, ◌+◌, ◌<◌, ◌≤◌, ◌&&◌, Bool, true, false, cond, List, [], ◌∷◌, length, slice_index, slice_get, Some, nat_eq, vec_len, vec_capacity}
-use Rattle.lat_model.specs.Lists.{Each}
+use Rattle.std.specs.Prelude.{◌≡◌, ℕ, suc, ◌<◌, ◌≤◌, ◌&&◌, Bool, cond, List, [], ◌∷◌, length, slice_index, slice_get, Some, nat_eq}
 use Rattle.lat_tales.specs.Rows as rows
 use Rattle.lat_roster.specs.declared.row.Row.{Row}
 use Rattle.lat_roster.specs.Names.{Names, key_of, place_of}

@@ -1,5 +1,5 @@
 -- What the rows of a roster show.
-use Rattle.std.specs.Prelude.{◌≡◌, ℕ, ◌+◌, ◌≤◌, Bool, true, false, List, map, option_map, vec_len, vec_capacity}
+use Rattle.std.specs.Prelude.{◌≡◌, ℕ, ◌+◌, ◌≤◌, Bool, true, false, map, option_map, vec_len, vec_capacity}
 use Rattle.lat_roster.specs.Shown.{item_shown, end_shown, told_total}
 use Rattle.lat_machines.specs.cores.Cores.{Seat}
 use Rattle.lat_tales.specs.Rows as rows

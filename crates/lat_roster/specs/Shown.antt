@@ -1,5 +1,5 @@
 -- Items, ends of sessions and counts, as the machines know them and as they are kept.
-use Rattle.std.specs.Prelude.{ℕ, List, min}
+use Rattle.std.specs.Prelude.{ℕ, min}
 use Rattle.lat_base.specs.declared.item.Item as base
 use Rattle.lat_base.specs.declared.item.Item.TheVariants as items
 use Rattle.lat_base.specs.declared.state.SessionEnd as base_end

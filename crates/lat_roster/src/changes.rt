@@ -75,7 +75,13 @@ pub(crate) fn add_at(list: &mut [Row], place: usize, server: bool, put: &[Item],
 }
 
 // Takes room in the row at this place, if it is one.
-pub(crate) fn reserve_at(list: &mut [Row], place: usize, server: bool, put: usize, taken: usize) -> Result<(), Memory>
+pub(crate) fn reserve_at(
+    list: &mut [Row],
+    place: usize,
+    server: bool,
+    put: usize,
+    taken: usize,
+) -> Result<(), Memory>
     requires { place ≤ length list.old }
     ensures same { (rs : List rows.KeptRow) → ShowsRows list.old rs → ShowsRows list.new rs }
     ensures room { OnOk result (RoomAt list.new place server put taken) }

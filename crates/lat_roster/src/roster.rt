@@ -103,7 +103,13 @@ impl Roster {
 
     /// Takes room in the row of a line's newest session for so many items more that this end puts and takes. `Memory` where
     /// none is found; the rows stay.
-    pub fn reserve_items(&mut self, server: bool, line: u8, put: usize, taken: usize) -> Result<(), Memory>
+    pub fn reserve_items(
+        &mut self,
+        server: bool,
+        line: u8,
+        put: usize,
+        taken: usize,
+    ) -> Result<(), Memory>
         ensures same { (r : rows.KeptRows) → Shows self.old r → Shows self.new r }
         ensures items { OnOk result (RoomAt self.new.rows (slice_index (if server then self.new.server_lines else self.new.node_lines) line) server put taken) }
         ensures rows { self.old.room ≡ self.new.room }
@@ -145,7 +151,11 @@ impl Roster {
         ensures rows { self.old.room ≡ self.new.room + 1 }
         ensures names { self.old.names.room ≤ self.new.names.room + 1 }
     {
-        leave_server(self.rows.as_mut_slice(), self.server_lines[usize::from(line)], before);
+        leave_server(
+            self.rows.as_mut_slice(),
+            self.server_lines[usize::from(line)],
+            before,
+        );
         self.rows.push_reserved(Row::new(alloc, line, circuit, id));
         let place = self.rows.len();
         self.server_lines[usize::from(line)] = place;
@@ -161,7 +171,13 @@ impl Roster {
             (slice_index self.old.node_lines line ≢ 0 → ShowsFigures before f) →
             Shows self.new (accepts line place f r) }
     {
-        hand_over(self.rows.as_mut_slice(), self.node_lines[usize::from(line)], before, place, line);
+        hand_over(
+            self.rows.as_mut_slice(),
+            self.node_lines[usize::from(line)],
+            before,
+            place,
+            line,
+        );
         self.node_lines[usize::from(line)] = place;
     }
 }

@@ -3,7 +3,6 @@
 ghost use Rattle.std.specs.Prelude.{◌≡◌, ◌+◌, ◌≤◌, ◌++◌, [], ◌∷◌, ℕ, List, length, map, vec_len, vec_capacity, OnOk};
 ghost use Rattle.lat_model.specs.sessions.Slots as slots;
 ghost use Rattle.lat_base.specs.declared.item.Item.TheVariants.{Byte};
-
 ghost use Rattle.lat_machines.specs.cores.Cores.{Seat};
 ghost use Rattle.lat_tales.specs.Rows as rows;
 ghost use Rattle.lat_tales.specs.Keeping.{new_row, with_items};

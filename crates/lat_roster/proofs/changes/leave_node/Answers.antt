@@ -1,4 +1,4 @@
-use Rattle.std.proofs.Common.{◌≡◌, ◌≢◌, ◌<◌, arith}
+use Rattle.std.proofs.Common.{◌<◌, arith}
 use Rattle.lat_roster.proofs.Rows.{shows_changed}
 use Rattle.lat_roster.proofs.changes.leave_node.Goals as goal
 

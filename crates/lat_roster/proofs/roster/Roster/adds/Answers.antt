@@ -1,9 +1,7 @@
-use Rattle.std.proofs.Common.{ap, sym, ◌∙◌, subst, [], map, length, slice_index, cond}
+use Rattle.std.proofs.Common.{ap, sym, ◌∙◌, subst}
 use Rattle.std.proofs.lemmas.List.{with_items_is}
-use Rattle.lat_model.specs.sessions.Slots as slots
-use Rattle.lat_tales.specs.Rows as rows
 use Rattle.lat_tales.specs.Keeping.{change, with_items}
-use Rattle.lat_roster.specs.Roster.{Kept, ShowsRows, Shows}
+use Rattle.lat_roster.specs.Roster.{Kept, ShowsRows}
 use Rattle.lat_roster.proofs.Rows.{added}
 use Rattle.lat_roster.proofs.roster.Roster.adds.Goals as goal
 
