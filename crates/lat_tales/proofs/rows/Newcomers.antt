@@ -1,5 +1,5 @@
 -- The new sessions of a move are of different lines, and stand in the books of these.
-use Rattle.std.proofs.Common.{◌≡◌, ℕ, zero, suc, ◌+◌, ◌<◌, ◌≤◌, inl, refl, sym, inr, ap, ◌∙◌, subst, arith, Bool, true, false, not, cond, ◌&&◌, List, [], ◌∷◌, ◌++◌, length, drop, Option, Some, None, nat_eq, nat_lt, nat_le, eqb-true, eq-eqb, slice_get}
+use Rattle.std.proofs.Common.{◌≡◌, ℕ, zero, suc, ◌<◌, ◌≤◌, inl, refl, sym, inr, ap, ◌∙◌, subst, arith, Bool, true, false, not, cond, ◌&&◌, List, [], ◌∷◌, ◌++◌, length, drop, Option, Some, None, nat_eq, nat_lt, nat_le, eqb-true, slice_get}
 use Rattle.std.proofs.lemmas.Bool.{eqb-false, ltb-true, leb-true}
 use Rattle.std.proofs.Math.Seq.{drop-append_seam}
 use Rattle.lat_model.specs.Lists.{Each}
@@ -11,11 +11,10 @@ use Rattle.lat_machines.specs.world.Safe.{Fit}
 use Rattle.lat_rounds.specs.Seated.{IsSeat}
 use Rattle.lat_tales.specs.Keeping.{new_seats}
 use Rattle.lat_tales.specs.Books.{InBooks, Comes, lines_at}
-use Rattle.lat_tales.proofs.seats.Sound.{Sound, IsNew, seat_behind, append_seat}
-use Rattle.lat_tales.proofs.seats.Told.{Tale, server_tale, node_tale}
-use Rattle.lat_tales.proofs.mates.Reach.{BothSound, Reach, reach_run, marked_sound}
+use Rattle.lat_tales.proofs.seats.Sound.{Sound, IsNew, seat_behind}
+use Rattle.lat_tales.proofs.seats.Told.{server_tale, node_tale}
+use Rattle.lat_tales.proofs.mates.Reach.{BothSound, reach_run, marked_sound}
 use Rattle.lat_tales.proofs.rows.Books.{none_behind, book_of_new}
-use Rattle.lat_tales.proofs.rows.Runs.{next_reach}
 
 -- seats of different lines, each from 1 to some bound
 
