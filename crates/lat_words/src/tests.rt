@@ -4,45 +4,45 @@ use std::test::Fail;
 
 // Right words: the options with their values, and the words behind them.
 const WORDS: [(&str, &str); 9] = [
-    ("role", "server"),
-    ("name", "TS1"),
-    ("address", "AA0004000104"),
-    ("port", "7000"),
-    ("lines", "2"),
-    ("line-port", "7100"),
-    ("service", "V%a1X"),
-    ("sessions", "1"),
+    ("--role", "server"),
+    ("--name", "TS1"),
+    ("--address", "AA0004000104"),
+    ("--port", "7000"),
+    ("--lines", "2"),
+    ("--line-port", "7100"),
+    ("--service", "V%a1X"),
+    ("--sessions", "1"),
     ("peer", "7001 7002"),
 ];
 
 // Values that make the words wrong.
 const WRONG: [(&str, &str); 17] = [
-    ("role", "switch"),
-    ("role", "server --role server"),
-    ("role", "server --help"),
-    ("name", "seventeen-letters"),
-    ("address", "aa000400010"),
-    ("address", "aa00040001040"),
-    ("port", "0"),
-    ("port", "65536"),
-    ("port", "007"),
-    ("port", "+5"),
-    ("lines", "33"),
-    ("line-port", "65535"),
-    ("service", "V%41X"),
-    ("sessions", "0"),
-    ("sessions", "1000001"),
+    ("--role", "switch"),
+    ("--role", "server --role server"),
+    ("--role", "server --help"),
+    ("--name", "seventeen-letters"),
+    ("--address", "aa000400010"),
+    ("--address", "aa00040001040"),
+    ("--port", "0"),
+    ("--port", "65536"),
+    ("--port", "007"),
+    ("--port", "+5"),
+    ("--lines", "33"),
+    ("--line-port", "65535"),
+    ("--service", "V%41X"),
+    ("--sessions", "0"),
+    ("--sessions", "1000001"),
     ("peer", "7001 65536"),
     ("peer", "1 2 3 4 5 6 7 8 9"),
 ];
 
 // Values that leave them right.
 const RIGHT: [(&str, &str); 6] = [
-    ("role", "node"),
-    ("lines", "32"),
-    ("line-port", "65534"),
-    ("service", "%fe"),
-    ("sessions", "1000000"),
+    ("--role", "node"),
+    ("--lines", "32"),
+    ("--line-port", "65534"),
+    ("--service", "%fe"),
+    ("--sessions", "1000000"),
     ("peer", "1 2 3 4 5 6 7 65535"),
 ];
 
@@ -64,7 +64,7 @@ fn words_with(alloc: Global, other: &str, new: &str) -> Result<Vec<String>, Allo
             continue;
         }
         if id != "peer" {
-            words.push(format!(in alloc; "--{id}")?)?;
+            split_onto(alloc, &mut words, id)?;
         }
         split_onto(alloc, &mut words, value)?;
     }
@@ -89,24 +89,14 @@ fn words(rt: HostRuntime) -> Result<(), Fail> {
     assert_eq!(rt; config.lines.port, 7100);
     assert_eq!(rt; config.lines.service.bytes(), [0x56, 0xa1, 0x58].as_slice());
     assert_eq!(rt; config.lines.sessions, 1);
-    for id in [
-        "role",
-        "name",
-        "address",
-        "port",
-        "lines",
-        "line-port",
-        "service",
-        "sessions",
-        "peer",
-    ] {
-        assert!(rt; config_with(alloc, id, "none")?.is_none(), "without {id}");
+    for (id, _) in WORDS {
+        assert!(rt; config_with(alloc, id, "none")?.is_none());
     }
     for (id, value) in WRONG {
-        assert!(rt; config_with(alloc, id, value)?.is_none(), "{id} {value}");
+        assert!(rt; config_with(alloc, id, value)?.is_none());
     }
     for (id, value) in RIGHT {
-        assert!(rt; config_with(alloc, id, value)?.is_some(), "{id} {value}");
+        assert!(rt; config_with(alloc, id, value)?.is_some());
     }
     Ok(())
 }
