@@ -3,7 +3,5 @@
 #![tactic(auto)]
 
 mod credits;
-#[cfg(test)]
-mod tests;
 
 pub use credits::{Credits, NoCredit, TooMany};

@@ -9,8 +9,6 @@ mod ids;
 pub mod laws;
 mod link;
 mod patch;
-#[cfg(test)]
-mod tests;
 
 pub use ids::Ids;
 pub use link::Link;

@@ -5,8 +5,6 @@
 mod receiving;
 mod sending;
 mod span;
-#[cfg(test)]
-mod tests;
 
 pub use receiving::RecvSide;
 pub use sending::{AckFact, SendSide};
