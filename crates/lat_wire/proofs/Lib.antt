@@ -1,0 +1,9 @@
+pub mod Rating
+pub mod Noting
+pub mod Taking
+pub mod Standing
+pub mod Used
+pub mod Stepping
+pub mod Telling
+pub mod Opening
+pub mod Refusing

@@ -1,0 +1,126 @@
+-- A run of the two machines goes on, and a young frame is heard as its bytes tell.
+use Rattle.std.proofs.Common.{◌≡◌, ℕ, ◌+◌, ◌<◌, sym, ap, ap₂, ◌∙◌, refl, subst, arith, Bool, true, false, not, cond, ◌&&◌, ◌||◌, List, [], ◌∷◌, ◌++◌, Option, Some, None, slice_get, nat_lt}
+use Rattle.std.proofs.lemmas.Bool.{true≢false, false≢true}
+use Rattle.lat_model.specs.circuits.World.{table, World}
+use Rattle.lat_model.specs.circuits.Events.{go_on}
+use Rattle.lat_machines.specs.values.Timing.{half_range}
+use Rattle.lat_machines.specs.values.Messages.{Head}
+use Rattle.lat_machines.specs.values.Frames.{Reading, Whole}
+use Rattle.lat_machines.specs.values.Events.{Event, Numbers, Hears, is_heard}
+use Rattle.lat_machines.specs.cores.Cores.{Core}
+use Rattle.lat_machines.specs.cores.Hearing.{names}
+use Rattle.lat_machines.specs.world.Machines.{Setups, Posted, Machines, Move, Does, HearsFrame, HearsForeign, own_of, core_of, is_for_other, is_own, heard_as, tell, comes, counted, marked_delivered, happens, run, open_machines}
+use Rattle.lat_machines.specs.world.Safe.{Fit, circuits_open, answer_by, HeardByBytes, Safe}
+use Rattle.lat_machines.specs.world.Tally.{RunTallies, formed_in, shown_in, is_recent, is_young, is_young_at}
+use Rattle.lat_machines.specs.world.Young.{head_of, IsYoung}
+use Rattle.lat_machines.proofs.events.Tied.{Goes, every_run}
+use Rattle.lat_machines.proofs.frames.Bytes.{SameIn, server_bytes, node_bytes, same_frame}
+use Rattle.lat_machines.proofs.queue.Quiet.{world_ok}
+use Rattle.lat_machines.proofs.runs.Safety.{every_safe}
+use Rattle.lat_machines.proofs.tally.Worlds.{machines_tally, youth}
+use Rattle.lat_rounds.proofs.rounds.Moves.{run_more}
+use Rattle.lat_wire.specs.declared.fault.EventFault.{EventFault}
+use Rattle.lat_wire.specs.declared.fault.EventFault.TheVariants.{Old}
+use Rattle.lat_wire.specs.Kept.{Kept, setups_of}
+use Rattle.lat_wire.specs.Refusals.{first_of, old_so, old_frame, old_run}
+use Rattle.lat_wire.specs.Stands.{Mirrors, Stands}
+
+-- a run with one move more
+pub stands_on : {H : Type 0} (k new : Kept H) (w : Machines) (m : Move) → setups_of new ≡ setups_of k → Stands k w → Mirrors new (happens (setups_of k) w m) → Stands new (happens (setups_of k) w m)
+stands_on k new w m e s h = record {
+  parts = h;
+  fit = subst Fit (sym e) s.fit;
+  moves = s.moves ++ m ∷ [];
+  run = subst (λ u. happens (setups_of k) w m ≡ run u (s.moves ++ m ∷ []) (open_machines u)) (sym e) (ap (λ z. happens (setups_of k) z m) s.run ∙ sym (run_more (setups_of k) s.moves (m ∷ []) (open_machines (setups_of k))));
+}
+
+pub stands_tallies : {H : Type 0} (k : Kept H) (w : Machines) → Stands k w → RunTallies (setups_of k) w
+stands_tallies k w s = subst (RunTallies (setups_of k)) (sym s.run) (machines_tally (setups_of k) s.moves)
+
+pub stands_safe : {H : Type 0} (k : Kept H) (w : Machines) → Stands k w → Safe (setups_of k) w
+stands_safe k w s = subst (Safe (setups_of k)) (sym s.run) (every_safe (setups_of k) s.moves s.fit)
+
+-- what isn't old is young
+
+not_old : (acknowledgement : Bool) (r number newest : ℕ) → old_so acknowledgement r number newest ≡ None → nat_lt newest (number + r) ≡ true
+not_old acknowledgement r number newest = go (nat_lt newest (number + r))
+  where
+    go : (b : Bool) → cond b None (Some (Old acknowledgement number newest)) ≡ None → b ≡ true
+    go true e = refl
+    go false e = let z : ⊥ = cc in absurd z
+
+both_none : (a b : Option EventFault) → first_of (a ∷ b ∷ []) ≡ None → (a ≡ None) × (b ≡ None)
+both_none None None e = (refl, refl)
+both_none None (Some f) e = let z : ⊥ = cc in absurd z
+both_none (Some f) b e = let z : ⊥ = cc in absurd z
+
+young_head : (u : Setups) (w : Machines) (p : Posted) (o : Option Head) → old_run u w p o ≡ None → is_young_at u w p o ≡ true
+young_head u w p None e = refl
+young_head u w p (Some h) = go (names (core_of w (not p.by_server)).circuits (own_of u p.by_server) h.to h.from)
+  where
+    r : ℕ
+    r = half_range ((core_of w (not p.by_server)).circuits.circuit_at h.to).end.wide
+
+    c : Core
+    c = core_of w p.by_server
+
+    go : (n : Bool) → cond n (old_frame r c p.frame) None ≡ None → (not n || is_recent r c p.frame) ≡ true
+    go false e = refl
+    go true e =
+        let b : (old_so false r p.frame.number (formed_in c p.frame.circuit) ≡ None) × (old_so true r p.frame.acknowledgement (shown_in c p.frame.circuit) ≡ None) = both_none _ _ e in
+        ap₂ (λ x y. x && y) (not_old false r p.frame.number (formed_in c p.frame.circuit) b.0) (not_old true r p.frame.acknowledgement (shown_in c p.frame.circuit) b.1)
+
+pub young_of : (u : Setups) (w : Machines) (p : Posted) → old_run u w p (head_of p.frame.value) ≡ None → IsYoung u w p
+young_of u w p e = (youth u w p).only (young_head u w p (head_of p.frame.value) e)
+
+-- a young frame of the other end is answered as its bytes tell
+
+run_answers : (u : Setups) (es : List Move) (f : Fit u) (i now : ℕ) (p : Posted) → slice_get (run u es (open_machines u)).posts i ≡ Some p → is_for_other u p ≡ true → IsYoung u (run u es (open_machines u)) p → answer_by u (run u es (open_machines u)) (not p.by_server) (Hears (own_of u p.by_server) (Whole p.frame.value) None now) ≡ answer_by u (run u es (open_machines u)) (not p.by_server) (heard_as u p now)
+run_answers u es f i now p q t y = go (not p.by_server) (same_frame u m w p i g.beside (world_ok u f g.events) q t y)
+  where
+    m : Machines
+    m = run u es (open_machines u)
+
+    g : Goes u m (circuits_open u)
+    g = every_run u es f
+
+    w : World
+    w = go_on g.events (circuits_open u)
+
+    k : Numbers
+    k = record { number = p.frame.number; acknowledgement = p.frame.acknowledgement }
+
+    go : (b : Bool) → SameIn (table w b) (own_of u p.by_server) k p.frame.value → answer_by u m b (Hears (own_of u p.by_server) (Whole p.frame.value) None now) ≡ answer_by u m b (heard_as u p now)
+    go true s = ap (λ z. z.answer) (server_bytes u.server m.server (own_of u p.by_server) p.frame.value k now (subst (λ z. SameIn z (own_of u p.by_server) k p.frame.value) g.beside.ties.server s))
+    go false s = ap (λ z. z.answer) (node_bytes u.node [] m.node (own_of u p.by_server) p.frame.value k now (subst (λ z. SameIn z (own_of u p.by_server) k p.frame.value) g.beside.ties.node s))
+
+pub young_answers : {H : Type 0} (h : Kept H) (w : Machines) (i now : ℕ) (p : Posted) → Stands h w → slice_get w.posts i ≡ Some p → is_for_other (setups_of h) p ≡ true → IsYoung (setups_of h) w p → answer_by (setups_of h) w (not p.by_server) (Hears (own_of (setups_of h) p.by_server) (Whole p.frame.value) None now) ≡ answer_by (setups_of h) w (not p.by_server) (heard_as (setups_of h) p now)
+young_answers h w i now p s q t y =
+    subst (λ z. answer_by (setups_of h) z (not p.by_server) (Hears (own_of (setups_of h) p.by_server) (Whole p.frame.value) None now) ≡ answer_by (setups_of h) z (not p.by_server) (heard_as (setups_of h) p now)) (sym s.run)
+    (run_answers (setups_of h) s.moves s.fit i now p (subst (λ z. slice_get z.posts i ≡ Some p) s.run q) t (subst (λ z. IsYoung (setups_of h) z p) s.run y))
+
+-- and the delivered index is noted before or behind the event
+pub delivered_behind : (u : Setups) (w : Machines) (i : ℕ) (b : Bool) (e : Event) (rates : List ℕ) → tell u (marked_delivered i w) b e rates ≡ marked_delivered i (tell u w b e rates)
+delivered_behind u w i true e rates = refl
+delivered_behind u w i false e rates = refl
+
+-- a move in its cases
+
+pub local_happens : (u : Setups) (w : Machines) (b : Bool) (e : Event) (rates : List ℕ) → is_heard e ≡ false → tell u w b e rates ≡ happens u w (Does b e rates)
+local_happens u w b e rates h = sym (ap (λ z. cond z w (tell u w b e rates)) h)
+
+pub foreign_happens : (u : Setups) (w : Machines) (b : Bool) (from now : ℕ) (payload : Reading) (rates : List ℕ) → is_own u from ≡ false → tell u w b (Hears from payload None now) rates ≡ happens u w (HearsForeign b from payload now rates)
+foreign_happens u w b from now payload rates h = sym (ap (λ z. cond z w (tell u w b (Hears from payload None now) rates)) h)
+
+pub other_happens : (u : Setups) (w : Machines) (i now : ℕ) (p : Posted) (rates : List ℕ) → slice_get w.posts i ≡ Some p → is_for_other u p ≡ true → tell u (marked_delivered i w) (not p.by_server) (heard_as u p now) rates ≡ happens u w (HearsFrame i now rates)
+other_happens u w i now p rates q h = sym (ap (comes u w i now rates) q ∙ ap (λ z. cond z (tell u (marked_delivered i w) (not p.by_server) (heard_as u p now) rates) (counted (marked_delivered i w))) h)
+
+pub nobody_happens : (u : Setups) (w : Machines) (i now : ℕ) (p : Posted) (rates : List ℕ) → slice_get w.posts i ≡ Some p → is_for_other u p ≡ false → counted (marked_delivered i w) ≡ happens u w (HearsFrame i now rates)
+nobody_happens u w i now p rates q h = sym (ap (comes u w i now rates) q ∙ ap (λ z. cond z (tell u (marked_delivered i w) (not p.by_server) (heard_as u p now) rates) (counted (marked_delivered i w))) h)
+
+-- a young frame that is heard by its bytes, with its index noted behind, is the delivery of the frame
+pub heard_happens : (u : Setups) (w : Machines) (i now : ℕ) (p : Posted) (rates : List ℕ) → HeardByBytes u w → slice_get w.posts i ≡ Some p → is_for_other u p ≡ true → IsYoung u w p → marked_delivered i (tell u w (not p.by_server) (Hears (own_of u p.by_server) (Whole p.frame.value) None now) rates) ≡ happens u w (HearsFrame i now rates)
+heard_happens u w i now p rates bytes q t y =
+    ap (marked_delivered i) (bytes i now rates p q t y)
+    ∙ (sym (delivered_behind u w i (not p.by_server) (heard_as u p now) rates)
+    ∙ other_happens u w i now p rates q t)

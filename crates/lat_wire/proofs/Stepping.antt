@@ -1,0 +1,65 @@
+-- One event of either core.
+use Rattle.std.proofs.Common.{◌≡◌, ℕ, suc, ◌<◌, ◌≤◌, ◌^◌, sym, ap, ap₂, ◌∙◌, refl, subst, arith, Bool, true, false, List, [], ◌∷◌, length, map, replicate}
+use Rattle.lat_base.specs.declared.answer.Answer.{Answer}
+use Rattle.lat_base.specs.declared.event.Event.{Event}
+use Rattle.lat_base.specs.declared.outbox.OutFrame.{OutFrame}
+use Rattle.lat_model.specs.Lists.{Each}
+use Rattle.lat_machines.specs.cores.Lines.{used}
+use Rattle.lat_machines.specs.node.Node as node
+use Rattle.lat_machines.specs.server.Server as server
+use Rattle.lat_machines.specs.world.Machines.{Setups, Machines, tell}
+use Rattle.lat_machines.proofs.events.Ratings.{same_but_frames}
+use Rattle.lat_payload.specs.Frames.{seen, expected}
+use Rattle.lat_lines.specs.Events.{event_shown}
+use Rattle.lat_server.specs.Kept as servers
+use Rattle.lat_server.specs.Stands as server_stands
+use Rattle.lat_node.specs.Kept as nodes
+use Rattle.lat_node.specs.Stands as node_stands
+use Rattle.lat_wire.specs.Ends.{KeptEnds, AreEnds, MadeFrames, frames_by, setups_of}
+use Rattle.lat_wire.specs.Rates.{RatesWhatIsLeft, rating, rates}
+use Rattle.lat_wire.specs.Told.{answered}
+use Rattle.lat_wire.proofs.Rating.{frames_same}
+use Rattle.lat_wire.proofs.Used.{few_used}
+
+-- the machine of the server of a world, and that of its node
+pub server_machine : {H : Type 0} (k : KeptEnds H) (w : Machines) → AreEnds k w → server_stands.IsMachine k.server (record { config = servers.config_of k.server; state = w.server })
+server_machine k w a = record { config = refl; state = a.server }
+
+pub node_machine : {H : Type 0} (k : KeptEnds H) (w : Machines) → AreEnds k w → node_stands.IsMachine k.node (record { config = nodes.config_of k.node; rule = k.node.rule; state = w.node })
+node_machine k w a = record { config = refl; rule = refl; state = a.node }
+
+each_to : (P Q : ℕ → Type 0) (xs : List ℕ) → ((x : ℕ) → P x → Q x) → Each P xs → Each Q xs
+each_to P Q [] h e = tt
+each_to P Q (x ∷ xs) h e = (h x e.0, each_to P Q xs h e.1)
+
+-- the frames of a node whose rule has one answer
+pub node_frames : {H : Type 0} (may : H → ℕ → ℕ → ℕ → Type 0) (k : KeptEnds H) (w : Machines) (e : Event) (rs : List ℕ) → AreEnds k w → RatesWhatIsLeft (may k.node.rule) → k.node.lines.lines < 2 ^ 16 → node.Allowed (may k.node.rule) (nodes.config_of k.node) w.node (event_shown e) rs → (node.node_step (nodes.config_of k.node) rs w.node (event_shown e)).frames ≡ frames_by (setups_of k) w false (event_shown e)
+node_frames may k w e rs a one few h =
+    frames_same (nodes.config_of k.node) rs (rating (used w.node.core) k.node.lines.lines) w.node (event_shown e)
+    (each_to (may k.node.rule (used w.node.core) k.node.lines.lines) (λ z. z ≡ rating (used w.node.core) k.node.lines.lines) rs (λ r m. one (used w.node.core) k.node.lines.lines r (few_used k.node.lines w.node.core a.node.lines) few m) h.each)
+    h.count
+
+-- both cores behind an event of one of them
+
+pub server_told : {H : Type 0} (k new : KeptEnds H) (w : Machines) (e : Event) → AreEnds k w → new.node ≡ k.node → ((m : server_stands.Machine) → server_stands.IsMachine k.server m → server_stands.IsMachine new.server (server_stands.next m e)) → AreEnds new (tell (setups_of k) w true (event_shown e) (rates (setups_of k) w))
+server_told k new w e a n h = record {
+  server = (h (record { config = servers.config_of k.server; state = w.server }) (server_machine k w a)).state;
+  node = subst (λ z. node_stands.Stands z w.node) (sym n) a.node;
+}
+
+pub node_told : {H : Type 0} (k new : KeptEnds H) (w : Machines) (e : Event) → AreEnds k w → new.server ≡ k.server → ((m : node_stands.Machine H) → node_stands.IsMachine k.node m → node_stands.IsMachine new.node (node_stands.next m e)) → AreEnds new (tell (setups_of k) w false (event_shown e) (rates (setups_of k) w))
+node_told k new w e a n h = record {
+  server = subst (λ z. server_stands.Stands z w.server) (sym n) a.server;
+  node = subst (node_stands.Stands new.node) (same_but_frames (nodes.config_of k.node) [] (rates (setups_of k) w) w.node (event_shown e)).state (h (record { config = nodes.config_of k.node; rule = k.node.rule; state = w.node }) (node_machine k w a)).state;
+}
+
+-- neither configuration changes, nor the rule
+
+pub server_setups : {H : Type 0} (k new : KeptEnds H) → server_stands.opening new.server ≡ server_stands.opening k.server → new.node ≡ k.node → setups_of new ≡ setups_of k
+server_setups k new o n = ap₂ (λ x y. let u : Setups = record { server = x; node = y } in u) (ap (λ (m : server_stands.Machine). m.config) o) (ap nodes.config_of n)
+
+pub node_setups : {H : Type 0} (k new : KeptEnds H) → node_stands.opening new.node ≡ node_stands.opening k.node → new.server ≡ k.server → setups_of new ≡ setups_of k
+node_setups {H = H} k new o n = ap₂ (λ x y. let u : Setups = record { server = x; node = y } in u) (ap servers.config_of n) (ap (λ (m : node_stands.Machine H). m.config) o)
+
+pub same_rule : {H : Type 0} (k new : KeptEnds H) → node_stands.opening new.node ≡ node_stands.opening k.node → new.node.rule ≡ k.node.rule
+same_rule {H = H} k new o = ap (λ (m : node_stands.Machine H). m.rule) o
