@@ -6,14 +6,14 @@ use Rattle.lat_base.specs.declared.outbox.OutFrame as base
 use Rattle.lat_model.specs.Lists.{Each}
 use Rattle.lat_machines.specs.values.Frames.{FrameMark, OfRun, Plain, OutFrame}
 use Rattle.lat_machines.specs.world.Machines.{Setups, Posted, post_all}
-use Rattle.lat_machines.specs.world.Tally.{new_messages, is_run, Tallied, TalliedBy, number_of}
+use Rattle.lat_machines.specs.world.Tally.{new_messages, is_run, Tallied, TalliedBy}
 use Rattle.lat_payload.specs.Frames.{seen, expected}
 use Rattle.lat_posts.specs.declared.post.Post.{Post}
 use Rattle.lat_posts.specs.declared.tallies.Tally.{Tally}
 use Rattle.lat_posts.specs.Ways.{Log}
 use Rattle.lat_posts.specs.Logs.{IsLog}
 use Rattle.lat_posts.specs.Tallies.{tally_at}
-use Rattle.lat_ledger.specs.Books.{Book, Counts, ArePosts, IsBook, IsPost, IsReadable, Numbered, Tells, behind, behind_all, number_told, tallies_of, tally_of, tally_told, with_side}
+use Rattle.lat_ledger.specs.Books.{Book, Counts, ArePosts, IsBook, IsPost, IsReadable, Tells, behind, behind_all, number_told, tallies_of, tally_of, tally_told, with_side}
 
 pub are_more : (ss : List Post) (ps : List Posted) (s : Post) (p : Posted) → ArePosts ss ps → IsPost s p → ArePosts (ss ++ s ∷ []) (ps ++ p ∷ [])
 are_more [] [] s p h q = (q, tt)

@@ -1,11 +1,10 @@
 -- The circuits that a RUN names stand behind its first two bytes.
-use Rattle.std.proofs.Common.{◌≡◌, ℕ, suc, ◌+◌, ◌*◌, ◌/◌, ◌%◌, ◌<◌, ◌≤◌, sym, ap, ap₂, ◌∙◌, refl, subst, arith, Bool, true, false, cond, ◌&&◌, ◌||◌, List, [], ◌∷◌, ◌++◌, length, Option, Some, None, Result, Ok, Err, nat_eq, nat_lt, option_map, if◌then◌else◌, slice_index}
+use Rattle.std.proofs.Common.{◌≡◌, ℕ, ◌+◌, ◌*◌, ◌/◌, ◌%◌, ap, ap₂, ◌∙◌, refl, arith, Bool, true, false, cond, ◌&&◌, ◌||◌, List, [], ◌∷◌, ◌++◌, length, Some, None, Result, Ok, Err, nat_eq, nat_lt, if◌then◌else◌, slice_index}
 use Rattle.std.proofs.lemmas.Bool.{lt-ltb}
 use Rattle.lat_base.specs.declared.field.Bad.{Bad}
 use Rattle.lat_fields.specs.Payloads.{PayloadText}
 use Rattle.lat_fields.specs.Texts.{number, counted}
 use Rattle.lat_fields.proofs.Steps.{IsBytes}
-use Rattle.lat_frames.specs.declared.message.Head.{Head}
 use Rattle.lat_frames.specs.declared.message.Message.{Message}
 use Rattle.lat_frames.specs.declared.message.Message.TheVariants as messages
 use Rattle.lat_frames.specs.Heads.{first_byte}
@@ -14,14 +13,13 @@ use Rattle.lat_frames.specs.Reading.{is_kind, message_read}
 use Rattle.lat_frames.proofs.MessageFound.{payload_is}
 use Rattle.lat_notices.specs.declared.notice.Notice.{Notice}
 use Rattle.lat_notices.specs.Reading.{is_notice, notice_read}
-use Rattle.lat_machines.specs.values.Frames.{Reading, Value, OfCircuit, OfNotice, Whole, Malformed}
-use Rattle.lat_machines.specs.world.Young.{head_of}
+use Rattle.lat_machines.specs.values.Frames.{Value, OfCircuit, OfNotice, Whole}
 use Rattle.lat_circuit.specs.Frames.{message_shown}
 use Rattle.lat_payload.specs.declared.value.Value.TheVariants.{Circuit, Notice as NoticeOf}
-use Rattle.lat_payload.specs.Shown.{value_shown, notice_shown}
-use Rattle.lat_payload.specs.Reads.{reading_of, read_as, unknown, malformed}
+use Rattle.lat_payload.specs.Shown.{notice_shown}
+use Rattle.lat_payload.specs.Reads.{reading_of, read_as, unknown}
 use Rattle.lat_ledger.specs.declared.heading.Heading.{Heading}
-use Rattle.lat_ledger.specs.Headings.{heading, heading_of, heading_in}
+use Rattle.lat_ledger.specs.Headings.{heading_of, heading_in}
 
 -- the type of a RUN
 is_run_kind : ℕ → Bool

@@ -1,6 +1,6 @@
 -- A frame is delivered.
-use Rattle.std.proofs.Common.{◌≡◌, ◌≢◌, ℕ, zero, suc, ◌+◌, ◌<◌, ◌≤◌, ◌⊎◌, inl, inr, sym, ap, ap₂, ◌∙◌, refl, subst, arith, Bool, true, false, not, cond, ◌&&◌, ◌||◌, List, [], ◌∷◌, ◌++◌, length, take, drop, Option, Some, None, slice_get, nat_eq, ◌↔◌, IsTrue, filter, length-append, eqb-true, eq-eqb}
-use Rattle.std.proofs.lemmas.Bool.{false≢true, true≢false, and_parts, and_from}
+use Rattle.std.proofs.Common.{◌≡◌, ℕ, zero, suc, ◌+◌, ◌<◌, ◌≤◌, sym, ap, ap₂, ◌∙◌, refl, subst, arith, Bool, true, false, cond, ◌&&◌, ◌||◌, List, [], ◌∷◌, ◌++◌, length, take, Option, Some, None, slice_get, nat_eq, IsTrue, filter, length-append, eqb-true, eq-eqb}
+use Rattle.std.proofs.lemmas.Bool.{false≢true, and_parts, and_from}
 use Rattle.std.proofs.lemmas.List.{append_assoc, append-nil}
 use Rattle.std.proofs.lemmas.Option.{slice_get_within}
 use Rattle.std.proofs.lemmas.List.Elements.{filter-append}
@@ -8,9 +8,8 @@ use Rattle.std.proofs.lemmas.List.Folds.{list_any-append}
 use Rattle.lat_model.specs.Lists.{Each, IsPrefixOf}
 use Rattle.lat_machines.specs.world.Machines.{Setups, Posted, is_for_other}
 use Rattle.lat_rounds.specs.Lossless.{is_side, sends_other, sent_from, is_sent_by, is_in, firsts}
-use Rattle.lat_rounds.proofs.rounds.Prefixes.{sent_more, sent_at_least, prefix_then}
+use Rattle.lat_rounds.proofs.rounds.Prefixes.{prefix_then}
 use Rattle.lat_rounds.proofs.rounds.Nexts.{Rising, firsts_new, rising_below, sent_rising}
-use Rattle.lat_posts.specs.declared.posts.Way.{Way}
 use Rattle.lat_posts.specs.Lossless.{came_in, LosslessIn}
 use Rattle.lat_posts.specs.declared.posts.Mark.{Mark}
 use Rattle.lat_posts.specs.declared.posts.Ways.{Ways}

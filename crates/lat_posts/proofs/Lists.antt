@@ -1,6 +1,6 @@
 -- Lists that grow at their end, and places in lists of numbers.
-use Rattle.std.proofs.Common.{◌≡◌, ℕ, zero, suc, ◌+◌, ◌<◌, ◌≤◌, ◌⊎◌, inl, inr, sym, ap, ap₂, ◌∙◌, refl, subst, arith, Bool, true, false, List, [], ◌∷◌, ◌++◌, length, Option, Some, None, slice_get, slice_set, map}
-use Rattle.lat_model.specs.Lists.{Each, IsPrefixOf}
+use Rattle.std.proofs.Common.{◌≡◌, ℕ, zero, suc, ◌<◌, ◌⊎◌, inl, inr, sym, ap, ap₂, ◌∙◌, refl, subst, arith, List, [], ◌∷◌, ◌++◌, length, Some, slice_get, slice_set, map}
+use Rattle.lat_model.specs.Lists.{Each}
 
 -- an element of a list with one more at its end is one of the list, or the last
 pub end_get : {X : Type 0} (xs : List X) (x : X) (i : ℕ) (y : X) → slice_get (xs ++ x ∷ []) i ≡ Some y → ((i < length xs) × (slice_get xs i ≡ Some y)) ⊎ ((i ≡ length xs) × (x ≡ y))

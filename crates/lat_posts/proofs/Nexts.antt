@@ -1,5 +1,5 @@
 -- The first frame that is still to be delivered.
-use Rattle.std.proofs.Common.{◌≡◌, ℕ, zero, suc, ◌+◌, ◌<◌, ◌≤◌, sym, ap, ap₂, ◌∙◌, refl, subst, arith, Bool, true, false, not, cond, ◌&&◌, ◌||◌, List, [], ◌∷◌, ◌++◌, length, take, Option, Some, None, slice_get, nat_lt, nat_eq, is_none, inl, inr, ◌⊎◌, length-append, map, slice_set}
+use Rattle.std.proofs.Common.{◌≡◌, ℕ, zero, suc, ◌+◌, ◌≤◌, sym, ap, ap₂, ◌∙◌, refl, subst, arith, Bool, true, false, not, cond, ◌&&◌, ◌||◌, List, [], ◌∷◌, ◌++◌, length, take, Some, None, slice_get, nat_lt, nat_eq, is_none, inl, inr, length-append, map, slice_set}
 use Rattle.std.proofs.Math.Dec.{eqb-suc-zero, eqb-zero-suc, eqb-suc-suc}
 use Rattle.std.proofs.lemmas.Bool.{lt-ltb, ltb-true, false≢true}
 use Rattle.lat_machines.specs.world.Machines.{Setups, Posted, is_for_other}
@@ -8,7 +8,7 @@ use Rattle.lat_rounds.specs.Rounds.{undelivered_from}
 use Rattle.lat_posts.specs.declared.posts.Mark.{Mark}
 use Rattle.lat_posts.specs.declared.post.Sent.{Sent}
 use Rattle.lat_posts.specs.Ways.{Log, mark_of, is_through, AllThrough, IsNext, marked}
-use Rattle.lat_posts.specs.Logs.{turn_of, IsMarked, IsLog}
+use Rattle.lat_posts.specs.Logs.{IsMarked, IsLog}
 use Rattle.lat_posts.proofs.Lists.{end_get}
 
 abbrev pub Fits : Setups → List ℕ → ℕ → List Mark → List Posted → Type 0

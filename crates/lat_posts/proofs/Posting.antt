@@ -1,11 +1,10 @@
 -- The frames as they are kept: one more, and one that is delivered.
-use Rattle.std.proofs.Common.{◌≡◌, ℕ, zero, suc, ◌+◌, ◌<◌, ◌≤◌, ◌⊎◌, inl, inr, sym, ap, ap₂, ◌∙◌, refl, subst, arith, Bool, true, false, cond, List, [], ◌∷◌, ◌++◌, length, Option, Some, None, slice_get, nat_lt, is_none, map, length-append}
+use Rattle.std.proofs.Common.{◌≡◌, ℕ, ◌+◌, ◌<◌, ◌≤◌, inl, inr, sym, ap, ap₂, ◌∙◌, refl, subst, arith, Bool, true, false, cond, List, [], ◌∷◌, ◌++◌, length, Option, Some, None, slice_get, nat_lt, is_none, map}
 use Rattle.std.proofs.lemmas.Bool.{cases_lt, lt-ltb, ltb-true, false≢true}
 use Rattle.std.proofs.lemmas.List.{map-append, length-map}
 use Rattle.std.proofs.lemmas.Option.{slice_get_past}
 use Rattle.lat_machines.specs.world.Machines.{Setups, Posted, is_for_other}
 use Rattle.lat_rounds.specs.Rounds.{undelivered_from}
-use Rattle.lat_posts.specs.declared.post.Post.{Post}
 use Rattle.lat_posts.specs.declared.post.Sent.{Sent}
 use Rattle.lat_posts.specs.declared.posts.Mark.{Mark}
 use Rattle.lat_posts.specs.declared.posts.Ways.{Ways}

@@ -1,5 +1,5 @@
 -- Whether a log is that of two machines.
-use Rattle.std.specs.Prelude.{◌≡◌, ℕ, ◌<◌, ◌↔◌, Bool, true, false, cond, List, length, take, Option, Some, None, slice_get, IsTrue}
+use Rattle.std.specs.Prelude.{◌≡◌, ℕ, ◌<◌, ◌↔◌, Bool, cond, List, length, take, Option, Some, None, slice_get, IsTrue}
 use Rattle.lat_model.specs.Lists.{Each}
 use Rattle.lat_machines.specs.world.Machines.{Setups, Posted, is_for_other}
 use Rattle.lat_rounds.specs.Lossless.{is_in, sent_from}

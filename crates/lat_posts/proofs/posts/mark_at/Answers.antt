@@ -1,6 +1,6 @@
 use Rattle.std.proofs.Common.{◌≡◌, arith, refl, length, slice_get, Some}
 use Rattle.std.proofs.lemmas.Option.{slice_get_read}
-use Rattle.lat_posts.specs.Ways.{mark_of, post_of}
+use Rattle.lat_posts.specs.Ways.{post_of}
 use Rattle.lat_posts.proofs.Lists.{map-set_same}
 use Rattle.lat_posts.proofs.Nexts.{map-set_marked}
 use Rattle.lat_posts.proofs.posts.mark_at.Goals as goal

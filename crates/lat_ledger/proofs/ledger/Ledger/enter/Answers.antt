@@ -1,9 +1,8 @@
-use Rattle.std.proofs.Common.{◌≡◌, ℕ, ◌<◌, ◌^◌, ap, ap₂, sym, subst, ◌∙◌, arith, Bool, ◌||◌, nat_eq}
+use Rattle.std.proofs.Common.{◌≡◌, ◌<◌, ◌^◌, ap, ap₂, sym, subst, ◌∙◌, arith, ◌||◌, nat_eq}
 use Rattle.lat_machines.specs.values.Addresses.{address, everyone}
 use Rattle.lat_machines.specs.world.Machines.{is_for_other}
 use Rattle.lat_machines.specs.world.Tally.{TalliedBy}
 use Rattle.lat_payload.specs.Frames.{Seen, mark_of}
-use Rattle.lat_posts.specs.Logs.{IsLog}
 use Rattle.lat_posts.specs.Tallies.{tally_at}
 use Rattle.lat_ledger.specs.Books.{IsBook, IsPost, tallies_of, tally_of, tally_told}
 use Rattle.lat_ledger.proofs.Entered.{entered_all}

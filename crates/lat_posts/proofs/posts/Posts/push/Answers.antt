@@ -1,4 +1,4 @@
-use Rattle.std.proofs.Common.{◌≡◌, refl, ap, sym, subst, ◌∙◌, arith, true, false, cond, Some, None, is_none}
+use Rattle.std.proofs.Common.{◌≡◌, refl, ap, sym, subst, ◌∙◌, arith, true, false, cond, is_none}
 use Rattle.lat_posts.specs.Logs.{IsLog}
 use Rattle.lat_posts.specs.Ways.{side_of, turned}
 use Rattle.lat_posts.proofs.Posting.{push_log, push_still, push_through, through_of, turned_within}
