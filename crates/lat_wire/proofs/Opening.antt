@@ -16,9 +16,9 @@ opened_book u k h = record {
   posts = h.posts;
   log = h.log;
   tallies = elim [
-      true ↦ tells_same (tallies_of k true) no_counts (counts_at (open_machines u) true) (λ x. refl) (λ x. refl) (λ x. refl) (h.tallies true)
+    | true ↦ tells_same (tallies_of k true) no_counts (counts_at (open_machines u) true) (λ x. refl) (λ x. refl) (λ x. refl) (h.tallies true)
     | false ↦ tells_same (tallies_of k false) no_counts (counts_at (open_machines u) false) (λ x. refl) (λ x. refl) (λ x. refl) (h.tallies false)
-    ];
+  ];
 }
 
 pub fits : (server : ServerConfig) (node : NodeConfig) → servers.IsConfig server → nodes.IsConfig node → address server.own.0 ≢ address node.own.0 → address server.own.0 ≢ everyone → address node.own.0 ≢ everyone → Fit (record { server = servers.config_shown server; node = nodes.config_shown node })

@@ -55,7 +55,7 @@ both_none None (Some f) e = let z : ⊥ = cc in absurd z
 both_none (Some f) b e = let z : ⊥ = cc in absurd z
 
 young_head : (u : Setups) (w : Machines) (p : Posted) (o : Option Head) → old_run u w p o ≡ None → is_young_at u w p o ≡ true
-young_head u w p None e = refl
+young_head u w p None = λ e. refl
 young_head u w p (Some h) = go (names (core_of w (not p.by_server)).circuits (own_of u p.by_server) h.to h.from)
   where
     r : ℕ

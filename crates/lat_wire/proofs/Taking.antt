@@ -122,4 +122,4 @@ taken_told u w b e x i = go (answer_by u w b (event_shown e)) refl (meaning (ans
   where
     go : (a : Answer) → answer_by u w b (event_shown e) ≡ a → Meaning a → taken_by (event_shown e) a x ≡ counted_at (taker_of e (answer_of a)) x
     go a q (Takes_it n) = event_taken u w b e n x i q
-    go a q (Other a f r s) = none_taken a (event_shown e) x r s ∙ ap (λ z. counted_at (cond z (named_by e) None) x) (sym f)
+    go a q (Other other f r s) = none_taken other (event_shown e) x r s ∙ ap (λ z. counted_at (cond z (named_by e) None) x) (sym f)

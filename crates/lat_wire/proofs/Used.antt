@@ -17,27 +17,27 @@ live c ss = filter (λ s. not (over c s)) ss
 
 live_lines : (n : ℕ) (c : Core) (ss : List Seat) → Each (IsSeat n c) ss → Each (IsLine n) (map line_of (live c ss))
 live_lines n c [] h = tt
-live_lines n c (s ∷ ss) h = go (over c s)
+live_lines n c (s ∷ ss) h = go (over c s) (live_lines n c ss h.1)
   where
-    go : (b : Bool) → Each (IsLine n) (map line_of (cond (not b) (s ∷ live c ss) (live c ss)))
-    go true = live_lines n c ss h.1
-    go false = (h.0.line, live_lines n c ss h.1)
+    go : (b : Bool) → Each (IsLine n) (map line_of (live c ss)) → Each (IsLine n) (map line_of (cond (not b) (s ∷ live c ss) (live c ss)))
+    go true r = r
+    go false r = (h.0.line, r)
 
 live_others : (c : Core) (line : ℕ) (ss : List Seat) → NoneOn line ss → Each (λ y. y ≢ line) (map line_of (live c ss))
 live_others c line [] h = tt
-live_others c line (s ∷ ss) h = go (over c s)
+live_others c line (s ∷ ss) h = go (over c s) (live_others c line ss h.1)
   where
-    go : (b : Bool) → Each (λ y. y ≢ line) (map line_of (cond (not b) (s ∷ live c ss) (live c ss)))
-    go true = live_others c line ss h.1
-    go false = (h.0, live_others c line ss h.1)
+    go : (b : Bool) → Each (λ y. y ≢ line) (map line_of (live c ss)) → Each (λ y. y ≢ line) (map line_of (cond (not b) (s ∷ live c ss) (live c ss)))
+    go true r = r
+    go false r = (h.0, r)
 
 live_apart : (c : Core) (ss : List Seat) → Latest c ss → Apart (map line_of (live c ss))
 live_apart c [] h = tt
-live_apart c (s ∷ ss) h = go (over c s) refl
+live_apart c (s ∷ ss) h = go (over c s) refl (live_apart c ss h.1)
   where
-    go : (b : Bool) → over c s ≡ b → Apart (map line_of (cond (not b) (s ∷ live c ss) (live c ss)))
-    go true e = live_apart c ss h.1
-    go false e = (live_others c s.line ss (h.0 e), live_apart c ss h.1)
+    go : (b : Bool) → over c s ≡ b → Apart (map line_of (live c ss)) → Apart (map line_of (cond (not b) (s ∷ live c ss) (live c ss)))
+    go true e r = r
+    go false e r = (live_others c s.line ss (h.0 e), r)
 
 pub few_used : (k : Kept) (c : Core) → Stands k c → used c ≤ k.lines
 few_used k c st =

@@ -28,10 +28,10 @@ abbrev pub setups_of : {H : Type 0} → Kept H → Setups
 setups_of k = record { server = servers.config_of k.server; node = nodes.config_of k.node }
 
 -- what holds of every wire
-pub record Holds {H : Type 0} (may : H → ℕ → ℕ → ℕ → Type 0) (fact : H → Type 0) (k : Kept H) : Type 0 where
+pub record Holds {H : Type 0} (may : H → ℕ → ℕ → ℕ → Type 0) (known : H → Type 0) (k : Kept H) : Type 0 where
   pub server : servers.AtRest k.server
   pub node : nodes.AtRest k.node
-  pub fact : fact k.node.rule
+  pub fact : known k.node.rule
   pub rule : RatesWhatIsLeft (may k.node.rule)
   pub server_own : (setups_of k).server.own ≡ address k.server_own.0
   pub node_own : (setups_of k).node.own ≡ address k.node_own.0

@@ -1,6 +1,6 @@
 //! The two cores.
 
-ghost use Rattle.std.specs.Prelude.{◌≡◌, ℕ, Bool, [], List, IfOk, OnOk, OnErr};
+ghost use Rattle.std.specs.Prelude.{◌≡◌, ◌≤◌, [], length, IfOk, OnOk, OnErr};
 ghost use Rattle.lat_base.specs.Answers.{PutFits};
 ghost use Rattle.lat_machines.specs.cores.Hearing.{names};
 ghost use Rattle.lat_machines.specs.cores.Lines.{holds};
@@ -12,8 +12,8 @@ ghost use Rattle.lat_wire.specs.Ends.{AreEnds, MadeFrames, setups_of, half_at};
 ghost use Rattle.lat_wire.specs.Rates.{rates};
 ghost use Rattle.lat_wire.specs.Told.{answered};
 
+use lat_base::{Addr, Answer, Core, Event, Memory, OutBox, OutFrame, SessionState};
 use lat_ledger::Heading;
-use lat_base::{Addr, Answer, Core, Event, Memory, OutBox, SessionState};
 use lat_node::{NodeCore, RatingRule};
 use lat_seq::Span;
 use lat_server::ServerCore;
@@ -59,6 +59,21 @@ impl<H: RatingRule> Ends<H> {
         } else {
             self.node.step(alloc, event, &mut self.out)
         }
+    }
+
+    /// The frames of the last event.
+    pub(crate) fn frames(&self) -> &[OutFrame]
+        ensures value { result.now ≡ self.now.out }
+        ensures most { length self.now.out ≤ 256 }
+    {
+        self.out.frames()
+    }
+
+    /// Drops the frames of the last event.
+    pub(crate) fn clear(&mut self)
+        ensures { self.new ≡ record self.old { out = [] } }
+    {
+        self.out.clear();
     }
 
     /// Half the range of the numbers of the circuit that a RUN names at the server or the node; `None` where no circuit of this

@@ -14,13 +14,19 @@ pub enum EventFault {
     FramesFull,
     /// The moment lies before the last one.
     #[error("backward {at} {last}")]
-    Backward { at: u64, last: u64 },
+    Backward {
+        at: u64,
+        last: u64,
+    },
     /// A frame that was to come from outside bears the address of an end.
     #[error("own-address")]
     OwnAddress,
     /// So many frames were sent, and this isn't the index of one.
     #[error("noframe {index} {sent}")]
-    NoFrame { index: u64, sent: u64 },
+    NoFrame {
+        index: u64,
+        sent: u64,
+    },
     /// The circuit that the frame names lives, and the frame isn't young: its message number, or else its acknowledgement, is
     /// half a range or more below the newest that its sender has sent on its circuit.
     #[error("old {number} {newest}")]

@@ -1,6 +1,6 @@
 //! The parts of an event.
 
-ghost use Rattle.std.specs.Prelude.{◌≡◌, ◌+◌, ◌<◌, ◌≤◌, ◌^◌, ◌||◌, ℕ, Bool, cond, false, not, length, nat_eq, nat_lt, IfOk, OnOk, OnErr, Option, Some, None};
+ghost use Rattle.std.specs.Prelude.{◌≡◌, ◌+◌, ◌-◌, ◌<◌, ◌≤◌, ◌^◌, ◌||◌, ℕ, Bool, cond, false, not, length, nat_eq, nat_lt, IfOk, OnOk, OnErr, Option, Some, None};
 ghost use Rattle.lat_base.specs.Answers.{PutFits};
 ghost use Rattle.lat_base.specs.declared.event.Event.TheVariants as events;
 ghost use Rattle.lat_machines.specs.values.Addresses.{address};
@@ -17,10 +17,10 @@ ghost use Rattle.lat_wire.specs.Taking.{is_taken, named_by, taker_of};
 ghost use Rattle.lat_wire.specs.Told.{answered, moment_after};
 
 use crate::fault::{EventFault, FRAMES};
-use lat_ledger::{heading_of, is_same};
 use crate::notes::{Note, noted_of};
 use crate::wire::Wire;
 use lat_base::{Addr, Answer, Bytes, Event, Heard, Memory};
+use lat_ledger::{heading_of, is_same};
 use lat_node::RatingRule;
 use lat_posts::Post;
 use std::alloc::Global;
@@ -154,8 +154,8 @@ impl<H: RatingRule> Wire<H> {
         if let Some(circuit) = taker(event, &answer) {
             self.ledger.take(server, circuit);
         }
-        self.ledger.enter_all(server, &other, self.ends.out.frames());
-        self.ends.out.clear();
+        self.ledger.enter_all(server, &other, self.ends.frames());
+        self.ends.clear();
         if let Some(noted) = noted_of(&answer) {
             self.notes.push_reserved(Note {
                 event: count,
