@@ -21,10 +21,11 @@ use Rattle.lat_machines.specs.cores.Hearing.{Makes, Refuses}
 use Rattle.lat_link.specs.Payloads.{message_of}
 use Rattle.lat_payload.specs.Frames.{Adds, seen}
 use Rattle.lat_payload.proofs.Frames.{adds_one}
+use Rattle.lat_payload.proofs.Readable.{message_readable}
 use Rattle.lat_circuit.specs.declared.config.CircuitConfig.{CircuitConfig}
 use Rattle.lat_circuit.specs.Kept as circuit
 use Rattle.lat_circuit.specs.Begins.{Begins, facts_answered}
-use Rattle.lat_circuit.specs.Frames.{timing_shown}
+use Rattle.lat_circuit.specs.Frames.{timing_shown, IsFormed}
 use Rattle.lat_circuits.specs.Kept.{Kept, Holds, IsClear, ids, side_of}
 use Rattle.lat_circuits.specs.Stands.{Stands, Did}
 use Rattle.lat_circuits.specs.Hears.{start_core, new_fact}
@@ -117,10 +118,11 @@ answered_did k from source info own_id size rooms q before after b = λ c st.
 -- a START is refused: a STOP goes back
 pub refused_did : (k : Kept) (from : Addr) (source : ℕ) (info : StartInfo) (f : OutFrame) (before after : List OutFrame)
     → f ≡ record { to = from; payload = padded (message_text (message_of (StopMessage false false source 0 7 []))); circuit = 0; mark = marks.Plain }
-    → after ≡ before ++ f ∷ [] → Did (λ c. (start_core (side_of k) c (address from.0) source info Refuses).doing) k k before after
-refused_did k from source info f before after frame is = λ c st.
+    → IsFormed (StopMessage false false source 0 7 []) → after ≡ before ++ f ∷ [] → Did (λ c. (start_core (side_of k) c (address from.0) source info Refuses).doing) k k before after
+refused_did k from source info f before after frame formed is = λ c st.
     let fs = (start_core (side_of k) c (address from.0) source info Refuses).doing.frames in
-    (st, subst (λ z. Adds fs before z) (sym is) (adds_one (plain (address from.0) 0 (OfCircuit (StopMessage false false source 0 7 []))) f before (ap seen frame)))
+    let stop = StopMessage false false source 0 7 [] in
+    (st, subst (λ z. Adds fs before z) (sym is) (adds_one (plain (address from.0) 0 (OfCircuit stop)) f before (record { same = ap seen frame; readable = message_readable stop formed.writable formed.shown })))
 
 -- what becomes of one that is new
 

@@ -169,5 +169,5 @@ adds_begun k c to name f places q s before after st new b =
       timing = ap timing_shown new.timing;
       peer_name = sym (ap (λ z. z.config.peer_name) at) ∙ is.name ∙ ap (λ z. d.names z.id) at;
     })
-    b.out
+    b.out b.formed
     )

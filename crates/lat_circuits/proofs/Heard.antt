@@ -10,7 +10,7 @@ use Rattle.lat_machines.specs.cores.Cores.{Core}
 use Rattle.lat_payload.specs.Frames.{Adds}
 use Rattle.lat_circuit.specs.Kept as circuit
 use Rattle.lat_circuit.specs.Stands as circuit_stands
-use Rattle.lat_circuit.specs.Frames.{timing_shown, frame_sent}
+use Rattle.lat_circuit.specs.Frames.{timing_shown, frame_sent, AreFormed}
 use Rattle.lat_circuit.specs.Hears.{hears, hears_noted, heard_shown}
 use Rattle.lat_circuits.specs.Kept.{Kept, Holds, IsOwn, ids, side_of}
 use Rattle.lat_circuits.specs.Stands.{Stands, IsCircuit, Did}
@@ -27,10 +27,10 @@ heard_at k at q r l m before after h b was own did = λ c st.
     let is = each_at (IsCircuit c) k.held at q st.each b.here in
     let t : Timing = timing_shown k.timing in
     let s : Step = hears_noted x t c.moment m e in
-    let Q : Step → Type 0 = λ z. circuit_stands.Stands r z.end × (after ≡ before ++ map (frame_sent r.facts) z.sent) in
+    let Q : Step → Type 0 = λ z. circuit_stands.Stands r z.end × (after ≡ before ++ map (frame_sent r.facts) z.sent) × AreFormed r.facts z.sent in
     let d : Q s = subst (λ n. Q (hears_noted x t n m e)) st.moment (subst (λ z. Q (hears_noted x (timing_shown z) k.moment m e)) was.timing (did e is.end)) in
     let P : ℕ → Type 0 = λ z. Stands l (hears_at (side_of k) z m c).doing.core × Adds (hears_at (side_of k) z m c).doing.frames before after in
-    subst P (sym (id_read k at q b.here)) (act_at k c at q r l s h st b d.0, adds_at k c at q r l s before after st b own d.0 d.1)
+    subst P (sym (id_read k at q b.here)) (act_at k c at q r l s h st b d.0, adds_at k c at q r l s before after st b own d.0 d.1 d.2)
 
 -- and what it answers
 pub heard_answer : (k : Kept) (at : ℕ) (q : circuit.Kept) (m : Message) (a : OwnHeard) → slice_get k.held at ≡ Some q → IsOwn k q

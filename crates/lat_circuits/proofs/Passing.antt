@@ -13,7 +13,7 @@ use Rattle.lat_payload.specs.Frames.{Adds}
 use Rattle.lat_payload.proofs.Frames.{adds_none, adds_then}
 use Rattle.lat_circuit.specs.Kept as circuit
 use Rattle.lat_circuit.specs.Stands as circuit_stands
-use Rattle.lat_circuit.specs.Frames.{timing_shown, frame_sent}
+use Rattle.lat_circuit.specs.Frames.{timing_shown, frame_sent, AreFormed}
 use Rattle.lat_circuits.specs.Kept.{Kept, Holds, IsOwn, Rising, SameCore, SameCircuits, ids, side_of}
 use Rattle.lat_circuits.specs.Stands.{Stands, IsCircuit, Did}
 use Rattle.lat_circuits.specs.Times.{passes_one}
@@ -95,13 +95,13 @@ one_lives k at q r l before after h b own alive did = λ c st.
     let e : End = (c.circuits.circuit_at x).end in
     let is = each_at (IsCircuit c) k.held at q st.each b.here in
     let s : Step = note_empty e (time_step c.moment e) in
-    let Q : Step → Type 0 = λ z. circuit_stands.Stands r z.end × (after ≡ before ++ map (frame_sent r.facts) z.sent) in
+    let Q : Step → Type 0 = λ z. circuit_stands.Stands r z.end × (after ≡ before ++ map (frame_sent r.facts) z.sent) × AreFormed r.facts z.sent in
     let d : Q s = subst (λ n. Q (note_empty e (time_step n e))) st.moment (did e is.end) in
     let P : Doing → Type 0 = λ z. Stands l z.core × Adds z.frames before after in
     let goes : passes_one (side_of k) (slice_index (ids k) at) c ≡ acts (side_of k) c (put_at k.server c.circuits c.circuits.drawn x (c.circuits.circuit_at x).address s) =
     ap (λ z. passes_one (side_of k) z c) (id_read k at q b.here)
     ∙ ap (λ t. acts (side_of k) c (cond t (steps_at k.server c.circuits x (time_step c.moment e)) (idle c.circuits))) (lives_at k c at q st b.here ∙ alive) in
-    subst P (sym goes) (act_at k c at q r l s h st b d.0, adds_at k c at q r l s before after st b own d.0 d.1)
+    subst P (sym goes) (act_at k c at q r l s h st b d.0, adds_at k c at q r l s before after st b own d.0 d.1 d.2)
 
 -- steps one after another
 

@@ -15,7 +15,7 @@ use Rattle.lat_machines.specs.cores.Cores.{Core, at_moment, with_circuits, acts,
 use Rattle.lat_payload.specs.Frames.{Adds}
 use Rattle.lat_circuit.specs.Kept as circuit
 use Rattle.lat_circuit.specs.Stands as circuit_stands
-use Rattle.lat_circuit.specs.Frames.{timing_shown, frame_sent}
+use Rattle.lat_circuit.specs.Frames.{timing_shown, frame_sent, AreFormed}
 use Rattle.lat_circuits.specs.Kept.{Kept, Holds, IsOwn, Rising, SameCircuits, side_of, ids, has_id}
 use Rattle.lat_circuits.specs.declared.circuits.Circuits.TheInside.{Inside}
 use Rattle.lat_circuits.specs.Shown.{shown}
@@ -135,9 +135,9 @@ act_at k c at q r l s h st b did = subst (λ z. Stands z (put_core k c q.facts.i
 
 -- and sent what the core is to send
 pub adds_at : (k : Kept) (c : Core) (at : ℕ) (q r : circuit.Kept) (l : Kept) (s : Step) (before after : List OutFrame) → Stands k c → Became k at q r l
-    → IsOwn k r → circuit_stands.Stands r s.end → after ≡ before ++ map (frame_sent r.facts) s.sent
+    → IsOwn k r → circuit_stands.Stands r s.end → after ≡ before ++ map (frame_sent r.facts) s.sent → AreFormed r.facts s.sent
     → Adds (acts (side_of k) c (put_at k.server c.circuits c.circuits.drawn q.facts.id (c.circuits.circuit_at q.facts.id).address s)).frames before after
-adds_at k c at q r l s before after st b own did sent =
+adds_at k c at q r l s before after st b own did sent formed =
     let x : ℕ = q.facts.id in
     let to : ℕ = (c.circuits.circuit_at x).address in
     let was = each_at (IsCircuit c) k.held at q st.each b.here in
@@ -154,7 +154,7 @@ adds_at k c at q r l s before after st b own did sent =
       timing = ap timing_shown own.timing;
       peer_name = is.name;
     })
-    sent
+    sent formed
     )
 
 -- a circuit that is read at a place, and written there

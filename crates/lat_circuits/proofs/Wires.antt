@@ -6,9 +6,11 @@ use Rattle.lat_model.specs.ends.End.{Sent, Run, CallStart, ReplyStart, Stopped}
 use Rattle.lat_model.specs.circuits.World.{Wired, wire_all}
 use Rattle.lat_machines.specs.values.Addresses.{address}
 use Rattle.lat_machines.specs.cores.Cores.{Side, Core, sent_frame}
-use Rattle.lat_payload.specs.Frames.{seen, expected, Adds}
+use Rattle.lat_model.specs.Lists.{Each}
+use Rattle.lat_payload.specs.Frames.{seen, expected, IsReadable, Adds}
+use Rattle.lat_payload.proofs.Readable.{message_readable}
 use Rattle.lat_circuit.specs.Kept.{Facts}
-use Rattle.lat_circuit.specs.Frames.{timing_shown, frame_sent}
+use Rattle.lat_circuit.specs.Frames.{timing_shown, frame_sent, message_sent, IsFormed, AreFormed}
 
 -- The frames of a circuit with these facts bear what the core has of it
 pub record Bears (k : Side) (c : Core) (f : Facts) (station peer : ℕ) : Type 0 where
@@ -38,10 +40,27 @@ all_seen k c f to destination (s ∷ ss) b =
     ap (λ z. z ∷ map seen (map (frame_sent f) ss)) (sent_seen k c f to destination s b)
     ∙ ap (λ z. expected (sent_frame k c (wired k.server f.id to destination s)) ∷ z) (all_seen k c f to destination ss b)
 
+-- each is readable
+
+sent_readable : (k : Side) (c : Core) (f : Facts) (to destination : ℕ) (s : Sent) → Bears k c f to destination → IsFormed (message_sent f s)
+    → IsReadable (sent_frame k c (wired k.server f.id to destination s))
+sent_readable k c f to destination (Run m ask g) b formed = rw (← b.destination, ← b.master, ← b.wide) (message_readable (message_sent f (Run m ask g)) formed.writable formed.shown)
+sent_readable k c f to destination CallStart b formed = rw (← b.destination, ← b.name, ← b.timing, ← b.peer_name) (message_readable (message_sent f CallStart) formed.writable formed.shown)
+sent_readable k c f to destination ReplyStart b formed = rw (← b.destination, ← b.wide, ← b.name, ← b.timing, ← b.peer_name) (message_readable (message_sent f ReplyStart) formed.writable formed.shown)
+sent_readable k c f to destination (Stopped reason) b formed = rw (← b.destination, ← b.master) (message_readable (message_sent f (Stopped reason)) formed.writable formed.shown)
+
+all_readable : (k : Side) (c : Core) (f : Facts) (to destination : ℕ) (ss : List Sent) → Bears k c f to destination → AreFormed f ss
+    → Each IsReadable (map (sent_frame k c) (wire_all k.server f.id to destination ss))
+all_readable k c f to destination [] b formed = tt
+all_readable k c f to destination (s ∷ ss) b formed = (sent_readable k c f to destination s b formed.0, all_readable k c f to destination ss b formed.1)
+
 -- what a circuit sent is what the core is to send
 pub sent_adds : (k : Side) (c : Core) (f : Facts) (to destination : ℕ) (ss : List Sent) (before after : List OutFrame) → Bears k c f to destination
-    → after ≡ before ++ map (frame_sent f) ss → Adds (map (sent_frame k c) (wire_all k.server f.id to destination ss)) before after
-sent_adds k c f to destination ss before after b is =
-    ap (map seen) is
-    ∙ map-append seen before (map (frame_sent f) ss)
-    ∙ ap (λ z. map seen before ++ z) (all_seen k c f to destination ss b)
+    → after ≡ before ++ map (frame_sent f) ss → AreFormed f ss → Adds (map (sent_frame k c) (wire_all k.server f.id to destination ss)) before after
+sent_adds k c f to destination ss before after b is formed = record {
+  same =
+      ap (map seen) is
+      ∙ map-append seen before (map (frame_sent f) ss)
+      ∙ ap (λ z. map seen before ++ z) (all_seen k c f to destination ss b);
+  readable = all_readable k c f to destination ss b formed;
+}

@@ -21,7 +21,7 @@ use Rattle.lat_machines.specs.cores.Lines.{used}
 use Rattle.lat_machines.specs.node.Node.{Node, rated, announcement, response, solicited}
 use Rattle.lat_dir.specs.Stands.{service_shown}
 use Rattle.lat_payload.specs.Shown.{notice_shown}
-use Rattle.lat_payload.specs.Frames.{seen, expected, Adds}
+use Rattle.lat_payload.specs.Frames.{GoesOutAs, Adds}
 use Rattle.lat_payload.proofs.Frames.{adds_none, adds_one, adds_then}
 use Rattle.lat_circuits.proofs.Found.{finds_at}
 use Rattle.lat_node.specs.Announced.{ratings, IsAnnounced}
@@ -133,28 +133,28 @@ announced_as may k held timer incarnation groups node bare ss is_timer is_incarn
   is = cc;
 }
 
-pub response_as : {H : Type 0} (k : Kept H) (to id : ℕ) (service : Name) (rate : ℕ) (node : Name) (timer : ℕ) → node ≡ k.lines.circuits.name → timer ≡ k.timer →
-    expected (machines.plain to 0 (machines.OfNotice (ResponseNotice (record { id = id; node = node; service = service; rating = rate; timer = timer })))) ≡ expected (response (config_of k) to id service rate)
-response_as k to id service rate node timer is_node is_timer =
-    ap (λ n. expected (machines.plain to 0 (machines.OfNotice (ResponseNotice (record { id = id; node = n; service = service; rating = rate; timer = timer }))))) is_node
-    ∙ ap (λ t. expected (machines.plain to 0 (machines.OfNotice (ResponseNotice (record { id = id; node = k.lines.circuits.name; service = service; rating = rate; timer = t }))))) is_timer
+pub response_as : {H : Type 0} (k : Kept H) (to id : ℕ) (service : Name) (rate : ℕ) (node : Name) (timer : ℕ) (f : OutFrame) → node ≡ k.lines.circuits.name → timer ≡ k.timer →
+    GoesOutAs f (machines.plain to 0 (machines.OfNotice (ResponseNotice (record { id = id; node = node; service = service; rating = rate; timer = timer })))) → GoesOutAs f (response (config_of k) to id service rate)
+response_as k to id service rate node timer f is_node is_timer goes =
+    subst (λ t. GoesOutAs f (machines.plain to 0 (machines.OfNotice (ResponseNotice (record { id = id; node = k.lines.circuits.name; service = service; rating = rate; timer = t }))))) is_timer
+    (subst (λ n. GoesOutAs f (machines.plain to 0 (machines.OfNotice (ResponseNotice (record { id = id; node = n; service = service; rating = rate; timer = timer }))))) is_node goes)
 
 -- what goes out
 
 pub announced_rated : {H : Type 0} (may : H → ℕ → ℕ → ℕ → Type 0) (k : Kept H) (s : Node) (held : ℕ) (n : Notice) (f : OutFrame) (before after : List OutFrame) →
-    held ≡ used s.core → IsAnnounced may k held n → seen f ≡ expected (machines.plain everyone 0 (machines.OfNotice (notice_shown n))) → after ≡ before ++ f ∷ [] →
+    held ≡ used s.core → IsAnnounced may k held n → GoesOutAs f (machines.plain everyone 0 (machines.OfNotice (notice_shown n))) → after ≡ before ++ f ∷ [] →
     Rated may k s (announces (config_of k) s) (length k.services) before after
 announced_rated may k s held n f before after lines a goes is = record {
   rates = a.rates;
   count = a.count;
   each = subst (λ u. Each (may k.rule u k.lines.lines) a.rates) lines a.each;
-  frames = subst (Adds (announcement (config_of k) a.rates ∷ []) before) (sym is) (adds_one (announcement (config_of k) a.rates) f before (goes ∙ ap expected a.is));
+  frames = subst (Adds (announcement (config_of k) a.rates ∷ []) before) (sym is) (adds_one (announcement (config_of k) a.rates) f before (subst (GoesOutAs f) a.is goes));
 }
 
 pub response_rated : {H : Type 0} (may : H → ℕ → ℕ → ℕ → Type 0) (k : Kept H) (s : Node) (held to id : ℕ) (service : Name) (rate : ℕ) (n : Notice) (e f : OutFrame) (before between after : List OutFrame) →
     held ≡ used s.core → IsAnnounced may k held n → may k.rule held k.lines.lines rate →
-    seen e ≡ expected (response (config_of k) to id service rate) → between ≡ before ++ e ∷ [] →
-    seen f ≡ expected (machines.plain everyone 0 (machines.OfNotice (notice_shown n))) → after ≡ between ++ f ∷ [] →
+    GoesOutAs e (response (config_of k) to id service rate) → between ≡ before ++ e ∷ [] →
+    GoesOutAs f (machines.plain everyone 0 (machines.OfNotice (notice_shown n))) → after ≡ between ++ f ∷ [] →
     Rated may k s (λ rates. solicited (config_of k) rates s to id (Some service)) (suc (length k.services)) before after
 response_rated may k s held to id service rate n e f before between after lines a one goes_first first goes then = record {
   rates = rate ∷ a.rates;
@@ -163,7 +163,7 @@ response_rated may k s held to id service rate n e f before between after lines 
   frames =
       adds_then (r ∷ []) (m ∷ []) before between after
       (subst (Adds (r ∷ []) before) (sym first) (adds_one r e before goes_first))
-      (subst (Adds (m ∷ []) between) (sym then) (adds_one m f between (goes ∙ ap expected a.is)));
+      (subst (Adds (m ∷ []) between) (sym then) (adds_one m f between (subst (GoesOutAs f) a.is goes)));
 }
   where
     r : machines.OutFrame

@@ -30,12 +30,13 @@ pub frames_rated : {H : Type 0} (may : H → ℕ → ℕ → ℕ → Type 0) (k 
     Rated may k m.state (λ rates. node_step (config_of k) rates m.state (event_shown e)) (rates_of (config_of k) (node_step (config_of k) [] m.state (event_shown e)).answer (event_shown e)) [] after →
     Frames may m e after
 frames_rated {H = H} may k m e after is r =
-    subst (λ (c : NodeConfig). (made : List machine.OutFrame) × NodeFrames (may m.rule) c m.state (event_shown e) made × (map seen after ≡ map expected made)) (sym is.config)
-    (subst (λ (f : H). (made : List machine.OutFrame) × NodeFrames (may f) (config_of k) m.state (event_shown e) made × (map seen after ≡ map expected made)) (sym is.rule) (
-      (node_step (config_of k) r.rates m.state (event_shown e)).frames,
-      (r.rates, record { count = r.count ∙ ap (λ a. rates_of (config_of k) a (event_shown e)) (same_but_frames (config_of k) [] r.rates m.state (event_shown e)).answer; each = r.each }, refl),
-      r.frames,
-    ))
+    subst (λ (c : NodeConfig). Frames may (record { config = c; rule = m.rule; state = m.state }) e after) (sym is.config)
+    (subst (λ (f : H). Frames may (record { config = config_of k; rule = f; state = m.state }) e after) (sym is.rule) (record {
+      made = (node_step (config_of k) r.rates m.state (event_shown e)).frames;
+      allowed = (r.rates, record { count = r.count ∙ ap (λ a. rates_of (config_of k) a (event_shown e)) (same_but_frames (config_of k) [] r.rates m.state (event_shown e)).answer; each = r.each }, refl);
+      same = r.frames.same;
+      readable = r.frames.readable;
+    }))
 
 -- an event without ratings
 pub unrated : {H : Type 0} (may : H → ℕ → ℕ → ℕ → Type 0) (k : Kept H) (s : Node) (e : Event) (before after : List OutFrame) →

@@ -20,7 +20,7 @@ use Rattle.lat_lines.specs.Answers.{answer_shown}
 use Rattle.lat_node.specs.Kept.{Kept, config_of}
 use Rattle.lat_node.specs.Stands.{Stands}
 use Rattle.lat_node.specs.Events.{Does, Steps, Rated, notice_ratings}
-use Rattle.lat_node.proofs.StepLemmas.{adds_none}
+use Rattle.lat_payload.proofs.Frames.{adds_none}
 use Rattle.lat_node.proofs.FrameLemmas.{quiet_message, solicited_rates}
 
 abbrev pub passed : ℕ → Node → Node

@@ -1,6 +1,5 @@
 -- What a node stands for once its lines have done something, and how its machine goes on.
-use Rattle.std.proofs.Common.{◌≡◌, ◌⊎◌, inl, inr, ℕ, refl, sym, ap, subst, ◌∙◌, false, List, [], map}
-use Rattle.std.proofs.lemmas.List.{append-nil}
+use Rattle.std.proofs.Common.{◌≡◌, ◌⊎◌, inl, inr, ℕ, refl, sym, ap, subst, ◌∙◌, false, List, []}
 use Rattle.lat_base.specs.Answers.{PutFits, TookFits}
 use Rattle.lat_base.specs.declared.answer.Answer as base
 use Rattle.lat_base.specs.declared.answer.Answer.TheVariants as answers
@@ -12,7 +11,8 @@ use Rattle.lat_machines.specs.cores.LineCalls.{Said}
 use Rattle.lat_machines.specs.values.Answers.{NotHere}
 use Rattle.lat_machines.specs.values.Events.{Time}
 use Rattle.lat_machines.specs.node.Node.{NodeConfig, Node, NodeStep, node_side, with_core, said, tells, node_step}
-use Rattle.lat_payload.specs.Frames.{seen, Adds}
+use Rattle.lat_payload.specs.Frames.{Adds}
+use Rattle.lat_payload.proofs.Frames.{adds_none}
 use Rattle.lat_lines.specs.Kept as lines
 use Rattle.lat_lines.specs.Stands as line_stands
 use Rattle.lat_lines.specs.Answers.{Says, SaidTo}
@@ -40,10 +40,6 @@ side_is k node = ap (λ b. record { server = b; timing = (config_of k).timing; n
 
 pub side_stays : (k l : lines.Kept) → lines.SameLines k l → lines.side_of l ≡ lines.side_of k
 side_stays k l same = rw (same.core.server, same.core.timing, same.core.name) refl
-
--- nothing goes out
-pub adds_none : (before : List OutFrame) → Adds [] before before
-adds_none before = sym (append-nil (map seen before))
 
 -- a call on a line
 pub called : {H : Type 0} (k : Kept H) (l : lines.Kept) (call : Side → Core → Said) (answer : base.Answer) (before : List OutFrame) → k.lines.circuits.server ≡ false →

@@ -10,7 +10,7 @@ use Rattle.lat_machines.specs.values.Addresses.{address}
 use Rattle.lat_machines.specs.values.Frames as machine
 use Rattle.lat_machines.specs.cores.Lines.{line_state, waiting_at, told_count}
 use Rattle.lat_machines.specs.node.Node.{NodeConfig, Requested, Node, NodeStep, NodeFrames, node_side, open_node, node_step, finished}
-use Rattle.lat_payload.specs.Frames.{seen, expected}
+use Rattle.lat_payload.specs.Frames.{seen, expected, IsReadable}
 use Rattle.lat_stream.specs.Kept.{state_shown}
 use Rattle.lat_lines.specs.Back.{answer_of}
 use Rattle.lat_lines.specs.Events.{event_shown}
@@ -71,10 +71,13 @@ next m e = record { config = m.config; rule = m.rule; state = (stepped m e).stat
 abbrev pub answered : {H : Type 0} → Machine H → Event → Answer
 answered m e = answer_of (stepped m e).answer
 
--- the frames that may go out: each rating in them is one that the rule may give at the lines then held
-abbrev pub Frames : {H : Type 0} → (H → ℕ → ℕ → ℕ → Type 0) → Machine H → Event → List OutFrame → Type 0
-Frames may m e frames =
-    (made : List machine.OutFrame) × NodeFrames (may m.rule) m.config m.state (event_shown e) made × (map seen frames ≡ map expected made)
+-- the frames that may go out: the machine's, each rating in them one that the rule may give at the lines then held; and each of
+-- them is readable
+pub record Frames {H : Type 0} (may : H → ℕ → ℕ → ℕ → Type 0) (m : Machine H) (e : Event) (frames : List OutFrame) : Type 0 where
+  pub made : List machine.OutFrame
+  pub allowed : NodeFrames (may m.rule) m.config m.state (event_shown e) made
+  pub same : map seen frames ≡ map expected made
+  pub readable : Each IsReadable made
 
 abbrev pub line_of : {H : Type 0} → Machine H → ℕ → SessionState
 line_of m line = state_shown (line_state (node_side m.config) m.state.core line)

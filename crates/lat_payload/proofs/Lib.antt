@@ -1,2 +1,3 @@
 pub mod NoticesBack
+pub mod Readable
 pub mod Frames

@@ -8,9 +8,11 @@ use Rattle.lat_frames.specs.Written.{message_text}
 use Rattle.lat_notices.specs.Texts.{notice_text}
 use Rattle.lat_machines.specs.values.Addresses.{address}
 use Rattle.lat_machines.specs.values.Frames as machines
+use Rattle.lat_model.specs.Lists.{Each}
 use Rattle.lat_link.specs.Payloads.{message_of}
 use Rattle.lat_circuit.specs.Frames.{mark_shown}
 use Rattle.lat_payload.specs.NoticesOf.{notice_of}
+use Rattle.lat_payload.specs.Reads.{reading_of}
 
 -- a frame, whichever way it is known
 pub record Seen : Type 0 where
@@ -36,6 +38,16 @@ expected f = record { to = f.to; circuit = f.circuit; mark = mark_of f.mark; pay
 abbrev pub seen : OutFrame → Seen
 seen f = record { to = address f.to.0; circuit = f.circuit; mark = f.mark; payload = f.payload }
 
--- the machines' frames have gone out behind those before
-abbrev pub Adds : List machines.OutFrame → (before after : List OutFrame) → Type 0
-Adds frames before after = map seen after ≡ map seen before ++ map expected frames
+-- what is written of its value reads as that value
+abbrev pub IsReadable : machines.OutFrame → Type 0
+IsReadable f = reading_of (payload_of f.value) ≡ machines.Whole f.value
+
+-- a frame goes out as one of the machines, which is readable
+pub record GoesOutAs (f : OutFrame) (g : machines.OutFrame) : Type 0 where
+  pub same : seen f ≡ expected g
+  pub readable : IsReadable g
+
+-- the machines' frames have gone out behind those before, and each of them is readable
+pub record Adds (frames : List machines.OutFrame) (before after : List OutFrame) : Type 0 where
+  pub same : map seen after ≡ map seen before ++ map expected frames
+  pub readable : Each IsReadable frames

@@ -10,7 +10,7 @@ ghost use Rattle.lat_machines.specs.values.Frames.{plain, OfNotice};
 ghost use Rattle.lat_machines.specs.values.Notices.{CommandNotice, StatusNotice, SolicitNotice, ResponseNotice};
 ghost use Rattle.lat_payload.specs.Shown.{action_shown, outcome_shown, notice_shown};
 ghost use Rattle.lat_payload.specs.NoticesOf.{IsTold};
-ghost use Rattle.lat_payload.specs.Frames.{seen, expected};
+ghost use Rattle.lat_payload.specs.Frames.{GoesOutAs};
 
 use lat_base::{Addr, EVERYONE, Mark, Name, OutFrame, Payload};
 use lat_notices::{Action, Command, Notice, Outcome, Response, Solicit, Status, write_notice};
@@ -22,12 +22,12 @@ fn named(name: &Name)
     name.bytes();
 }
 
-/// A frame with this notice, which belongs to no circuit. `lat_notices::notice_ok` tells whether it may be called. It takes
-/// no memory.
+/// A frame with this notice, which belongs to no circuit; what is written reads as the notice. `lat_notices::notice_ok` tells
+/// whether it may be called. It takes no memory.
 pub fn notice_frame(to: Addr, notice: &Notice) -> OutFrame
     requires ok { IsWritable notice.now }
     ensures frame { result ≡ record { to = to; payload = padded (notice_text notice.now); circuit = 0; mark = marks.Plain } }
-    ensures seen { seen result ≡ expected (plain (address to.0) 0 (OfNotice (notice_shown notice.now))) }
+    ensures goes { GoesOutAs result (plain (address to.0) 0 (OfNotice (notice_shown notice.now))) }
 {
     let mut payload = Payload::empty();
     write_notice(notice, &mut payload);
@@ -50,7 +50,7 @@ pub fn status_frame(
     outcome: Outcome,
 ) -> OutFrame
     requires { IsTold outcome }
-    ensures { seen result ≡ expected (plain (address to.0) 0 (OfNotice (StatusNotice (record { incarnation = incarnation; request = request; outcome = outcome_shown outcome; node = node.now })))) }
+    ensures { GoesOutAs result (plain (address to.0) 0 (OfNotice (StatusNotice (record { incarnation = incarnation; request = request; outcome = outcome_shown outcome; node = node.now })))) }
 {
     named(node);
     let status = Status {
@@ -65,7 +65,7 @@ pub fn status_frame(
 /// A server's question to everyone, who offers the service.
 #[tactic(auto, using(crate::proofs::NoticesBack::solicit_writable))]
 pub fn solicit_frame(id: u16, asker: &Name, service: &Name) -> OutFrame
-    ensures { seen result ≡ expected (plain everyone 0 (OfNotice (SolicitNotice (record { id = id; asker = asker.now; service = service.now })))) }
+    ensures { GoesOutAs result (plain everyone 0 (OfNotice (SolicitNotice (record { id = id; asker = asker.now; service = service.now })))) }
 {
     named(asker);
     named(service);
@@ -87,7 +87,7 @@ pub fn command_frame(
     node: &Name,
     service: &Name,
 ) -> OutFrame
-    ensures { seen result ≡ expected (plain (address to.0) 0 (OfNotice (CommandNotice (record { incarnation = incarnation; request = request; action = action_shown action; node = node.now; service = service.now })))) }
+    ensures { GoesOutAs result (plain (address to.0) 0 (OfNotice (CommandNotice (record { incarnation = incarnation; request = request; action = action_shown action; node = node.now; service = service.now })))) }
 {
     named(node);
     named(service);
@@ -113,7 +113,7 @@ pub fn response_frame(
     timer: u8,
 ) -> OutFrame
     requires { 0 < timer }
-    ensures { seen result ≡ expected (plain (address to.0) 0 (OfNotice (ResponseNotice (record { id = id; node = node.now; service = service.now; rating = rating; timer = timer })))) }
+    ensures { GoesOutAs result (plain (address to.0) 0 (OfNotice (ResponseNotice (record { id = id; node = node.now; service = service.now; rating = rating; timer = timer })))) }
 {
     named(node);
     named(service);

@@ -135,11 +135,18 @@ inject_of text = do
   payload ← payload_of second.1
   Some (Inject server from payload)
 
+-- behind a first word: what it says of a frame that comes, or of an end
+abbrev pub behind_of : Addr → (word rest : List ℕ) → Option WorldEvent
+behind_of to word rest =
+    if bytes_eq word (codes "deliver") then deliver_of rest
+    else if bytes_eq word (codes "inject") then inject_of rest
+    else end_of word >>= λ server. local_of to server rest
+
 -- every other event line
 abbrev pub worded_of : Addr → List ℕ → Option WorldEvent
 worded_of to line = do
   first ← first_word line
-  if bytes_eq first.0 (codes "deliver") then deliver_of first.1 else if bytes_eq first.0 (codes "inject") then inject_of first.1 else end_of first.0 >>= λ server. local_of to server first.1
+  behind_of to first.0 first.1
 
 -- An event: `n announce`, or a line of several words. Requests go to the server at this address
 abbrev pub event_of : Addr → List ℕ → Option WorldEvent

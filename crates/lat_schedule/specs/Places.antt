@@ -50,7 +50,7 @@ unfoldable pub many_in : {A : Type 0} → (List A → List ℕ → Option A) →
 many_in read before number End = (before, record { number = number; lines = End })
 many_in read before number Cut = (before, record { number = number; lines = Cut })
 many_in read before number (Line line more) = elim (read before line) [
-  None ↦ (before, record { number = number; lines = Line line more })
+  | None ↦ (before, record { number = number; lines = Line line more })
   | Some said ↦ many_in read (before ++ said ∷ []) (number + 1) more
 ]
 

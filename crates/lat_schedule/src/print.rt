@@ -86,7 +86,12 @@ fn inject_onto(
     text.push_str("\n")
 }
 
-fn local_onto(alloc: Global, text: &mut String, server: bool, event: &Event) -> Result<(), AllocError>
+fn local_onto(
+    alloc: Global,
+    text: &mut String,
+    server: bool,
+    event: &Event,
+) -> Result<(), AllocError>
     ensures { OnOk result (string_bytes text.new ≡ string_bytes text.old ++ local_text server event.now) }
 {
     text.push_str(letter(server))?;

@@ -21,14 +21,10 @@ pub struct Schedule {
 pub enum ScheduleFault {
     /// The text is no schedule. This is the first line that is wrong or missing.
     #[error("line {line} form")]
-    Form {
-        line: u32,
-    },
+    Form { line: u32 },
     /// The text is a schedule with more than 100,000 events. This is the line of the first one too many.
     #[error("line {line} limit events")]
-    Events {
-        line: u32,
-    },
+    Events { line: u32 },
     /// No memory was found.
     #[error("memory")]
     Memory,

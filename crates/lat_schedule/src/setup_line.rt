@@ -79,7 +79,11 @@ fn station_of(text: &[u8]) -> Option<Addr>
     ensures not_everyone { IfSome result (λ own. address own.0 ≢ everyone) }
 {
     let own = address_of(text)?;
-    if is_one(&own.0, &EVERYONE.0) { None } else { Some(own) }
+    if is_one(&own.0, &EVERYONE.0) {
+        None
+    } else {
+        Some(own)
+    }
 }
 
 // Whether two addresses are one.

@@ -14,7 +14,7 @@ use Rattle.lat_machines.specs.server.Directory.{Best, best}
 use Rattle.lat_machines.specs.cores.Cores.{circuit_to}
 use Rattle.lat_machines.specs.cores.Lines.{line_exists, holds}
 use Rattle.lat_machines.specs.server.Server.{ServerConfig, Server, ServerStep, server_side, tells, does, has_room, opens, connects_to, solicits_for, connect_event}
-use Rattle.lat_payload.specs.Frames.{seen, expected, Adds}
+use Rattle.lat_payload.specs.Frames.{GoesOutAs, Adds}
 use Rattle.lat_payload.proofs.Frames.{adds_none, adds_one}
 use Rattle.lat_queue.specs.Histories.{key_in}
 use Rattle.lat_lines.specs.Kept as lines
@@ -116,7 +116,7 @@ did_connect k s line service b l r before after rest st e o f n = subst (λ t. D
 -- no node
 
 pub did_solicit : (k : Kept) (s : Server) (service asker : Name) (f : OutFrame) (before after : List OutFrame) → AtRest k → Stands k s → asker ≡ k.lines.circuits.name
-    → seen f ≡ expected (plain everyone 0 (OfNotice (SolicitNotice (record { id = (k.solicits + 1) % 65536; asker = asker; service = service })))) → after ≡ before ++ f ∷ []
+    → GoesOutAs f (plain everyone 0 (OfNotice (SolicitNotice (record { id = (k.solicits + 1) % 65536; asker = asker; service = service })))) → after ≡ before ++ f ∷ []
     → DidTo s (solicits_for (config_of k) s service) (record k { solicits = (k.solicits + 1) % 65536 }) base.NoService before after
 did_solicit k s service asker f before after rest st a e n = record {
   state = record {
@@ -128,7 +128,8 @@ did_solicit k s service asker f before after rest st a e n = record {
     freed = ap (map key_in) rest.freed ∙ sym (none_between s.core s.core.seats);
     frames = subst (Adds (solicits_for (config_of k) s service).frames before) (sym n)
         (adds_one (plain everyone 0 (OfNotice (SolicitNotice (record { id = (s.solicits + 1) % 65536; asker = k.lines.circuits.name; service = service })))) f before
-        (e ∙ ap₂ (λ x y. expected (plain everyone 0 (OfNotice (SolicitNotice (record { id = (x + 1) % 65536; asker = y; service = service }))))) st.solicits a));
+        (subst (λ x. GoesOutAs f (plain everyone 0 (OfNotice (SolicitNotice (record { id = (x + 1) % 65536; asker = k.lines.circuits.name; service = service }))))) st.solicits
+        (subst (λ y. GoesOutAs f (plain everyone 0 (OfNotice (SolicitNotice (record { id = (k.solicits + 1) % 65536; asker = y; service = service }))))) a e)));
   };
   answered = refl;
 }

@@ -16,7 +16,7 @@ use Rattle.lat_machines.specs.cores.Cores.{Seat, Core, at_moment, passes_time}
 use Rattle.lat_machines.specs.cores.Lines.{over}
 use Rattle.lat_machines.specs.cores.LineCalls.{Said}
 use Rattle.lat_machines.specs.server.Server.{ServerConfig, Server, ServerStep, server_side, offered, tells, with_core, does, said, hears_message, hears_announcement, status_frame, key_of, hears_command}
-use Rattle.lat_payload.specs.Frames.{seen, expected, Adds}
+use Rattle.lat_payload.specs.Frames.{GoesOutAs, Adds}
 use Rattle.lat_payload.specs.NoticesOf.{IsTold}
 use Rattle.lat_payload.specs.Shown.{outcome_shown}
 use Rattle.lat_payload.proofs.Frames.{adds_none, adds_one}
@@ -175,7 +175,7 @@ told_place None p = tt
 told_place (Some k) p = p
 
 pub did_command : (k : Kept) (s : Server) (now from : ℕ) (m : Command) (a : Action) (l : lines.Kept) (t : Table) (o : Option base_kept.Kept) (f : OutFrame) (before after : List OutFrame) → AtRest k → Stands k s → offered (config_of k) ≡ k.queue.offered
-    → HasNoted (noted k.queue.offered from m a s.queue) t o → seen f ≡ expected (status_frame from m (outcome_shown (outcome_told o))) → after ≡ before ++ f ∷ [] → stands.Stands l (at_moment now s.core) → l.freed ≡ k.lines.freed
+    → HasNoted (noted k.queue.offered from m a s.queue) t o → GoesOutAs f (status_frame from m (outcome_shown (outcome_told o))) → after ≡ before ++ f ∷ [] → stands.Stands l (at_moment now s.core) → l.freed ≡ k.lines.freed
     → DidTo s (hears_command (config_of k) (at now s) from m a) (record k { lines = l; queue = t }) (answer_told o) before after
 did_command k s now from m a l t o f before after rest st same n e p c g =
     let x : Noted = noted k.queue.offered from m a s.queue in
@@ -189,7 +189,7 @@ did_command k s now from m a l t o f before after rest st same n e p c g =
         solicits = st.solicits;
         settled = noted_settled s.core k.queue.offered from m a s.queue st.settled;
         freed = ap (map key_in) (g ∙ rest.freed) ∙ sym (none_moved now s.core s.core.seats);
-        frames = subst (Adds (status_frame from m (outcome_of x.kept) ∷ []) before) (sym p) (adds_one (status_frame from m (outcome_of x.kept)) f before (e ∙ ap (λ y. expected (status_frame from m y)) told));
+        frames = subst (Adds (status_frame from m (outcome_of x.kept) ∷ []) before) (sym p) (adds_one (status_frame from m (outcome_of x.kept)) f before (subst (λ y. GoesOutAs f (status_frame from m y)) told e));
       };
       answered = answer_is o ∙ ap answer_of n.told;
     })

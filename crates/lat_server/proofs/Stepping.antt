@@ -88,5 +88,5 @@ has_stepped k middle new m e a before between after empty im does same then foll
     record {
       state = record { config = im.config ∙ sym same ∙ sym then; state = h.state };
       answer_is = sym (answer_back a) ∙ ap answer_of d.answered ∙ ap (λ (c : ServerConfig). answer_of (server_event c s ev).answer) (sym im.config);
-      frames = h.frames;
+      frames = record { same = h.frames.same; readable = h.frames.readable };
     }

@@ -4,11 +4,12 @@ use Rattle.lat_base.specs.declared.answer.Answer.{Answer}
 use Rattle.lat_base.specs.declared.event.Event.{Event}
 use Rattle.lat_base.specs.declared.outbox.OutFrame.{OutFrame}
 use Rattle.lat_base.specs.declared.state.SessionState.{SessionState}
+use Rattle.lat_model.specs.Lists.{Each}
 use Rattle.lat_machines.specs.cores.Lines.{line_state, waiting_at}
 use Rattle.lat_machines.specs.server.Server.{ServerConfig, Server, ServerStep, server_side, open_server, server_step, finished}
 use Rattle.lat_dir.specs.Stands as dir
 use Rattle.lat_queue.specs.Histories as queue
-use Rattle.lat_payload.specs.Frames.{seen, expected}
+use Rattle.lat_payload.specs.Frames.{seen, expected, IsReadable}
 use Rattle.lat_stream.specs.Kept.{state_shown}
 use Rattle.lat_lines.specs.Back.{answer_of}
 use Rattle.lat_lines.specs.Events.{event_shown}
@@ -49,8 +50,10 @@ next m e = record { config = m.config; state = (stepped m e).state }
 abbrev pub answered : Machine → Event → Answer
 answered m e = answer_of (stepped m e).answer
 
-abbrev pub Frames : Machine → Event → List OutFrame → Type 0
-Frames m e frames = map seen frames ≡ map expected (stepped m e).frames
+-- the frames that go out: those of the machine, and each of them is readable
+pub record Frames (m : Machine) (e : Event) (frames : List OutFrame) : Type 0 where
+  pub same : map seen frames ≡ map expected (stepped m e).frames
+  pub readable : Each IsReadable (stepped m e).frames
 
 abbrev pub line_of : Machine → ℕ → SessionState
 line_of m line = state_shown (line_state (server_side m.config) m.state.core line)

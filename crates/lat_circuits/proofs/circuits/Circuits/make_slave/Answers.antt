@@ -31,7 +31,7 @@ returns-else-has_place-clause-did c =
     let info = info_shown c.args.info.now in
     did_as (λ d. (start_core (side_of k) d from c.args.source info Refuses).doing) (λ d. (start_core (side_of k) d from c.args.source info (new_fact d.circuits)).doing) k k c.args.out.now c.push.new.self
     (λ d st. ap (λ (f : StartFact). (start_core (side_of k) d from c.args.source info f).doing) (c.has_place.ensures.model d st c.requires.clear ∙ ap (λ b. cond b (Makes (suc d.circuits.drawn)) Refuses) c.if-has_place.false))
-    (refused_did k c.args.from c.args.source info c.refusal.result c.args.out.now c.push.new.self c.refusal.ensures c.push.ensures)
+    (refused_did k c.args.from c.args.source info c.refusal.result c.args.out.now c.push.new.self c.refusal.ensures.value (c.refusal.ensures.formed c.requires.source) c.push.ensures)
 
 pub returns-else-has_place-clause-answer : goal.returns-else-has_place-clause-answer
 returns-else-has_place-clause-answer c = λ d st.

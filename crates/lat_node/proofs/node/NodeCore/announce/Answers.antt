@@ -8,4 +8,4 @@ pub returns-clause-frames : goal.returns-clause-frames
 returns-clause-frames g c = λ s st.
     announced_rated _ c.args.self.now s c.used.result c.in_ok-announcement.announcement c.notice_frame.result c.args.out.now c.push.new.self
     (c.used.ensures.model s.core (subst (λ (k : Kept g.row.H.Denot). lines.Stands k.lines s.core) (sym c.self.view_is) st.lines))
-    c.in_ok-announcement.ensures.announced c.notice_frame.ensures.seen c.push.ensures
+    c.in_ok-announcement.ensures.announced c.notice_frame.ensures.goes c.push.ensures

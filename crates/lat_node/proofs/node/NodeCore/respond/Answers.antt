@@ -10,8 +10,8 @@ returns-clause-frames g c = λ s st.
     response_rated _ c.args.self.now s c.used-used.result (address c.args.from.0) c.args.id c.args.service.now c.rating-rating.result c.in_ok-announcement.announcement c.response_frame.result c.notice_frame.result c.args.out.now c.push.new.self c.push-2.new.self
     (c.used-used.ensures.model s.core (subst (λ (k : Kept g.row.H.Denot). lines.Stands k.lines s.core) (sym c.self.view_is) st.lines))
     c.in_ok-announcement.ensures.announced c.rating-rating.ensures
-    (c.response_frame.ensures
-    ∙ response_as c.args.self.now (address c.args.from.0) c.args.id c.args.service.now c.rating-rating.result c.name-name.result c.self.inside.timer
+    (response_as c.args.self.now (address c.args.from.0) c.args.id c.args.service.now c.rating-rating.result c.name-name.result c.self.inside.timer c.response_frame.result
     (c.name-name.ensures ∙ ap (λ (k : Kept g.row.H.Denot). k.lines.circuits.name) c.self.view_is)
-    (ap (λ (k : Kept g.row.H.Denot). k.timer) c.self.view_is))
-    c.push.ensures c.notice_frame.ensures.seen c.push-2.ensures
+    (ap (λ (k : Kept g.row.H.Denot). k.timer) c.self.view_is)
+    c.response_frame.ensures)
+    c.push.ensures c.notice_frame.ensures.goes c.push-2.ensures

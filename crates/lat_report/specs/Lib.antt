@@ -1,0 +1,5 @@
+pub mod NoteText
+pub mod ReportText
+pub mod Noted
+pub mod Rows
+pub mod RefusedText
