@@ -1,7 +1,7 @@
 -- What the book of a line tells of its newest session and of the one before it.
-use Rattle.std.specs.Prelude.{ℕ, suc, cond, List, [], ◌∷◌, ◌++◌, length, Option, Some, None, nat_eq}
+use Rattle.std.specs.Prelude.{ℕ, cond, List, Option, Some, None, nat_eq}
 use Rattle.lat_machines.specs.cores.Cores.{Seat, no_seat, Core}
-use Rattle.lat_machines.specs.cores.Lines.{last_on, seat_at}
+use Rattle.lat_machines.specs.cores.Lines.{last_on}
 use Rattle.lat_machines.specs.cores.Books.{LineSession, line_session, LineBook}
 use Rattle.lat_tales.specs.Rows.{newest_place}
 

@@ -1,15 +1,14 @@
 -- The book of a line tells its newest session; of a new session it is the present one, with the one before it.
-use Rattle.std.proofs.Common.{◌≡◌, ◌≢◌, ℕ, zero, suc, ◌+◌, ◌<◌, ◌≤◌, ◌⊎◌, inl, inr, ⊎_elim, refl, sym, ap, ap₂, ◌∙◌, subst, arith, Bool, true, false, not, cond, List, [], ◌∷◌, ◌++◌, length, Option, Some, None, nat_eq, eqb-true, eq-eqb}
-use Rattle.std.proofs.lemmas.Bool.{true≢false, eqb-false}
+use Rattle.std.proofs.Common.{◌≡◌, ℕ, suc, ◌+◌, ◌<◌, ◌⊎◌, inl, inr, ⊎_elim, refl, sym, ap, ap₂, ◌∙◌, subst, arith, Bool, true, false, not, cond, List, [], ◌∷◌, ◌++◌, length, Option, Some, None, nat_eq, eqb-true, eq-eqb}
 use Rattle.lat_model.specs.Lists.{Each}
 use Rattle.lat_machines.specs.cores.Cores.{Seat, no_seat, Core}
 use Rattle.lat_machines.specs.cores.Lines.{over, last_on, seat_at, holds}
-use Rattle.lat_machines.specs.cores.Books.{LineSession, line_session, line_history, LineBook, book_of, book}
+use Rattle.lat_machines.specs.cores.Books.{LineSession, line_session, line_history, book_of, book}
 use Rattle.lat_rounds.specs.Seated.{IsSeat}
 use Rattle.lat_tales.specs.Rows.{newest_place}
 use Rattle.lat_tales.specs.Books.{newest_of, newest_told}
-use Rattle.lat_tales.proofs.seats.Sound.{Apart, Distinct, Sound, IsNew, seat_behind}
-use Rattle.lat_tales.proofs.rows.By.{line_some, distinct_apart}
+use Rattle.lat_tales.proofs.seats.Sound.{Distinct, Sound, IsNew, seat_behind}
+use Rattle.lat_tales.proofs.rows.By.{distinct_apart}
 
 append_nil : {A : Type 0} → (xs : List A) → xs ++ [] ≡ xs
 append_nil [] = refl

@@ -1,0 +1,4 @@
+pub mod Shown
+pub mod Names
+pub mod Rows
+pub mod Roster

@@ -1,0 +1,41 @@
+-- Which kept rows a roster shows.
+use Rattle.std.specs.Prelude.{◌≡◌, ℕ, suc, ◌<◌, ◌≤◌, ◌&&◌, Bool, cond, List, [], ◌∷◌, length, slice_index, slice_get, Some, nat_eq}
+use Rattle.lat_tales.specs.Rows as rows
+use Rattle.lat_roster.specs.declared.row.Row.{Row}
+use Rattle.lat_roster.specs.Names.{Names, key_of, place_of}
+use Rattle.lat_roster.specs.Rows.{ShowsRow, HasRoom}
+
+pub record Kept : Type 0 where
+  pub rows : List Row
+  pub server_lines : List ℕ  -- by line, the place of the row of its newest session, from 1 on
+  pub node_lines : List ℕ
+  pub names : Names
+  pub room : ℕ  -- for how many more rows
+
+-- each row shows the one beside it
+abbrev pub ShowsRows : List Row → List rows.KeptRow → Type 0
+ShowsRows [] rs = rs ≡ []
+ShowsRows (k ∷ ks) [] = ⊥
+ShowsRows (k ∷ ks) (r ∷ rs) = ShowsRow k r × ShowsRows ks rs
+
+-- the place of the last row with these ids; `found` where none follows
+abbrev pub last_row : ℕ → ℕ → ℕ → ℕ → List rows.KeptRow → ℕ
+last_row circuit id place found [] = found
+last_row circuit id place found (r ∷ rs) = last_row circuit id (suc place) (cond (nat_eq r.circuit circuit && nat_eq r.id id) (suc place) found) rs
+
+pub record Shows (k : Kept) (r : rows.KeptRows) : Type 0 where
+  pub rows : ShowsRows k.rows r.rows
+  pub server_lines : (line : ℕ) → line < 256 → slice_index k.server_lines line ≡ r.server_lines line
+  pub node_lines : (line : ℕ) → line < 256 → slice_index k.node_lines line ≡ r.node_lines line
+  pub names : (circuit id : ℕ) → id < 256 → place_of k.names (key_of circuit id) ≡ last_row circuit id 0 0 r.rows
+
+-- what every roster keeps
+pub record Holds (k : Kept) : Type 0 where
+  pub server_len : length k.server_lines ≡ 256
+  pub node_len : length k.node_lines ≡ 256
+  pub server_places : (line : ℕ) → slice_index k.server_lines line ≤ length k.rows
+  pub node_places : (line : ℕ) → slice_index k.node_lines line ≤ length k.rows
+
+-- the row at this place, if it is one, has room for so many items more
+abbrev pub RoomAt : List Row → ℕ → Bool → ℕ → ℕ → Type 0
+RoomAt ks place b put taken = (i : ℕ) (k : Row) → place ≡ suc i → slice_get ks i ≡ Some k → HasRoom b put taken k

@@ -1,0 +1,183 @@
+//! The roster.
+
+ghost use Rattle.std.specs.Prelude.{◌≡◌, ◌≢◌, ◌+◌, ◌<◌, ◌≤◌, ℕ, List, [], map, length, slice_index, IfOk, OnOk, if◌then◌else◌};
+ghost use Rattle.lat_machines.specs.cores.Cores.{Seat};
+ghost use Rattle.lat_model.specs.sessions.Slots as slots;
+ghost use Rattle.lat_tales.specs.Rows as rows;
+ghost use Rattle.lat_tales.specs.Keeping.{no_rows, adds, connects, accepts};
+ghost use Rattle.lat_roster.specs.Names.{key_of, place_of};
+ghost use Rattle.lat_roster.specs.Shown.{item_shown};
+ghost use Rattle.lat_roster.specs.Rows.{ShowsFigures, IsSeat};
+ghost use Rattle.lat_roster.specs.Roster.{Shows, last_row, RoomAt};
+
+use crate::changes::{add_at, hand_over, leave_server, put_at, reserve_at};
+use crate::figures::Figures;
+use crate::names::Names;
+use crate::row::Row;
+use lat_base::{Item, Memory};
+use std::alloc::Global;
+use std::marker::Model;
+
+/// A row for each session of the server, in the order in which they were connected, and for each line of both ends the place
+/// of the row of its newest session.
+#[derive(Drop)]
+pub struct Roster {
+    rows: Vec<Row>,
+    server_lines: Vec<usize>,
+    node_lines: Vec<usize>,
+    names: Names,
+}
+
+impl Model for Roster {
+    ghost use Rattle.std.specs.Prelude.{◌-◌, vec_capacity, vec_len};
+    ghost use Rattle.lat_roster.specs.Roster.{Kept, Holds};
+
+    ghost Value = { Kept };
+
+    ghost view = { λ a. record { rows = a.rows.items; server_lines = a.server_lines.items; node_lines = a.node_lines.items; names = a.names; room = vec_capacity a.rows - vec_len a.rows } };
+
+    ghost invariant = { λ a. Holds (record { rows = a.rows.items; server_lines = a.server_lines.items; node_lines = a.node_lines.items; names = a.names; room = 0 }) };
+}
+
+// For each line number the place 0.
+fn no_places(alloc: Global) -> Result<Vec<usize>, Memory>
+    ensures len { IfOk result (λ list. length list.items ≡ 256) }
+    ensures zeros { IfOk result (λ list. (line : ℕ) → slice_index list.items line ≡ 0) }
+{
+    let mut list = Vec::with_capacity(alloc, 256)?;
+    for _ in 0..256usize {
+        list.push_reserved(0);
+    }
+    Ok(list)
+}
+
+impl Roster {
+    /// No rows, with the places of all lines. `Memory` where none is found.
+    pub fn make(alloc: Global) -> Result<Roster, Memory>
+        ensures { IfOk result (λ k. Shows k no_rows) }
+    {
+        let server_lines = no_places(alloc)?;
+        let node_lines = no_places(alloc)?;
+        Ok(Roster {
+            rows: Vec::new(alloc),
+            server_lines,
+            node_lines,
+            names: Names::new(alloc),
+        })
+    }
+
+    /// Takes room for `n` sessions more. `Memory` where none is found; the rows stay.
+    pub fn reserve(&mut self, n: usize) -> Result<(), Memory>
+        ensures same { (r : rows.KeptRows) → Shows self.old r → Shows self.new r }
+        ensures rows { OnOk result (n ≤ self.new.room) }
+        ensures names { OnOk result (n ≤ self.new.names.room) }
+    {
+        self.rows.reserve(n)?;
+        self.names.reserve(n)
+    }
+
+    /// The place, from 1 on, of the last row with these ids of the server; 0 where there is none.
+    pub fn named(&self, circuit: u16, id: u8) -> usize
+        ensures { (r : rows.KeptRows) → Shows self.now r → result ≡ last_row circuit id 0 0 r.rows }
+    {
+        self.names.get(circuit, id)
+    }
+
+    /// The rows, in the order in which the server connected their sessions.
+    pub fn rows(&self) -> &[Row]
+        ensures { result.now ≡ self.now.rows }
+    {
+        self.rows.as_slice()
+    }
+
+    /// The place of the row of a line's newest session, 0 where it has none: of the server, or of the node.
+    pub fn newest(&self, server: bool, line: u8) -> usize
+        ensures { result ≡ slice_index (if server then self.now.server_lines else self.now.node_lines) line }
+    {
+        if server {
+            self.server_lines[usize::from(line)]
+        } else {
+            self.node_lines[usize::from(line)]
+        }
+    }
+
+    /// Takes room in the row of a line's newest session for so many items more that this end puts and takes. `Memory` where
+    /// none is found; the rows stay.
+    pub fn reserve_items(
+        &mut self,
+        server: bool,
+        line: u8,
+        put: usize,
+        taken: usize,
+    ) -> Result<(), Memory>
+        ensures same { (r : rows.KeptRows) → Shows self.old r → Shows self.new r }
+        ensures items { OnOk result (RoomAt self.new.rows (slice_index (if server then self.new.server_lines else self.new.node_lines) line) server put taken) }
+        ensures rows { self.old.room ≡ self.new.room }
+    {
+        let place = self.newest(server, line);
+        reserve_at(self.rows.as_mut_slice(), place, server, put, taken)
+    }
+
+    /// The newest session of a line has put bytes more, for which there is room.
+    pub fn puts(&mut self, server: bool, line: u8, bytes: &[u8])
+        requires { RoomAt self.old.rows (slice_index (if server then self.old.server_lines else self.old.node_lines) line) server (length bytes.now) 0 }
+        ensures shows { (r : rows.KeptRows) → Shows self.old r → Shows self.new (adds server line (map slots.Byte bytes.now) [] r) }
+        ensures rows { self.old.room ≡ self.new.room }
+    {
+        let place = self.newest(server, line);
+        put_at(self.rows.as_mut_slice(), place, server, bytes);
+    }
+
+    /// The newest session of a line has put and taken items more, for which there is room.
+    pub fn adds(&mut self, server: bool, line: u8, put: &[Item], taken: &[Item])
+        requires { RoomAt self.old.rows (slice_index (if server then self.old.server_lines else self.old.node_lines) line) server (length put.now) (length taken.now) }
+        ensures shows { (r : rows.KeptRows) (ps ts : List slots.Item) → put.now ≡ map item_shown ps → taken.now ≡ map item_shown ts → Shows self.old r → Shows self.new (adds server line ps ts r) }
+        ensures rows { self.old.room ≡ self.new.room }
+    {
+        let place = self.newest(server, line);
+        add_at(self.rows.as_mut_slice(), place, server, put, taken);
+    }
+
+    /// A line of the server has a session more, with these ids. The figures of the line's session before are written down,
+    /// where it had one. There is room for it.
+    pub fn connects(&mut self, alloc: Global, line: u8, circuit: u16, id: u8, before: Figures)
+        requires rows { 0 < self.old.room }
+        requires names { 0 < self.old.names.room }
+        ensures shows { (r : rows.KeptRows) (s : Seat) (f : rows.Figures) →
+            Shows self.old r →
+            IsSeat s line circuit id →
+            (slice_index self.old.server_lines line ≢ 0 → ShowsFigures before f) →
+            Shows self.new (connects s f r) }
+        ensures rows { self.old.room ≡ self.new.room + 1 }
+        ensures names { self.old.names.room ≤ self.new.names.room + 1 }
+    {
+        leave_server(
+            self.rows.as_mut_slice(),
+            self.server_lines[usize::from(line)],
+            before,
+        );
+        self.rows.push_reserved(Row::new(alloc, line, circuit, id));
+        let place = self.rows.len();
+        self.server_lines[usize::from(line)] = place;
+        self.names.set(circuit, id, place);
+    }
+
+    /// A line of the node has a session more, whose row is the one at this place; at 0 it has none. The figures of the line's
+    /// session before are written down, where it had a row.
+    pub fn accepts(&mut self, line: u8, place: usize, before: Figures)
+        requires { place ≤ length self.old.rows }
+        ensures shows { (r : rows.KeptRows) (f : rows.Figures) →
+            Shows self.old r →
+            (slice_index self.old.node_lines line ≢ 0 → ShowsFigures before f) →
+            Shows self.new (accepts line place f r) }
+    {
+        hand_over(
+            self.rows.as_mut_slice(),
+            self.node_lines[usize::from(line)],
+            before,
+            place,
+            line,
+        );
+        self.node_lines[usize::from(line)] = place;
+    }
+}
