@@ -4,6 +4,7 @@ pub mod Taking
 pub mod Standing
 pub mod Used
 pub mod Stepping
+pub mod Seeing
 pub mod Telling
 pub mod Opening
 pub mod Refusing

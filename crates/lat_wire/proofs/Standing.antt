@@ -1,28 +1,44 @@
 -- A run of the two machines goes on, and a young frame is heard as its bytes tell.
-use Rattle.std.proofs.Common.{◌≡◌, ℕ, ◌+◌, ◌<◌, sym, ap, ap₂, ◌∙◌, refl, subst, arith, Bool, true, false, not, cond, ◌&&◌, ◌||◌, List, [], ◌∷◌, ◌++◌, Option, Some, None, slice_get, nat_lt}
+use Rattle.std.proofs.Common.{◌≡◌, ℕ, ◌+◌, ◌<◌, sym, ap, ap₂, ◌∙◌, refl, subst, arith, Bool, true, false, not, cond, ◌&&◌, ◌||◌, List, [], ◌∷◌, ◌++◌, map, Option, Some, None, is_some, slice_get, nat_lt}
 use Rattle.std.proofs.lemmas.Bool.{true≢false, false≢true}
+use Rattle.lat_base.specs.declared.answer.Answer as base
+use Rattle.lat_model.specs.sessions.Slots.{Slot}
+use Rattle.lat_model.specs.numbers.Link.{Link}
 use Rattle.lat_model.specs.circuits.World.{table, World}
 use Rattle.lat_model.specs.circuits.Events.{go_on}
 use Rattle.lat_machines.specs.values.Timing.{half_range}
-use Rattle.lat_machines.specs.values.Messages.{Head}
-use Rattle.lat_machines.specs.values.Frames.{Reading, Whole}
+use Rattle.lat_machines.specs.values.Messages.{Head, RunMessage, WideMessage, StartMessage, StopMessage}
+use Rattle.lat_machines.specs.values.Frames.{Reading, Whole, Value, OfCircuit, OfNotice, FrameMark, OfRun, Plain, OutFrame}
 use Rattle.lat_machines.specs.values.Events.{Event, Numbers, Hears, is_heard}
 use Rattle.lat_machines.specs.cores.Cores.{Core}
 use Rattle.lat_machines.specs.cores.Hearing.{names}
 use Rattle.lat_machines.specs.world.Machines.{Setups, Posted, Machines, Move, Does, HearsFrame, HearsForeign, own_of, core_of, is_for_other, is_own, heard_as, tell, comes, counted, marked_delivered, happens, run, open_machines}
-use Rattle.lat_machines.specs.world.Safe.{Fit, circuits_open, answer_by, HeardByBytes, Safe}
-use Rattle.lat_machines.specs.world.Tally.{RunTallies, formed_in, shown_in, is_recent, is_young, is_young_at}
-use Rattle.lat_machines.specs.world.Young.{head_of, IsYoung}
+use Rattle.lat_machines.specs.world.Safe.{Fit, circuits_open, answer_by, HeardByBytes, Safe, TrueValue}
+use Rattle.lat_machines.specs.world.Bears.{BearsMarked}
+use Rattle.lat_machines.specs.world.Tally.{RunTallies, formed_in, shown_in, is_run, is_recent, is_young, is_young_at}
+use Rattle.lat_machines.specs.world.Young.{head_of, link_of, IsYoung}
 use Rattle.lat_machines.proofs.events.Tied.{Goes, every_run}
 use Rattle.lat_machines.proofs.frames.Bytes.{SameIn, server_bytes, node_bytes, same_frame}
 use Rattle.lat_machines.proofs.queue.Quiet.{world_ok}
 use Rattle.lat_machines.proofs.runs.Safety.{every_safe}
 use Rattle.lat_machines.proofs.tally.Worlds.{machines_tally, youth}
+use Rattle.lat_payload.specs.Reads.{reading_of}
+use Rattle.lat_lines.specs.Back.{answer_of}
+use Rattle.lat_server.specs.Kept as server_kept
+use Rattle.lat_server.specs.Stands as servers
+use Rattle.lat_node.specs.Kept as node_kept
+use Rattle.lat_node.specs.Stands as nodes
+use Rattle.lat_ledger.specs.Books.{IsBookOf}
+use Rattle.lat_posts.specs.declared.post.Sent.{Sent}
 use Rattle.lat_rounds.proofs.rounds.Moves.{run_more}
 use Rattle.lat_wire.specs.declared.fault.EventFault.{EventFault}
 use Rattle.lat_wire.specs.declared.fault.EventFault.TheVariants.{Old}
 use Rattle.lat_wire.specs.Kept.{Kept, setups_of}
-use Rattle.lat_wire.specs.Refusals.{first_of, old_so, old_frame, old_run}
+use Rattle.lat_wire.specs.Rates.{rates}
+use Rattle.lat_wire.specs.Refusals.{MarksRun, first_of, old_so, old_frame, old_run, old}
+use Rattle.lat_wire.specs.Told.{IsSent, answered, answered_to}
+use Rattle.lat_wire.proofs.Refusing.{read_post}
+use Rattle.lat_wire.specs.Notes.{note_shown}
 use Rattle.lat_wire.specs.Stands.{Mirrors, Stands}
 
 -- a run with one move more
@@ -124,3 +140,90 @@ heard_happens u w i now p rates bytes q t y =
     ap (marked_delivered i) (bytes i now rates p q t y)
     ∙ (sym (delivered_behind u w i (not p.by_server) (heard_as u p now) rates)
     ∙ other_happens u w i now p rates q t)
+
+-- a RUN for the other end bears the mark of one
+
+marked_run : (sent : List (List Slot)) (m : FrameMark) (n : ℕ) (slots : List Slot) → BearsMarked sent m n slots → is_run m ≡ true
+marked_run sent (OfRun m) n slots b = refl
+marked_run sent Plain n slots b = absurd b
+
+value_marks : (l : Link (List Slot)) (f : OutFrame) (v : Value) → TrueValue l f v → (h : Head) → head_of v ≡ Some h → is_run f.mark ≡ true
+value_marks l f (OfCircuit (RunMessage k slots)) t h e = marked_run l.sent f.mark f.number slots t.marked
+value_marks l f (OfCircuit (WideMessage k slots)) t h e = marked_run l.sent f.mark f.number slots t.marked
+value_marks l f (OfCircuit (StartMessage master ask to from info)) t h e = let z : ⊥ = cc in absurd z
+value_marks l f (OfCircuit (StopMessage master ask to from reason text)) t h e = let z : ⊥ = cc in absurd z
+value_marks l f (OfNotice n) t h e = let z : ⊥ = cc in absurd z
+
+pub marks_run : {H : Type 0} (k : Kept H) (w : Machines) (i : ℕ) (p : Posted) → Stands k w → slice_get w.posts i ≡ Some p → is_for_other (setups_of k) p ≡ true → MarksRun p.frame
+marks_run k w i p s q t = value_marks (link_of w p.by_server p.frame.circuit) p.frame p.frame.value ((stands_safe k w s).true_frames i p q t)
+
+-- a wire behind each kind of event
+
+pub local_stands : {H : Type 0} (k told : Kept H) (moment : ℕ) (w : Machines) (b : Bool) (e : Event) → is_heard e ≡ false → setups_of told ≡ setups_of k → (Mirrors k w → RunTallies (setups_of k) w → Mirrors told (tell (setups_of k) w b e (rates (setups_of k) w))) → Stands k w → Stands (record told { moment = moment }) (happens (setups_of k) w (Does b e (rates (setups_of k) w)))
+local_stands {H = H} k told moment w b e h same mirrors s = stands_on k new w (Does b e (rates (setups_of k) w)) same s (subst (Mirrors new) (local_happens (setups_of k) w b e (rates (setups_of k) w) h) (record { server = m.server; node = m.node; book = m.book; notes = m.notes; count = m.count }))
+  where
+    new : Kept H
+    new = record told { moment = moment }
+
+    m : Mirrors told (tell (setups_of k) w b e (rates (setups_of k) w))
+    m = mirrors s.parts (stands_tallies k w s)
+
+pub foreign_stands : {H : Type 0} (k told : Kept H) (w : Machines) (b : Bool) (from now : ℕ) (payload : Reading) → is_own (setups_of k) from ≡ false → setups_of told ≡ setups_of k → (Mirrors k w → RunTallies (setups_of k) w → Mirrors told (tell (setups_of k) w b (Hears from payload None now) (rates (setups_of k) w))) → Stands k w → Stands told (happens (setups_of k) w (HearsForeign b from payload now (rates (setups_of k) w)))
+foreign_stands k told w b from now payload own same mirrors s = stands_on k told w (HearsForeign b from payload now (rates (setups_of k) w)) same s (subst (Mirrors told) (foreign_happens (setups_of k) w b from now payload (rates (setups_of k) w) own) (mirrors s.parts (stands_tallies k w s)))
+
+pub nobody_stands : {H : Type 0} (k new : Kept H) (w : Machines) (i now : ℕ) (sent : Sent) → IsSent (setups_of k) w i sent → is_some sent.turn ≡ false → setups_of new ≡ setups_of k → Mirrors new (counted (marked_delivered i w)) → Stands k w → Stands new (happens (setups_of k) w (HearsFrame i now (rates (setups_of k) w)))
+nobody_stands k new w i now sent q none same m s = stands_on k new w (HearsFrame i now (rates (setups_of k) w)) same s (subst (Mirrors new) (nobody_happens (setups_of k) w i now q.post (rates (setups_of k) w) q.there (sym q.for_other ∙ none)) m)
+
+-- a frame that is heard, by its bytes
+bytes_heard : (u : Setups) (w : Machines) (i now own : ℕ) (sent : Sent) (q : IsSent u w i sent) → own_of u sent.post.by_server ≡ own → Hears own (reading_of sent.post.frame.payload) None now ≡ Hears (own_of u q.post.by_server) (Whole q.post.frame.value) None now
+bytes_heard u w i now own sent q e = ap₂ (λ x y. Hears x y None now) (sym e ∙ ap (own_of u) q.is.by_server) (read_post sent.post q.post q.is)
+
+pub frame_stands : {H : Type 0} (k told new : Kept H) (w : Machines) (i now own : ℕ) (sent : Sent) (q : IsSent (setups_of k) w i sent) → is_some sent.turn ≡ true → own_of (setups_of k) sent.post.by_server ≡ own → old_run (setups_of k) w q.post (head_of q.post.frame.value) ≡ None → setups_of new ≡ setups_of k → (Mirrors k w → RunTallies (setups_of k) w → Mirrors told (tell (setups_of k) w (not sent.post.by_server) (Hears own (reading_of sent.post.frame.payload) None now) (rates (setups_of k) w))) → ((v : Machines) → Mirrors told v → Mirrors new (marked_delivered i v)) → Stands k w → Stands new (happens (setups_of k) w (HearsFrame i now (rates (setups_of k) w)))
+frame_stands k told new w i now own sent q some e young same mirrors come s =
+    stands_on k new w (HearsFrame i now (rates (setups_of k) w)) same s
+    (subst (Mirrors new)
+    (ap₂ (λ b z. marked_delivered i (tell (setups_of k) w (not b) z (rates (setups_of k) w))) q.is.by_server (bytes_heard (setups_of k) w i now own sent q e)
+    ∙ heard_happens (setups_of k) w i now q.post (rates (setups_of k) w) (stands_safe k w s).bytes q.there (sym q.for_other ∙ some) (young_of (setups_of k) w q.post young))
+    (come (tell (setups_of k) w (not sent.post.by_server) (Hears own (reading_of sent.post.frame.payload) None now) (rates (setups_of k) w)) (mirrors s.parts (stands_tallies k w s))))
+
+pub frame_answers : {H : Type 0} (k : Kept H) (w : Machines) (i now own : ℕ) (sent : Sent) (a : base.Answer) (q : IsSent (setups_of k) w i sent) → is_some sent.turn ≡ true → own_of (setups_of k) sent.post.by_server ≡ own → old_run (setups_of k) w q.post (head_of q.post.frame.value) ≡ None → a ≡ answered (setups_of k) w (not sent.post.by_server) (Hears own (reading_of sent.post.frame.payload) None now) → Stands k w → Some a ≡ answered_to (setups_of k) w now (slice_get w.posts i)
+frame_answers k w i now own sent a q some e young is s =
+    let other : is_for_other (setups_of k) q.post ≡ true = sym q.for_other ∙ some in
+    let answer : a ≡ answered (setups_of k) w (not q.post.by_server) (heard_as (setups_of k) q.post now) = is ∙ (ap₂ (λ b z. answered (setups_of k) w (not b) z) q.is.by_server (bytes_heard (setups_of k) w i now own sent q e) ∙ ap answer_of (young_answers k w i now q.post s q.there other (young_of (setups_of k) w q.post young))) in
+    ap (λ z. Some z) answer
+    ∙ (sym (ap (λ z. cond z (Some (answered (setups_of k) w (not q.post.by_server) (heard_as (setups_of k) q.post now))) None) other)
+    ∙ sym (ap (answered_to (setups_of k) w now) q.there))
+
+pub nobody_answers : {H : Type 0} (k : Kept H) (w : Machines) (i now : ℕ) (sent : Sent) (q : IsSent (setups_of k) w i sent) → is_some sent.turn ≡ false → None ≡ answered_to (setups_of k) w now (slice_get w.posts i)
+nobody_answers k w i now sent q none =
+    sym (ap (answered_to (setups_of k) w now) q.there
+    ∙ ap (λ z. cond z (Some (answered (setups_of k) w (not q.post.by_server) (heard_as (setups_of k) q.post now))) None) (sym q.for_other ∙ none))
+
+pub old_other : (u : Setups) (w : Machines) (i : ℕ) (sent : Sent) (q : IsSent u w i sent) → is_some sent.turn ≡ true → old u w (slice_get w.posts i) ≡ old_run u w q.post (head_of q.post.frame.value)
+old_other u w i sent q some = ap (old u w) q.there ∙ ap (λ z. cond z (old_run u w q.post (head_of q.post.frame.value)) None) (sym q.for_other ∙ some)
+
+pub old_nobody : (u : Setups) (w : Machines) (i : ℕ) (sent : Sent) (q : IsSent u w i sent) → is_some sent.turn ≡ false → old u w (slice_get w.posts i) ≡ None
+old_nobody u w i sent q none = ap (old u w) q.there ∙ ap (λ z. cond z (old_run u w q.post (head_of q.post.frame.value)) None) (sym q.for_other ∙ none)
+
+-- all parts behind a delivery, of an event that was told, and of one that nothing heard
+
+pub came_mirrors : {H : Type 0} (k new : Kept H) (w : Machines) (i : ℕ) → Mirrors k w → ((u : Setups) (v : Machines) → IsBookOf u k.book v → IsBookOf u new.book (marked_delivered i v)) → new.server ≡ k.server → new.node ≡ k.node → new.notes ≡ k.notes → new.count ≡ k.count → Mirrors new (marked_delivered i w)
+came_mirrors {H = H} k new w i m book s n o c = record {
+  server = subst (λ z. servers.Stands z w.server) (sym s) m.server;
+  node = subst (λ (z : node_kept.Kept H). nodes.Stands z w.node) (sym n) m.node;
+  book = subst (λ u. IsBookOf u new.book (marked_delivered i w)) (ap₂ (λ x y. let u : Setups = record { server = server_kept.config_of x; node = node_kept.config_of y } in u) (sym s) (sym n)) (book (setups_of k) w m.book);
+  notes = ap (map note_shown) o ∙ m.notes;
+  count = c ∙ m.count;
+}
+
+pub passed_mirrors : {H : Type 0} (k new : Kept H) (w : Machines) (i : ℕ) → Mirrors k w → ((u : Setups) (v : Machines) → IsBookOf u k.book v → IsBookOf u new.book (marked_delivered i v)) → new.count ≡ k.count + 1 → new.server ≡ k.server → new.node ≡ k.node → new.notes ≡ k.notes → Mirrors new (counted (marked_delivered i w))
+passed_mirrors {H = H} k new w i m book c s n o = record {
+  server = subst (λ z. servers.Stands z w.server) (sym s) m.server;
+  node = subst (λ (z : node_kept.Kept H). nodes.Stands z w.node) (sym n) m.node;
+  book = record { posts = b.posts; log = b.log; tallies = elim [ true ↦ b.tallies true | false ↦ b.tallies false ] };
+  notes = ap (map note_shown) o ∙ m.notes;
+  count = omega (arith, c, m.count);
+}
+  where
+    b : IsBookOf (setups_of new) new.book (marked_delivered i w)
+    b = subst (λ u. IsBookOf u new.book (marked_delivered i w)) (ap₂ (λ x y. let u : Setups = record { server = server_kept.config_of x; node = node_kept.config_of y } in u) (sym s) (sym n)) (book (setups_of k) w m.book)

@@ -4,7 +4,6 @@ use Rattle.std.proofs.lemmas.Bool.{true≢false, false≢true}
 use Rattle.lat_base.specs.declared.event.Event as base
 use Rattle.lat_base.specs.declared.event.Event.TheVariants as events
 use Rattle.lat_model.specs.sessions.Slots.{Slot}
-use Rattle.lat_fields.proofs.Steps.{IsBytes}
 use Rattle.lat_machines.specs.values.Notices as kepts
 use Rattle.lat_machines.specs.values.Messages.{Head, RunMessage, WideMessage, StartMessage, StopMessage}
 use Rattle.lat_machines.specs.values.Frames.{Reading, Value, OfCircuit, OfNotice, Whole, Malformed}
@@ -19,8 +18,7 @@ use Rattle.lat_lines.specs.Back.{answer_of}
 use Rattle.lat_lines.specs.Events.{event_shown}
 use Rattle.lat_ledger.specs.declared.heading.Heading.{Heading}
 use Rattle.lat_ledger.specs.Headings.{heading_in, heading_of}
-use Rattle.lat_ledger.proofs.Heads.{heading_read}
-use Rattle.lat_wire.specs.Taking.{is_taken, named_by, taker_of, counted_at}
+use Rattle.lat_wire.specs.Taking.{HeadsRead, is_taken, named_by, taker_of, counted_at}
 
 -- a machine's answer, with what it means
 pub data Meaning : Answer → Type 0 where
@@ -95,15 +93,11 @@ malformed_is_bad : (u : Setups) (w : Machines) (b : Bool) (from field at now : �
 malformed_is_bad u w true from field at now = refl
 malformed_is_bad u w false from field at now = refl
 
-heard_taken : (u : Setups) (w : Machines) (b : Bool) (from now n x : ℕ) (payload : List ℕ) → IsBytes payload → (r : Reading) → reading_of payload ≡ r → answer_by u w b (Hears from r None now) ≡ Circuit (Taken n) → taken_by (Hears from r None now) (Circuit (Taken n)) x ≡ counted_at (option_map (λ (h : Heading). h.to) (heading_in payload)) x
-heard_taken u w b from now n x payload i (Whole v) e a = value_taken from now n x None v ∙ ap (λ z. counted_at (option_map (λ (h : Heading). h.to) z) x) (sym (heading_read payload v i e))
+heard_taken : (u : Setups) (w : Machines) (b : Bool) (from now n x : ℕ) (payload : List ℕ) → ((v : Value) → reading_of payload ≡ Whole v → heading_in payload ≡ heading_of v) → (r : Reading) → reading_of payload ≡ r → answer_by u w b (Hears from r None now) ≡ Circuit (Taken n) → taken_by (Hears from r None now) (Circuit (Taken n)) x ≡ counted_at (option_map (λ (h : Heading). h.to) (heading_in payload)) x
+heard_taken u w b from now n x payload i (Whole v) e a = value_taken from now n x None v ∙ ap (λ z. counted_at (option_map (λ (h : Heading). h.to) z) x) (sym (i v e))
 heard_taken u w b from now n x payload i (Malformed field at) e a = let z : ⊥ = (let q : Bad field at ≡ Circuit (Taken n) = sym (malformed_is_bad u w b from field at now) ∙ a in cc) in absurd z
 
-abbrev pub BytesOf : base.Event → Type 0
-BytesOf (events.Heard from payload now) = IsBytes payload
-BytesOf e = Unit {0}
-
-event_taken : (u : Setups) (w : Machines) (b : Bool) (e : base.Event) (n x : ℕ) → BytesOf e → answer_by u w b (event_shown e) ≡ Circuit (Taken n) → taken_by (event_shown e) (Circuit (Taken n)) x ≡ counted_at (named_by e) x
+event_taken : (u : Setups) (w : Machines) (b : Bool) (e : base.Event) (n x : ℕ) → HeadsRead e → answer_by u w b (event_shown e) ≡ Circuit (Taken n) → taken_by (event_shown e) (Circuit (Taken n)) x ≡ counted_at (named_by e) x
 event_taken u w b (events.Heard from payload now) n x i a = heard_taken u w b (address from.0) now n x payload i (reading_of payload) refl a
 event_taken u w b (events.Time now) n x i a = refl
 event_taken u w b (events.Connect line service) n x i a = refl
@@ -117,9 +111,9 @@ event_taken u w b (events.Cancel id) n x i a = refl
 event_taken u w b events.Announce n x i a = refl
 
 -- what is counted of an event is what the machine counts
-pub taken_told : (u : Setups) (w : Machines) (b : Bool) (e : base.Event) (x : ℕ) → BytesOf e → taken_by (event_shown e) (answer_by u w b (event_shown e)) x ≡ counted_at (taker_of e (answer_of (answer_by u w b (event_shown e)))) x
+pub taken_told : (u : Setups) (w : Machines) (b : Bool) (e : base.Event) (x : ℕ) → (is_taken (answer_of (answer_by u w b (event_shown e))) ≡ true → HeadsRead e) → taken_by (event_shown e) (answer_by u w b (event_shown e)) x ≡ counted_at (taker_of e (answer_of (answer_by u w b (event_shown e)))) x
 taken_told u w b e x i = go (answer_by u w b (event_shown e)) refl (meaning (answer_by u w b (event_shown e)))
   where
     go : (a : Answer) → answer_by u w b (event_shown e) ≡ a → Meaning a → taken_by (event_shown e) a x ≡ counted_at (taker_of e (answer_of a)) x
-    go a q (Takes_it n) = event_taken u w b e n x i q
+    go a q (Takes_it n) = event_taken u w b e n x (i (ap (λ z. is_taken (answer_of z)) q)) q
     go a q (Other other f r s) = none_taken other (event_shown e) x r s ∙ ap (λ z. counted_at (cond z (named_by e) None) x) (sym f)

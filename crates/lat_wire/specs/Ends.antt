@@ -1,6 +1,8 @@
 -- The two cores.
-use Rattle.std.specs.Prelude.{◌≡◌, ℕ, Bool, true, false, cond, List, map, Option, Some, None}
+use Rattle.std.specs.Prelude.{◌≡◌, ℕ, ◌<◌, ◌^◌, Bool, true, false, cond, List, map, Option, Some, None, option_map}
 use Rattle.lat_base.specs.declared.outbox.OutFrame.{OutFrame}
+use Rattle.lat_base.specs.declared.state.SessionState.{SessionState}
+use Rattle.lat_base.specs.declared.state.SessionState.TheVariants as states
 use Rattle.lat_model.specs.Lists.{Each}
 use Rattle.lat_machines.specs.values.Timing.{half_range}
 use Rattle.lat_machines.specs.values.Frames as machines
@@ -15,6 +17,8 @@ use Rattle.lat_server.specs.Kept as servers
 use Rattle.lat_server.specs.Stands as server_stands
 use Rattle.lat_node.specs.Kept as nodes
 use Rattle.lat_node.specs.Stands as node_stands
+use Rattle.lat_seq.specs.declared.span.Span.{Span}
+use Rattle.lat_seq.specs.declared.span.Span.TheVariants as spans
 use Rattle.lat_ledger.specs.declared.heading.Heading.{Heading}
 use Rattle.lat_ledger.specs.Books.{IsReadable}
 use Rattle.lat_wire.specs.Rates.{RatesWhatIsLeft, rates}
@@ -35,6 +39,7 @@ pub record Holds {H : Type 0} (may : H → ℕ → ℕ → ℕ → Type 0) (know
   pub node : nodes.AtRest k.node
   pub fact : known k.node.rule
   pub rule : RatesWhatIsLeft (may k.node.rule)
+  pub lines : k.node.lines.lines < 2 ^ 16
 
 -- they are the two machines of the world
 pub record AreEnds {H : Type 0} (k : KeptEnds H) (w : Machines) : Type 0 where
@@ -54,3 +59,16 @@ pub record MadeFrames (u : Setups) (w : Machines) (server : Bool) (e : Event) (o
 -- half the range of the circuit that a RUN from this address names; None where it names none
 abbrev pub half_at : Core → ℕ → Heading → Option ℕ
 half_at c from h = cond (names c.circuits from h.to h.from) (Some (half_range (c.circuits.circuit_at h.to).end.wide)) None
+
+abbrev pub half_span : Span → ℕ
+half_span spans.Byte = 128
+half_span spans.Word = 32768
+
+-- of the span of a circuit, where it is named
+abbrev pub half_named : Bool → Option Span → Option ℕ
+half_named named span = cond named (option_map half_span span) None
+
+-- whether it is the state of a session that a line has
+abbrev pub is_held : SessionState → Bool
+is_held states.Free = false
+is_held state = true

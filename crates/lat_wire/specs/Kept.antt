@@ -9,7 +9,6 @@ use Rattle.lat_wire.specs.declared.notes.Note.{Note}
 use Rattle.lat_posts.specs.Ways.{CameAtMost}
 use Rattle.lat_posts.specs.Tallies.{tally_at}
 use Rattle.lat_ledger.specs.Books.{Book, tallies_of}
-use Rattle.lat_wire.specs.Rates.{RatesWhatIsLeft}
 
 -- H is the rule by which the node rates its services
 pub record Kept (H : Type 0) : Type 0 where
@@ -28,11 +27,7 @@ abbrev pub setups_of : {H : Type 0} → Kept H → Setups
 setups_of k = record { server = servers.config_of k.server; node = nodes.config_of k.node }
 
 -- what holds of every wire
-pub record Holds {H : Type 0} (may : H → ℕ → ℕ → ℕ → Type 0) (known : H → Type 0) (k : Kept H) : Type 0 where
-  pub server : servers.AtRest k.server
-  pub node : nodes.AtRest k.node
-  pub fact : known k.node.rule
-  pub rule : RatesWhatIsLeft (may k.node.rule)
+pub record Holds {H : Type 0} (k : Kept H) : Type 0 where
   pub server_own : (setups_of k).server.own ≡ address k.server_own.0
   pub node_own : (setups_of k).node.own ≡ address k.node_own.0
   pub timer : k.timer ≡ 10 * (setups_of k).server.timing.timer

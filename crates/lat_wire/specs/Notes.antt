@@ -1,5 +1,5 @@
 -- The events that the report notes.
-use Rattle.std.specs.Prelude.{ℕ, List, [], ◌∷◌, ◌++◌, Bool, true, false, cond, Option, Some, None}
+use Rattle.std.specs.Prelude.{◌≡◌, ℕ, List, [], ◌∷◌, ◌++◌, Bool, true, false, cond, Option, Some, None}
 use Rattle.lat_base.specs.declared.answer.Answer as base
 use Rattle.lat_base.specs.declared.answer.Answer.TheVariants as answers
 use Rattle.lat_base.specs.declared.heard.Heard.TheVariants as heards
@@ -63,3 +63,7 @@ note_shown n = record { event = n.event; answer = noted_answer n.noted }
 
 abbrev pub noted_told : NotedEvent → Told
 noted_told n = record { event = n.event; answer = answer_of n.answer }
+
+-- the notes behind an event that was answered so
+abbrev pub NotesOn : List Told → ℕ → base.Answer → List Told → Type 0
+NotesOn before event a after = after ≡ cond (is_noted a) (before ++ record { event = event; answer = a } ∷ []) before

@@ -7,7 +7,7 @@ use Rattle.lat_machines.specs.values.Events.{Event, Time}
 use Rattle.lat_machines.specs.cores.Hearing.{names}
 use Rattle.lat_machines.specs.cores.Cores.{Core}
 use Rattle.lat_machines.specs.world.Machines.{Setups, Posted, Machines, own_of, core_of, is_for_other, is_own}
-use Rattle.lat_machines.specs.world.Tally.{formed_in, shown_in}
+use Rattle.lat_machines.specs.world.Tally.{formed_in, shown_in, is_run}
 use Rattle.lat_machines.specs.world.Young.{head_of}
 use Rattle.lat_wire.specs.declared.fault.EventFault.{EventFault}
 use Rattle.lat_wire.specs.declared.fault.EventFault.TheVariants.{FramesFull, Backward, OwnAddress, NoFrame, Old, Memory}
@@ -59,6 +59,10 @@ old_run u w p (Some h) =
     cond (names hearer.circuits (own_of u p.by_server) h.to h.from)
     (old_frame r (core_of w p.by_server) p.frame)
     None
+
+-- a RUN bears the mark of one
+abbrev pub MarksRun : OutFrame → Type 0
+MarksRun f = (h : Head) → head_of f.value ≡ Some h → is_run f.mark ≡ true
 
 -- of a frame that is for the other end
 abbrev pub old : Setups → Machines → Option Posted → Option EventFault

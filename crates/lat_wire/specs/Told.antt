@@ -1,11 +1,13 @@
 -- What the calls of a wire are told and answer.
-use Rattle.std.specs.Prelude.{◌≡◌, ℕ, Bool, false, not, cond, List, map, Option, Some, None, slice_get}
+use Rattle.std.specs.Prelude.{◌≡◌, ℕ, Bool, false, not, cond, List, map, Option, Some, None, is_some, slice_get}
 use Rattle.lat_base.specs.declared.answer.Answer as base
 use Rattle.lat_base.specs.declared.outbox.OutFrame.{OutFrame}
 use Rattle.lat_machines.specs.values.Events.{Event, Time, is_heard}
 use Rattle.lat_machines.specs.world.Machines.{Setups, Posted, Machines, is_for_other, heard_as}
 use Rattle.lat_machines.specs.world.Safe.{answer_by}
 use Rattle.lat_payload.specs.Frames.{seen, expected}
+use Rattle.lat_posts.specs.declared.post.Sent.{Sent}
+use Rattle.lat_ledger.specs.Books.{IsPost}
 use Rattle.lat_lines.specs.Back.{answer_of}
 
 -- an event that isn't a frame that was heard
@@ -32,3 +34,10 @@ pub record ShowsPost (posts : List Posted) (index : ℕ) (by_server : Bool) (f :
   pub is : slice_get posts index ≡ Some post
   pub side : by_server ≡ post.by_server
   pub frame : seen f ≡ expected post.frame
+
+-- the frame of this place, and whether it is for the other end
+pub record IsSent (u : Setups) (w : Machines) (index : ℕ) (s : Sent) : Type 0 where
+  pub post : Posted
+  pub there : slice_get w.posts index ≡ Some post
+  pub is : IsPost s.post post
+  pub for_other : is_some s.turn ≡ is_for_other u post

@@ -1,6 +1,6 @@
 //! The two cores.
 
-ghost use Rattle.std.specs.Prelude.{◌≡◌, ◌≤◌, [], length, IfOk, OnOk, OnErr};
+ghost use Rattle.std.specs.Prelude.{◌≡◌, ◌<◌, ◌≤◌, [], length, IfSome, IfOk, OnOk, OnErr};
 ghost use Rattle.lat_base.specs.Answers.{PutFits};
 ghost use Rattle.lat_machines.specs.cores.Hearing.{names};
 ghost use Rattle.lat_machines.specs.cores.Lines.{holds};
@@ -8,7 +8,7 @@ ghost use Rattle.lat_machines.specs.values.Addresses.{address};
 ghost use Rattle.lat_machines.specs.values.Timing.{half_range};
 ghost use Rattle.lat_machines.specs.world.Machines.{Machines, core_of, tell};
 ghost use Rattle.lat_lines.specs.Events.{event_shown};
-ghost use Rattle.lat_wire.specs.Ends.{AreEnds, MadeFrames, setups_of, half_at};
+ghost use Rattle.lat_wire.specs.Ends.{AreEnds, MadeFrames, setups_of, half_at, half_named, half_span, is_held};
 ghost use Rattle.lat_wire.specs.Rates.{rates};
 ghost use Rattle.lat_wire.specs.Told.{answered};
 
@@ -79,20 +79,20 @@ impl<H: RatingRule> Ends<H> {
     /// Half the range of the numbers of the circuit that a RUN names at the server or the node; `None` where no circuit of this
     /// address and these ids lives there whose reply was heard.
     pub(crate) fn half_range(&self, server: bool, from: Addr, heading: Heading) -> Option<u64>
-        ensures { (w : Machines) → AreEnds self.now w → result ≡ half_at (core_of w server) (address from.0) heading }
+        ensures value { (w : Machines) → AreEnds self.now w → result ≡ half_at (core_of w server) (address from.0) heading }
+        ensures above { IfSome result (λ half. 0 < half) }
     {
-        let (names, span) = if server {
-            (
+        if server {
+            half_of(
                 self.server.names(from, heading.to, heading.from),
                 self.server.span(heading.to),
             )
         } else {
-            (
+            half_of(
                 self.node.names(from, heading.to, heading.from),
                 self.node.span(heading.to),
             )
-        };
-        if names { half_of(span) } else { None }
+        }
     }
 
     /// Whether a line of the server or of the node has a session.
@@ -107,13 +107,28 @@ impl<H: RatingRule> Ends<H> {
     }
 }
 
-fn is_held(state: SessionState) -> bool {
+// Whether it is the state of a session that a line has.
+fn is_held(state: SessionState) -> bool
+    ensures { result ≡ is_held state }
+{
     !matches!(state, SessionState::Free)
 }
 
-fn half_of(span: Option<Span>) -> Option<u64> {
-    match span? {
-        Span::Byte => Some(128),
-        Span::Word => Some(32_768),
+// Half the range of the numbers of this span.
+fn half_span(span: Span) -> u64
+    ensures value { result ≡ half_span span }
+    ensures above { 0 < result }
+{
+    match span {
+        Span::Byte => 128,
+        Span::Word => 32_768,
     }
+}
+
+// Half the range of the circuit of this span, where it is named.
+fn half_of(names: bool, span: Option<Span>) -> Option<u64>
+    ensures value { result ≡ half_named names span }
+    ensures above { IfSome result (λ half. 0 < half) }
+{
+    if names { Some(half_span(span?)) } else { None }
 }

@@ -55,15 +55,12 @@ impl<H: RatingRule> Wire<H> {
         ensures err { OnErr result (self.new ≡ self.old) }
     {
         self.has_room()?;
-        let sent = self.ledger.posts.len() as u64;
-        let Some(post) = self.ledger.posts.get(index) else {
-            return Err(EventFault::NoFrame { index, sent });
-        };
-        if post.turn.is_none() {
+        let sent = self.sent(index)?;
+        if sent.turn.is_none() {
             self.pass_by(index)?;
             return Ok(None);
         }
-        let post = &post.post;
+        let post = &sent.post;
         self.is_young(post)?;
         let by_server = post.by_server;
         let event = self.heard(alloc, self.own(by_server), post.frame.payload.bytes())?;

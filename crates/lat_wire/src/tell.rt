@@ -1,28 +1,34 @@
 //! The parts of an event.
 
-ghost use Rattle.std.specs.Prelude.{◌≡◌, ◌+◌, ◌-◌, ◌<◌, ◌≤◌, ◌^◌, ◌||◌, ℕ, Bool, cond, false, not, length, nat_eq, nat_lt, IfOk, OnOk, OnErr, Option, Some, None};
+ghost use Rattle.std.specs.Prelude.{◌≡◌, ◌+◌, ◌-◌, ◌<◌, ◌≤◌, ◌^◌, ℕ, Bool, false, true, not, [], ◌∷◌, length, map, option_map, vec_len, vec_capacity, IfOk, OnOk, OnErr};
 ghost use Rattle.lat_base.specs.Answers.{PutFits};
 ghost use Rattle.lat_base.specs.declared.event.Event.TheVariants as events;
 ghost use Rattle.lat_machines.specs.values.Addresses.{address};
-ghost use Rattle.lat_machines.specs.world.Machines.{Posted, Machines, counted, is_own, marked_delivered, own_of, tell};
+ghost use Rattle.lat_machines.specs.values.Frames.{Value, Whole};
+ghost use Rattle.lat_payload.specs.Reads.{reading_of};
+ghost use Rattle.lat_ledger.specs.Headings.{heading_in, heading_of};
+ghost use Rattle.lat_machines.specs.world.Machines.{Setups, Posted, Machines, counted, is_own, marked_delivered, own_of, tell};
 ghost use Rattle.lat_machines.specs.world.Tally.{RunTallies};
 ghost use Rattle.lat_machines.specs.world.Young.{head_of};
 ghost use Rattle.lat_lines.specs.Events.{event_shown};
-ghost use Rattle.lat_ledger.specs.Books.{IsPost};
+ghost use Rattle.lat_posts.specs.Tallies.{tally_at};
+ghost use Rattle.lat_posts.specs.Ways.{CameAtMost};
+ghost use Rattle.lat_ledger.specs.Books.{IsBookOf, IsPost, tallies_of};
 ghost use Rattle.lat_wire.specs.Kept.{CameLess, setups_of};
+ghost use Rattle.lat_wire.specs.Notes.{NotesOn, note_shown};
 ghost use Rattle.lat_wire.specs.Rates.{rates};
-ghost use Rattle.lat_wire.specs.Refusals.{RefusedAs, full, backward, old_run, old_so};
+ghost use Rattle.lat_wire.specs.Refusals.{MarksRun, RefusedAs, first_of, full, backward, no_frame, old_run, old_so};
 ghost use Rattle.lat_wire.specs.Stands.{Mirrors};
-ghost use Rattle.lat_wire.specs.Taking.{is_taken, named_by, taker_of};
-ghost use Rattle.lat_wire.specs.Told.{answered, moment_after};
+ghost use Rattle.lat_wire.specs.Taking.{HeadsRead, Took, is_taken, named_by, taker_of};
+ghost use Rattle.lat_wire.specs.Told.{IsSent, answered, moment_after};
 
 use crate::fault::{EventFault, FRAMES};
 use crate::notes::{Note, noted_of};
 use crate::wire::Wire;
 use lat_base::{Addr, Answer, Bytes, Event, Heard, Memory};
-use lat_ledger::{heading_of, is_same};
+use lat_ledger::{Ledger, heading_of, is_same};
 use lat_node::RatingRule;
-use lat_posts::Post;
+use lat_posts::{Post, Sent, Tally};
 use std::alloc::Global;
 
 impl<H: RatingRule> Wire<H> {
@@ -48,6 +54,19 @@ impl<H: RatingRule> Wire<H> {
             Event::Time { now } => Ok(*now),
             _ => Ok(last),
         }
+    }
+
+    /// The frame of this index. Refused where there is none.
+    pub(crate) fn sent(&self, index: u64) -> Result<&Sent, EventFault>
+        ensures refused { (w : Machines) → Mirrors self.now w → RefusedAs result (no_frame w index) }
+        ensures ok { IfOk result (λ sent. (w : Machines) → Mirrors self.now w → IsSent (setups_of self.now) w index sent.now) }
+        ensures there { OnOk result (index < length self.now.book.log.posts) }
+    {
+        let sent = self.ledger.posts.len() as u64;
+        self.ledger
+            .posts
+            .get(index)
+            .ok_or(EventFault::NoFrame { index, sent })
     }
 
     pub(crate) fn own(&self, server: bool) -> Addr
@@ -79,7 +98,7 @@ impl<H: RatingRule> Wire<H> {
 
     /// Refused where the circuit that a frame for the other end names lives there, and the frame isn't young.
     pub(crate) fn is_young(&self, post: &Post) -> Result<(), EventFault>
-        ensures { (w : Machines) (p : Posted) → Mirrors self.now w → IsPost post.now p → RefusedAs result (old_run (setups_of self.now) w p (head_of p.frame.value)) }
+        ensures { (w : Machines) (p : Posted) → Mirrors self.now w → IsPost post.now p → MarksRun p.frame → RefusedAs result (old_run (setups_of self.now) w p (head_of p.frame.value)) }
     {
         let Some(heading) = heading_of(post.frame.payload.bytes()) else {
             return Ok(());
@@ -92,8 +111,7 @@ impl<H: RatingRule> Wire<H> {
             return Ok(());
         };
         let tally = self.ledger.tally(by_server, post.frame.circuit);
-        is_recent(false, post.number, tally.formed, half)?;
-        is_recent(true, post.acknowledgement, tally.shown, half)
+        are_recent(post, tally, half)
     }
 
     /// A frame that isn't for the other end is delivered: an event at which nothing is heard.
@@ -105,7 +123,7 @@ impl<H: RatingRule> Wire<H> {
         ensures err { OnErr result (self.new ≡ self.old) }
     {
         let count = self.next_count()?;
-        self.ledger.posts.deliver(index as usize);
+        deliver(&mut self.ledger, index);
         self.count = count;
         Ok(())
     }
@@ -118,7 +136,7 @@ impl<H: RatingRule> Wire<H> {
         ensures moment { self.new.moment ≡ self.old.moment }
         ensures setups { setups_of self.new ≡ setups_of self.old }
     {
-        self.ledger.posts.deliver(index as usize);
+        deliver(&mut self.ledger, index);
     }
 
     // The number of the next event. There is no room for more than a number of 64 bits counts.
@@ -147,23 +165,62 @@ impl<H: RatingRule> Wire<H> {
         ensures err { OnErr result (self.new ≡ self.old) }
     {
         let count = self.next_count()?;
-        self.ledger.posts.reserve()?;
-        self.notes.reserve(1)?;
+        reserve(&mut self.ledger, &mut self.notes)?;
         let other = self.own(!server);
         let answer = self.ends.step(alloc, server, event)?;
-        if let Some(circuit) = taker(event, &answer) {
-            self.ledger.take(server, circuit);
-        }
+        take(&mut self.ledger, server, taker(event, &answer));
         self.ledger.enter_all(server, &other, self.ends.frames());
         self.ends.clear();
-        if let Some(noted) = noted_of(&answer) {
-            self.notes.push_reserved(Note {
-                event: count,
-                noted,
-            });
-        }
+        note(&mut self.notes, count, &answer);
         self.count = count;
         Ok(answer)
+    }
+}
+
+// Room for the frames of an event and for a note.
+fn reserve(ledger: &mut Ledger, notes: &mut Vec<Note>) -> Result<(), Memory>
+    ensures book { ledger.new.book ≡ ledger.old.book }
+    ensures notes { notes.new.items ≡ notes.old.items }
+    ensures room { OnOk result (256 ≤ ledger.new.room) }
+    ensures spare { OnOk result (vec_len notes.new < vec_capacity notes.new) }
+{
+    ledger.posts.reserve()?;
+    notes.reserve(1)?;
+    Ok(())
+}
+
+// The frame of this index is delivered.
+fn deliver(ledger: &mut Ledger, index: u64)
+    requires there { index < length ledger.old.book.log.posts }
+    requires few { CameAtMost (2 ^ 64 - 2) ledger.old.book.log.ways }
+    ensures book { (u : Setups) (w : Machines) → IsBookOf u ledger.old.book w → IsBookOf u ledger.new.book (marked_delivered index w) }
+    ensures posts { ledger.new.book.log.posts ≡ ledger.old.book.log.posts }
+    ensures tallies { (b : Bool) → tallies_of ledger.new.book b ≡ tallies_of ledger.old.book b }
+    ensures came { (n : ℕ) → CameAtMost n ledger.old.book.log.ways → CameAtMost (n + 1) ledger.new.book.log.ways }
+{
+    ledger.posts.deliver(index as usize);
+}
+
+// The circuit that took a message has taken one more.
+fn take(ledger: &mut Ledger, server: bool, taker: Option<u16>)
+    requires { (x : ℕ) → (tally_at (tallies_of ledger.old.book server) x).taken < 2 ^ 64 - 1 }
+    ensures took { Took taker (tallies_of ledger.old.book server) (tallies_of ledger.new.book server) }
+    ensures other { tallies_of ledger.new.book (not server) ≡ tallies_of ledger.old.book (not server) }
+    ensures log { ledger.new.book.log ≡ ledger.old.book.log }
+    ensures room { ledger.new.room ≡ ledger.old.room }
+{
+    if let Some(circuit) = taker {
+        ledger.take(server, circuit);
+    }
+}
+
+// The event of this number is noted, where its answer is one that is.
+fn note(notes: &mut Vec<Note>, event: u64, answer: &Answer)
+    requires { vec_len notes.old < vec_capacity notes.old }
+    ensures { NotesOn (map note_shown notes.old.items) event answer.now (map note_shown notes.new.items) }
+{
+    if let Some(noted) = noted_of(answer) {
+        notes.push_reserved(Note { event, noted });
     }
 }
 
@@ -182,6 +239,15 @@ fn is_recent(acknowledgement: bool, number: u64, newest: u64, half: u64) -> Resu
     })
 }
 
+// Refused where the number of a post, or else its acknowledgement, does.
+fn are_recent(post: &Post, tally: Tally, half: u64) -> Result<(), EventFault>
+    requires { 0 < half }
+    ensures { RefusedAs result (first_of (old_so false half post.now.number tally.formed ∷ old_so true half post.now.acknowledgement tally.shown ∷ [])) }
+{
+    is_recent(false, post.number, tally.formed, half)?;
+    is_recent(true, post.acknowledgement, tally.shown, half)
+}
+
 // Whether a circuit took the message that was heard.
 fn is_taken(answer: &Answer) -> bool
     ensures { result ≡ is_taken answer.now }
@@ -189,19 +255,29 @@ fn is_taken(answer: &Answer) -> bool
     matches!(answer, Answer::Circuit(Heard::Taken(_)))
 }
 
+// The circuit that a payload names at the end that hears it.
+fn named_in(payload: &[u8]) -> Option<u16>
+    ensures value { result ≡ option_map (λ h. h.to) (heading_in payload.now) }
+    ensures read { (v : Value) → reading_of payload.now ≡ Whole v → heading_in payload.now ≡ heading_of v }
+{
+    heading_of(payload).map(|heading| heading.to)
+}
+
 // The circuit that a frame names at the end that hears it.
 fn named_by(event: &Event) -> Option<u16>
-    ensures { result ≡ named_by event.now }
+    ensures value { result ≡ named_by event.now }
+    ensures read { HeadsRead event.now }
 {
     match event {
-        Event::Heard { payload, .. } => heading_of(payload.as_slice()).map(|heading| heading.to),
+        Event::Heard { payload, .. } => named_in(payload.as_slice()),
         _ => None,
     }
 }
 
 // The circuit that took a message in an event that was answered so.
 fn taker(event: &Event, answer: &Answer) -> Option<u16>
-    ensures { result ≡ taker_of event.now answer.now }
+    ensures value { result ≡ taker_of event.now answer.now }
+    ensures read { is_taken answer.now ≡ true → HeadsRead event.now }
 {
     if is_taken(answer) {
         named_by(event)

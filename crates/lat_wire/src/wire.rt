@@ -50,7 +50,7 @@ impl<H: RatingRule> Model for Wire<H> {
 
     ghost view = { shown };
 
-    ghost invariant = { λ a. Holds H.may H.fact (shown a) × (a.ends.out ≡ []) };
+    ghost invariant = { λ a. Holds (shown a) × (a.ends.out ≡ []) };
 }
 
 impl<H: RatingRule> Wire<H> {
