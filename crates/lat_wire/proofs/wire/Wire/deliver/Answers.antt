@@ -37,7 +37,7 @@ returns-in_err-is_young-clause-refused g c = λ w s.
     subst (RefusedAs c.from_residual-in_err-is_young.result)
     (sym (last_of (full w) (no_frame w c.args.index) (old (setups_of c.args.self.now) w (slice_get w.posts c.args.index)) (c.in_ok-has_room.ensures.refused w s.parts) (c.in_ok-sent.ensures.refused w s.parts)
     ∙ old_other (setups_of c.args.self.now) w c.args.index c.in_ok-sent.sent.now q some))
-    (same_fault _ c.from_residual-in_err-is_young.result (old_run (setups_of c.args.self.now) w q.post (head_of q.post.frame.value)) c.in_err-is_young.field-0.0 (p.1 ∙ ap (λ z. Err z) p.2) (c.in_err-is_young.ensures w q.post s.parts q.is marks))
+    (same_fault (Unit {0}) c.from_residual-in_err-is_young.result (old_run (setups_of c.args.self.now) w q.post (head_of q.post.frame.value)) c.in_err-is_young.field-0.0 (p.1 ∙ ap (λ z. Err z) p.2) (c.in_err-is_young.ensures w q.post s.parts q.is marks))
 
 pub returns-clause-stands : goal.returns-clause-stands
 returns-clause-stands g c = λ w s.

@@ -1,7 +1,6 @@
 use Rattle.std.proofs.Common.{◌≡◌, ◌∙◌, ◌+◌, ◌≤◌, ap, arith, length, map, not, refl, subst, sym}
 use Rattle.lat_base.specs.declared.answer.Answer.{Answer}
-use Rattle.lat_machines.specs.values.Addresses.{address}
-use Rattle.lat_machines.specs.world.Machines.{Machines, own_of, tell}
+use Rattle.lat_machines.specs.world.Machines.{Machines, tell}
 use Rattle.lat_machines.specs.world.Tally.{RunTallies}
 use Rattle.lat_lines.specs.Events.{event_shown}
 use Rattle.lat_server.specs.Stands as servers
@@ -58,7 +57,7 @@ returns-clause-mirrors g c =
     (c.take.ensures.other ∙ ap (λ (z : Book). tallies_of z (not c.args.server)) c.in_ok-reserve.ensures.book)
     m.book
     (subst (λ z. ends.MadeFrames (ends.setups_of c.self.inside.ends) w c.args.server (event_shown c.args.event.now) z) (sym c.frames.ensures.value) made)
-    (λ counts fs same readable tallied h. c.enter_all.ensures.book (ends.setups_of c.self.inside.ends) w.posts w.delivered counts fs (subst (λ (z : Kept g.row.H.Denot). own_of (setups_of z) (not c.args.server) ≡ address c.own-other.result.0) (sym c.self.view_is) c.own-other.ensures) same readable tallied h))
+    (λ counts fs same readable tallied h. c.enter_all.ensures.book (ends.setups_of c.self.inside.ends) w.posts w.delivered counts fs c.own-other.ensures same readable tallied h))
     answer
     (subst (λ z. NotesOn (map note_shown z) c.in_ok-count.count c.in_ok-answer.answer (map note_shown c.note.new.notes.items)) c.in_ok-reserve.ensures.notes c.note.ensures)
     (c.in_ok-count.ensures.0 ∙ ap (λ (z : Kept g.row.H.Denot). z.count + 1) (sym c.self.view_is)))
