@@ -1,11 +1,11 @@
 -- The frames of a node whose rule has one answer.
-use Rattle.std.proofs.Common.{◌≡◌, ℕ, zero, suc, ◌≤◌, ap, ap₂, sym, ◌∙◌, refl, arith, Bool, true, false, cond, List, [], ◌∷◌, length, replicate, Option, Some, None, nat_eq}
+use Rattle.std.proofs.Common.{◌≡◌, ℕ, zero, suc, ◌≤◌, ap, ap₂, refl, arith, Bool, true, false, cond, List, [], ◌∷◌, length, replicate, Option, Some, None, nat_eq}
 use Rattle.std.specs.List.{find}
 use Rattle.lat_model.specs.Lists.{Each}
 use Rattle.lat_machines.specs.values.Names.{Name, same}
 use Rattle.lat_machines.specs.values.Addresses.{everyone}
 use Rattle.lat_machines.specs.values.Notices.{Service, AnnouncementNotice, CommandNotice, StatusNotice, SolicitNotice, ResponseNotice}
-use Rattle.lat_machines.specs.values.Frames.{Value, OfCircuit, OfNotice, Whole, Malformed, OutFrame, plain}
+use Rattle.lat_machines.specs.values.Frames.{Value, OfCircuit, OfNotice, Whole, Malformed, plain}
 use Rattle.lat_machines.specs.values.Events.{Numbers, Event, Hears, Time, Connects, Puts, Sets, Takes, Attends, Closes, Requests, Withdraws, Announces}
 use Rattle.lat_machines.specs.values.Answers.{Ignored}
 use Rattle.lat_machines.specs.cores.Cores.{at_moment}

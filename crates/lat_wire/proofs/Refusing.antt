@@ -1,6 +1,6 @@
 -- When an event is refused.
-use Rattle.std.proofs.Common.{◌≡◌, ℕ, zero, suc, ◌+◌, ◌-◌, ◌<◌, ◌≤◌, ◌^◌, sym, ap, ap₂, ◌∙◌, refl, subst, arith, Bool, true, false, not, cond, Result, Err, ok_or, IfOk, OnOk, MatchOption, is_some, take, option_map, List, [], ◌∷◌, length, Option, Some, None, nat_lt, slice_get}
-use Rattle.std.proofs.lemmas.Bool.{lt-ltb, ltb-true, false≢true}
+use Rattle.std.proofs.Common.{◌≡◌, ℕ, zero, suc, ◌<◌, ◌≤◌, ◌^◌, sym, ap, ap₂, ◌∙◌, refl, subst, arith, Bool, true, false, not, cond, Result, Err, ok_or, IfOk, OnOk, MatchOption, is_some, take, option_map, List, [], ◌∷◌, length, Option, Some, None, nat_lt, slice_get}
+use Rattle.std.proofs.lemmas.Bool.{lt-ltb, ltb-true}
 use Rattle.lat_machines.specs.values.Timing.{half_range}
 use Rattle.lat_machines.specs.values.Messages.{Head}
 use Rattle.lat_machines.specs.values.Frames.{OutFrame, Whole}
@@ -64,13 +64,6 @@ is_none w i h = ap (λ b. cond b None (Some (NoFrame i (length w.posts)))) (lt_f
 pub is_there : (w : Machines) (i : ℕ) → i < length w.posts → no_frame w i ≡ None
 is_there w i h = ap (λ b. cond b None (Some (NoFrame i (length w.posts)))) (lt-ltb i (length w.posts) h)
 
--- the test of a number
-pub recent_so : (acknowledgement : Bool) (r number newest : ℕ) → newest - number < r → old_so acknowledgement r number newest ≡ None
-recent_so acknowledgement r number newest h = ap (λ b. cond b None (Some (Old acknowledgement number newest))) (lt-ltb newest (number + r) (omega (arith, h)))
-
-pub old_is : (acknowledgement : Bool) (r number newest : ℕ) → 0 < r → r ≤ newest - number → old_so acknowledgement r number newest ≡ Some (Old acknowledgement number newest)
-old_is acknowledgement r number newest p h = ap (λ b. cond b None (Some (Old acknowledgement number newest))) (lt_false newest (number + r) (omega (arith, p, h)))
-
 -- a RUN for the other end, by the half range of the circuit that it names
 
 abbrev refused_by : Option ℕ → Core → OutFrame → Option EventFault
@@ -100,7 +93,7 @@ pub refused_half : (u : Setups) (w : Machines) (p : Posted) (s : Post) (h : Head
 refused_half u w p s h from half i e own is =
     run_by u w p h (head_of p.frame.value) e
     ∙ ap (λ z. refused_by z (core_of w p.by_server) p.frame)
-      (sym (is ∙ (ap (λ z. half_at (core_of w (not s.by_server)) z h) (sym own) ∙ ap (λ b. half_at (core_of w (not b)) (own_of u b) h) i.by_server)))
+    (sym (is ∙ (ap (λ z. half_at (core_of w (not s.by_server)) z h) (sym own) ∙ ap (λ b. half_at (core_of w (not b)) (own_of u b) h) i.by_server)))
 
 -- what is known of a RUN that names a circuit: its numbers, and what its circuit formed and has shown
 pub record Heads (u : Setups) (w : Machines) (p : Posted) (s : Post) (h : Heading) (half : Option ℕ) (t : Tally) : Type 0 where
@@ -124,13 +117,6 @@ heads u w k p s h from half t book i marks e own is tally fits =
       formed = ap (λ (x : Tally). x.formed) mine;
       shown = ap (λ (x : Tally). x.shown) mine;
     }
-
-pub no_heading : (u : Setups) (w : Machines) (p : Posted) → heading_of p.frame.value ≡ None → old_run u w p (head_of p.frame.value) ≡ None
-no_heading u w p = go (head_of p.frame.value)
-  where
-    go : (o : Option Head) → option_map heading o ≡ None → old_run u w p o ≡ None
-    go None e = refl
-    go (Some k) e = let z : ⊥ = cc in absurd z
 
 -- by its two numbers, where both are told
 pub recent_run : {A : Type 0} (u : Setups) (w : Machines) (p : Posted) (s : Post) (h : Heading) (half : ℕ) (t : Tally) (r : Result A EventFault) → Heads u w p s h (Some half) t → RefusedAs r (first_of (old_so false half s.number t.formed ∷ old_so true half s.acknowledgement t.shown ∷ [])) → RefusedAs r (old_run u w p (head_of p.frame.value))

@@ -1,6 +1,5 @@
 -- A run of the two machines goes on, and a young frame is heard as its bytes tell.
-use Rattle.std.proofs.Common.{◌≡◌, ℕ, ◌+◌, ◌<◌, sym, ap, ap₂, ◌∙◌, refl, subst, arith, Bool, true, false, not, cond, ◌&&◌, ◌||◌, List, [], ◌∷◌, ◌++◌, map, Option, Some, None, is_some, slice_get, nat_lt}
-use Rattle.std.proofs.lemmas.Bool.{true≢false, false≢true}
+use Rattle.std.proofs.Common.{◌≡◌, ℕ, ◌+◌, sym, ap, ap₂, ◌∙◌, refl, subst, arith, Bool, true, false, not, cond, ◌&&◌, ◌||◌, List, [], ◌∷◌, ◌++◌, map, Option, Some, None, is_some, slice_get, nat_lt}
 use Rattle.lat_base.specs.declared.answer.Answer as base
 use Rattle.lat_model.specs.sessions.Slots.{Slot}
 use Rattle.lat_model.specs.numbers.Link.{Link}
@@ -15,7 +14,7 @@ use Rattle.lat_machines.specs.cores.Hearing.{names}
 use Rattle.lat_machines.specs.world.Machines.{Setups, Posted, Machines, Move, Does, HearsFrame, HearsForeign, own_of, core_of, is_for_other, is_own, heard_as, tell, comes, counted, marked_delivered, happens, run, open_machines}
 use Rattle.lat_machines.specs.world.Safe.{Fit, circuits_open, answer_by, HeardByBytes, Safe, TrueValue}
 use Rattle.lat_machines.specs.world.Bears.{BearsMarked}
-use Rattle.lat_machines.specs.world.Tally.{RunTallies, formed_in, shown_in, is_run, is_recent, is_young, is_young_at}
+use Rattle.lat_machines.specs.world.Tally.{RunTallies, formed_in, shown_in, is_run, is_recent, is_young_at}
 use Rattle.lat_machines.specs.world.Young.{head_of, link_of, IsYoung}
 use Rattle.lat_machines.proofs.events.Tied.{Goes, every_run}
 use Rattle.lat_machines.proofs.frames.Bytes.{SameIn, server_bytes, node_bytes, same_frame}

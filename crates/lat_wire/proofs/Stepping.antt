@@ -1,5 +1,5 @@
 -- One event of either core.
-use Rattle.std.proofs.Common.{◌≡◌, ℕ, suc, ◌<◌, ◌≤◌, ◌^◌, sym, ap, ap₂, ◌∙◌, refl, subst, arith, Bool, true, false, List, [], ◌∷◌, length, map, replicate, Result, OnOk, IfOk}
+use Rattle.std.proofs.Common.{◌≡◌, ℕ, ◌<◌, ◌^◌, sym, ap, ◌∙◌, refl, subst, Bool, true, false, List, [], ◌∷◌, map, Result, OnOk, IfOk}
 use Rattle.std.proofs.lemmas.Result.{on_ok_weaker, IfOk-weaker}
 use Rattle.lat_base.specs.declared.answer.Answer.{Answer}
 use Rattle.lat_base.specs.declared.event.Event.{Event}
@@ -8,10 +8,9 @@ use Rattle.lat_base.specs.declared.outbox.OutFrame.{OutFrame}
 use Rattle.lat_model.specs.Lists.{Each}
 use Rattle.lat_machines.specs.cores.Lines.{used}
 use Rattle.lat_machines.specs.node.Node as node
-use Rattle.lat_machines.specs.server.Server as server
-use Rattle.lat_machines.specs.world.Machines.{Setups, Machines, tell}
+use Rattle.lat_machines.specs.world.Machines.{Machines, tell}
 use Rattle.lat_machines.proofs.events.Ratings.{same_but_frames}
-use Rattle.lat_payload.specs.Frames.{seen, expected}
+use Rattle.lat_payload.specs.Frames.{expected}
 use Rattle.lat_lines.specs.Events.{event_shown}
 use Rattle.lat_server.specs.Kept as servers
 use Rattle.lat_server.specs.Stands as server_stands
@@ -55,20 +54,6 @@ node_told k new w e a n h = record {
   server = subst (λ z. server_stands.Stands z w.server) (sym n) a.server;
   node = subst (node_stands.Stands new.node) (same_but_frames (nodes.config_of k.node) [] (rates (setups_of k) w) w.node (event_shown e)).state (h (record { config = nodes.config_of k.node; rule = k.node.rule; state = w.node }) (node_machine k w a)).state;
 }
-
--- neither configuration changes, nor the rule
-
-pub server_setups : {H : Type 0} (k new : KeptEnds H) → server_stands.opening new.server ≡ server_stands.opening k.server → new.node ≡ k.node → setups_of new ≡ setups_of k
-server_setups k new o n = ap₂ (λ x y. let u : Setups = record { server = x; node = y } in u) (ap (λ (m : server_stands.Machine). m.config) o) (ap nodes.config_of n)
-
-pub node_setups : {H : Type 0} (k new : KeptEnds H) → node_stands.opening new.node ≡ node_stands.opening k.node → new.server ≡ k.server → setups_of new ≡ setups_of k
-node_setups {H = H} k new o n = ap₂ (λ x y. let u : Setups = record { server = x; node = y } in u) (ap servers.config_of n) (ap (λ (m : node_stands.Machine H). m.config) o)
-
-pub same_rule : {H : Type 0} (k new : KeptEnds H) → node_stands.opening new.node ≡ node_stands.opening k.node → new.node.rule ≡ k.node.rule
-same_rule {H = H} k new o = ap (λ (m : node_stands.Machine H). m.rule) o
-
-pub same_lines : {H : Type 0} (k new : KeptEnds H) → node_stands.opening new.node ≡ node_stands.opening k.node → new.node.lines.lines ≡ k.node.lines.lines
-same_lines {H = H} k new o = ap (λ (m : node_stands.Machine H). m.config.lines) o
 
 -- what a core tells of its own machine, of the machines of both
 

@@ -1,10 +1,8 @@
 -- Which circuit took a message in an event.
-use Rattle.std.proofs.Common.{◌≡◌, ℕ, sym, ap, ◌∙◌, refl, Bool, true, false, cond, List, Option, Some, None, option_map, nat_eq}
-use Rattle.std.proofs.lemmas.Bool.{true≢false, false≢true}
+use Rattle.std.proofs.Common.{◌≡◌, ℕ, sym, ap, ◌∙◌, refl, Bool, true, false, cond, List, Option, None, option_map}
 use Rattle.lat_base.specs.declared.event.Event as base
 use Rattle.lat_base.specs.declared.event.Event.TheVariants as events
 use Rattle.lat_model.specs.sessions.Slots.{Slot}
-use Rattle.lat_machines.specs.values.Notices as kepts
 use Rattle.lat_machines.specs.values.Messages.{Head, RunMessage, WideMessage, StartMessage, StopMessage}
 use Rattle.lat_machines.specs.values.Frames.{Reading, Value, OfCircuit, OfNotice, Whole, Malformed}
 use Rattle.lat_machines.specs.values.Events.{Event, Numbers, Hears, Time, Connects, Puts, Sets, Takes, Attends, Closes, Requests, Withdraws, Announces}
@@ -77,9 +75,6 @@ none_taken a (Closes line) x r w = refl
 none_taken a (Requests to id service) x r w = refl
 none_taken a (Withdraws id) x r w = refl
 none_taken a Announces x r w = refl
-
-to_of : Option Heading → Option ℕ
-to_of o = option_map (λ (h : Heading). h.to) o
 
 value_taken : (from now n x : ℕ) (k : Option Numbers) (v : Value) → taken_by (Hears from (Whole v) k now) (Circuit (Taken n)) x ≡ counted_at (option_map (λ (h : Heading). h.to) (heading_of v)) x
 value_taken from now n x k (OfCircuit (RunMessage h slots)) = refl

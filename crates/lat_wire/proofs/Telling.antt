@@ -1,5 +1,5 @@
 -- The book behind an event.
-use Rattle.std.proofs.Common.{◌≡◌, ℕ, suc, ◌+◌, ◌*◌, ◌<◌, ◌≤◌, ◌^◌, length, map, ◌∷◌, sym, ap, ap₂, ◌∙◌, refl, subst, arith, Bool, true, false, not, cond, List, [], ◌++◌, Option, Some, None, nat_eq, eqb-true}
+use Rattle.std.proofs.Common.{◌≡◌, ℕ, suc, ◌+◌, ◌*◌, ◌≤◌, length, map, ◌∷◌, sym, ap, ap₂, ◌∙◌, refl, subst, arith, Bool, true, false, not, cond, List, [], ◌++◌, Option, Some, None, nat_eq, eqb-true}
 use Rattle.std.proofs.lemmas.Bool.{eqb-false}
 use Rattle.std.proofs.lemmas.List.{map-append}
 use Rattle.lat_base.specs.declared.answer.Answer as base

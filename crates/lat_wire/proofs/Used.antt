@@ -1,5 +1,5 @@
 -- No more lines are held than a node has.
-use Rattle.std.proofs.Common.{◌≡◌, ◌≢◌, ℕ, ◌≤◌, sym, ap, refl, subst, arith, Bool, true, false, not, cond, List, [], ◌∷◌, length, map, filter}
+use Rattle.std.proofs.Common.{◌≡◌, ◌≢◌, ℕ, ◌≤◌, refl, arith, Bool, true, false, not, cond, List, [], ◌∷◌, length, map, filter}
 use Rattle.std.proofs.lemmas.List.{length-map}
 use Rattle.lat_model.specs.Lists.{Each}
 use Rattle.lat_machines.specs.cores.Cores.{Seat, Core}

@@ -1,5 +1,5 @@
 -- What the calls of a wire are told and answer.
-use Rattle.std.specs.Prelude.{◌≡◌, ℕ, Bool, false, not, cond, List, map, Option, Some, None, is_some, slice_get}
+use Rattle.std.specs.Prelude.{◌≡◌, ℕ, Bool, false, not, cond, List, Option, Some, None, is_some, slice_get}
 use Rattle.lat_base.specs.declared.answer.Answer as base
 use Rattle.lat_base.specs.declared.outbox.OutFrame.{OutFrame}
 use Rattle.lat_machines.specs.values.Events.{Event, Time, is_heard}

@@ -47,7 +47,9 @@ impl<H: RatingRule> Ends<H> {
         event: &Event,
     ) -> Result<Answer, Memory>
         requires { self.old.out ≡ [] }
-        ensures state { OnOk result ((w : Machines) → AreEnds self.old w → AreEnds self.new (tell (setups_of self.old) w server (event_shown event.now) (rates (setups_of self.old) w))) }
+        ensures state { OnOk result ((w : Machines) →
+            AreEnds self.old w →
+            AreEnds self.new (tell (setups_of self.old) w server (event_shown event.now) (rates (setups_of self.old) w))) }
         ensures answer { IfOk result (λ a. (w : Machines) → AreEnds self.old w → a ≡ answered (setups_of self.old) w server (event_shown event.now)) }
         ensures frames { OnOk result ((w : Machines) → AreEnds self.old w → MadeFrames (setups_of self.old) w server (event_shown event.now) self.new.out) }
         ensures put { IfOk result (λ a. PutFits a event.now) }

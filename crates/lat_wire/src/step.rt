@@ -29,7 +29,9 @@ impl<H: RatingRule> Wire<H> {
         event: &Event,
     ) -> Result<Answer, EventFault>
         requires { IsLocal (event_shown event.now) }
-        ensures stands { OnOk result ((w : Machines) → Stands self.old w → Stands self.new (happens (setups_of self.old) w (Does server (event_shown event.now) (rates (setups_of self.old) w)))) }
+        ensures stands { OnOk result ((w : Machines) →
+            Stands self.old w →
+            Stands self.new (happens (setups_of self.old) w (Does server (event_shown event.now) (rates (setups_of self.old) w)))) }
         ensures answer { IfOk result (λ a. (w : Machines) → Stands self.old w → a ≡ answered (setups_of self.old) w server (event_shown event.now)) }
         ensures refused { (w : Machines) → Stands self.old w → RefusedAs result (local_refusal w self.old.moment (event_shown event.now)) }
         ensures put { IfOk result (λ a. PutFits a event.now) }
@@ -47,8 +49,12 @@ impl<H: RatingRule> Wire<H> {
     /// Lets the end that didn't send it hear this frame, at the moment of the schedule, and gives its answer. `None` where it
     /// was sent neither to that end nor to everyone: then nothing hears it, and it counts as an event all the same.
     pub fn deliver(&mut self, alloc: Global, index: u64) -> Result<Option<Answer>, EventFault>
-        ensures stands { OnOk result ((w : Machines) → Stands self.old w → Stands self.new (happens (setups_of self.old) w (HearsFrame index self.old.moment (rates (setups_of self.old) w)))) }
-        ensures answer { IfOk result (λ a. (w : Machines) → Stands self.old w → a ≡ answered_to (setups_of self.old) w self.old.moment (slice_get w.posts index)) }
+        ensures stands { OnOk result ((w : Machines) →
+            Stands self.old w →
+            Stands self.new (happens (setups_of self.old) w (HearsFrame index self.old.moment (rates (setups_of self.old) w)))) }
+        ensures answer { IfOk result (λ a. (w : Machines) →
+            Stands self.old w →
+            a ≡ answered_to (setups_of self.old) w self.old.moment (slice_get w.posts index)) }
         ensures refused { (w : Machines) → Stands self.old w → RefusedAs result (deliver_refusal (setups_of self.old) w index) }
         ensures moment { self.new.moment ≡ self.old.moment }
         ensures setups { setups_of self.new ≡ setups_of self.old }
@@ -77,8 +83,13 @@ impl<H: RatingRule> Wire<H> {
         from: Addr,
         payload: &[u8],
     ) -> Result<Answer, EventFault>
-        ensures stands { OnOk result ((w : Machines) → Stands self.old w → Stands self.new (happens (setups_of self.old) w (HearsForeign server (address from.0) (reading_of payload.now) self.old.moment (rates (setups_of self.old) w)))) }
-        ensures answer { IfOk result (λ a. (w : Machines) → Stands self.old w → a ≡ answered (setups_of self.old) w server (Hears (address from.0) (reading_of payload.now) None self.old.moment)) }
+        ensures stands { OnOk result ((w : Machines) →
+            Stands self.old w →
+            Stands self.new (happens (setups_of self.old) w
+            (HearsForeign server (address from.0) (reading_of payload.now) self.old.moment (rates (setups_of self.old) w)))) }
+        ensures answer { IfOk result (λ a. (w : Machines) →
+            Stands self.old w →
+            a ≡ answered (setups_of self.old) w server (Hears (address from.0) (reading_of payload.now) None self.old.moment)) }
         ensures refused { (w : Machines) → Stands self.old w → RefusedAs result (inject_refusal (setups_of self.old) w (address from.0)) }
         ensures moment { self.new.moment ≡ self.old.moment }
         ensures setups { setups_of self.new ≡ setups_of self.old }

@@ -98,7 +98,11 @@ impl<H: RatingRule> Wire<H> {
 
     /// Refused where the circuit that a frame for the other end names lives there, and the frame isn't young.
     pub(crate) fn is_young(&self, post: &Post) -> Result<(), EventFault>
-        ensures { (w : Machines) (p : Posted) → Mirrors self.now w → IsPost post.now p → MarksRun p.frame → RefusedAs result (old_run (setups_of self.now) w p (head_of p.frame.value)) }
+        ensures { (w : Machines) (p : Posted) →
+            Mirrors self.now w →
+            IsPost post.now p →
+            MarksRun p.frame →
+            RefusedAs result (old_run (setups_of self.now) w p (head_of p.frame.value)) }
     {
         let Some(heading) = heading_of(post.frame.payload.bytes()) else {
             return Ok(());
@@ -155,7 +159,10 @@ impl<H: RatingRule> Wire<H> {
         event: &Event,
     ) -> Result<Answer, Memory>
         requires { length self.old.book.log.posts ≤ 199744 }
-        ensures mirrors { OnOk result ((w : Machines) → Mirrors self.old w → RunTallies (setups_of self.old) w → Mirrors self.new (tell (setups_of self.old) w server (event_shown event.now) (rates (setups_of self.old) w))) }
+        ensures mirrors { OnOk result ((w : Machines) →
+            Mirrors self.old w →
+            RunTallies (setups_of self.old) w →
+            Mirrors self.new (tell (setups_of self.old) w server (event_shown event.now) (rates (setups_of self.old) w))) }
         ensures answer { IfOk result (λ a. (w : Machines) → Mirrors self.old w → a ≡ answered (setups_of self.old) w server (event_shown event.now)) }
         ensures put { IfOk result (λ a. PutFits a event.now) }
         ensures posts { OnOk result (length self.old.book.log.posts ≤ length self.new.book.log.posts) }

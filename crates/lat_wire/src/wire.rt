@@ -112,7 +112,9 @@ impl<H: RatingRule> Wire<H> {
 
     /// The frame of this index, and whether the server sent it. `None` exactly past the last.
     pub fn frame(&self, index: u64) -> Option<(bool, &OutFrame)>
-        ensures { (w : Machines) → Stands self.now w → MatchOption result (slice_get w.posts index ≡ None) (λ shown. ShowsPost w.posts index shown.0 shown.1.now) }
+        ensures { (w : Machines) →
+            Stands self.now w →
+            MatchOption result (slice_get w.posts index ≡ None) (λ shown. ShowsPost w.posts index shown.0 shown.1.now) }
     {
         let sent = self.ledger.posts.get(index)?;
         Some((sent.post.by_server, &sent.post.frame))

@@ -1,4 +1,4 @@
-use Rattle.std.proofs.Common.{◌∙◌, ap, sym, subst, refl, arith, ◌≡◌, ◌<◌, ◌^◌}
+use Rattle.std.proofs.Common.{ap}
 use Rattle.lat_wire.proofs.Stepping.{server_state, node_state, server_answer, node_answer, server_made, node_made}
 use Rattle.lat_wire.proofs.ends.Ends.step.Goals as goal
 

@@ -1,6 +1,5 @@
-use Rattle.std.proofs.Common.{◌≡◌, ◌≤◌, MatchOption, None, Some, slice_get, length, refl, ap, sym, subst, arith, ◌∙◌}
+use Rattle.std.proofs.Common.{◌≡◌, ◌≤◌, MatchOption, None, Some, slice_get, length, ap, sym, subst, arith, ◌∙◌}
 use Rattle.std.proofs.lemmas.Option.{slice_get_past}
-use Rattle.lat_posts.specs.declared.post.Post.{Post}
 use Rattle.lat_wire.proofs.Refusing.{PostAt, post_at, posts_length}
 use Rattle.lat_wire.specs.Told.{ShowsPost}
 use Rattle.lat_wire.proofs.wire.Wire.frame.Goals as goal

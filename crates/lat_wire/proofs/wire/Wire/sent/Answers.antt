@@ -1,4 +1,4 @@
-use Rattle.std.proofs.Common.{◌≡◌, ◌∙◌, ◌<◌, ap, subst, sym, length}
+use Rattle.std.proofs.Common.{◌≡◌, ◌∙◌, ◌<◌, ap, subst, length}
 use Rattle.std.proofs.lemmas.Option.{slice_get_within}
 use Rattle.lat_posts.specs.Logs.{IsAt}
 use Rattle.lat_posts.specs.Ways.{post_of}

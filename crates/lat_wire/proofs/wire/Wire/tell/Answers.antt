@@ -1,5 +1,4 @@
-use Rattle.std.proofs.Common.{◌≡◌, ◌∙◌, ◌+◌, ◌≤◌, ap, arith, length, map, not, refl, subst, sym}
-use Rattle.lat_base.specs.declared.answer.Answer.{Answer}
+use Rattle.std.proofs.Common.{◌≡◌, ◌∙◌, ◌+◌, ◌≤◌, ap, length, map, not, refl, subst, sym}
 use Rattle.lat_machines.specs.world.Machines.{Machines, tell}
 use Rattle.lat_machines.specs.world.Tally.{RunTallies}
 use Rattle.lat_lines.specs.Events.{event_shown}
@@ -18,8 +17,8 @@ use Rattle.lat_wire.proofs.Telling.{entered_book, told_holds, told_mirrors}
 use Rattle.lat_wire.proofs.wire.Wire.tell.Goals as goal
 
 pub invariant_of-self-3 : goal.invariant_of-self-3
-invariant_of-self-3 g c =
-    ( told_holds _ _ c.args.server c.taker.result (length c.frames.result.now) c.take.new.ledger.book c.self.invariant.0
+invariant_of-self-3 g c = (
+  told_holds _ _ c.args.server c.taker.result (length c.frames.result.now) c.take.new.ledger.book c.self.invariant.0
       (ap (λ (z : ends.KeptEnds g.row.H.Denot). ends.setups_of z) c.clear.ensures ∙ c.in_ok-answer.ensures.setups)
       refl refl refl
       (c.in_ok-count.ensures.0 ∙ ap (λ (z : Kept g.row.H.Denot). z.count + 1) (sym c.self.view_is))
@@ -34,8 +33,9 @@ invariant_of-self-3 g c =
         taken = c.enter_all.ensures.taken;
         other = c.enter_all.ensures.other;
         came = c.enter_all.ensures.came;
-      })
-    , ap (λ (z : ends.KeptEnds g.row.H.Denot). z.out) c.clear.ensures )
+      }),
+  ap (λ (z : ends.KeptEnds g.row.H.Denot). z.out) c.clear.ensures,
+)
 
 pub returns-clause-mirrors : goal.returns-clause-mirrors
 returns-clause-mirrors g c =
