@@ -5,6 +5,8 @@
 mod clock;
 mod desk;
 mod seat;
+#[cfg(test)]
+mod tests;
 mod wire;
 mod write;
 

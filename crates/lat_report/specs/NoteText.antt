@@ -1,5 +1,5 @@
 -- What is printed of an answer that a report notes.
-use Rattle.std.specs.Prelude.{ℕ, List, [], ◌∷◌, ◌++◌, Option, Some, None, codes, decimal, find, nat_eq}
+use Rattle.std.specs.Prelude.{ℕ, List, [], ◌∷◌, ◌++◌, codes, decimal, find, nat_eq}
 use Rattle.std.specs.Option.{option_map_or}
 use Rattle.lat_base.specs.FieldWords.{field_word}
 use Rattle.lat_base.specs.declared.field.Field.{Field}

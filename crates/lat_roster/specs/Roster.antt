@@ -35,6 +35,7 @@ pub record Holds (k : Kept) : Type 0 where
   pub node_len : length k.node_lines ≡ 256
   pub server_places : (line : ℕ) → slice_index k.server_lines line ≤ length k.rows
   pub node_places : (line : ℕ) → slice_index k.node_lines line ≤ length k.rows
+  pub name_places : (key : ℕ) → place_of k.names key ≤ length k.rows
 
 -- the row at this place, if it is one, has room for so many items more
 abbrev pub RoomAt : List Row → ℕ → Bool → ℕ → ℕ → Type 0

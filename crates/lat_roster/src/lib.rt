@@ -4,6 +4,7 @@
 
 mod changes;
 mod figures;
+pub mod laws;
 mod names;
 mod roster;
 mod row;

@@ -1,8 +1,8 @@
 -- Lines that go on with those before them.
 use Rattle.std.proofs.Common.{◌≡◌, ℕ, ◌+◌, List, [], ◌∷◌, ◌++◌, refl, sym, ap, ◌∙◌}
-use Rattle.std.specs.Prelude.{Option, Some, None, Result, Ok, Err}
+use Rattle.std.specs.Prelude.{Option, Some, None, Ok, Err}
 use Rattle.lat_text.specs.Lines.{Lines, End, Cut, Line}
-use Rattle.lat_schedule.specs.Places.{Place, line_in, line_at, many_in}
+use Rattle.lat_schedule.specs.Places.{Place, line_in, many_in}
 
 -- what a line says that goes on
 said_more : {A : Type 0} (read : List A → List ℕ → Option A) (before : List A) (number : ℕ) (line : List ℕ) (more : Lines) (said : A)

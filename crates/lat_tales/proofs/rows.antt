@@ -6,3 +6,4 @@ pub mod Nodes
 pub mod Runs
 pub mod Told
 pub mod Books
+pub mod Newcomers

@@ -127,7 +127,8 @@ module _ (m : Bool) (lines : ℕ) (d : Core) (h : Sound m lines d) (before ss : 
       go false e (inl a) b c = inl (e, a)
       go false e (inr a) b c = inr (inr a)
 
-  none_behind : Each (λ (y : Seat). nat_eq y.line s.line ≡ false) ss
+  -- no session behind it is of its line
+  pub none_behind : Each (λ (y : Seat). nat_eq y.line s.line ≡ false) ss
   none_behind = ⊎_elim {C = Each (λ (y : Seat). nat_eq y.line s.line ≡ false) ss} (λ z. z) (λ z. absurd (again z)) (last_or s.line (last_on s.line no_seat (before ++ s ∷ [])) ss)
     where
       again : IsSeat (last_on s.line (last_on s.line no_seat (before ++ s ∷ [])) ss) ss → ⊥

@@ -1,0 +1,151 @@
+//! The workers in threads.
+
+ghost use Rattle.std.specs.Prelude.{◌≡◌, ◌<◌, vec_len};
+
+use crate::seats::Seated;
+use lat_base::Core;
+use lat_cell::{Cell, LineShare, Seat, time_worker, wire_worker};
+use lat_outside::{Clock, Gate, LineEnd, Rx, Tx};
+use std::alloc::Global;
+use std::sync::ledger::Ledger;
+use std::sync::{Mutex, Wait};
+use std::thread;
+use std::thread::Threads;
+
+/// When announcements go out, and when the cell is stopped.
+#[derive(Clone, Copy, Drop)]
+pub struct Ending {
+    /// Announcements go out at the start, and each time so many seconds have passed.
+    pub announce: Option<u8>,
+    /// The cell is stopped once so many sessions have become free, or else when all lines have ended.
+    pub sessions: Option<u32>,
+}
+
+// Works all lines at once, and stops the cell behind them where it is to.
+fn crew<
+    C: Core + Send,
+    T: Tx + Send,
+    L: LineEnd + Send,
+    G: Gate + Sync,
+    E: Ledger + Sync,
+    B: Ledger + Sync,
+    F: Ledger + Sync,
+    R: Threads + Wait + Sync,
+>(
+    rt: &R,
+    alloc: Global,
+    cell: &Mutex<Cell<C, T, E, B, F>>,
+    seats: Vec<Seat<L, E, B, F>>,
+    gate: &G,
+    stops: bool,
+) -> Vec<Seat<L, E, B, F>>
+    requires { 0 < vec_len seats }
+    ensures { vec_len result ≡ vec_len seats }
+{
+    let mut seats = seats;
+    let count = seats.len();
+    thread::for_each_mut(
+        rt,
+        seats.as_mut_slice(),
+        count,
+        &|_, seat| { seat.work(rt, alloc, cell, gate) },
+    );
+    if stops {
+        cell.lock(rt).stop();
+    }
+    seats
+}
+
+// The wire's worker and the clock's.
+fn outside<
+    C: Core + Send,
+    T: Tx + Send,
+    X: Rx + Send,
+    K: Clock + Send,
+    E: Ledger + Sync,
+    B: Ledger + Sync,
+    F: Ledger + Sync,
+    R: Threads + Wait + Sync,
+>(
+    rt: &R,
+    alloc: Global,
+    cell: &Mutex<Cell<C, T, E, B, F>>,
+    wire: LineShare<E, B, F>,
+    rx: X,
+    time: LineShare<E, B, F>,
+    clock: K,
+    ending: Ending,
+) -> (LineShare<E, B, F>, LineShare<E, B, F>)
+    requires { (wire.seat ≡ 0) × (time.seat ≡ 65) }
+{
+    thread::join(
+        rt,
+        move ||
+            requires { wire.seat ≡ 0 }
+        { wire_worker(rt, alloc, cell, wire, rx) },
+        move ||
+            requires { time.seat ≡ 65 }
+        {
+            time_worker(
+                rt,
+                alloc,
+                cell,
+                time,
+                clock,
+                ending.announce,
+                ending.sessions,
+            )
+        },
+    )
+}
+
+/// Runs all workers at once until each has ended, and takes the cell out of its lock.
+pub fn run_all<
+    C: Core + Send,
+    T: Tx + Send,
+    X: Rx + Send,
+    L: LineEnd + Send,
+    K: Clock + Send,
+    G: Gate + Sync,
+    E: Ledger + Sync,
+    B: Ledger + Sync,
+    F: Ledger + Sync,
+    R: Threads + Wait + Sync,
+>(
+    rt: &R,
+    alloc: Global,
+    cell: Cell<C, T, E, B, F>,
+    rx: X,
+    seated: Seated<L, E, B, F>,
+    clock: K,
+    gate: &G,
+    ending: Ending,
+) -> (Cell<C, T, E, B, F>, Seated<L, E, B, F>)
+    requires some { 0 < vec_len seated.lines }
+    requires seats { (seated.wire.seat ≡ 0) × (seated.clock.seat ≡ 65) }
+    ensures { vec_len result.1.lines ≡ vec_len seated.lines }
+{
+    let Seated {
+        wire,
+        lines,
+        clock: time,
+    } = seated;
+    let cell = Mutex::new(cell);
+    let shared = &cell;
+    let stops = ending.sessions.is_none();
+    let ((wire, time), lines) = thread::join(
+        rt,
+        move ||
+            requires { (wire.seat ≡ 0) × (time.seat ≡ 65) }
+        { outside(rt, alloc, shared, wire, rx, time, clock, ending) },
+        move ||
+            requires { 0 < vec_len lines }
+        { crew(rt, alloc, shared, lines, gate, stops) },
+    );
+    let seated = Seated {
+        wire,
+        lines,
+        clock: time,
+    };
+    (cell.into_inner(), seated)
+}

@@ -1,0 +1,124 @@
+//! Who sits where.
+
+ghost use Rattle.std.specs.Prelude.{◌≡◌, ◌+◌, ◌-◌, ◌<◌, ◌≤◌, [], IfOk, vec_len, vec_capacity};
+ghost use Rattle.lat_history.specs.Seats.{all_seats};
+
+use lat_base::Name;
+use lat_cell::{LineDone, LineShare, Seat, Shares};
+use lat_outside::LineEnd;
+use std::alloc::{AllocError, Global};
+use std::sync::ledger::Ledger;
+
+/// The shares of the wire and of the clock, and the lines with theirs, by rising number.
+#[derive(Drop)]
+pub struct Seated<L: LineEnd, E: Ledger, B: Ledger, F: Ledger> {
+    pub wire: LineShare<E, B, F>,
+    pub lines: Vec<Seat<L, E, B, F>>,
+    pub clock: LineShare<E, B, F>,
+}
+
+/// Gives each line its share.
+pub fn take_seats<L: LineEnd, E: Ledger, B: Ledger, F: Ledger>(
+    alloc: Global,
+    shares: Shares<E, B, F>,
+    lines: Vec<L>,
+    service: &Option<Name>,
+) -> Result<Seated<L, E, B, F>, AllocError>
+    requires shares { shares ≡ all_seats (vec_len lines) }
+    ensures seats { IfOk result (λ s. (s.wire.seat ≡ 0) × (s.clock.seat ≡ 65)) }
+    ensures count { IfOk result (λ s. vec_len s.lines ≡ vec_len lines) }
+{
+    let mut seats = Vec::with_capacity(alloc, lines.len())?;
+    let mut shares = shares.into_vec();
+    let clock = shares.take_last();
+    let wire = shares.remove(0);
+    let mut lines = lines;
+    lines.reverse();
+    shares.reverse();
+    while let Some(line) = lines.pop() {
+        seats.push_reserved(Seat {
+            share: shares.take_last(),
+            line,
+            service: *service,
+            done: LineDone::End,
+        });
+    }
+    Ok(Seated {
+        wire,
+        lines: seats,
+        clock,
+    })
+}
+
+/// What the seats give back: all shares in the order of the seats, and of each line how its worker ended, and the line.
+#[derive(Drop)]
+pub struct Given<L: LineEnd, E: Ledger, B: Ledger, F: Ledger> {
+    pub shares: Vec<LineShare<E, B, F>>,
+    pub ends: Vec<LineDone>,
+    pub lines: Vec<L>,
+}
+
+impl<L: LineEnd, E: Ledger, B: Ledger, F: Ledger> Given<L, E, B, F> {
+    /// Nothing. It takes no memory.
+    pub fn none(alloc: Global) -> Given<L, E, B, F>
+        ensures { (result.shares.items ≡ []) × (result.ends.items ≡ []) × (result.lines.items ≡ []) }
+    {
+        Given {
+            shares: Vec::new(alloc),
+            ends: Vec::new(alloc),
+            lines: Vec::new(alloc),
+        }
+    }
+
+    /// Room for so many lines.
+    pub fn room(alloc: Global, lines: usize) -> Result<Given<L, E, B, F>, AllocError>
+        requires { lines ≤ 64 }
+        ensures empty { IfOk result (λ g. (g.shares.items ≡ []) × (g.ends.items ≡ []) × (g.lines.items ≡ [])) }
+        ensures room { IfOk result (λ g. (lines + 2 ≤ vec_capacity g.shares) × (lines ≤ vec_capacity g.ends) × (lines ≤ vec_capacity g.lines)) }
+    {
+        Ok(Given {
+            shares: Vec::with_capacity(alloc, lines + 2)?,
+            ends: Vec::with_capacity(alloc, lines)?,
+            lines: Vec::with_capacity(alloc, lines)?,
+        })
+    }
+
+    /// What the seats have, in the room that was taken before.
+    pub fn filled(self, seated: Seated<L, E, B, F>) -> Given<L, E, B, F>
+        requires empty { (self.shares.items ≡ []) × (self.ends.items ≡ []) × (self.lines.items ≡ []) }
+        requires room { (vec_len seated.lines + 2 ≤ vec_capacity self.shares) × (vec_len seated.lines ≤ vec_capacity self.ends) × (vec_len seated.lines ≤ vec_capacity self.lines) }
+        ensures shares { vec_len result.shares ≡ vec_len seated.lines + 2 }
+        ensures ends { vec_len result.ends ≡ vec_len seated.lines }
+        ensures lines { vec_len result.lines ≡ vec_len seated.lines }
+    {
+        let Given {
+            mut shares,
+            mut ends,
+            mut lines,
+        } = self;
+        let Seated {
+            wire,
+            lines: mut seats,
+            clock,
+        } = seated;
+        shares.push_reserved(wire);
+        seats.reverse();
+        while let Some(seat) = seats.pop() {
+            let Seat {
+                share,
+                line,
+                done,
+                ..
+            } = seat;
+            shares.push_reserved(share);
+            ends.push_reserved(done);
+            lines.push_reserved(line);
+        }
+        shares.push_reserved(clock);
+        Given {
+            shares,
+            ends,
+            lines,
+        }
+    }
+}

@@ -1,0 +1,128 @@
+//! A carrier over UDP on the loopback address.
+
+ghost use Rattle.std.specs.Prelude.{◌≡◌, ◌≤◌, None};
+ghost use Rattle.lat_outside.specs.Causes.{Rose};
+
+use crate::datagram::{DATAGRAM_BYTES, heard, put_datagram};
+use crate::fault::{is_quiet, more};
+use lat_base::Addr;
+use lat_outside::{Failed, Got, Rx, Tx};
+use std::net::{Ipv4Addr, UdpSocket};
+
+/// How many peers a carrier has at most.
+pub const PEERS: usize = 8;
+
+const PAYLOAD_BYTES: usize = 1500;
+
+/// The sending half: each frame goes to each peer's port. It tells no frames. A frame that is too long, or that doesn't go out
+/// whole to some peer, is a fault.
+#[derive(Drop)]
+pub struct UdpTx {
+    socket: UdpSocket,
+    own: Addr,
+    peers: [u16; 8],
+    count: usize,
+    faults: u64,
+}
+
+impl UdpTx {
+    /// A half for the station with this address, which sends to the first `count` of these ports. Its count of faults is 0.
+    pub fn new(socket: UdpSocket, own: Addr, peers: [u16; 8], count: usize) -> UdpTx
+        ensures { result.faults ≡ 0 }
+    {
+        UdpTx {
+            socket,
+            own,
+            peers,
+            count,
+            faults: 0,
+        }
+    }
+
+    // To each peer, whether or not an earlier one failed.
+    fn send_to_all(&self, datagram: &[u8]) -> bool {
+        let mut whole = true;
+        let peers = self.peers;
+        for port in peers.as_slice().iter().take(self.count) {
+            match self.socket.send_to(datagram, (Ipv4Addr::LOCALHOST, *port)) {
+                Ok(count) => whole = whole && count == datagram.len(),
+                Err(_) => whole = false,
+            }
+        }
+        whole
+    }
+}
+
+impl Tx for UdpTx {
+    ghost tried = { λ tx. None };
+
+    ghost faults = { λ tx. tx.faults };
+
+    fn send(&mut self, to: Addr, payload: &[u8]) -> Result<(), Failed> {
+        if payload.len() <= PAYLOAD_BYTES {
+            let mut place = [0; DATAGRAM_BYTES];
+            let end = put_datagram(to, self.own, payload, &mut place);
+            if self.send_to_all(&place[..end]) {
+                return Ok(());
+            }
+        }
+        more(&mut self.faults);
+        Err(Failed)
+    }
+}
+
+/// The receiving half. It tells no frames. What isn't for its station, and what comes not at all for 10 ms, is quiet.
+#[derive(Drop)]
+pub struct UdpRx {
+    socket: UdpSocket,
+    own: Addr,
+    faults: u64,
+}
+
+impl UdpRx {
+    /// A half for the station with this address. Its count of faults is 0.
+    pub fn new(socket: UdpSocket, own: Addr) -> UdpRx
+        ensures { result.faults ≡ 0 }
+    {
+        UdpRx {
+            socket,
+            own,
+            faults: 0,
+        }
+    }
+}
+
+impl Rx for UdpRx {
+    ghost left = { λ rx. None };
+
+    ghost faults = { λ rx. rx.faults };
+
+    fn recv(&mut self, buf: &mut [u8; 1500]) -> Result<Got, Failed> {
+        // one byte more than a datagram may have, so that a longer one shows
+        let mut place = [0; 1515];
+        let count = match self.socket.recv_from(&mut place) {
+            Ok((count, _)) => count,
+            Err(error) => {
+                if is_quiet(error.kind()) {
+                    return Ok(Got::Quiet);
+                }
+                more(&mut self.faults);
+                return Err(Failed);
+            }
+        };
+        if count > DATAGRAM_BYTES {
+            return Ok(Got::Quiet);
+        }
+        match heard(self.own, &place[..count]) {
+            None => Ok(Got::Quiet),
+            Some((from, payload)) => {
+                let len = payload.len();
+                buf[..len].copy_from_slice(payload);
+                Ok(Got::Frame {
+                    from,
+                    len: len as u16,
+                })
+            }
+        }
+    }
+}

@@ -1,0 +1,81 @@
+-- What the words of `latd` say.
+use Rattle.std.specs.Prelude.{◌≡◌, ℕ, zero, suc, ◌-◌, ◌≤◌, List, [], ◌∷◌, Option, Some, None, option_map, option_and_then, bytes_eq, codes, if◌then◌else◌}
+use Rattle.clap.specs.Words.{Row, Text, first_of, all_of}
+use Rattle.lat_text.specs.Numbers.{number_within}
+use Rattle.lat_text.specs.Digits.{address_of}
+use Rattle.lat_text.specs.NameWritten.{name_of}
+use Rattle.lat_words.specs.Commands.{is_taken, rows}
+use Rattle.lat_words.specs.declared.config.Role.{Role}
+use Rattle.lat_words.specs.declared.config.Role.TheVariants.{Server, Node}
+use Rattle.lat_words.specs.declared.config.Station.{Station}
+use Rattle.lat_words.specs.declared.config.Lines.{Lines}
+use Rattle.lat_words.specs.declared.config.Config.{Config}
+
+-- what stands behind is read where this is right
+infixl 10 ◌>>=◌
+abbrev pub ◌>>=◌ : {A B : Type 0} → Option A → (A → Option B) → Option B
+found >>= f = option_and_then f found
+
+abbrev pub role_of : List ℕ → Option Role
+role_of text = if bytes_eq text (codes "server") then Some Server else if bytes_eq text (codes "node") then Some Node else None
+
+-- a server has 1 to 32 lines, a node 1 to 64
+abbrev pub most_lines : Role → ℕ
+most_lines Server = 32
+most_lines Node = 64
+
+abbrev pub port_of : List ℕ → Option ℕ
+port_of text = number_within 1 65535 text
+
+-- the ports of so many peers at most
+abbrev pub ports_of : ℕ → List Text → Option (List ℕ)
+ports_of most [] = Some []
+ports_of zero (text ∷ texts) = None
+ports_of (suc most) (text ∷ texts) = option_and_then (λ port. option_map (λ ports. port ∷ ports) (ports_of most texts)) (port_of text)
+
+abbrev pub peers_of : List Text → Option (List ℕ)
+peers_of texts = ports_of 8 texts
+
+abbrev pub station_of : List Row → Option Station
+station_of rows = do
+  name ← first_of (codes "name") rows
+  name ← name_of name
+  address ← first_of (codes "address") rows
+  address ← address_of address
+  port ← first_of (codes "port") rows
+  port ← port_of port
+  peers ← all_of (codes "peer") rows
+  peers ← peers_of peers
+  Some (record { name = name; address = address; port = port; peers = peers })
+
+-- line k listens on the port k - 1 above the first, and all have one
+abbrev pub lines_of : Role → List Row → Option Lines
+lines_of role rows = do
+  count ← first_of (codes "lines") rows
+  count ← number_within 1 (most_lines role) count
+  port ← first_of (codes "line-port") rows
+  port ← number_within 1 (65536 - count) port
+  service ← first_of (codes "service") rows
+  service ← name_of service
+  sessions ← first_of (codes "sessions") rows
+  sessions ← number_within 1 1000000 sessions
+  Some (record { count = count; port = port; service = service; sessions = sessions })
+
+abbrev pub config_in : List Row → Option Config
+config_in rows = do
+  role ← first_of (codes "role") rows
+  role ← role_of role
+  station ← station_of rows
+  lines ← lines_of role rows
+  Some (record { role = role; station = station; lines = lines })
+
+-- the words are right where `clap` takes them, and each value has its form and its range
+abbrev pub config_of : List Text → Option Config
+config_of words = if is_taken words then config_in (rows words) else None
+
+-- what is known of lines
+pub record Within (role : Role) (lines : Lines) : Type 0 where
+  pub some : 1 ≤ lines.count
+  pub most : lines.count ≤ most_lines role
+  pub ports : lines.port ≤ 65536 - lines.count
+  pub first : 1 ≤ lines.port

@@ -1,0 +1,42 @@
+//! What the words of the daemon say.
+
+use crate::peers::Peers;
+use lat_base::{Addr, Name};
+
+/// Which kind of core it runs.
+#[derive(Clone, Copy, Debug, PartialEq, Eq)]
+pub enum Role {
+    Server,
+    Node,
+}
+
+/// How it stands on the carrier.
+#[derive(Drop)]
+pub struct Station {
+    pub name: Name,
+    pub address: Addr,
+    /// The port that frames come to.
+    pub port: u16,
+    pub peers: Peers,
+}
+
+/// Its lines.
+#[derive(Drop)]
+pub struct Lines {
+    /// A server has 1 to 32, a node 1 to 64.
+    pub count: u8,
+    /// The port that line 1 listens on. Each further line listens on the next one.
+    pub port: u16,
+    /// What a server's lines are connected to, or what a node offers.
+    pub service: Name,
+    /// After so many sessions a node ends. A server ignores it.
+    pub sessions: u32,
+}
+
+/// All that the words say.
+#[derive(Drop)]
+pub struct Config {
+    pub role: Role,
+    pub station: Station,
+    pub lines: Lines,
+}

@@ -1,0 +1,13 @@
+//! The words of the daemon `latd`: which are right, and what they say. See "The daemon's words" in docs/FORMATS.md.
+#![tactic(auto)]
+
+mod config;
+mod peers;
+mod read;
+mod taken;
+#[cfg(test)]
+mod tests;
+
+pub use config::{Config, Lines, Role, Station};
+pub use peers::Peers;
+pub use read::config_of;

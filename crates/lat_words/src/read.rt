@@ -1,0 +1,111 @@
+//! The values of the words.
+
+ghost use Rattle.std.specs.Prelude.{◌≡◌, ◌≤◌, IfOk, IfSome, map, string_bytes, length};
+ghost use Rattle.clap.specs.Words.{rows_of, found_of};
+ghost use Rattle.lat_words.specs.Configs.{role_of, port_of, peers_of, most_lines, station_of, lines_of, config_in, config_of, Within};
+
+use crate::config::{Config, Lines, Role, Station};
+use crate::peers::Peers;
+use crate::taken::{matched, value, values};
+use clap::ArgMatches;
+use lat_base::Memory;
+use lat_text::{address_of, name_of, number_within};
+use std::alloc::Global;
+
+fn role_of(text: &[u8]) -> Option<Role>
+    ensures { result ≡ role_of text.now }
+{
+    if text == "server".as_bytes() {
+        Some(Role::Server)
+    } else if text == "node".as_bytes() {
+        Some(Role::Node)
+    } else {
+        None
+    }
+}
+
+fn most_lines(role: Role) -> u64
+    ensures value { result ≡ most_lines role }
+    ensures most { result ≤ 64 }
+{
+    match role {
+        Role::Server => 32,
+        Role::Node => 64,
+    }
+}
+
+fn port_of(text: &[u8]) -> Option<u16>
+    ensures { result ≡ port_of text.now }
+{
+    Some(number_within(1, 65_535, text)? as u16)
+}
+
+fn peers_of(texts: &[&str]) -> Option<Peers>
+    ensures { result ≡ peers_of (map (λ t. t.now) texts.now) }
+{
+    let mut peers = Peers::none();
+    for text in texts {
+        if peers.len() == 8 {
+            return None;
+        }
+        peers.push(port_of(text.as_bytes())?);
+    }
+    Some(peers)
+}
+
+fn station_of(found: &ArgMatches<'_>) -> Option<Station>
+    ensures { result ≡ station_of (rows_of (found_of found.now)) }
+{
+    let name = name_of(value(found, "name")?.as_bytes())?;
+    let address = address_of(value(found, "address")?.as_bytes())?;
+    let port = port_of(value(found, "port")?.as_bytes())?;
+    let peers = peers_of(values(found, "peer")?)?;
+    Some(Station {
+        name,
+        address,
+        port,
+        peers,
+    })
+}
+
+fn lines_of(role: Role, found: &ArgMatches<'_>) -> Option<Lines>
+    ensures value { result ≡ lines_of role (rows_of (found_of found.now)) }
+    ensures within { IfSome result (λ lines. Within role lines) }
+{
+    let count = number_within(1, most_lines(role), value(found, "lines")?.as_bytes())?;
+    let port = number_within(1, 65_536 - count, value(found, "line-port")?.as_bytes())?;
+    let service = name_of(value(found, "service")?.as_bytes())?;
+    let sessions = number_within(1, 1_000_000, value(found, "sessions")?.as_bytes())?;
+    Some(Lines {
+        count: count as u8,
+        port: port as u16,
+        service,
+        sessions: sessions as u32,
+    })
+}
+
+fn config_in(found: &ArgMatches<'_>) -> Option<Config>
+    ensures value { result ≡ config_in (rows_of (found_of found.now)) }
+    ensures within { IfSome result (λ config. Within config.role config.lines) }
+{
+    let role = role_of(value(found, "role")?.as_bytes())?;
+    let station = station_of(found)?;
+    let lines = lines_of(role, found)?;
+    Some(Config {
+        role,
+        station,
+        lines,
+    })
+}
+
+/// What the words say, the program's name first. None exactly where they aren't right: where `clap` doesn't take them as this
+/// command, or a value hasn't its form or its range. Each line's port is at most 65,535. `Memory` where none is found.
+pub fn config_of(alloc: Global, words: &[String]) -> Result<Option<Config>, Memory>
+    ensures value { IfOk result (λ r. r ≡ config_of (map string_bytes words.now)) }
+    ensures within { IfOk result (λ r. IfSome r (λ config. Within config.role config.lines)) }
+{
+    match matched(alloc, words)? {
+        Some(found) => Ok(config_in(&found)),
+        None => Ok(None),
+    }
+}

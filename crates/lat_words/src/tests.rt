@@ -1,0 +1,102 @@
+use crate::{Config, Role, config_of};
+use std::alloc::{AllocError, Global};
+use std::test::Fail;
+
+// Right words: the options with their values, and the words behind them.
+const WORDS: [(&str, &str); 9] = [
+    ("--role", "server"),
+    ("--name", "TS1"),
+    ("--address", "AA0004000104"),
+    ("--port", "7000"),
+    ("--lines", "2"),
+    ("--line-port", "7100"),
+    ("--service", "V%a1X"),
+    ("--sessions", "1"),
+    ("peer", "7001 7002"),
+];
+
+// Values that make the words wrong.
+const WRONG: [(&str, &str); 17] = [
+    ("--role", "switch"),
+    ("--role", "server --role server"),
+    ("--role", "server --help"),
+    ("--name", "seventeen-letters"),
+    ("--address", "aa000400010"),
+    ("--address", "aa00040001040"),
+    ("--port", "0"),
+    ("--port", "65536"),
+    ("--port", "007"),
+    ("--port", "+5"),
+    ("--lines", "33"),
+    ("--line-port", "65535"),
+    ("--service", "V%41X"),
+    ("--sessions", "0"),
+    ("--sessions", "1000001"),
+    ("peer", "7001 65536"),
+    ("peer", "1 2 3 4 5 6 7 8 9"),
+];
+
+// Values that leave them right.
+const RIGHT: [(&str, &str); 6] = [
+    ("--role", "node"),
+    ("--lines", "32"),
+    ("--line-port", "65534"),
+    ("--service", "%fe"),
+    ("--sessions", "1000000"),
+    ("peer", "1 2 3 4 5 6 7 65535"),
+];
+
+// Adds the words of a text.
+fn split_onto(alloc: Global, words: &mut Vec<String>, text: &str) -> Result<(), AllocError> {
+    for word in text.split(' ') {
+        words.push(String::from_str(alloc, word)?)?;
+    }
+    Ok(())
+}
+
+// The right words, with another value at one option. Where the value is `none`, the option is left out.
+fn words_with(alloc: Global, other: &str, new: &str) -> Result<Vec<String>, AllocError> {
+    let mut words = Vec::new(alloc);
+    words.push(String::from_str(alloc, "latd")?)?;
+    for (id, value) in WORDS {
+        let value = if id == other { new } else { value };
+        if value == "none" {
+            continue;
+        }
+        if id != "peer" {
+            split_onto(alloc, &mut words, id)?;
+        }
+        split_onto(alloc, &mut words, value)?;
+    }
+    Ok(words)
+}
+
+fn config_with(alloc: Global, other: &str, new: &str) -> Result<Option<Config>, Fail> {
+    let words = words_with(alloc, other, new)?;
+    Ok(config_of(alloc, words.as_slice())?)
+}
+
+#[test]
+fn words(rt: HostRuntime) -> Result<(), Fail> {
+    let alloc = rt.alloc();
+    let config = config_with(alloc, "", "")?.ok_or("right words")?;
+    assert_eq!(rt; config.role, Role::Server);
+    assert_eq!(rt; config.station.name.bytes(), b"TS1".as_slice());
+    assert_eq!(rt; config.station.address.0, [0xaa, 0, 4, 0, 1, 4]);
+    assert_eq!(rt; config.station.port, 7000);
+    assert_eq!(rt; config.station.peers.as_slice(), [7001, 7002].as_slice());
+    assert_eq!(rt; config.lines.count, 2);
+    assert_eq!(rt; config.lines.port, 7100);
+    assert_eq!(rt; config.lines.service.bytes(), [0x56, 0xa1, 0x58].as_slice());
+    assert_eq!(rt; config.lines.sessions, 1);
+    for (id, _) in WORDS {
+        assert!(rt; config_with(alloc, id, "none")?.is_none());
+    }
+    for (id, value) in WRONG {
+        assert!(rt; config_with(alloc, id, value)?.is_none());
+    }
+    for (id, value) in RIGHT {
+        assert!(rt; config_with(alloc, id, value)?.is_some());
+    }
+    Ok(())
+}
