@@ -55,11 +55,11 @@ opened_posts : (u : Setups) (k : Book) → IsBook u k [] [] (λ b. no_counts) �
 opened_posts u k h = posts_length k.log.posts [] h.posts
 
 pub opened_holds : {H : Type 0} (k : Kept H) (server : ServerConfig) (node : NodeConfig) (u : Setups) → server_kept.config_of k.server ≡ servers.config_shown server → node_kept.config_of k.node ≡ nodes.config_shown node → k.server_own ≡ server.own → k.node_own ≡ node.own → k.timer ≡ 10 * server.timing.timer → IsBook u k.book [] [] (λ b. no_counts) → ((b : Bool) (x : ℕ) → tally_at (tallies_of k.book b) x ≡ nothing) → Holds k
-opened_holds k server node u s n so no timer h none =
+opened_holds k server node u s n so own timer h none =
     let posts : length k.book.log.posts ≡ 0 = opened_posts u k.book h in
     record {
       server_own = ap (λ z. z.own) s ∙ ap (λ z. address z.0) (sym so);
-      node_own = ap (λ z. z.own) n ∙ ap (λ z. address z.0) (sym no);
+      node_own = ap (λ z. z.own) n ∙ ap (λ z. address z.0) (sym own);
       timer = timer ∙ ap (λ z. 10 * z.timing.timer) (sym s);
       frames = omega (arith, posts);
       formed = λ b x. let e : (tally_at (tallies_of k.book b) x).formed ≡ 0 = ap (λ (t : Tally). t.formed) (none b x) in omega (arith, e);
