@@ -2,7 +2,7 @@
 use Rattle.std.proofs.Common.{◌≡◌, ℕ, ap, ap₂, ◌∙◌, refl, Bool, true, false, not, cond, ◌&&◌, ◌||◌, Option, Some, None, option_map}
 use Rattle.lat_base.specs.declared.state.SessionState as base
 use Rattle.lat_model.specs.sessions.Slots.{has_stop}
-use Rattle.lat_model.specs.sessions.Session.{Session, SessionState, Free, Calling, Asked, Live, Closing, Left, answered, gone, free}
+use Rattle.lat_model.specs.sessions.Session.{Session, Free, Calling, Asked, Live, Closing, Left, answered, gone, free}
 use Rattle.lat_model.specs.circuits.Arriving.{is_of}
 use Rattle.lat_model.specs.ends.End.{lives}
 use Rattle.lat_machines.specs.values.Timing.{half_range}

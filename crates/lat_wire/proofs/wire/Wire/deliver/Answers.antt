@@ -1,4 +1,4 @@
-use Rattle.std.proofs.Common.{◌≡◌, ◌∙◌, Err, ap, false, not, subst, sym, true, is_some, slice_get}
+use Rattle.std.proofs.Common.{◌≡◌, ◌∙◌, Err, ap, not, subst, sym, true, is_some, slice_get}
 use Rattle.std.proofs.lemmas.Result.{err_from_is_err_and}
 use Rattle.lat_base.specs.declared.event.Event.{Event}
 use Rattle.lat_base.specs.declared.event.Event.TheVariants as events
