@@ -7,7 +7,7 @@ ghost use Rattle.lat_machines.specs.world.Machines.{Setups, Posted, own_of, post
 ghost use Rattle.lat_machines.specs.world.Tally.{Tallied, TalliedBy};
 ghost use Rattle.lat_model.specs.Lists.{Each};
 ghost use Rattle.lat_payload.specs.Frames.{seen, expected, mark_of};
-ghost use Rattle.lat_posts.specs.Tallies.{tally_at};
+ghost use Rattle.lat_posts.specs.Tallies.{nothing, tally_at};
 ghost use Rattle.lat_posts.specs.Ways.{CameAtMost};
 ghost use Rattle.lat_ledger.specs.Books.{Counts, IsBook, IsPost, IsReadable, behind, behind_all, no_counts, number_told, tallies_of, tally_told, took_one, with_side};
 
@@ -102,7 +102,8 @@ fn post_of(frame: &OutFrame, by_server: bool, tally: Tally) -> Post
 impl Ledger {
     /// Nothing was sent, and nothing is counted. Takes the memory of all tallies; `Memory` where none is found.
     pub fn make(alloc: Global) -> Result<Ledger, Memory>
-        ensures { IfOk result (λ k. (u : Setups) → IsBook u k.book [] [] (λ b. no_counts)) }
+        ensures book { IfOk result (λ k. (u : Setups) → IsBook u k.book [] [] (λ b. no_counts)) }
+        ensures tallies { IfOk result (λ k. (b : Bool) (x : ℕ) → tally_at (tallies_of k.book b) x ≡ nothing) }
     {
         Ok(Ledger {
             posts: Posts::make(alloc),

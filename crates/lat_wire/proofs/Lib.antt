@@ -1,0 +1,10 @@
+pub mod Rating
+pub mod Noting
+pub mod Taking
+pub mod Standing
+pub mod Used
+pub mod Stepping
+pub mod Seeing
+pub mod Telling
+pub mod Opening
+pub mod Refusing

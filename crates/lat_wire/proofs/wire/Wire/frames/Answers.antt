@@ -1,0 +1,9 @@
+use Rattle.std.proofs.Common.{◌∙◌, ap, length}
+use Rattle.lat_wire.proofs.Refusing.{posts_length}
+use Rattle.lat_wire.proofs.wire.Wire.frames.Goals as goal
+
+pub returns : goal.returns
+returns g c = λ w s.
+    c.len.ensures
+    ∙ ((ap (λ z. length z.ledger.book.log.posts) c.self-inside.view_is ∙ ap (λ z. length z.book.log.posts) c.self.view_is)
+    ∙ posts_length c.args.self.now.book.log.posts w.posts s.parts.book.posts)

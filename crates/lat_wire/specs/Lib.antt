@@ -1,0 +1,9 @@
+pub mod Rates
+pub mod Notes
+pub mod Ends
+pub mod Kept
+pub mod Shown
+pub mod Stands
+pub mod Refusals
+pub mod Told
+pub mod Taking
