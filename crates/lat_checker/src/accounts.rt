@@ -1,0 +1,223 @@
+//! What is kept of sessions in place of all their slots.
+
+ghost use Rattle.std.specs.Prelude.{◌≡◌, Some, None, option_map, if◌then◌else◌, IfOk};
+ghost use Rattle.lat_checker.specs.Sums.{no_sums, credited, taken_account, opening, pays, sums_of, slave_takes, master_takes, slave_forms, master_forms, slave_takes_all, master_takes_all, slave_hears, master_hears, next_place, slave_forms_all, master_forms_all};
+
+use crate::recent::SentMessage;
+use crate::slot::{KeptSlot, SlotFacts};
+use lat_base::Memory;
+use std::alloc::Global;
+
+/// A session as one end spends for it.
+#[derive(Clone, Copy)]
+pub struct Account {
+    /// The place of its reply, 0 for none.
+    pub session: u128,
+    /// The credits that the other end gave it, as far as this end has acknowledged them.
+    pub given: u128,
+    /// The credits that this end spent for it.
+    pub spent: u128,
+}
+
+const NO_ACCOUNT: Account = Account {
+    session: 0,
+    given: 0,
+    spent: 0,
+};
+
+/// Under each id the session that a slot with it would belong to.
+#[derive(Drop)]
+pub struct Accounts {
+    /// Under a source of the master, the credits of the last ask that the slave has acknowledged.
+    pub asked: [Option<u8>; 256],
+    /// Under a source of the slave, the session of its last reply.
+    pub slave: [Account; 256],
+    /// Under a destination of the master, the session of the last reply that the master has acknowledged.
+    pub master: [Account; 256],
+}
+
+// The session is given what a slot of it gives.
+fn credit(account: &mut Account, kept: &KeptSlot)
+    ensures { account.new ≡ credited account.old kept.now }
+{
+    if kept.session == account.session {
+        account.given = account.given.saturating_add(u128::from(kept.slot.credits));
+    }
+}
+
+// The session spends the cost, where it has the credits; else nothing has changed.
+fn pay(account: &mut Account, cost: u8) -> bool
+    ensures { pays account.old cost ≡ (if result then Some account.new else None) }
+{
+    if cost == 0 {
+        return true;
+    }
+    let left = account.given.saturating_sub(account.spent);
+    if account.session == 0 || u128::from(cost) > left {
+        return false;
+    }
+    account.spent += u128::from(cost);
+    true
+}
+
+// The account of a reply at this place, where an ask with these credits stands before it.
+fn opening(place: u128, asked: Option<u8>) -> Account
+    ensures { result ≡ opening place asked }
+{
+    match asked {
+        Some(credits) => Account {
+            session: place,
+            given: u128::from(credits),
+            spent: 0,
+        },
+        None => NO_ACCOUNT,
+    }
+}
+
+impl Accounts {
+    /// No session yet.
+    pub fn new() -> Accounts
+        ensures { sums_of result ≡ no_sums }
+    {
+        Accounts {
+            asked: [None; 256],
+            slave: [NO_ACCOUNT; 256],
+            master: [NO_ACCOUNT; 256],
+        }
+    }
+
+    /// The slave acknowledges a slot of the master.
+    pub fn slave_takes(&mut self, kept: &KeptSlot)
+        ensures { sums_of self.new ≡ slave_takes (sums_of self.old) kept.now }
+    {
+        if kept.slot.asks {
+            self.asked[kept.slot.from as usize] = Some(kept.slot.credits);
+        } else {
+            credit(&mut self.slave[kept.slot.to as usize], kept);
+        }
+    }
+
+    /// The master acknowledges a slot of the slave.
+    pub fn master_takes(&mut self, kept: &KeptSlot)
+        ensures { sums_of self.new ≡ master_takes (sums_of self.old) kept.now }
+    {
+        let account = &mut self.master[kept.slot.from as usize];
+        if kept.slot.replies {
+            *account = Account {
+                session: kept.session,
+                given: u128::from(kept.slot.credits),
+                spent: 0,
+            };
+        } else {
+            credit(account, kept);
+        }
+    }
+
+    /// The slave forms a slot, which is that of this place. None where its session hasn't the credit.
+    pub fn slave_forms(&mut self, place: u128, slot: &SlotFacts) -> Option<KeptSlot>
+        ensures { slave_forms place (sums_of self.old) slot.now ≡ option_map (λ kept. (sums_of self.new, kept)) result }
+    {
+        let mut account = self.slave[slot.from as usize];
+        if slot.replies {
+            account = opening(place, self.asked[slot.to as usize]);
+        }
+        if !pay(&mut account, slot.cost) {
+            return None;
+        }
+        self.slave[slot.from as usize] = account;
+        Some(KeptSlot {
+            session: account.session,
+            slot: *slot,
+        })
+    }
+
+    /// The master forms a slot. None where its session hasn't the credit.
+    pub fn master_forms(&mut self, slot: &SlotFacts) -> Option<KeptSlot>
+        ensures { master_forms (sums_of self.old) slot.now ≡ option_map (λ kept. (sums_of self.new, kept)) result }
+    {
+        let account = &mut self.master[slot.to as usize];
+        if !pay(account, slot.cost) {
+            return None;
+        }
+        let session = if slot.asks { 0 } else { account.session };
+        Some(KeptSlot {
+            session,
+            slot: *slot,
+        })
+    }
+
+    fn slave_takes_all(&mut self, slots: &[KeptSlot])
+        ensures { sums_of self.new ≡ slave_takes_all (sums_of self.old) slots.now }
+    {
+        for kept in slots {
+            self.slave_takes(kept);
+        }
+    }
+
+    fn master_takes_all(&mut self, slots: &[KeptSlot])
+        ensures { sums_of self.new ≡ master_takes_all (sums_of self.old) slots.now }
+    {
+        for kept in slots {
+            self.master_takes(kept);
+        }
+    }
+
+    /// The slave acknowledges messages of the master.
+    pub fn slave_hears(&mut self, messages: &[SentMessage])
+        ensures { sums_of self.new ≡ slave_hears (sums_of self.old) messages.now }
+    {
+        for message in messages {
+            self.slave_takes_all(message.slots());
+        }
+    }
+
+    /// The master acknowledges messages of the slave.
+    pub fn master_hears(&mut self, messages: &[SentMessage])
+        ensures { sums_of self.new ≡ master_hears (sums_of self.old) messages.now }
+    {
+        for message in messages {
+            self.master_takes_all(message.slots());
+        }
+    }
+
+    /// The slave forms the slots of a message, behind so many. None where a session hasn't its credit. Takes memory for the slots
+    /// with their sessions.
+    pub fn slave_forms_all(
+        &mut self,
+        alloc: Global,
+        places: u128,
+        slots: &[SlotFacts],
+    ) -> Result<Option<Vec<KeptSlot>>, Memory>
+        ensures { IfOk result (λ formed. slave_forms_all places (sums_of self.old) slots.now ≡ option_map (λ kept. (sums_of self.new, kept.items)) formed) }
+    {
+        let mut formed = Vec::with_capacity(alloc, slots.len())?;
+        let mut place = places;
+        for slot in slots {
+            place = place.saturating_add(1);
+            let Some(kept) = self.slave_forms(place, slot) else {
+                return Ok(None);
+            };
+            formed.push(kept)?;
+        }
+        Ok(Some(formed))
+    }
+
+    /// The master forms the slots of a message. None where a session hasn't its credit. Takes memory for the slots with their
+    /// sessions.
+    pub fn master_forms_all(
+        &mut self,
+        alloc: Global,
+        slots: &[SlotFacts],
+    ) -> Result<Option<Vec<KeptSlot>>, Memory>
+        ensures { IfOk result (λ formed. master_forms_all (sums_of self.old) slots.now ≡ option_map (λ kept. (sums_of self.new, kept.items)) formed) }
+    {
+        let mut formed = Vec::with_capacity(alloc, slots.len())?;
+        for slot in slots {
+            let Some(kept) = self.master_forms(slot) else {
+                return Ok(None);
+            };
+            formed.push(kept)?;
+        }
+        Ok(Some(formed))
+    }
+}

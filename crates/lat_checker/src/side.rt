@@ -1,0 +1,121 @@
+//! What is kept of one end, and the tests of a RUN that look at no session.
+
+ghost use Rattle.std.specs.Prelude.{◌≡◌, ◌+◌, ◌^◌, ◌<◌, ◌≤◌, ◌&&◌, nat_le, length};
+ghost use Rattle.lat_captures.specs.Audit.{find_from};
+ghost use Rattle.lat_checker.specs.Tests.{bears, number_told, ack_told, repeats, tests_kept};
+
+use crate::head::{RunHead, Title};
+use crate::recent::Recent;
+use crate::rule::Rule;
+
+/// What is kept of one end.
+#[derive(Drop)]
+pub struct Side {
+    /// How many messages it has sent.
+    pub count: u64,
+    /// The greatest acknowledgement that it has sent.
+    pub acknowledged: u64,
+    pub recent: Recent,
+}
+
+/// The number and the acknowledgement of a RUN, told from their fields.
+#[derive(Clone, Copy)]
+pub struct Told {
+    pub number: u64,
+    pub ack: u64,
+}
+
+// Whether the field bears the number.
+fn bears(wide: bool, field: u16, number: u64) -> bool
+    ensures { result ≡ bears wide field number }
+{
+    if wide {
+        number % 65_536 == u64::from(field)
+    } else {
+        number % 256 == u64::from(field)
+    }
+}
+
+// The first of so many numbers, from the least on, that the field bears and that isn't below the floor.
+fn first_told(wide: bool, field: u16, floor: u64, least: u64, count: u64) -> Option<u64>
+    requires { least + count < 2 ^ 64 }
+    ensures { result ≡ find_from (λ n. bears wide field n && nat_le floor n) least count }
+{
+    for number in least..least + count {
+        if bears(wide, field, number) && floor <= number {
+            return Some(number);
+        }
+    }
+    None
+}
+
+impl Side {
+    // The number of a RUN of this end, with slots or without.
+    fn number_told(&self, wide: bool, seq: u16, bare: bool) -> Option<u64>
+        requires { self.now.count + 2 < 2 ^ 64 }
+        ensures { result ≡ number_told wide self.now.count seq bare }
+    {
+        if bare {
+            return if bears(wide, seq, self.count) {
+                Some(self.count)
+            } else {
+                None
+            };
+        }
+        let least = self.count.saturating_sub(8) + 1;
+        first_told(wide, seq, 0, least, (self.count + 1).min(9))
+    }
+
+    // The acknowledgement of a RUN of this end.
+    fn ack_told(&self, other: &Side, wide: bool, ack: u16) -> Option<u64>
+        requires { other.now.count + 2 < 2 ^ 64 }
+        ensures { result ≡ ack_told wide self.now.acknowledged other.now.count ack }
+    {
+        let least = other.count.saturating_sub(8);
+        first_told(
+            wide,
+            ack,
+            self.acknowledged,
+            least,
+            (other.count + 1).min(9),
+        )
+    }
+
+    // Whether a message of this number, if it was sent before, has this text.
+    fn repeats(&self, number: u64, text: &[u8]) -> bool
+        ensures { result ≡ repeats self.now number text.now }
+    {
+        number > self.count || self.recent.has_back(self.count - number, text)
+    }
+}
+
+/// Tests a RUN in the order of the rules, up to that on the window, and tells its numbers.
+pub fn tests(
+    title: &Title,
+    own: &Side,
+    other: &Side,
+    by_master: bool,
+    head: &RunHead,
+    bare: bool,
+    text: &[u8],
+) -> Result<Told, Rule>
+    requires { (own.now.count + 2 < 2 ^ 64) × (other.now.count + 2 < 2 ^ 64) }
+    ensures { result ≡ tests_kept title.now own.now other.now by_master head.now bare text.now }
+{
+    if !title.has(by_master, head) {
+        return Err(Rule::Ids);
+    }
+    let number = own
+        .number_told(title.wide, head.seq, bare)
+        .ok_or(Rule::Number)?;
+    if !bare && !own.repeats(number, text) {
+        return Err(Rule::Slots);
+    }
+    let ack = own
+        .ack_told(other, title.wide, head.ack)
+        .ok_or(Rule::Acknowledgement)?;
+    if number > own.count && number > other.acknowledged.saturating_add(8) {
+        return Err(Rule::Window);
+    }
+    Ok(Told { number, ack })
+}
