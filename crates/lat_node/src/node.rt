@@ -96,6 +96,13 @@ impl<H: RatingRule> NodeCore<H> {
         })
     }
 
+    /// How many lines it has, numbered from 1.
+    pub fn lines(&self) -> u8
+        ensures { result ≡ self.now.lines.lines }
+    {
+        self.lines.count()
+    }
+
     /// The last two sessions of a line, which must exist. It takes no memory.
     pub fn book(&self, line: u8) -> LineBook
         requires { IsLine self.now.lines.lines line }

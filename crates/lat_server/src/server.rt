@@ -99,6 +99,13 @@ impl ServerCore {
         })
     }
 
+    /// How many lines it has, numbered from 1.
+    pub fn lines(&self) -> u8
+        ensures { result ≡ self.now.lines.lines }
+    {
+        self.lines.count()
+    }
+
     /// The record of a request, by the order of first commands from 0 on; `None` exactly past the last. It takes no memory.
     pub fn record_at(&self, place: usize) -> Option<Record>
         ensures { (s : Server) → Stands self.now s → some_record result ≡ record_at place s.queue }
