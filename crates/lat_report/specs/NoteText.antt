@@ -1,27 +1,13 @@
 -- What is printed of an answer that a report notes.
-use Rattle.std.specs.Prelude.{ℕ, List, [], ◌∷◌, ◌++◌, codes, decimal, find, nat_eq}
-use Rattle.std.specs.Option.{option_map_or}
+use Rattle.std.specs.Prelude.{ℕ, List, [], ◌++◌, codes, decimal}
 use Rattle.lat_base.specs.FieldWords.{field_word}
-use Rattle.lat_base.specs.declared.field.Field.{Field}
-use Rattle.lat_base.specs.declared.field.Field.TheVariants as fields
 use Rattle.lat_machines.specs.values.Answers.{Broke, Answer, Circuit, StartRefused, DirectoryFull, KeptIs, Bad, NoLine, Busy, NoService, SessionsFull, CircuitsFull, IdsOut, Closed, Full, IdUsed}
 use Rattle.lat_machines.specs.values.Notices.{RecordsFull}
-use Rattle.lat_payload.specs.FieldNumbers.{field_number}
-
-abbrev pub all_fields : List Field
-all_fields =
-    fields.Size ∷ fields.Kind ∷ fields.SlotCount ∷ fields.DestinationCircuit ∷ fields.SourceCircuit ∷ fields.Sequence
-    ∷ fields.Acknowledgement ∷ fields.SlotType ∷ fields.DestinationSlot ∷ fields.SourceSlot ∷ fields.ByteCount ∷ fields.ServiceClass
-    ∷ fields.AttentionSize ∷ fields.DataSize ∷ fields.Service ∷ fields.Subject ∷ fields.Parameters ∷ fields.SlotEnd
-    ∷ fields.SlotPad ∷ fields.FrameSize ∷ fields.Version ∷ fields.Eco ∷ fields.Sessions ∷ fields.Extra
-    ∷ fields.Timer ∷ fields.KeepAlive ∷ fields.Facility ∷ fields.ProductType ∷ fields.ProductVersion ∷ fields.SlaveName
-    ∷ fields.MasterName ∷ fields.Location ∷ fields.Reason ∷ fields.Text ∷ fields.Incarnation ∷ fields.RequestId
-    ∷ fields.Action ∷ fields.Outcome ∷ fields.Place ∷ fields.NodeName ∷ fields.Groups ∷ fields.Description
-    ∷ fields.ServiceCount ∷ fields.Rating ∷ fields.ServiceDescription ∷ fields.SolicitId ∷ fields.Trailing ∷ []
+use Rattle.lat_lines.specs.Back.{field_of}
 
 -- the word of the field of this number
 abbrev pub field_named : ℕ → List ℕ
-field_named number = option_map_or field_word (find (λ f. nat_eq (field_number f) number) all_fields) []
+field_named number = field_word (field_of number)
 
 -- the word of a refusal
 abbrev pub refusal_word : Answer → List ℕ
