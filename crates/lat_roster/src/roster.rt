@@ -114,6 +114,7 @@ impl Roster {
         ensures same { (r : rows.KeptRows) → Shows self.old r → Shows self.new r }
         ensures items { OnOk result (RoomAt self.new.rows (slice_index (if server then self.new.server_lines else self.new.node_lines) line) server put taken) }
         ensures rows { self.old.room ≡ self.new.room }
+        ensures names { self.new.names ≡ self.old.names }
     {
         let place = self.newest(server, line);
         reserve_at(self.rows.as_mut_slice(), place, server, put, taken)
@@ -124,6 +125,7 @@ impl Roster {
         requires { RoomAt self.old.rows (slice_index (if server then self.old.server_lines else self.old.node_lines) line) server (length bytes.now) 0 }
         ensures shows { (r : rows.KeptRows) → Shows self.old r → Shows self.new (adds server line (map slots.Byte bytes.now) [] r) }
         ensures rows { self.old.room ≡ self.new.room }
+        ensures names { self.new.names ≡ self.old.names }
     {
         let place = self.newest(server, line);
         put_at(self.rows.as_mut_slice(), place, server, bytes);
@@ -134,6 +136,7 @@ impl Roster {
         requires { RoomAt self.old.rows (slice_index (if server then self.old.server_lines else self.old.node_lines) line) server (length put.now) (length taken.now) }
         ensures shows { (r : rows.KeptRows) (ps ts : List slots.Item) → put.now ≡ map item_shown ps → taken.now ≡ map item_shown ts → Shows self.old r → Shows self.new (adds server line ps ts r) }
         ensures rows { self.old.room ≡ self.new.room }
+        ensures names { self.new.names ≡ self.old.names }
     {
         let place = self.newest(server, line);
         add_at(self.rows.as_mut_slice(), place, server, put, taken);
@@ -171,6 +174,8 @@ impl Roster {
             Shows self.old r →
             (slice_index self.old.node_lines line ≢ 0 → ShowsFigures before f) →
             Shows self.new (accepts line place f r) }
+        ensures rows { self.old.room ≡ self.new.room }
+        ensures names { self.new.names ≡ self.old.names }
     {
         hand_over(
             self.rows.as_mut_slice(),

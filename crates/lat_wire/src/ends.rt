@@ -3,7 +3,7 @@
 ghost use Rattle.std.specs.Prelude.{◌≡◌, ◌<◌, ◌≤◌, [], length, IfSome, IfOk, OnOk, OnErr};
 ghost use Rattle.lat_base.specs.Answers.{PutFits};
 ghost use Rattle.lat_machines.specs.cores.Hearing.{names};
-ghost use Rattle.lat_machines.specs.cores.Lines.{holds};
+ghost use Rattle.lat_machines.specs.cores.Lines.{holds, waiting_at};
 ghost use Rattle.lat_machines.specs.values.Addresses.{address};
 ghost use Rattle.lat_machines.specs.values.Timing.{half_range};
 ghost use Rattle.lat_machines.specs.world.Machines.{Machines, core_of, tell};
@@ -105,6 +105,17 @@ impl<H: RatingRule> Ends<H> {
             is_held(self.server.line(line))
         } else {
             is_held(self.node.line(line))
+        }
+    }
+
+    /// How many heard items a take on a line of the server or of the node could give now.
+    pub(crate) fn waiting(&self, server: bool, line: u8) -> u16
+        ensures { (w : Machines) → AreEnds self.now w → result ≡ waiting_at (core_of w server) line }
+    {
+        if server {
+            self.server.waiting(line)
+        } else {
+            self.node.waiting(line)
         }
     }
 }

@@ -69,7 +69,8 @@ impl<H: RatingRule> Wire<H> {
             .ok_or(EventFault::NoFrame { index, sent })
     }
 
-    pub(crate) fn own(&self, server: bool) -> Addr
+    /// The address of the server or of the node.
+    pub fn own(&self, server: bool) -> Addr
         ensures { own_of (setups_of self.now) server ≡ address result.0 }
     {
         if server {

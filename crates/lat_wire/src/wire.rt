@@ -2,7 +2,7 @@
 
 ghost use Rattle.std.specs.Prelude.{◌≡◌, ◌≢◌, ◌*◌, ◌↔◌, IfOk, IsTrue, MatchOption, None, map, length, slice_get};
 ghost use Rattle.lat_machines.specs.values.Addresses.{address, everyone};
-ghost use Rattle.lat_machines.specs.cores.Lines.{holds};
+ghost use Rattle.lat_machines.specs.cores.Lines.{holds, waiting_at};
 ghost use Rattle.lat_machines.specs.world.Machines.{Machines, core_of, open_machines};
 ghost use Rattle.lat_server.specs.Config as servers;
 ghost use Rattle.lat_node.specs.Config as nodes;
@@ -154,6 +154,13 @@ impl<H: RatingRule> Wire<H> {
         ensures { (w : Machines) → Stands self.now w → result ≡ holds (core_of w server) line }
     {
         self.ends.held(server, line)
+    }
+
+    /// How many heard items a take on a line of the server or of the node could give now, 0 where it would be refused.
+    pub fn waiting(&self, server: bool, line: u8) -> u16
+        ensures { (w : Machines) → Stands self.now w → result ≡ waiting_at (core_of w server) line }
+    {
+        self.ends.waiting(server, line)
     }
 
     /// The events that were noted, in order.
