@@ -1,0 +1,6 @@
+pub mod Moving
+pub mod Stages
+pub mod Present
+pub mod Figures
+pub mod Taking
+pub mod Turns

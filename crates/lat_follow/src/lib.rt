@@ -1,0 +1,12 @@
+//! The rows of a report follow the events of a world: the items of its answers, and the new sessions of its two ends.
+#![tactic(auto)]
+
+mod books;
+mod items;
+mod newcomer;
+mod room;
+mod sessions;
+
+pub use items::add_items;
+pub use room::{reserve_for, reserve_new};
+pub use sessions::follow;
