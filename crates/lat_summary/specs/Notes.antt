@@ -1,0 +1,9 @@
+-- The lines of the events that were noted.
+use Rattle.std.specs.Prelude.{ℕ, List}
+use Rattle.lat_lines.specs.Answers.{answer_shown}
+use Rattle.lat_report.specs.ReportText.{event_text}
+use Rattle.lat_wire.specs.Notes.{noted_answer}
+use Rattle.lat_wire.specs.declared.notes.Note.{Note}
+
+abbrev pub note_line : Note → List ℕ
+note_line n = event_text (record { event = n.event; answer = answer_shown (noted_answer n.noted) })
