@@ -1,0 +1,4 @@
+pub mod Stepping
+pub mod Promising
+pub mod Playable
+pub mod Playing

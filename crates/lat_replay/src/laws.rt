@@ -1,0 +1,36 @@
+//! What holds of every world, as contracts of functions that take nothing.
+
+ghost use Rattle.std.specs.Prelude.{List};
+ghost use Rattle.lat_base.specs.declared.addr.Addr.{Addr};
+ghost use Rattle.lat_model.specs.Lists.{Each};
+ghost use Rattle.lat_machines.specs.world.Histories.{HistoriesAreAWorld};
+ghost use Rattle.lat_schedule.specs.declared.event.WorldEvent.{WorldEvent};
+ghost use Rattle.lat_schedule.specs.Events.{IsEvent};
+ghost use Rattle.lat_replay.specs.Moves.{IsPlayable};
+ghost use Rattle.lat_replay.specs.Promises.{WorldsKeepPromises, WorldsAreSafe};
+
+use lat_node::RatingRule;
+
+/// A history of a server and one of a node, in any order in which each frame that one heard from the other's address is a
+/// young one that the other had made, are a run of the two machines, and it is safe.
+pub fn histories_are_a_world()
+    ensures { HistoriesAreAWorld }
+{}
+
+/// Of every world of the two machines that a world stands for all their laws hold: both ends agree, have one span, frames are
+/// true, none breaks a circuit, the queue is legal, and no grant is left open.
+pub fn worlds_are_safe<H: RatingRule>()
+    ensures { WorldsAreSafe H }
+{}
+
+/// What is promised to both ends of every world: each session takes a prefix of what the other end put, each credited slot had
+/// its credit, each request was granted at most once and as the first that waited, and a frame of no layout changes nothing
+/// but the moment of the end that hears it, and is noted by its first bad field.
+pub fn worlds_keep_promises<H: RatingRule>()
+    ensures { WorldsKeepPromises H }
+{}
+
+/// The events of a schedule can be played.
+pub fn events_of_schedules_play()
+    ensures { (to : Addr) (es : List WorldEvent) → Each (IsEvent to) es → Each IsPlayable es }
+{}
