@@ -1,0 +1,9 @@
+pub mod Telling
+pub mod Runs
+pub mod Entries
+pub mod Hearing
+pub mod Verdicts
+pub mod Walks
+pub mod Formed
+pub mod Readings
+pub mod Captures

@@ -1,0 +1,7 @@
+pub mod Shown
+pub mod Told
+pub mod Steps
+pub mod AuditOf
+pub mod Follows
+pub mod Printed
+pub mod Laws

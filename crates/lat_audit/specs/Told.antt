@@ -1,0 +1,27 @@
+-- The slots that a text tells.
+use Rattle.std.specs.Prelude.{ℕ, zero, suc, List, [], ◌∷◌, length, map, Result, Ok, Err}
+use Rattle.lat_base.specs.declared.field.Bad.{Bad}
+use Rattle.lat_model.specs.sessions.Slots as sessions
+use Rattle.lat_slots.specs.declared.slot.Slot.{Slot}
+use Rattle.lat_slots.specs.Reading.{slot_at}
+use Rattle.lat_stream.specs.Wire.{told}
+use Rattle.lat_checker.specs.declared.slot.SlotFacts.{SlotFacts}
+use Rattle.lat_checker.specs.Facts.{facts_of}
+
+abbrev pub first_told : Result (Slot × ℕ × List ℕ) Bad → (List ℕ → List sessions.Slot) → List sessions.Slot
+first_told (Ok read) behind = told read.0 ∷ behind read.2
+first_told (Err bad) behind = []
+
+-- so many at most
+abbrev pub slots_told : ℕ → List ℕ → List sessions.Slot
+slots_told zero text = []
+slots_told (suc most) [] = []
+slots_told (suc most) (b ∷ text) = first_told (slot_at 0 (b ∷ text)) (slots_told most)
+
+-- there are never more slots than bytes
+abbrev pub tell : List ℕ → List sessions.Slot
+tell text = slots_told (length text) text
+
+-- what the rules look at in each slot
+abbrev pub facts_in : List Slot → List SlotFacts
+facts_in slots = map (λ s. facts_of (told s)) slots

@@ -1,0 +1,4 @@
+pub mod Words
+pub mod Titles
+pub mod Payloads
+pub mod WrittenRead

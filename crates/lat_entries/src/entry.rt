@@ -1,0 +1,11 @@
+//! What a line of a capture says.
+
+use lat_base::Bytes;
+
+/// A payload of a capture, of any length.
+#[derive(Debug, Drop)]
+pub struct Entry {
+    /// Whether the circuit's master sent it.
+    pub by_master: bool,
+    pub payload: Bytes,
+}
