@@ -1,0 +1,5 @@
+pub mod Ledgers
+pub mod Openings
+pub mod Printed
+pub mod Seating
+pub mod Served

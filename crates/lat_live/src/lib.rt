@@ -1,11 +1,18 @@
-//! A daemon round a core: it opens the carrier and the lines, runs the workers of a cell in threads, and prints what came of it.
-//! See "Workers" in docs/PROTOCOL.md.
+//! A daemon: it reads its words, opens the carrier and the lines, runs the workers of a cell in threads, and prints what came
+//! of it. See "Workers" in docs/PROTOCOL.md, and "The daemon's words" in docs/FORMATS.md.
 #![tactic(auto)]
 
+mod cores;
+mod daemon;
+mod lists;
 mod opening;
+mod ran;
 mod running;
 mod seats;
 mod serving;
 
+pub use daemon::serve;
+pub use lists::{Ends, Lines};
 pub use opening::OpenFault;
-pub use serving::{Plan, Served, serve_core};
+pub use ran::{Ran, Served};
+pub use serving::{CoreServed, Plan, serve_core};

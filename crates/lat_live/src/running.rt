@@ -1,6 +1,7 @@
 //! The workers in threads.
 
 ghost use Rattle.std.specs.Prelude.{◌≡◌, ◌<◌, vec_len};
+ghost use Rattle.lat_live.specs.Seating.{EachPair, IsWorked, SamePlace};
 
 use crate::seats::Seated;
 use lat_base::Core;
@@ -21,8 +22,42 @@ pub struct Ending {
     pub sessions: Option<u32>,
 }
 
-// Works all lines at once, and stops the cell behind them where it is to.
+// Works all lines at once.
 fn crew<
+    C: Core + Send,
+    T: Tx + Send,
+    L: LineEnd + Send,
+    G: Gate + Sync,
+    E: Ledger + Sync,
+    B: Ledger + Sync,
+    F: Ledger + Sync,
+    R: Threads + Wait + Sync,
+>(
+    rt: &R,
+    alloc: Global,
+    cell: &Mutex<Cell<C, T, E, B, F>>,
+    seats: Vec<Seat<L, E, B, F>>,
+    gate: &G,
+) -> Vec<Seat<L, E, B, F>>
+    requires { 0 < vec_len seats }
+    ensures count { vec_len result ≡ vec_len seats }
+    ensures worked { EachPair (IsWorked L.faults) seats.items result.items }
+{
+    let mut seats = seats;
+    let count = seats.len();
+    thread::for_each_mut(
+        rt,
+        seats.as_mut_slice(),
+        count,
+        &|_, seat|
+            ensures { IsWorked L.faults seat.entry.now seat.exit.now }
+        { seat.work(rt, alloc, cell, gate) },
+    );
+    seats
+}
+
+// Works all lines at once, and stops the cell behind them where it is to.
+fn crew_then_stop<
     C: Core + Send,
     T: Tx + Send,
     L: LineEnd + Send,
@@ -40,16 +75,10 @@ fn crew<
     stops: bool,
 ) -> Vec<Seat<L, E, B, F>>
     requires { 0 < vec_len seats }
-    ensures { vec_len result ≡ vec_len seats }
+    ensures count { vec_len result ≡ vec_len seats }
+    ensures worked { EachPair (IsWorked L.faults) seats.items result.items }
 {
-    let mut seats = seats;
-    let count = seats.len();
-    thread::for_each_mut(
-        rt,
-        seats.as_mut_slice(),
-        count,
-        &|_, seat| { seat.work(rt, alloc, cell, gate) },
-    );
+    let seats = crew(rt, alloc, cell, seats, gate);
     if stops {
         cell.lock(rt).stop();
     }
@@ -77,6 +106,7 @@ fn outside<
     ending: Ending,
 ) -> (LineShare<E, B, F>, LineShare<E, B, F>)
     requires { (wire.seat ≡ 0) × (time.seat ≡ 65) }
+    ensures { SamePlace wire result.0 × SamePlace time result.1 }
 {
     thread::join(
         rt,
@@ -123,7 +153,9 @@ pub fn run_all<
 ) -> (Cell<C, T, E, B, F>, Seated<L, E, B, F>)
     requires some { 0 < vec_len seated.lines }
     requires seats { (seated.wire.seat ≡ 0) × (seated.clock.seat ≡ 65) }
-    ensures { vec_len result.1.lines ≡ vec_len seated.lines }
+    ensures around { SamePlace seated.wire result.1.wire × SamePlace seated.clock result.1.clock }
+    ensures lines { EachPair (IsWorked L.faults) seated.lines.items result.1.lines.items }
+    ensures count { vec_len result.1.lines ≡ vec_len seated.lines }
 {
     let Seated {
         wire,
@@ -140,7 +172,7 @@ pub fn run_all<
         { outside(rt, alloc, shared, wire, rx, time, clock, ending) },
         move ||
             requires { 0 < vec_len lines }
-        { crew(rt, alloc, shared, lines, gate, stops) },
+        { crew_then_stop(rt, alloc, shared, lines, gate, stops) },
     );
     let seated = Seated {
         wire,

@@ -1,8 +1,10 @@
 //! The call that does all that a daemon does once its words are read and its core is made.
 
-ghost use Rattle.std.specs.Prelude.{◌≡◌, ◌+◌, ◌<◌, ◌≤◌, length, vec_len, vec_capacity, IfSome, IfOk, [], None, Err};
+ghost use Rattle.std.specs.Prelude.{◌≡◌, ◌≢◌, ◌⊎◌, ◌+◌, ◌-◌, ◌<◌, ◌≤◌, map, length, vec_len, vec_capacity, IfSome, IfOk, [], None, Err};
 ghost use Rattle.lat_outside.specs.Causes.{Rose};
-ghost use Rattle.lat_ending.specs.EndText.{Ended};
+ghost use Rattle.lat_history.specs.Seats.{fresh, seats_from};
+ghost use Rattle.lat_live.specs.Printed.{told, told_in, IsPrinted, IsOwn, RoseIn};
+ghost use Rattle.lat_live.specs.Seating.{GivenBack, share_of};
 
 use crate::opening::{OpenFault, open_lines};
 use crate::running::{Ending, run_all};
@@ -40,7 +42,7 @@ pub struct Plan<'a> {
 /// What came of it: the status, the cell, the shares in the order of the seats, and of each line how its worker ended, and the
 /// line.
 #[derive(Drop)]
-pub struct Served<C: Core, T: Tx, L: LineEnd, E: Ledger, B: Ledger, F: Ledger> {
+pub struct CoreServed<C: Core, T: Tx, L: LineEnd, E: Ledger, B: Ledger, F: Ledger> {
     pub status: u8,
     pub ran: Option<Cell<C, T, E, B, F>>,
     pub shares: Vec<LineShare<E, B, F>>,
@@ -70,10 +72,12 @@ fn opened<O: Opener, C: Core, E: Ledger, B: Ledger, F: Ledger>(
     requires names { (blanks.events.name ≡ E.name) × (blanks.bytes.name ≡ B.name) × (blanks.full.name ≡ F.name) }
     requires parts { (blanks.events.parts ≡ E.parts) × (blanks.bytes.parts ≡ B.parts) × (blanks.full.parts ≡ F.parts) }
     requires many { (E.parts ≡ 66) × (B.parts ≡ 66) × (F.parts ≡ 66) }
-    ensures seats { IfOk result (λ s. (s.seated.wire.seat ≡ 0) × (s.seated.clock.seat ≡ 65)) }
+    ensures around { IfOk result (λ s. (s.seated.wire ≡ fresh 0 1) × (s.seated.clock ≡ fresh 65 (65 - plan.now.lines))) }
+    ensures lines { IfOk result (λ s. map share_of s.seated.lines.items ≡ seats_from plan.now.lines 1) }
     ensures count { IfOk result (λ s. vec_len s.seated.lines ≡ plan.now.lines) }
     ensures empty { IfOk result (λ s. (s.given.shares.items ≡ []) × (s.given.ends.items ≡ []) × (s.given.lines.items ≡ [])) }
-    ensures room { IfOk result (λ s. (plan.now.lines + 2 ≤ vec_capacity s.given.shares) × (plan.now.lines ≤ vec_capacity s.given.ends) × (plan.now.lines ≤ vec_capacity s.given.lines)) }
+    ensures room { IfOk result (λ s. plan.now.lines + 2 ≤ vec_capacity s.given.shares) }
+    ensures rooms { IfOk result (λ s. (plan.now.lines ≤ vec_capacity s.given.ends) × (plan.now.lines ≤ vec_capacity s.given.lines)) }
     ensures fault { result ≡ Err OpenFault.Failed → Rose (O.faults opener.old) (O.faults opener.new) }
 {
     let (tx, rx) = opener.open_carrier(plan.own, plan.port, plan.peers)?;
@@ -93,7 +97,7 @@ fn opened<O: Opener, C: Core, E: Ledger, B: Ledger, F: Ledger>(
 fn not_run<C: Core, T: Tx, L: LineEnd, E: Ledger, B: Ledger, F: Ledger>(
     alloc: Global,
     status: u8,
-) -> Served<C, T, L, E, B, F>
+) -> CoreServed<C, T, L, E, B, F>
     ensures { (result.status ≡ status) × (result.ran ≡ None) × (result.shares.items ≡ []) × (result.ends.items ≡ []) × (result.lines.items ≡ []) }
 {
     let Given {
@@ -101,13 +105,31 @@ fn not_run<C: Core, T: Tx, L: LineEnd, E: Ledger, B: Ledger, F: Ledger>(
         ends,
         lines,
     } = Given::none(alloc);
-    Served {
+    CoreServed {
         status,
         ran: None,
         shares,
         ends,
         lines,
     }
+}
+
+// Prints the last text.
+fn printed<C: Core, T: Tx, S: Sink, E: Ledger, B: Ledger, F: Ledger>(
+    alloc: Global,
+    cell: &Cell<C, T, E, B, F>,
+    shares: &[LineShare<E, B, F>],
+    ends: &[LineDone],
+    out: &mut S,
+) -> u8
+    requires { length ends.now ≤ 64 }
+    ensures text { IsPrinted S.told S.faults out.old out.new (told cell.now) shares.now ends.now result }
+    ensures own { IsOwn result ⊎ (result ≡ 5) }
+    ensures other { result ≢ 4 }
+    ensures sink { result ≡ 5 → RoseIn S.faults out.old out.new }
+    ensures memory { result ≡ 9 → S.told out.new ≡ S.told out.old }
+{
+    print_end(alloc, cell, shares, ends, out)
 }
 
 /// Opens the carrier and then the lines by rising number, runs all workers of a cell round the core at once until each has ended,
@@ -135,16 +157,21 @@ pub fn serve_core<
     clock: K,
     gate: &G,
     out: &mut S,
-) -> Served<C, O::T, O::L, E, B, F>
+) -> CoreServed<C, O::T, O::L, E, B, F>
     requires made { (C.made (C.opening core)) × (C.stands core (C.opening core)) × (C.valid core) }
     requires lines { (1 ≤ plan.now.lines) × (plan.now.lines ≤ 64) × (plan.now.line_port + plan.now.lines ≤ 65536) }
     requires names { (blanks.events.name ≡ E.name) × (blanks.bytes.name ≡ B.name) × (blanks.full.name ≡ F.name) }
     requires parts { (blanks.events.parts ≡ E.parts) × (blanks.bytes.parts ≡ B.parts) × (blanks.full.parts ≡ F.parts) }
     requires many { (E.parts ≡ 66) × (B.parts ≡ 66) × (F.parts ≡ 66) }
-    ensures ended { IfSome result.ran (λ cell. Ended (S.told out.old) (S.told out.new) (S.faults out.old) (S.faults out.new) cell.history cell.full result.shares.items result.ends.items result.status) }
-    ensures lines { IfSome result.ran (λ cell. (vec_len result.ends ≡ plan.now.lines) × (vec_len result.lines ≡ plan.now.lines) × (vec_len result.shares ≡ plan.now.lines + 2)) }
-    ensures fault { result.status ≡ 4 → Rose (O.faults opener.old) (O.faults opener.new) }
-    ensures nothing { result.ran ≡ None → S.told out.new ≡ S.told out.old }
+    ensures ended { IfSome (told_in result.ran) (λ t. IsPrinted S.told S.faults out.old out.new t result.shares.items result.ends.items result.status) }
+    ensures back { IfSome (told_in result.ran) (λ t. GivenBack O.L.faults plan.now.lines result.shares.items result.ends.items result.lines.items) }
+    ensures own { IsOwn result.status ⊎ ((result.status ≡ 4) ⊎ (result.status ≡ 5)) }
+    ensures opener { result.status ≡ 4 → RoseIn O.faults opener.old opener.new }
+    ensures sink { result.status ≡ 5 → RoseIn S.faults out.old out.new }
+    ensures silent { result.status ≡ 4 → S.told out.new ≡ S.told out.old }
+    ensures memory { result.status ≡ 9 → S.told out.new ≡ S.told out.old }
+    ensures none { result.ran ≡ None → (result.status ≡ 4) ⊎ (result.status ≡ 9) }
+    ensures empty { result.ran ≡ None → (result.shares.items ≡ []) × (result.ends.items ≡ []) × (result.lines.items ≡ []) }
 {
     let start = match opened::<O, C, E, B, F>(alloc, plan, core, blanks, opener) {
         Ok(start) => start,
@@ -167,8 +194,8 @@ pub fn serve_core<
         ends,
         lines,
     } = given.filled(seated);
-    let status = print_end(alloc, &cell, shares.as_slice(), ends.as_slice(), out);
-    Served {
+    let status = printed(alloc, &cell, shares.as_slice(), ends.as_slice(), out);
+    CoreServed {
         status,
         ran: Some(cell),
         shares,

@@ -1,0 +1,35 @@
+-- What a daemon's core is opened from.
+use Rattle.std.specs.Prelude.{ℕ, List, [], ◌∷◌, true, replicate}
+use Rattle.lat_machines.specs.values.Addresses.{address}
+use Rattle.lat_machines.specs.values.Timing.{Timing}
+use Rattle.lat_machines.specs.server.Server.{ServerConfig}
+use Rattle.lat_machines.specs.node.Node.{NodeConfig}
+use Rattle.lat_words.specs.declared.config.Config.{Config}
+
+-- the usual timing, on wide circuits
+abbrev pub usual_wide : Timing
+usual_wide = record { timer = 8; keepalive = 20; sessions = 64; extra = 7; ceiling = 4; wide = true }
+
+-- a server that listens to all groups, and no line of which offers a service
+abbrev pub server_config : Config → ServerConfig
+server_config c = record {
+  own = address c.station.address.0;
+  name = c.station.name;
+  lines = c.lines.count;
+  offers = [];
+  groups = replicate 32 255;
+  timing = usual_wide;
+}
+
+-- a node in its first incarnation, for every server, with one service, announced each 30 seconds
+abbrev pub node_config : Config → NodeConfig
+node_config c = record {
+  own = address c.station.address.0;
+  name = c.station.name;
+  incarnation = 1;
+  lines = c.lines.count;
+  services = c.lines.service ∷ [];
+  timer = 30;
+  groups = [];
+  timing = usual_wide;
+}

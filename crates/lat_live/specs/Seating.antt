@@ -1,0 +1,52 @@
+-- What the seats of a daemon have, and what their workers leave of them.
+use Rattle.std.specs.Prelude.{◌≡◌, ℕ, ◌<◌, List, [], ◌∷◌, ◌++◌, length, map, sum_by, true}
+use Rattle.lat_outside.specs.Causes.{Rose}
+use Rattle.lat_history.specs.CellView.{SeatView}
+use Rattle.lat_history.specs.Seats.{all_seats}
+use Rattle.lat_cell.specs.declared.seat.Seat.{Seat}
+use Rattle.lat_cell.specs.declared.seat.LineDone.{LineDone}
+use Rattle.lat_cell.specs.declared.seat.LineDone.TheVariants as done
+
+-- R holds of two lists, place by place, and one is as long as the other
+abbrev pub EachPair : {A B : Type 0} → (A → B → Type 0) → List A → List B → Type 0
+EachPair R [] [] = Unit {0}
+EachPair R [] (y ∷ ys) = ⊥
+EachPair R (x ∷ xs) [] = ⊥
+EachPair R (x ∷ xs) (y ∷ ys) = R x y × EachPair R xs ys
+
+abbrev pub share_of : {L E B F : Type 0} → Seat L E B F → SeatView
+share_of s = s.share
+
+abbrev pub done_of : {L E B F : Type 0} → Seat L E B F → LineDone
+done_of s = s.done
+
+abbrev pub line_of : {L E B F : Type 0} → Seat L E B F → L
+line_of s = s.line
+
+-- a worker gives back the share of its seat, with the same parts of the books
+pub record SamePlace (old new : SeatView) : Type 0 where
+  pub seat : new.seat ≡ old.seat
+  pub parts : new.parts ≡ old.parts
+
+-- a line's worker gives back the share of its seat; it ended with a fault only where its line's count of faults rose, and for
+-- want of room only where the share says so
+pub record IsWorked {L E B F : Type 0} (faults : L → ℕ) (old new : Seat L E B F) : Type 0 where
+  pub place : SamePlace old.share new.share
+  pub fault : new.done ≡ done.Fault → Rose (faults old.line) (faults new.line)
+  pub full : new.done ≡ done.Full → new.share.full ≡ true
+
+-- the shares of all seats, by rising seat: the wire's, those of so many lines, the clock's. Together they have all parts of the books
+pub record AreAllSeats (lines : ℕ) (shares : List SeatView) : Type 0 where
+  pub seats : map (λ (s : SeatView). s.seat) shares ≡ map (λ (s : SeatView). s.seat) (all_seats lines)
+  pub parts : sum_by (λ (s : SeatView). s.parts) shares ≡ 66
+
+-- how each line's worker ended, and the line: with a fault only where the line has counted one
+abbrev pub FaultsCounted : {L : Type 0} → (L → ℕ) → List LineDone → List L → Type 0
+FaultsCounted faults ends lines = EachPair (λ d line. d ≡ done.Fault → 0 < faults line) ends lines
+
+-- what is handed back of a cell with so many lines: the shares of all seats, and of each line how its worker ended, and the line
+pub record GivenBack {L : Type 0} (faults : L → ℕ) (count : ℕ) (shares : List SeatView) (ends : List LineDone) (lines : List L) : Type 0 where
+  pub seats : AreAllSeats count shares
+  pub each_ended : length ends ≡ count
+  pub each_line : length lines ≡ count
+  pub counted : FaultsCounted faults ends lines

@@ -1,0 +1,47 @@
+-- What a daemon hands back.
+use Rattle.std.specs.Prelude.{◌≡◌, ℕ, ◌⊎◌, List, Option, Some, None, true, false, is_some, codes}
+use Rattle.lat_words.specs.Configs.{config_of}
+use Rattle.lat_words.specs.declared.config.Config.{Config}
+use Rattle.lat_words.specs.declared.config.Role.{Role}
+use Rattle.lat_words.specs.declared.config.Role.TheVariants as roles
+use Rattle.lat_cell.specs.declared.seat.LineDone.{LineDone}
+use Rattle.lat_history.specs.CellView.{SeatView}
+use Rattle.lat_live.specs.Printed.{Told, told}
+use Rattle.lat_live.specs.Seating.{GivenBack}
+use Rattle.lat_live.specs.declared.ran.Ran.{Ran}
+use Rattle.lat_live.specs.declared.ran.Ran.TheVariants as ran
+
+-- what is told of the cell that ran, whatever its core
+abbrev pub told_of : {H T E B F : Type 0} → Ran H T E B F → Option Told
+told_of (ran.Server cell) = Some (told cell)
+told_of (ran.Node cell) = Some (told cell)
+told_of ran.Not = None
+
+-- the role that ran
+abbrev pub role_of : {H T E B F : Type 0} → Ran H T E B F → Option Role
+role_of (ran.Server cell) = Some roles.Server
+role_of (ran.Node cell) = Some roles.Node
+role_of ran.Not = None
+
+abbrev pub AreRight : List (List ℕ) → Type 0
+AreRight words = is_some (config_of words) ≡ true
+
+abbrev pub AreWrong : List (List ℕ) → Type 0
+AreWrong words = is_some (config_of words) ≡ false
+
+-- how many lines they tell of
+abbrev pub count_in : Option Config → ℕ
+count_in (Some c) = c.lines.count
+count_in None = 0
+
+-- where a cell is handed back: the shares of all seats, and of each line that the words tell of how its worker ended, and the line
+abbrev pub BackOf : {L : Type 0} → (L → ℕ) → List (List ℕ) → List SeatView → List LineDone → List L → Type 0
+BackOf faults words shares ends lines = GivenBack faults (count_in (config_of words)) shares ends lines
+
+-- what is written where they aren't right
+abbrev pub refusal : List ℕ
+refusal = codes "words\n"
+
+-- the statuses at which no worker was started, 5 only where the words are wrong
+abbrev pub IsNotRun : List (List ℕ) → ℕ → Type 0
+IsNotRun words status = (status ≡ 1) ⊎ ((status ≡ 4) ⊎ ((status ≡ 9) ⊎ ((status ≡ 5) × AreWrong words)))

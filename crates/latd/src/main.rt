@@ -1,0 +1,117 @@
+//! The program `latd`: hands its words, the sockets, the system's clock and standard output to `serve`, and ends with its
+//! status.
+#![tactic(auto)]
+
+ghost use Rattle.std.specs.Prelude.{◌≡◌, ◌-◌, ◌≤◌, min};
+
+use lat_cell::Blanks;
+use lat_hook::{RateHook, RatingRule};
+use lat_live::serve;
+use lat_outside::{FreeGate, StdSink};
+use lat_udp::{NetOpener, RealClock};
+use std::alloc::{AllocError, Global};
+use std::env::{Args, args};
+use std::io::{self, Print};
+use std::marker::Brand;
+use std::net::{Net, TcpListener, TcpStream};
+use std::process::ExitCode;
+use std::sync::Wait;
+use std::sync::ledger::{Blank, Ledger};
+use std::thread::Threads;
+use std::time::Clock;
+
+const NO_MEMORY: u8 = 9;
+
+// All words, the program's name first.
+fn words_of(alloc: Global, all: Args<Global>) -> Result<Vec<String>, AllocError> {
+    let mut words = Vec::new(alloc);
+    for word in all {
+        words.push(word)?;
+    }
+    Ok(words)
+}
+
+// The status of the daemon, whose node rates its services by this rule.
+fn status_by<
+    H: RatingRule + Send,
+    E: Ledger + Sync,
+    B: Ledger + Sync,
+    F: Ledger + Sync,
+    R: Threads
+        + Wait
+        + Net<Listener = TcpListener, Stream = TcpStream>
+        + Clock
+        + Print
+        + Copy
+        + Send
+        + Sync,
+>(rt: &R, alloc: Global, words: &[String], blanks: Blanks, rule: H) -> u8
+    requires fact { H.fact rule }
+    requires names { (blanks.events.name ≡ E.name) × (blanks.bytes.name ≡ B.name) × (blanks.full.name ≡ F.name) }
+    requires parts { (blanks.events.parts ≡ E.parts) × (blanks.bytes.parts ≡ B.parts) × (blanks.full.parts ≡ F.parts) }
+    requires many { (E.parts ≡ 66) × (B.parts ≡ 66) × (F.parts ≡ 66) }
+{
+    let mut opener = NetOpener::new(*rt);
+    let clock = RealClock::new(*rt);
+    let mut out = StdSink::new(io::writer(rt));
+    let served = serve::<_, _, _, _, _, E, B, F, R>(
+        rt,
+        alloc,
+        words,
+        blanks,
+        &mut opener,
+        clock,
+        &FreeGate,
+        rule,
+        &mut out,
+    );
+    served.status
+}
+
+// The status of the daemon, whose node rates its services by the lines that are free, 255 at most.
+fn status<
+    E: Ledger + Sync,
+    B: Ledger + Sync,
+    F: Ledger + Sync,
+    R: Threads
+        + Wait
+        + Net<Listener = TcpListener, Stream = TcpStream>
+        + Clock
+        + Print
+        + Copy
+        + Send
+        + Sync,
+>(rt: &R, alloc: Global, words: &[String], blanks: Blanks) -> u8
+    requires names { (blanks.events.name ≡ E.name) × (blanks.bytes.name ≡ B.name) × (blanks.full.name ≡ F.name) }
+    requires parts { (blanks.events.parts ≡ E.parts) × (blanks.bytes.parts ≡ B.parts) × (blanks.full.parts ≡ F.parts) }
+    requires many { (E.parts ≡ 66) × (B.parts ≡ 66) × (F.parts ≡ 66) }
+{
+    let rule = |used: u16, max: u16| -> u8
+        requires { used ≤ max }
+        ensures { result ≡ min (max - used) 255 }
+    { (max - used).min(255) as u8 };
+    status_by::<_, E, B, F, R>(rt, alloc, words, blanks, RateHook::new(rule))
+}
+
+fn main(rt: HostRuntime) -> ExitCode {
+    let words = match args(&rt) {
+        Ok(all) => words_of(rt.alloc(), all),
+        // A word that isn't text is no command, as no word at all.
+        Err(e) if e.kind() == io::ErrorKind::InvalidData => Ok(Vec::new(rt.alloc())),
+        Err(_) => Err(AllocError),
+    };
+    let Ok(words) = words else {
+        return ExitCode::from(NO_MEMORY);
+    };
+    let blanks = Blanks {
+        events: Blank::new(66),
+        bytes: Blank::new(66),
+        full: Blank::new(66),
+    };
+    ExitCode::from(status::<Brand, Brand, Brand, HostRuntime>(
+        &rt,
+        rt.alloc(),
+        words.as_slice(),
+        blanks,
+    ))
+}
