@@ -1,0 +1,5 @@
+pub mod Announcing
+pub mod Known
+pub mod Own
+pub mod Saying
+pub mod Silence

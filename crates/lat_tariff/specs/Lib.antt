@@ -1,0 +1,5 @@
+pub mod Rules
+pub mod Tariffs
+pub mod Kept
+pub mod Said
+pub mod Laws
