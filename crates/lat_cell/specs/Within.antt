@@ -1,8 +1,10 @@
 -- What a worker may have put, by what its line gave.
-use Rattle.std.specs.Prelude.{◌≡◌, ℕ, ◌+◌, ◌≤◌, List, length, Option, Some, None, Result, Ok, Err, Bool, true, false}
+use Rattle.std.specs.Prelude.{ℕ, ◌+◌, ◌≤◌, List, length, Option, Some, None, Result, Ok, Err, Bool, true, false}
 use Rattle.lat_outside.specs.declared.line_end.LineGot.{LineGot}
 use Rattle.lat_mind.specs.declared.mind.Move.{Move}
 use Rattle.lat_mind.specs.declared.mind.Move.TheVariants as moves
+use Rattle.lat_history.specs.CellView.{SeatView}
+use Rattle.lat_cell.specs.declared.desk.Desk.{Desk}
 use Rattle.lat_cell.specs.declared.desk.Held.{Held}
 use Rattle.lat_cell.specs.declared.desk.Held.TheVariants as helds
 use Rattle.lat_outside.specs.LineEnds.{bytes_got}
@@ -17,6 +19,10 @@ Within (Some old) (Some left) before now = now + length left ≤ before + length
 abbrev pub got_of : {E : Type 0} → Result LineGot E → ℕ
 got_of (Ok g) = bytes_got g
 got_of (Err e) = 0
+
+-- the bytes of a seat that were put, and those that its worker has read and not yet put
+abbrev pub in_hand : SeatView → Desk → ℕ
+in_hand share desk = share.bytes + desk.mind.left
 
 abbrev pub is_put : Move → Bool
 is_put moves.Put = true

@@ -1,6 +1,7 @@
 //! The clock's worker.
 
-ghost use Rattle.std.specs.Prelude.{◌≡◌};
+ghost use Rattle.std.specs.Prelude.{◌≡◌, is_some, if◌then◌else◌, true};
+ghost use Rattle.lat_cell.specs.Dues.{is_due};
 
 use lat_base::{Core, Event};
 use lat_history::{Cell, LineShare};
@@ -21,7 +22,10 @@ struct Announcing {
 
 impl Announcing {
     // Whether one is due now; then it is the last one.
-    fn is_due(&mut self, now: u64) -> bool {
+    fn is_due(&mut self, now: u64) -> bool
+        ensures due { result ≡ is_due self.old now }
+        ensures last { self.new ≡ (if is_due self.old now then record self.old { last = now } else self.old) }
+    {
         match self.each {
             Some(each) if now.saturating_sub(self.last) >= each => {
                 self.last = now;
@@ -52,7 +56,10 @@ fn tick<C: Core, T: Tx, E: Ledger, B: Ledger, F: Ledger>(
     sessions: Option<u32>,
 ) -> bool
     requires { share.old.seat ≡ 65 }
-    ensures { (share.new.seat ≡ share.old.seat) × (share.new.parts ≡ share.old.parts) }
+    ensures seat { (share.new.seat ≡ share.old.seat) × (share.new.parts ≡ share.old.parts) }
+    ensures over { result ≡ cell.new.stopping }
+    ensures stays { cell.old.stopping ≡ true → result ≡ true }
+    ensures full { is_some cell.new.full ≡ true → result ≡ true }
 {
     let _ = cell.apply(alloc, Event::Time { now }, share);
     if sessions.is_some_and(|count| cell.finished() >= count) || cell.full().is_some() {

@@ -2,7 +2,7 @@
 
 ghost use Rattle.std.specs.Prelude.{◌≡◌, ◌+◌, ◌≤◌, IfSome, IfOk, length, true, false};
 ghost use Rattle.lat_history.specs.Counts.{seat_of, put_by, put_of};
-ghost use Rattle.lat_cell.specs.Within.{is_put, is_read};
+ghost use Rattle.lat_cell.specs.Within.{in_hand, is_put, is_read};
 
 use lat_base::{Answer, Bytes, Core, Event, Items, Memory, Name, SessionState};
 use lat_history::{Cell, CellFault, LineShare, Receipt};
@@ -124,7 +124,7 @@ fn applied<C: Core, T: Tx, E: Ledger, B: Ledger, F: Ledger>(
     requires seat { seat_of event ≡ share.old.seat }
     requires put { put_by event ≤ desk.old.mind.left }
     requires other { is_put go ≡ false → put_by event ≡ 0 }
-    ensures counts { share.new.bytes + desk.new.mind.left ≤ share.old.bytes + desk.old.mind.left }
+    ensures counts { in_hand share.new desk.new ≤ in_hand share.old desk.old }
     ensures seat { (share.new.seat ≡ share.old.seat) × (share.new.parts ≡ share.old.parts) }
     ensures full { result ≡ Held.Full → share.new.full ≡ true }
     ensures read { is_read result ≡ false }
@@ -150,7 +150,7 @@ pub fn hold<C: Core, T: Tx, E: Ledger, B: Ledger, F: Ledger>(
     share: &mut LineShare<E, B, F>,
     service: Option<Name>,
 ) -> Held
-    ensures counts { share.new.bytes + desk.new.mind.left ≤ share.old.bytes + desk.old.mind.left }
+    ensures counts { in_hand share.new desk.new ≤ in_hand share.old desk.old }
     ensures seat { (share.new.seat ≡ share.old.seat) × (share.new.parts ≡ share.old.parts) }
     ensures full { result ≡ Held.Full → share.new.full ≡ true }
     ensures read { result ≡ Held.Read → desk.new.mind.left ≡ 0 }

@@ -1,8 +1,8 @@
 //! A line's worker.
 
-ghost use Rattle.std.specs.Prelude.{◌≡◌, ◌+◌, ◌<◌, ◌≤◌, Some, Ok, Err, IfOk, OnErr, OnOk, length, true, ℕ};
+ghost use Rattle.std.specs.Prelude.{◌≡◌, ◌+◌, ◌≤◌, Some, OnErr, true, ℕ};
 ghost use Rattle.lat_outside.specs.Causes.{Rose};
-ghost use Rattle.lat_cell.specs.Within.{Within};
+ghost use Rattle.lat_cell.specs.Within.{Within, in_hand};
 
 use crate::desk::{Desk, Held, hold};
 use crate::write::write_items;
@@ -66,7 +66,7 @@ impl<L: LineEnd, E: Ledger, B: Ledger, F: Ledger> Seat<L, E, B, F> {
         desk: &mut Desk,
     ) -> Option<LineDone>
         ensures seat { (self.new.share.seat ≡ self.old.share.seat) × (self.new.share.parts ≡ self.old.share.parts) }
-        ensures gave { Within (L.left self.old.line) (L.left self.new.line) (self.old.share.bytes + desk.old.mind.left) (self.new.share.bytes + desk.new.mind.left) }
+        ensures gave { Within (L.left self.old.line) (L.left self.new.line) (in_hand self.old.share desk.old) (in_hand self.new.share desk.new) }
         ensures later { L.faults self.old.line ≤ L.faults self.new.line }
         ensures fault { result ≡ Some LineDone.Fault → Rose (L.faults self.old.line) (L.faults self.new.line) }
         ensures full { result ≡ Some LineDone.Full → self.new.share.full ≡ true }

@@ -1,6 +1,6 @@
 //! The wire's worker.
 
-ghost use Rattle.std.specs.Prelude.{◌≡◌, ◌≤◌, length};
+ghost use Rattle.std.specs.Prelude.{◌≡◌, ◌||◌, is_some};
 
 use lat_base::{Addr, Bytes, Core, Event};
 use lat_history::{Cell, LineShare};
@@ -9,7 +9,9 @@ use std::alloc::Global;
 use std::sync::ledger::Ledger;
 use std::sync::{Mutex, Wait};
 
-fn over<C: Core, T: Tx, E: Ledger, B: Ledger, F: Ledger>(cell: &Cell<C, T, E, B, F>) -> bool {
+fn over<C: Core, T: Tx, E: Ledger, B: Ledger, F: Ledger>(cell: &Cell<C, T, E, B, F>) -> bool
+    ensures { result ≡ (cell.now.stopping || is_some cell.now.full) }
+{
     cell.stopping() || cell.full().is_some()
 }
 

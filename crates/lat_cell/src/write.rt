@@ -1,6 +1,6 @@
 //! Items, written to a line.
 
-ghost use Rattle.std.specs.Prelude.{◌≡◌, ◌≤◌, OnErr, length};
+ghost use Rattle.std.specs.Prelude.{◌≡◌, ◌≤◌, OnErr};
 ghost use Rattle.lat_outside.specs.Causes.{Rose};
 
 use lat_base::Item;

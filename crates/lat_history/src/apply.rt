@@ -1,6 +1,7 @@
 //! One event, under one hold of the lock.
 
 ghost use Rattle.std.specs.Prelude.{◌≡◌, ◌≢◌, ◌+◌, ◌<◌, ◌++◌, ◌≤◌, ◌∷◌, [], length, vec_len, vec_capacity, true, Some, Err, IfOk, OnOk, OnErr};
+ghost use Rattle.lat_history.specs.CellView.{IsRefused};
 ghost use Rattle.lat_history.specs.Counts.{seat_of, bytes_in, put_of, put_by, past, ShowsLimit, IsFullAt, HasRoom};
 ghost use Rattle.lat_history.specs.History.{Grew, SameBefore, run_of};
 
@@ -17,16 +18,13 @@ impl<C: Core, T: Tx, E: Ledger, B: Ledger, F: Ledger> Cell<C, T, E, B, F> {
     // An event found no room.
     fn refuse(&mut self, at: FullAt, share: &mut LineShare<E, B, F>)
         requires { ShowsLimit (Some at) }
-        ensures core { (self.new.core ≡ self.old.core) × (self.new.tx ≡ self.old.tx) × (self.new.sent ≡ self.old.sent) }
-        ensures history { (self.new.history ≡ self.old.history) × (self.new.stopping ≡ self.old.stopping) }
+        ensures cell { IsRefused self.old share.old self.new at }
         ensures share { share.new ≡ record share.old { full = true } }
         ensures full { 0 < self.new.full_seats }
     {
         let Cell { full, fulls, .. } = self;
         share.refused(fulls);
-        if full.is_none() {
-            *full = Some(at);
-        }
+        *full = full.or(Some(at));
     }
 
     /// Applies an event of the share's seat, hands its frames to the carrier (a send that fails is a lost frame), and keeps
@@ -51,7 +49,10 @@ impl<C: Core, T: Tx, E: Ledger, B: Ledger, F: Ledger> Cell<C, T, E, B, F> {
         ensures stopping { self.new.stopping ≡ self.old.stopping }
         ensures limit { (at : FullAt) → result ≡ Err (CellFault.Full at) → IsFullAt self.old.history event at }
         ensures room { HasRoom self.old.history event → (at : FullAt) → result ≢ Err (CellFault.Full at) }
+        ensures no_room { ((at : FullAt) → result ≢ Err (CellFault.Full at)) → HasRoom self.old.history event }
         ensures full { (at : FullAt) → result ≡ Err (CellFault.Full at) → (share.new ≡ record share.old { full = true }) × (0 < self.new.full_seats) }
+        ensures first { (at : FullAt) → result ≡ Err (CellFault.Full at) → IsRefused self.old share.old self.new at }
+        ensures room_left { OnOk result ((self.new.full ≡ self.old.full) × (self.new.full_seats ≡ self.old.full_seats)) }
         ensures memory { result ≡ Err CellFault.Memory → (share.new ≡ share.old) × (self.new ≡ self.old) }
         ensures err { OnErr result ((self.new.core ≡ self.old.core) × (self.new.history ≡ self.old.history)) }
     {

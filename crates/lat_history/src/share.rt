@@ -1,6 +1,7 @@
 //! The share of a seat.
 
-ghost use Rattle.std.specs.Prelude.{◌≡◌, ◌+◌, ◌*◌, ◌<◌, ℕ, false, true};
+ghost use Rattle.std.specs.Prelude.{◌≡◌, ◌+◌, ◌*◌, ◌<◌, ℕ, false, true, if◌then◌else◌};
+ghost use Rattle.lat_history.specs.CellView.{full_in};
 
 use std::marker::Model;
 use std::sync::ledger::{Book, Ledger, Share};
@@ -81,6 +82,7 @@ impl<E: Ledger, B: Ledger, F: Ledger> LineShare<E, B, F> {
     pub(crate) fn into_parts(self) -> (Share<E>, Share<B>, Share<F>)
         ensures events { (result.0.amount ≡ self.events) × (result.0.parts ≡ self.parts) }
         ensures bytes { (result.1.amount ≡ self.bytes) × (result.1.parts ≡ self.parts) }
+        ensures full { (result.2.amount ≡ full_in self) × (result.2.parts ≡ self.parts) }
     {
         let Self {
             in_events,
@@ -115,6 +117,7 @@ impl<E: Ledger, B: Ledger, F: Ledger> LineShare<E, B, F> {
     // An event of it was refused for want of room.
     pub(crate) fn refused(&mut self, fulls: &mut Book<F>)
         ensures counts { self.new ≡ record self.old { full = true } }
+        ensures book { fulls.new.total ≡ fulls.old.total + (if self.old.full then 0 else 1) }
         ensures some { 0 < fulls.new.total }
     {
         let Self { full, in_full, .. } = self;

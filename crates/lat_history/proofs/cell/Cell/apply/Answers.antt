@@ -1,4 +1,4 @@
-use Rattle.std.proofs.Common.{◌∙◌, ap, ◌++◌, ◌∷◌, [], length, arith}
+use Rattle.std.proofs.Common.{◌∙◌, ap, refl, ◌++◌, ◌∷◌, [], length, arith}
 use Rattle.std.proofs.lemmas.List.Sums.{sum_by_push}
 use Rattle.lat_history.specs.Counts.{past, put_in, bytes_in, bytes_put, bytes_kept}
 use Rattle.lat_history.specs.History.{FramesOf, run_of}
@@ -34,3 +34,7 @@ invariant_of-self-2 g c =
       c.self.invariant.11,
       c.clear.ensures,
     )
+
+-- it was refused so
+pub returns-then-place-ge-MOST-clause-no_room : goal.returns-then-place-ge-MOST-clause-no_room
+returns-then-place-ge-MOST-clause-no_room g c = λ no. absurd (no _ refl)
