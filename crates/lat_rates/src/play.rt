@@ -1,0 +1,77 @@
+//! A core that is told events, and what it sends to no circuit.
+
+use crate::words::{bytes, word};
+use lat_base::{Addr, Core, Event, Memory, OutBox, OutFrame};
+use std::alloc::Global;
+use std::marker::Model;
+
+/// The station that everything comes from.
+const PEER: Addr = Addr([0xaa, 0x00, 0x04, 0x00, 0x01, 0x04]);
+
+/// A core that may be called at any time.
+#[derive(Drop)]
+pub struct Play<C: Core> {
+    core: C,
+}
+
+impl<C: Core> Model for Play<C> {
+    ghost Value = { C };
+
+    ghost view = { λ a. a.core };
+
+    ghost invariant = { λ a. C.valid a.core };
+}
+
+// Prints a frame that belongs to no circuit.
+fn print(alloc: Global, frame: &OutFrame, text: &mut String) -> Result<(), Memory> {
+    if frame.circuit != 0 {
+        return Ok(());
+    }
+    let to = hex::encode(alloc, &frame.to.0)?;
+    let payload = hex::encode(alloc, frame.payload.bytes())?;
+    write!(text, "{to} {payload}\n")?;
+    Ok(())
+}
+
+impl<C: Core> Play<C> {
+    pub fn new(core: C) -> Play<C>
+        requires { C.valid core }
+    {
+        Play { core }
+    }
+
+    // One event, and what goes out.
+    fn tell(&mut self, alloc: Global, event: &Event, text: &mut String) -> Result<(), Memory> {
+        let mut out = OutBox::make(alloc)?;
+        self.core.step(alloc, event, &mut out)?;
+        for frame in out.frames() {
+            print(alloc, frame, text)?;
+        }
+        Ok(())
+    }
+
+    // What one line does.
+    fn act(&mut self, alloc: Global, line: &str, text: &mut String) -> Result<(), Memory> {
+        match word(line, 0) {
+            "announce" => self.tell(alloc, &Event::Announce, text),
+            "hear" => {
+                let heard = Event::Heard {
+                    from: PEER,
+                    payload: bytes(alloc, line, 1)?,
+                    now: 0,
+                };
+                self.tell(alloc, &heard, text)
+            }
+            _ => Ok(()),
+        }
+    }
+
+    /// What each of the lines does, but the first.
+    pub fn act_all(&mut self, alloc: Global, lines: &str, text: &mut String) -> Result<(), Memory> {
+        for line in lines.lines() {
+            write!(text, "> {line}\n")?;
+            self.act(alloc, line, text)?;
+        }
+        Ok(())
+    }
+}
