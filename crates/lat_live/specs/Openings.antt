@@ -1,6 +1,7 @@
 -- What a daemon's core is opened from.
-use Rattle.std.specs.Prelude.{ℕ, List, [], ◌∷◌, true, replicate}
+use Rattle.std.specs.Prelude.{ℕ, List, [], true, replicate}
 use Rattle.lat_machines.specs.values.Addresses.{address}
+use Rattle.lat_machines.specs.values.Names.{Name}
 use Rattle.lat_machines.specs.values.Timing.{Timing}
 use Rattle.lat_machines.specs.server.Server.{ServerConfig}
 use Rattle.lat_machines.specs.node.Node.{NodeConfig}
@@ -21,14 +22,14 @@ server_config c = record {
   timing = usual_wide;
 }
 
--- a node in its first incarnation, for every server, with one service, announced each 30 seconds
-abbrev pub node_config : Config → NodeConfig
-node_config c = record {
+-- a node in its first incarnation, for every server, with these services, announced each 30 seconds
+abbrev pub node_config : Config → List Name → NodeConfig
+node_config c services = record {
   own = address c.station.address.0;
   name = c.station.name;
   incarnation = 1;
   lines = c.lines.count;
-  services = c.lines.service ∷ [];
+  services = services;
   timer = 30;
   groups = [];
   timing = usual_wide;

@@ -12,15 +12,17 @@ use Rattle.lat_live.specs.declared.ran.Ran.{Ran}
 use Rattle.lat_live.specs.declared.ran.Ran.TheVariants as ran
 
 -- what is told of the cell that ran, whatever its core
-abbrev pub told_of : {H T E B F : Type 0} → Ran H T E B F → Option Told
+abbrev pub told_of : {H P T E B F : Type 0} → Ran H P T E B F → Option Told
 told_of (ran.Server cell) = Some (told cell)
 told_of (ran.Node cell) = Some (told cell)
+told_of (ran.Tariff cell) = Some (told cell)
 told_of ran.Not = None
 
 -- the role that ran
-abbrev pub role_of : {H T E B F : Type 0} → Ran H T E B F → Option Role
+abbrev pub role_of : {H P T E B F : Type 0} → Ran H P T E B F → Option Role
 role_of (ran.Server cell) = Some roles.Server
 role_of (ran.Node cell) = Some roles.Node
+role_of (ran.Tariff cell) = Some roles.Tariff
 role_of ran.Not = None
 
 abbrev pub AreRight : List (List ℕ) → Type 0

@@ -2,11 +2,13 @@
 
 ghost use Rattle.std.specs.Prelude.{◌≡◌, ◌≤◌, ◌∷◌, [], IfOk};
 ghost use Rattle.lat_words.specs.Configs.{Within};
-ghost use Rattle.lat_words.specs.declared.config.Role.TheVariants as roles;
 ghost use Rattle.lat_server.specs.Kept as server;
 ghost use Rattle.lat_server.specs.Stands as servers;
+ghost use Rattle.lat_node.specs.Config.{config_shown, IsConfig};
 ghost use Rattle.lat_node.specs.Kept as node;
 ghost use Rattle.lat_node.specs.Stands as nodes;
+ghost use Rattle.lat_tariff.specs.Kept as tariffs;
+ghost use Rattle.lat_tariff.specs.Tariffs.{names, AreKnown};
 ghost use Rattle.lat_live.specs.Openings.{server_config, node_config};
 
 use lat_base::{Bytes, Memory, Name};
@@ -14,6 +16,7 @@ use lat_hook::RatingRule;
 use lat_node::{NodeConfig, NodeCore};
 use lat_queue::Services16;
 use lat_server::{Offers, ServerConfig, ServerCore, Timing};
+use lat_tariff::{SteadyRule, Tariff, TariffCore};
 use lat_words::Config;
 use std::alloc::Global;
 
@@ -27,7 +30,7 @@ const TIMING: Timing = Timing {
     wide: true,
 };
 
-/// Each node announces its service after so many seconds again.
+/// Each node announces its services after so many seconds again.
 pub const ANNOUNCE_SECONDS: u8 = 30;
 
 /// The server that the words tell of: it listens to all groups, and no line offers a service. `Memory` where none is found.
@@ -57,8 +60,26 @@ fn offering(alloc: Global, service: &Name) -> Result<Services16, Memory>
     Ok(services)
 }
 
-/// The node that the words tell of, in its first incarnation: it offers the service to every server. `Memory` where none is
-/// found.
+// What a node of these services is made of, in its first incarnation: it offers them to every server.
+fn node_config(alloc: Global, config: &Config, services: Services16) -> Result<NodeConfig, Memory>
+    requires { (1 ≤ config.now.lines.count) × (config.now.lines.count ≤ 64) }
+    ensures valid { IfOk result IsConfig }
+    ensures config { IfOk result (λ c. config_shown c ≡ node_config config.now services) }
+    ensures services { IfOk result (λ c. c.services ≡ services) }
+{
+    Ok(NodeConfig {
+        own: config.station.address,
+        name: config.station.name,
+        incarnation: 1,
+        lines: config.lines.count,
+        services,
+        timer: ANNOUNCE_SECONDS,
+        groups: Bytes::copy(alloc, &[])?,
+        timing: TIMING,
+    })
+}
+
+/// The node that the words tell of, with their service. `Memory` where none is found.
 pub fn node_core<H: RatingRule>(
     alloc: Global,
     config: &Config,
@@ -67,18 +88,29 @@ pub fn node_core<H: RatingRule>(
     requires lines { (1 ≤ config.now.lines.count) × (config.now.lines.count ≤ 64) }
     requires fact { H.fact rule }
     ensures stands { IfOk result (λ k. nodes.IsMachine k (nodes.opening k)) }
-    ensures config { IfOk result (λ k. (node.config_of k ≡ node_config config.now) × (k.rule ≡ rule)) }
+    ensures config { IfOk result (λ k. (node.config_of k ≡ node_config config.now (config.now.lines.service ∷ [])) × (k.rule ≡ rule)) }
     ensures rest { IfOk result (λ k. node.AtRest k × H.fact k.rule) }
 {
-    let config = NodeConfig {
-        own: config.station.address,
-        name: config.station.name,
-        incarnation: 1,
-        lines: config.lines.count,
-        services: offering(alloc, &config.lines.service)?,
-        timer: ANNOUNCE_SECONDS,
-        groups: Bytes::copy(alloc, &[])?,
-        timing: TIMING,
-    };
+    let services = offering(alloc, &config.lines.service)?;
+    let config = node_config(alloc, config, services)?;
     NodeCore::make(alloc, &config, rule)
+}
+
+/// The node that the words tell of, with the services of the tariff. `Memory` where none is found.
+pub fn tariff_core<H: RatingRule, P: SteadyRule>(
+    alloc: Global,
+    config: &Config,
+    rule: H,
+    tariff: Tariff<P>,
+) -> Result<TariffCore<H, P>, Memory>
+    requires lines { (1 ≤ config.now.lines.count) × (config.now.lines.count ≤ 64) }
+    requires fact { H.fact rule }
+    requires rules { AreKnown P.fact tariff }
+    ensures stands { IfOk result (λ k. tariffs.IsMachine k (tariffs.opening k)) }
+    ensures config { IfOk result (λ k. (node.config_of k.node ≡ node_config config.now (names tariff)) × (k.node.rule ≡ rule) × (k.rules ≡ tariff)) }
+    ensures valid { IfOk result (λ k. node.AtRest k.node × H.fact k.node.rule × AreKnown P.fact k.rules) }
+{
+    let services = tariff.names(alloc)?;
+    let config = node_config(alloc, config, services)?;
+    TariffCore::make(alloc, &config, rule, tariff)
 }

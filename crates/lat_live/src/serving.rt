@@ -39,15 +39,12 @@ pub struct Plan<'a> {
     pub sessions: Option<u32>,
 }
 
-/// What came of it: the status, the cell, the shares in the order of the seats, and of each line how its worker ended, and the
-/// line.
+/// What came of it: the status, the cell, and what the seats gave back.
 #[derive(Drop)]
 pub struct CoreServed<C: Core, T: Tx, L: LineEnd, E: Ledger, B: Ledger, F: Ledger> {
     pub status: u8,
     pub ran: Option<Cell<C, T, E, B, F>>,
-    pub shares: Vec<LineShare<E, B, F>>,
-    pub ends: Vec<LineDone>,
-    pub lines: Vec<L>,
+    pub given: Given<L, E, B, F>,
 }
 
 // All that the workers need, and the room for what they give back.
@@ -98,19 +95,13 @@ fn not_run<C: Core, T: Tx, L: LineEnd, E: Ledger, B: Ledger, F: Ledger>(
     alloc: Global,
     status: u8,
 ) -> CoreServed<C, T, L, E, B, F>
-    ensures { (result.status ≡ status) × (result.ran ≡ None) × (result.shares.items ≡ []) × (result.ends.items ≡ []) × (result.lines.items ≡ []) }
+    ensures ran { (result.status ≡ status) × (result.ran ≡ None) }
+    ensures given { (result.given.shares.items ≡ []) × (result.given.ends.items ≡ []) × (result.given.lines.items ≡ []) }
 {
-    let Given {
-        shares,
-        ends,
-        lines,
-    } = Given::none(alloc);
     CoreServed {
         status,
         ran: None,
-        shares,
-        ends,
-        lines,
+        given: Given::none(alloc),
     }
 }
 
@@ -163,15 +154,15 @@ pub fn serve_core<
     requires names { (blanks.events.name ≡ E.name) × (blanks.bytes.name ≡ B.name) × (blanks.full.name ≡ F.name) }
     requires parts { (blanks.events.parts ≡ E.parts) × (blanks.bytes.parts ≡ B.parts) × (blanks.full.parts ≡ F.parts) }
     requires many { (E.parts ≡ 66) × (B.parts ≡ 66) × (F.parts ≡ 66) }
-    ensures ended { IfSome (told_in result.ran) (λ t. IsPrinted S.told S.faults out.old out.new t result.shares.items result.ends.items result.status) }
-    ensures back { IfSome (told_in result.ran) (λ t. GivenBack O.L.faults plan.now.lines result.shares.items result.ends.items result.lines.items) }
+    ensures ended { IfSome (told_in result.ran) (λ t. IsPrinted S.told S.faults out.old out.new t result.given.shares.items result.given.ends.items result.status) }
+    ensures back { IfSome (told_in result.ran) (λ t. GivenBack O.L.faults plan.now.lines result.given.shares.items result.given.ends.items result.given.lines.items) }
     ensures own { IsOwn result.status ⊎ ((result.status ≡ 4) ⊎ (result.status ≡ 5)) }
     ensures opener { result.status ≡ 4 → RoseIn O.faults opener.old opener.new }
     ensures sink { result.status ≡ 5 → RoseIn S.faults out.old out.new }
     ensures silent { result.status ≡ 4 → S.told out.new ≡ S.told out.old }
     ensures memory { result.status ≡ 9 → S.told out.new ≡ S.told out.old }
     ensures none { result.ran ≡ None → (result.status ≡ 4) ⊎ (result.status ≡ 9) }
-    ensures empty { result.ran ≡ None → (result.shares.items ≡ []) × (result.ends.items ≡ []) × (result.lines.items ≡ []) }
+    ensures empty { result.ran ≡ None → (result.given.shares.items ≡ []) × (result.given.ends.items ≡ []) × (result.given.lines.items ≡ []) }
 {
     let start = match opened::<O, C, E, B, F>(alloc, plan, core, blanks, opener) {
         Ok(start) => start,
@@ -189,17 +180,12 @@ pub fn serve_core<
         sessions: plan.sessions,
     };
     let (cell, seated) = run_all(rt, alloc, cell, rx, seated, clock, gate, ending);
-    let Given {
-        shares,
-        ends,
-        lines,
-    } = given.filled(seated);
-    let status = printed(alloc, &cell, shares.as_slice(), ends.as_slice(), out);
+    let given = given.filled(seated);
+    let (shares, ends) = (given.shares.as_slice(), given.ends.as_slice());
+    let status = printed(alloc, &cell, shares, ends, out);
     CoreServed {
         status,
         ran: Some(cell),
-        shares,
-        ends,
-        lines,
+        given,
     }
 }

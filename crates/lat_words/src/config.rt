@@ -8,6 +8,8 @@ use lat_base::{Addr, Name};
 pub enum Role {
     Server,
     Node,
+    /// A node whose services have each a rule of rating of its own.
+    Tariff,
 }
 
 /// How it stands on the carrier.
@@ -23,13 +25,14 @@ pub struct Station {
 /// Its lines.
 #[derive(Drop)]
 pub struct Lines {
-    /// A server has 1 to 32, a node 1 to 64.
+    /// A server has 1 to 32, a node or a tariff node 1 to 64.
     pub count: u8,
     /// The port that line 1 listens on. Each further line listens on the next one.
     pub port: u16,
-    /// What a server's lines are connected to, or what a node offers.
+    /// What a server's lines are connected to, or what a node offers. A tariff node offers the services of its tariff and
+    /// ignores it.
     pub service: Name,
-    /// After so many sessions a node ends. A server ignores it.
+    /// After so many sessions a node or a tariff node ends. A server ignores it.
     pub sessions: u32,
 }
 

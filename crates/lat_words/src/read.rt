@@ -19,6 +19,8 @@ fn role_of(text: &[u8]) -> Option<Role>
         Some(Role::Server)
     } else if text == "node".as_bytes() {
         Some(Role::Node)
+    } else if text == "tariff".as_bytes() {
+        Some(Role::Tariff)
     } else {
         None
     }
@@ -30,7 +32,7 @@ fn most_lines(role: Role) -> u64
 {
     match role {
         Role::Server => 32,
-        Role::Node => 64,
+        Role::Node | Role::Tariff => 64,
     }
 }
 

@@ -37,8 +37,9 @@ const WRONG: [(&str, &str); 17] = [
 ];
 
 // Values that leave them right.
-const RIGHT: [(&str, &str); 6] = [
+const RIGHT: [(&str, &str); 7] = [
     ("--role", "node"),
+    ("--role", "tariff"),
     ("--lines", "32"),
     ("--line-port", "65534"),
     ("--service", "%fe"),

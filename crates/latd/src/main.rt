@@ -2,12 +2,18 @@
 //! status.
 #![tactic(auto)]
 
-ghost use Rattle.std.specs.Prelude.{◌≡◌, ◌-◌, ◌≤◌, min};
+ghost use Rattle.std.specs.Prelude.{◌≡◌, ◌-◌, ◌≤◌, codes, min};
+ghost use Rattle.lat_tariff.specs.Tariffs.{AreKnown};
 
+mod rates;
+
+use crate::rates::{NineWhileFree, TwentyPerFreeLine};
+use lat_base::Name;
 use lat_cell::Blanks;
 use lat_hook::{RateHook, RatingRule};
 use lat_live::serve;
 use lat_outside::{FreeGate, StdSink};
+use lat_tariff::{Rule, SteadyRule, Tariff};
 use lat_udp::{NetOpener, RealClock};
 use std::alloc::{AllocError, Global};
 use std::env::{Args, args};
@@ -31,9 +37,10 @@ fn words_of(alloc: Global, all: Args<Global>) -> Result<Vec<String>, AllocError>
     Ok(words)
 }
 
-// The status of the daemon, whose node rates its services by this rule.
+// The status of the daemon, whose node rates its services by this rule, or by those of this tariff.
 fn status_by<
     H: RatingRule + Send,
+    P: SteadyRule + Send,
     E: Ledger + Sync,
     B: Ledger + Sync,
     F: Ledger + Sync,
@@ -45,8 +52,9 @@ fn status_by<
         + Copy
         + Send
         + Sync,
->(rt: &R, alloc: Global, words: &[String], blanks: Blanks, rule: H) -> u8
+>(rt: &R, alloc: Global, words: &[String], blanks: Blanks, rule: H, tariff: Tariff<P>) -> u8
     requires fact { H.fact rule }
+    requires rules { AreKnown P.fact tariff }
     requires names { (blanks.events.name ≡ E.name) × (blanks.bytes.name ≡ B.name) × (blanks.full.name ≡ F.name) }
     requires parts { (blanks.events.parts ≡ E.parts) × (blanks.bytes.parts ≡ B.parts) × (blanks.full.parts ≡ F.parts) }
     requires many { (E.parts ≡ 66) × (B.parts ≡ 66) × (F.parts ≡ 66) }
@@ -54,7 +62,7 @@ fn status_by<
     let mut opener = NetOpener::new(*rt);
     let clock = RealClock::new(*rt);
     let mut out = StdSink::new(io::writer(rt));
-    let served = serve::<_, _, _, _, _, E, B, F, R>(
+    let served = serve::<_, _, _, _, _, _, E, B, F, R>(
         rt,
         alloc,
         words,
@@ -63,12 +71,24 @@ fn status_by<
         clock,
         &FreeGate,
         rule,
+        tariff,
         &mut out,
     );
     served.status
 }
 
-// The status of the daemon, whose node rates its services by the lines that are free, 255 at most.
+// The names of the tariff's services.
+fn services() -> (Name, Name)
+    ensures { (result.0 ≡ codes "LOGIN") × (result.1 ≡ codes "PRINT") }
+{
+    match (Name::read(b"LOGIN"), Name::read(b"PRINT")) {
+        (Ok(login), Ok(print)) => (login, print),
+        _ => unreachable!(),
+    }
+}
+
+// The status of the daemon, whose node rates its service by the lines that are free, 255 at most. One with a tariff offers LOGIN
+// and PRINT.
 fn status<
     E: Ledger + Sync,
     B: Ledger + Sync,
@@ -81,7 +101,7 @@ fn status<
         + Copy
         + Send
         + Sync,
->(rt: &R, alloc: Global, words: &[String], blanks: Blanks) -> u8
+>(rt: &R, alloc: Global, words: &[String], blanks: Blanks) -> Result<u8, AllocError>
     requires names { (blanks.events.name ≡ E.name) × (blanks.bytes.name ≡ B.name) × (blanks.full.name ≡ F.name) }
     requires parts { (blanks.events.parts ≡ E.parts) × (blanks.bytes.parts ≡ B.parts) × (blanks.full.parts ≡ F.parts) }
     requires many { (E.parts ≡ 66) × (B.parts ≡ 66) × (F.parts ≡ 66) }
@@ -90,7 +110,21 @@ fn status<
         requires { used ≤ max }
         ensures { result ≡ min (max - used) 255 }
     { (max - used).min(255) as u8 };
-    status_by::<_, E, B, F, R>(rt, alloc, words, blanks, RateHook::new(rule))
+    let hook = RateHook::new(rule);
+    let (login, print) = services();
+    let per_line: Box<dyn SteadyRule + Send> = Box::new(alloc, TwentyPerFreeLine)?;
+    let while_free: Box<dyn SteadyRule + Send> = Box::new(alloc, NineWhileFree)?;
+    let mut rules = Vec::new(alloc);
+    rules.push(Rule {
+        name: login,
+        rule: per_line,
+    })?;
+    rules.push(Rule {
+        name: print,
+        rule: while_free,
+    })?;
+    let tariff = Tariff::make(rules);
+    Ok(status_by::<_, _, E, B, F, R>(rt, alloc, words, blanks, hook, tariff))
 }
 
 fn main(rt: HostRuntime) -> ExitCode {
@@ -108,10 +142,11 @@ fn main(rt: HostRuntime) -> ExitCode {
         bytes: Blank::new(66),
         full: Blank::new(66),
     };
-    ExitCode::from(status::<Brand, Brand, Brand, HostRuntime>(
+    let status = status::<Brand, Brand, Brand, HostRuntime>(
         &rt,
         rt.alloc(),
         words.as_slice(),
         blanks,
-    ))
+    );
+    ExitCode::from(status.unwrap_or(NO_MEMORY))
 }

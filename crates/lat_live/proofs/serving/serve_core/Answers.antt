@@ -8,7 +8,7 @@ returns-clause-back g c =
     let faults = g.O.L.LineEnd.faults in
     let opened = c.in-Ok.ensures in
     let ran = c.run_all-cell.ensures in
-    let given = c.filled-shares.ensures in
+    let given = c.filled-given.ensures in
     record {
       seats = all_back faults _ _ _ _ _ _ _ _ c.requires.lines.1 (opened.around.0) (opened.around.1) opened.lines (ran.around.0) (ran.around.1) ran.lines given.shares;
       each_ended = many_back faults _ done_of _ _ _ opened.lines ran.lines given.ends;
