@@ -1,0 +1,4 @@
+pub mod Posts
+pub mod Lines
+pub mod Texts
+pub mod Legal
