@@ -1,0 +1,9 @@
+pub mod Along
+pub mod Passing
+pub mod Running
+pub mod Turns
+pub mod Later
+pub mod Leading
+pub mod Refusing
+pub mod Beginning
+pub mod Printing

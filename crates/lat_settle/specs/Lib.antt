@@ -1,0 +1,5 @@
+pub mod Events
+pub mod Told
+pub mod Rounds
+pub mod Laws
+pub mod Texts
