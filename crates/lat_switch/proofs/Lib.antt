@@ -1,0 +1,10 @@
+pub mod Firsts
+pub mod Lines
+pub mod Pieces
+pub mod Quiet
+pub mod Courses
+pub mod Lined
+pub mod Makes
+pub mod Readings
+pub mod Steps
+pub mod Runs

@@ -1,0 +1,14 @@
+use Rattle.std.proofs.Common.{◌≡◌, sym, ◌∙◌}
+use Rattle.lat_switch.specs.Calls.{closes}
+use Rattle.lat_switch.proofs.Courses.{no_such_line, such_line, same_itself}
+use Rattle.lat_switch.proofs.switch.SwitchCore.close_event.Goals as goal
+
+pub returns-then-not-exists-clause-same : goal.returns-then-not-exists-clause-same
+returns-then-not-exists-clause-same c = same_itself c.args.self.now
+
+pub returns-then-not-exists-clause-does : goal.returns-then-not-exists-clause-does
+returns-then-not-exists-clause-does c = λ course h. no_such_line course c.args.self.now c.args.line (closes c.args.line) c.args.out.now (sym c.exists.ensures.value ∙ c.if-not-exists.true) h
+
+pub returns-clause-does : goal.returns-clause-does
+returns-clause-does c = λ course h.
+    such_line course c.args.self.now c.close.new.self c.args.line (closes c.args.line) c.close.result c.args.out.now c.close.new.out (sym c.exists.ensures.value ∙ c.if-not-exists.false) h (c.close.ensures.does course h)

@@ -1,0 +1,71 @@
+-- A switch as a core.
+use Rattle.std.specs.Prelude.{◌≡◌, ℕ, ◌*◌, cond, List, [], map, length, Option, Some, None}
+use Rattle.lat_base.specs.declared.answer.Answer.{Answer}
+use Rattle.lat_base.specs.declared.event.Event.{Event}
+use Rattle.lat_base.specs.declared.outbox.OutFrame.{OutFrame}
+use Rattle.lat_base.specs.declared.state.SessionState.{SessionState}
+use Rattle.lat_base.specs.declared.state.SessionState.TheVariants as states
+use Rattle.lat_model.specs.Lists.{Each}
+use Rattle.lat_machines.specs.cores.Lines.{line_exists}
+use Rattle.lat_payload.specs.Frames.{seen, expected, IsReadable}
+use Rattle.lat_lines.specs.Answers as answers
+use Rattle.lat_lines.specs.Kept as kept
+use Rattle.lat_server.specs.Stands as server
+use Rattle.lat_server.specs.Stands.{Machine}
+use Rattle.lat_switch.specs.Lines.{Line, opened_lines}
+use Rattle.lat_switch.specs.Switch.{Switch, line_in}
+use Rattle.lat_switch.specs.Steps.{switch_step}
+use Rattle.lat_switch.specs.Kept.{Kept}
+
+-- as a switch is made: its server has four lines for each of its own, and no offers
+pub record IsMade (s : Switch) : Type 0 where
+  pub inner : server.IsMade s.inner
+  pub count : s.inner.config.lines ≡ 4 * length s.lines
+  pub offers : s.inner.config.offers ≡ []
+  pub lines : s.lines ≡ opened_lines (length s.lines)
+
+abbrev pub opening : Kept → Switch
+opening k = record { inner = server.opening k.inner; lines = opened_lines (length k.lines) }
+
+abbrev pub next : Switch → Event → Switch
+next s e = (switch_step s e).course.state
+
+abbrev pub answered : Switch → Event → Answer
+answered s e = (switch_step s e).answer
+
+-- the frames that go out: those of all inner events in order, and each of them is readable
+pub record Frames (s : Switch) (e : Event) (frames : List OutFrame) : Type 0 where
+  pub same : map seen frames ≡ map expected (switch_step s e).course.frames
+  pub readable : Each IsReadable (switch_step s e).course.frames
+
+-- what is told of a line is told of its shown inner line
+
+abbrev pub shown_in : ℕ → List Line → Option ℕ
+shown_in k lines = cond (line_exists (length lines) k) (Some (line_in k lines).shown) None
+
+abbrev pub state_at : Machine → Option ℕ → SessionState
+state_at m None = states.Free
+state_at m (Some x) = server.line_of m x
+
+abbrev pub line_of : Switch → ℕ → SessionState
+line_of s k = state_at s.inner (shown_in k s.lines)
+
+abbrev pub waiting_at : Machine → Option ℕ → ℕ
+waiting_at m None = 0
+waiting_at m (Some x) = server.waiting_of m x
+
+abbrev pub waiting_of : Switch → ℕ → ℕ
+waiting_of s k = waiting_at s.inner (shown_in k s.lines)
+
+abbrev pub moment_of : Switch → ℕ
+moment_of s = server.moment_of s.inner
+
+abbrev pub finished_of : Switch → ℕ
+finished_of s = server.finished_of s.inner
+
+abbrev pub ready_at : kept.Kept → Option ℕ → ℕ
+ready_at k None = 0
+ready_at k (Some x) = answers.ready k x
+
+abbrev pub ready : Kept → ℕ → ℕ
+ready k line = ready_at k.inner.lines (shown_in line k.lines)

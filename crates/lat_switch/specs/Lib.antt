@@ -1,0 +1,12 @@
+pub mod Lines
+pub mod Switch
+pub mod Pieces
+pub mod Calls
+pub mod Reading
+pub mod Steps
+pub mod Config
+pub mod Kept
+pub mod Stands
+pub mod Core
+pub mod Progress
+pub mod Runs

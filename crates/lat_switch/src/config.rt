@@ -1,0 +1,17 @@
+//! What a switch is made of.
+
+use lat_base::{Addr, Name};
+use lat_lines::Timing;
+
+/// What a switch is made of. Valid where it has 1 to 8 lines and the timing is valid. It has no offers.
+#[derive(Clone, Copy, Debug)]
+pub struct SwitchConfig {
+    /// Its address.
+    pub own: Addr,
+    pub name: Name,
+    /// How many lines it has. Each has four inner lines.
+    pub lines: u8,
+    /// The mask of the groups that it listens to: bit g mod 8 of byte g / 8 is that of group g.
+    pub groups: [u8; 32],
+    pub timing: Timing,
+}
