@@ -1,8 +1,11 @@
 //! The program `lat`: hands its words, standard input and standard output to `run`, and ends with its status.
 #![tactic(auto)]
 
-use lat_cmd::run;
-use lat_outside::{StdSink, StdSource};
+ghost use Rattle.std.specs.Prelude.{◌≡◌, ◌-◌, ◌≤◌, min};
+ghost use Rattle.lat_wire.specs.Rates.{RatesWhatIsLeft};
+
+use lat_cmd::{RateHook, RatingRule, run};
+use lat_outside::{Sink, Source, StdSink, StdSource};
 use std::alloc::{AllocError, Global};
 use std::env::{Args, args};
 use std::io;
@@ -19,6 +22,29 @@ fn words_of(alloc: Global, all: Args<Global>) -> Result<Vec<String>, AllocError>
     Ok(words)
 }
 
+// The status of the program, whose node rates its services by this rule.
+fn status_by<H: RatingRule, S: Source, K: Sink>(
+    alloc: Global,
+    words: &[String],
+    rule: H,
+    source: &mut S,
+    sink: &mut K,
+) -> u8
+    requires fact { H.fact rule }
+    requires rates { RatesWhatIsLeft (H.may rule) }
+{
+    run(alloc, words, rule, source, sink).status
+}
+
+// The status of the program, whose node rates its services by the lines that are free, 255 at most.
+fn status<S: Source, K: Sink>(alloc: Global, words: &[String], source: &mut S, sink: &mut K) -> u8 {
+    let rule = |used: u16, max: u16| -> u8
+        requires { used ≤ max }
+        ensures { result ≡ min (max - used) 255 }
+    { (max - used).min(255) as u8 };
+    status_by(alloc, words, RateHook::new(rule), source, sink)
+}
+
 fn main(rt: HostRuntime) -> ExitCode {
     let words = match args(&rt) {
         Ok(all) => words_of(rt.alloc(), all),
@@ -31,5 +57,5 @@ fn main(rt: HostRuntime) -> ExitCode {
     };
     let mut source = StdSource::new(rt.stdin());
     let mut sink = StdSink::new(io::writer(&rt));
-    ExitCode::from(run(rt.alloc(), &words, &mut source, &mut sink))
+    ExitCode::from(status(rt.alloc(), &words, &mut source, &mut sink))
 }

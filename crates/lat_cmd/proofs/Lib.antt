@@ -1,1 +1,5 @@
-pub mod Limit
+pub mod Coming
+pub mod Ending
+pub mod Forming
+pub mod Replaying
+pub mod Capturing

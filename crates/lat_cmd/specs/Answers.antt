@@ -1,29 +1,112 @@
--- What the program answers: a status, and the text that it writes.
-use Rattle.std.specs.Prelude.{◌≡◌, ℕ, List, length, take, Option, nat_lt, codes, ◌⊎◌, if◌then◌else◌}
-use Rattle.std.specs.Io.KnownBytes.{Appends}
+-- What the program answers: a status, the text that it writes, and the world that it hands back.
+use Rattle.std.specs.Prelude.{◌≡◌, ℕ, ◌+◌, List, [], length, Option, Some, None, Result, Ok, Err, nat_lt, codes, if◌then◌else◌}
+use Rattle.lat_machines.specs.world.Machines.{Setups}
+use Rattle.lat_machines.specs.world.Reports.{report}
 use Rattle.lat_show.specs.ShowOf.{show_of}
 use Rattle.lat_choose.specs.ChooseOf.{choose_of}
+use Rattle.lat_audit.specs.AuditOf.{audit_of}
+use Rattle.lat_tap.specs.CapturedText.{captured_text}
+use Rattle.lat_growth.specs.Grown as gen
+use Rattle.lat_replay.specs.Kept.{Kept, setups_of}
+use Rattle.lat_replay.specs.Setups.{setups_shown}
+use Rattle.lat_replay.specs.Played.{State, open_state, Played, Through, Refused, played, StandsAt}
+use Rattle.lat_report.specs.ReportText.{report_text}
+use Rattle.lat_report.specs.RefusedText.{refused_text, status}
+use Rattle.lat_report.specs.declared.refused.Refused.TheVariants as lines
+use Rattle.lat_schedule.specs.ScheduleText.{schedule_of}
+use Rattle.lat_schedule.specs.declared.schedule.Schedule.{Schedule}
+use Rattle.lat_schedule.specs.declared.schedule.ScheduleFault.{ScheduleFault}
+use Rattle.lat_schedule.specs.declared.schedule.ScheduleFault.TheVariants as faults
+use Rattle.lat_text.specs.WrongLine.{wrong_line}
 use Rattle.lat_cmd.specs.declared.command.Command.{Command}
-use Rattle.lat_cmd.specs.declared.command.Command.TheVariants.{Show, Choose}
+use Rattle.lat_cmd.specs.declared.command.Command.TheVariants.{Show, Choose, Replay, Capture, Audit, Gen, Bench}
+use Rattle.lat_cmd.specs.Commands.{reads}
+use Rattle.lat_cmd.specs.Refusals.{refused_of}
+
+-- the two machines, what they are made of, and the moment of the schedule
+pub record Ended : Type 0 where
+  pub setups : Setups
+  pub state : State
+
+pub record Answer : Type 0 where
+  pub status : ℕ
+  pub text : List ℕ
+  pub world : Option Ended  -- None where no world is handed back
+
+-- a status and a text alone
+abbrev pub plain : ℕ × List ℕ → Answer
+plain a = record { status = a.0; text = a.1; world = None }
+
+-- a text with the world that it tells of
+abbrev pub with_world : List ℕ → Setups → State → Answer
+with_world text u t = record { status = 0; text = text; world = Some (record { setups = u; state = t }) }
+
+-- no schedule: the first wrong line, or the line of the first event too many
+abbrev pub misread : ScheduleFault → Answer
+misread (faults.Form line) = plain (2, wrong_line line)
+misread (faults.Events line) = plain (6, refused_text line lines.EventsLimit)
+misread faults.Memory = plain (9, [])
+
+-- what a command tells of the two machines behind the last event of a schedule
+abbrev pub Tale : Type 0
+Tale = Setups → State → Answer
+
+-- where a schedule leads: to the tale, or to the line of the first event that is refused
+abbrev pub told_to : Tale → Setups → (first : ℕ) → Played → Answer
+told_to tale u first (Through t) = tale u t
+told_to tale u first (Refused index fault t) = plain (status (refused_of fault), refused_text (first + index) (refused_of fault))
+
+unfoldable pub told_of : Tale → Schedule → Answer
+told_of tale s = told_to tale (setups_shown s.setup) s.first (played (setups_shown s.setup) (open_state (setups_shown s.setup)) s.events)
+
+abbrev pub told_at : Tale → Result Schedule ScheduleFault → Answer
+told_at tale (Ok s) = told_of tale s
+told_at tale (Err fault) = misread fault
+
+-- what a command on schedules answers to a text
+unfoldable pub told_behind : Tale → List ℕ → Answer
+told_behind tale input = told_at tale (schedule_of input)
+
+-- the report, with the world
+unfoldable pub reported : Tale
+reported u t = with_world (report_text (report u t.machines)) u t
+
+abbrev pub replay_of : List ℕ → Answer
+replay_of input = told_behind reported input
+
+-- what is captured of circuit p of the server, with the world
+unfoldable pub captured : (p : ℕ) → Tale
+captured p u t = with_world (captured_text u t.machines p) u t
+
+abbrev pub capture_of : (p : ℕ) → List ℕ → Answer
+capture_of p input = told_behind (captured p) input
+
+unfoldable pub gen_of : ℕ → Answer
+gen_of seed = with_world (gen.gen_text seed) gen.setups (gen.grown seed).state
+
+unfoldable pub bench_of : ℕ → Answer
+bench_of seed = with_world (gen.bench_text seed) gen.setups (gen.grown seed).state
 
 -- what a command answers to an input that is within the limit
-abbrev pub answer_to : Command → List ℕ → ℕ × List ℕ
-answer_to Show input = show_of input
-answer_to Choose input = choose_of input
+abbrev pub answer_to : Command → List ℕ → Answer
+answer_to Show input = plain (show_of input)
+answer_to Choose input = plain (choose_of input)
+answer_to Replay input = replay_of input
+answer_to (Capture circuit) input = capture_of circuit input
+answer_to Audit input = plain (audit_of input)
+answer_to (Gen seed) input = gen_of seed
+answer_to (Bench seed) input = bench_of seed
 
 -- what it answers to an input of any length: one past the limit has status 6
-abbrev pub answer_of : Command → List ℕ → ℕ × List ℕ
-answer_of command input = if nat_lt 16777216 (length input) then (6, codes "limit bytes\n") else answer_to command input
+abbrev pub answer_of : Command → List ℕ → Answer
+answer_of command input = if nat_lt 16777216 (length input) then plain (6, codes "limit bytes\n") else answer_to command input
 
--- The status is answered and the whole text was written; or a write failed, and a prefix of it was.
-abbrev pub IsTold : ℕ → List ℕ → ℕ → Option (List ℕ) → Option (List ℕ) → Type 0
-IsTold status text result before now =
-    ((result ≡ status) × Appends before now text) ⊎ ((result ≡ 5) × ((n : ℕ) × Appends before now (take n text)))
+-- what a command finds of what the source has left, where that is known
+abbrev pub input_of : Command → Option (List ℕ) → Option (List ℕ)
+input_of command left = if reads command then left else Some []
 
--- It ended before it wrote: a read failed, or no memory was found.
-abbrev pub IsEarly : ℕ → Type 0
-IsEarly result = (result ≡ 4) ⊎ (result ≡ 9)
-
--- the statuses of a command
-abbrev pub IsStatus : ℕ → Type 0
-IsStatus result = (result ≡ 0) ⊎ (result ≡ 2) ⊎ (result ≡ 4) ⊎ (result ≡ 5) ⊎ (result ≡ 6) ⊎ (result ≡ 9)
+-- the world that is handed back stands for this one
+abbrev pub HandsBack : {H : Type 0} → Option Ended → Option (Kept H) → Type 0
+HandsBack None None = Unit {0}
+HandsBack (Some e) (Some k) = (setups_of k ≡ e.setups) × StandsAt k e.state
+HandsBack answered handed = ⊥

@@ -1,7 +1,15 @@
 //! All that the program `lat` does, over any source and any sink.
 #![tactic(auto)]
 
+mod answer;
+mod capture;
 mod command;
+mod course;
+mod growth;
+mod outcome;
+mod replay;
+mod texts;
 mod top;
 
-pub use top::{INPUT_BYTES, run};
+pub use lat_replay::{RateHook, RatingRule, World};
+pub use top::{INPUT_BYTES, RunEnd, run};

@@ -1,44 +1,79 @@
 //! The top call.
 
-ghost use Rattle.std.specs.Prelude.{◌≡◌, ◌⊎◌, ◌<◌, ◌≤◌, ◌≢◌, ℕ, None, Some, map, take, length, codes, IfOk, IfSome, string_bytes};
-ghost use Rattle.std.specs.Io.KnownBytes.{Appends};
+ghost use Rattle.std.specs.Prelude.{◌≡◌, ◌≢◌, ◌⊎◌, ◌<◌, ◌≤◌, None, map, length, codes, IfOk, IfSome, OnErr, Err, true, false, string_bytes};
 ghost use Rattle.lat_outside.specs.Causes.{Rose};
-ghost use Rattle.lat_cmd.specs.declared.command.Command.{Command};
-ghost use Rattle.lat_cmd.specs.Commands.{command_of};
-ghost use Rattle.lat_cmd.specs.Answers.{answer_to, answer_of, IsTold, IsEarly, IsStatus};
+ghost use Rattle.lat_outside.specs.declared.whole.ReadEnd.TheVariants as ends;
+ghost use Rattle.lat_wire.specs.Rates.{RatesWhatIsLeft};
+ghost use Rattle.lat_cmd.specs.Answers.{Answer, plain, answer_of, input_of, HandsBack};
+ghost use Rattle.lat_cmd.specs.Commands.{command_of, reads, IsStatusOf};
+ghost use Rattle.lat_cmd.specs.Outcomes.{IsEarly, Tells, Answers, WorldWhereDone};
 
+use crate::answer::answered;
 use crate::command::{Command, command_of};
-use lat_base::Memory;
-use lat_choose::choose;
+use crate::outcome::Outcome;
+use lat_node::RatingRule;
 use lat_outside::{ReadEnd, Sink, Source, read_all, write_all};
-use lat_show::show;
+use lat_replay::World;
 use std::alloc::Global;
 
 /// How many bytes of input are read at most.
 pub const INPUT_BYTES: usize = 16_777_216;
 
-// Writes the text, and answers the status, or 5 where it couldn't be written.
-fn told<K: Sink>(out: &mut K, status: u8, text: &str) -> u8
-    requires { status ≢ 5 }
-    ensures told { IsTold status text.now result (K.told out.old) (K.told out.new) }
-    ensures which { (result ≡ status) ⊎ (result ≡ 5) }
-    ensures fault { result ≡ 5 → Rose (K.faults out.old) (K.faults out.new) }
-    ensures later { K.faults out.old ≤ K.faults out.new }
-{
-    match write_all(out, text.as_bytes()) {
-        Ok(()) => status,
-        Err(_) => 5,
+/// What a run ended with: its status, and the world behind the last event, where it made one and its status is 0.
+#[derive(Drop)]
+pub struct RunEnd<H: RatingRule> {
+    pub status: u8,
+    pub world: Option<World<H>>,
+}
+
+impl<H: RatingRule> RunEnd<H> {
+    // A status alone.
+    fn of(status: u8) -> RunEnd<H>
+        ensures { result ≡ record { status = status; world = None } }
+    {
+        RunEnd {
+            status,
+            world: None,
+        }
     }
 }
 
-// The status and the text of a command for this input.
-fn answered(alloc: Global, command: Command, input: &[u8]) -> Result<(u8, String), Memory>
-    ensures answer { IfOk result (λ r. (r.0, string_bytes r.1) ≡ answer_to command input.now) }
-    ensures status { IfOk result (λ r. (r.0 ≡ 0) ⊎ (r.0 ≡ 2)) }
+// Writes the text, and ends with the status and the world, or with 5 alone where it couldn't be written.
+fn told<H: RatingRule, K: Sink>(
+    out: &mut K,
+    status: u8,
+    text: &str,
+    world: Option<World<H>>,
+) -> RunEnd<H>
+    requires { status ≢ 5 }
+    ensures told { (a : Answer) →
+        status ≡ a.status →
+        text.now ≡ a.text →
+        HandsBack a.world world →
+        Tells a result (K.told out.old) (K.told out.new) }
+    ensures which { (result ≡ record { status = status; world = world }) ⊎ (result ≡ record { status = 5; world = None }) }
+    ensures fault { result.status ≡ 5 → Rose (K.faults out.old) (K.faults out.new) }
+    ensures later { K.faults out.old ≤ K.faults out.new }
 {
-    match command {
-        Command::Show => show(alloc, input),
-        Command::Choose => choose(alloc, input),
+    match write_all(out, text.as_bytes()) {
+        Ok(()) => RunEnd { status, world },
+        Err(_) => RunEnd::of(5),
+    }
+}
+
+// What the command reads: all that the source has left, or nothing.
+fn input_of<S: Source>(alloc: Global, command: Command, src: &mut S) -> Result<Vec<u8>, ReadEnd>
+    ensures all { IfOk result (λ input. IfSome (input_of command (S.left src.old)) (λ xs. (input.items ≡ xs) × (length xs ≤ 16777216))) }
+    ensures limit { result ≡ Err ends.Limit → IfSome (input_of command (S.left src.old)) (λ xs. 16777216 < length xs) }
+    ensures fault { result ≡ Err ends.Fault → Rose (S.faults src.old) (S.faults src.new) }
+    ensures later { S.faults src.old ≤ S.faults src.new }
+    ensures reads { OnErr result (reads command ≡ true) }
+    ensures unread { reads command ≡ false → src.new ≡ src.old }
+{
+    if command.reads() {
+        read_all(alloc, src, INPUT_BYTES)
+    } else {
+        Ok(Vec::new(alloc))
     }
 }
 
@@ -47,37 +82,59 @@ fn answered(alloc: Global, command: Command, input: &[u8]) -> Result<(u8, String
 /// - 0: the whole output of the command was written;
 /// - 1: the words are no command; nothing was read, and `words` was written;
 /// - 2: the input isn't of the command's form; `line N form` was written, N the first wrong line, counted from 1;
+/// - 3: an event of the schedule is refused; the line that says why was written;
 /// - 4: a read failed; nothing was written;
 /// - 5: a write failed; a prefix of the output was written;
-/// - 6: the input has more than 16,777,216 bytes; `limit bytes` was written;
+/// - 6: the input has more than 16,777,216 bytes, the schedule more than 100,000 events, or its world sent too many frames;
+///   the line that says so was written;
 /// - 9: no memory was found; nothing was written.
 ///
-/// It reads the source to its end before it writes, and makes its whole output first.
-pub fn run<S: Source, K: Sink>(alloc: Global, words: &[String], src: &mut S, out: &mut K) -> u8
-    // The words are no command: nothing is read.
-    ensures words { command_of (map string_bytes words.now) ≡ None → (src.new ≡ src.old) × IsTold 1 (codes "words\n") result (K.told out.old) (K.told out.new) }
+/// It reads the source to its end before it writes, and makes its whole output first; `gen` and `bench` read nothing. It makes
+/// at most one world, and hands it back where it answers 0. The rule of rating, the node's, has one answer: the least of 255
+/// and the lines that are left.
+pub fn run<S: Source, K: Sink, H: RatingRule>(
+    alloc: Global,
+    words: &[String],
+    rule: H,
+    src: &mut S,
+    out: &mut K,
+) -> RunEnd<H>
+    requires fact { H.fact rule }
+    requires rates { RatesWhatIsLeft (H.may rule) }
 
-    // They are one: unless a read or a write fails or no memory is found, the answer to the input.
-    ensures answer { IfSome (command_of (map string_bytes words.now)) (λ c. IfSome (S.left src.old) (λ input. IsEarly result ⊎ IsTold (answer_of c input).0 (answer_of c input).1 result (K.told out.old) (K.told out.new))) }
-    ensures status { IfSome (command_of (map string_bytes words.now)) (λ c. IsStatus result) }
+    // The words are no command: nothing is read.
+    ensures words { command_of (map string_bytes words.now) ≡ None →
+        Tells (plain (1, codes "words\n")) result (K.told out.old) (K.told out.new) × (src.new ≡ src.old) }
+
+    // They are one: unless a read or a write fails or no memory is found, the answer to the input, and the world that it tells of.
+    ensures answer { IfSome (command_of (map string_bytes words.now)) (λ c.
+        IfSome (input_of c (S.left src.old)) (λ input. Answers (answer_of c input) result (K.told out.old) (K.told out.new))) }
+    ensures status { IfSome (command_of (map string_bytes words.now)) (λ c. IsStatusOf c result.status) }
+    ensures world { IfSome (command_of (map string_bytes words.now)) (λ c. WorldWhereDone c result.status result.world) }
+    ensures unread { IfSome (command_of (map string_bytes words.now)) (λ c. reads c ≡ false → src.new ≡ src.old) }
 
     // Each fault has its cause, and want of memory or a failed read writes nothing.
-    ensures read { result ≡ 4 → Rose (S.faults src.old) (S.faults src.new) }
-    ensures write { result ≡ 5 → Rose (K.faults out.old) (K.faults out.new) }
-    ensures unwritten { IsEarly result → out.new ≡ out.old }
+    ensures read { result.status ≡ 4 → Rose (S.faults src.old) (S.faults src.new) }
+    ensures write { result.status ≡ 5 → Rose (K.faults out.old) (K.faults out.new) }
+    ensures unwritten { IsEarly result.status → out.new ≡ out.old }
     ensures later { (S.faults src.old ≤ S.faults src.new) × (K.faults out.old ≤ K.faults out.new) }
 {
     let Some(command) = command_of(words) else {
-        return told(out, 1, "words\n");
+        return told(out, 1, "words\n", None);
     };
-    let input = match read_all(alloc, src, INPUT_BYTES) {
+    let input = match input_of(alloc, command, src) {
         Ok(input) => input,
-        Err(ReadEnd::Fault) => return 4,
-        Err(ReadEnd::Limit) => return told(out, 6, "limit bytes\n"),
-        Err(ReadEnd::Memory) => return 9,
+        Err(ReadEnd::Fault) => return RunEnd::of(4),
+        Err(ReadEnd::Limit) => return told(out, 6, "limit bytes\n", None),
+        Err(ReadEnd::Memory) => return RunEnd::of(9),
     };
-    let Ok((status, text)) = answered(alloc, command, &input) else {
-        return 9;
+    let Ok(outcome) = answered(alloc, command, rule, &input) else {
+        return RunEnd::of(9);
     };
-    told(out, status, &text)
+    let Outcome {
+        status,
+        text,
+        world,
+    } = outcome;
+    told(out, status, text.as_str(), world)
 }

@@ -3,7 +3,7 @@
 //! docs/PROTOCOL.md.
 //!
 //! A line of the file is a command of this player, words with a blank between them. A line without a word and a line that
-//! begins with `#` are printed as they are. Of all others but `input`, `tail` and `feeds` the line itself is printed behind
+//! begins with `#` are printed as they are. Of all others but `input`, `tail`, `feeds` and `many` the line itself is printed behind
 //! `> `, and then what came of it.
 //!
 //! | Line | Does |
@@ -12,7 +12,13 @@
 //! | `input TEXT` | puts this text and a line feed behind the input; without a text the line feed alone |
 //! | `tail TEXT` | puts this text behind the input |
 //! | `feeds N` | puts N line feeds behind the input |
+//! | `many N TEXT` | puts this text and a line feed behind the input, N times |
+//! | `lines N` | keeps the first N lines of the input |
+//! | `line K TEXT` | puts this text in the place of line K of the input, counted from 1 |
+//! | `words WORDS` | keeps the input; these are the words of the next runs |
+//! | `pipe WORDS` | what the last run wrote is the input of the next runs, and these are their words |
 //! | `run` | runs the program: prints its status and what it wrote |
+//! | `measure` | runs it, and prints its status and of what it wrote the bytes, the lines and a sum over all bytes: begun with 0, it is taken 31 times and each byte added, modulo 2^64 |
 //! | `outside READ FAILING WRITE FAILING` | runs it over a source that gives at most READ bytes a call and fails at the call FAILING, counted from 1, and a sink that takes at most WRITE bytes a call and fails likewise; 0 fails never |
 //! | `reads READ CALLS`, `writes WRITE CALLS` | does so for each failing call from 1 to CALLS, of the source and of the sink, and prints each status and what was written |
 //! | `cuts HEX` | what `show` prints of the first bytes of this payload, as many as 0, 1 and so on to one byte less than all |
@@ -21,6 +27,7 @@
 //! isn't a number makes its line `wrong`.
 #![tactic(auto)]
 
+mod input;
 mod play;
 mod words;
 

@@ -1,17 +1,22 @@
 //! The lines of a file, in order.
 
+ghost use Rattle.std.specs.Prelude.{◌≡◌, ◌≤◌, ◌-◌, min};
+ghost use Rattle.lat_wire.specs.Rates.{RatesWhatIsLeft};
+
+use crate::input::Input;
 use crate::words::{behind, number, word};
 use hex::FromHexError;
 use lat_base::Memory;
-use lat_cmd::run;
+use lat_cmd::{RateHook, RatingRule, run};
 use lat_outside::{MemSink, MemSource};
 use std::alloc::Global;
 
-// The words of the program's next runs, and their input.
+// The words of the program's next runs, their input, and what the last run wrote.
 #[derive(Drop)]
 struct Play {
     words: Vec<String>,
-    input: Vec<u8>,
+    input: Input,
+    written: Vec<u8>,
 }
 
 // How the outside behaves: the bytes of a call, and the call that fails.
@@ -44,44 +49,109 @@ fn written_onto(text: &mut String, written: &[u8]) -> Result<(), Memory> {
     }
 }
 
+// Words, separated by blanks.
+fn words_of(alloc: Global, line: &str) -> Result<Vec<String>, Memory> {
+    let mut words = Vec::new(alloc);
+    if line != "" {
+        for word in line.split(' ') {
+            words.push(String::from_str(alloc, word)?)?;
+        }
+    }
+    Ok(words)
+}
+
+// Runs the program, whose node rates its services by this rule, and gives its status.
+fn status_by<H: RatingRule>(
+    alloc: Global,
+    words: &[String],
+    rule: H,
+    source: &mut MemSource,
+    sink: &mut MemSink,
+) -> u8
+    requires fact { H.fact rule }
+    requires rates { RatesWhatIsLeft (H.may rule) }
+{
+    run(alloc, words, rule, source, sink).status
+}
+
+// Runs the program with the rule of rating that it has: the least of 255 and the lines that are left.
+fn status_of(alloc: Global, words: &[String], source: &mut MemSource, sink: &mut MemSink) -> u8 {
+    let rule = |used: u16, max: u16| -> u8
+        requires { used ≤ max }
+        ensures { result ≡ min (max - used) 255 }
+    { (max - used).min(255) as u8 };
+    status_by(alloc, words, RateHook::new(rule), source, sink)
+}
+
+// How many line feeds there are, and the sum over all bytes: taken 31 times before each byte is added.
+fn measured(bytes: &[u8]) -> (u64, u64) {
+    let mut lines: u64 = 0;
+    let mut sum: u64 = 0;
+    for byte in bytes {
+        lines = lines.wrapping_add(u64::from(*byte == b'\n'));
+        sum = sum.wrapping_mul(31).wrapping_add(u64::from(*byte));
+    }
+    (lines, sum)
+}
+
 impl Play {
     // These words, separated by blanks, and no input.
     fn of(alloc: Global, words: &str) -> Result<Play, Memory> {
-        let mut own = Vec::new(alloc);
-        if words != "" {
-            for word in words.split(' ') {
-                own.push(String::from_str(alloc, word)?)?;
-            }
-        }
         Ok(Play {
-            words: own,
-            input: Vec::new(alloc),
+            words: words_of(alloc, words)?,
+            input: Input::new(alloc),
+            written: Vec::new(alloc),
         })
     }
 
-    fn put(&mut self, text: &str) -> Result<(), Memory> {
-        Ok(self.input.extend_from_slice(text.as_bytes())?)
-    }
-
-    fn feed(&mut self, count: u64) -> Result<(), Memory> {
-        for _ in 0..count {
-            self.input.push(b'\n')?;
-        }
+    // These words, with the input that was put.
+    fn rename(&mut self, alloc: Global, words: &str) -> Result<(), Memory> {
+        self.words = words_of(alloc, words)?;
         Ok(())
     }
 
-    // Runs the program, and prints its status and what it wrote.
-    fn run(&self, alloc: Global, outside: Outside, text: &mut String) -> Result<(), Memory> {
-        let failing_reads = [outside.failing_read];
-        let failing_writes = [outside.failing_write];
-        let mut source = MemSource::new(&self.input, outside.read_most.max(1), &failing_reads);
-        let mut sink = MemSink::new(alloc, outside.write_most, &failing_writes);
-        let status = run(alloc, &self.words, &mut source, &mut sink);
-        write!(text, "status {status}\n")?;
-        written_onto(text, sink.bytes())
+    // These words, and as input what the last run wrote.
+    fn pipe(&mut self, alloc: Global, words: &str) -> Result<(), Memory> {
+        self.rename(alloc, words)?;
+        std::mem::swap(&mut self.input.bytes, &mut self.written);
+        Ok(())
     }
 
-    fn outside(&self, alloc: Global, line: &str, text: &mut String) -> Result<(), Memory> {
+    // Runs the program, keeps what it wrote, and gives its status.
+    fn made(&mut self, alloc: Global, outside: Outside) -> Result<u8, Memory> {
+        let failing_reads = [outside.failing_read];
+        let failing_writes = [outside.failing_write];
+        let mut source = MemSource::new(
+            &self.input.bytes,
+            outside.read_most.max(1),
+            &failing_reads,
+        );
+        let mut sink = MemSink::new(alloc, outside.write_most, &failing_writes);
+        let status = status_of(alloc, &self.words, &mut source, &mut sink);
+        self.written.clear();
+        self.written.extend_from_slice(sink.bytes())?;
+        Ok(status)
+    }
+
+    // Runs the program, and prints its status and what it wrote.
+    fn run(&mut self, alloc: Global, outside: Outside, text: &mut String) -> Result<(), Memory> {
+        let status = self.made(alloc, outside)?;
+        write!(text, "status {status}\n")?;
+        written_onto(text, &self.written)
+    }
+
+    // Runs the program, and prints its status and the measure of what it wrote.
+    fn measure(&mut self, alloc: Global, text: &mut String) -> Result<(), Memory> {
+        let status = self.made(alloc, SOUND)?;
+        let bytes = self.written.len();
+        let (lines, sum) = measured(&self.written);
+        Ok(write!(
+            text,
+            "status {status}\n{bytes} bytes in {lines} lines, sum {sum}\n"
+        )?)
+    }
+
+    fn outside(&mut self, alloc: Global, line: &str, text: &mut String) -> Result<(), Memory> {
         let (Some(read_most), Some(failing_read), Some(write_most), Some(failing_write)) = (
             number(line, 1),
             number(line, 2),
@@ -99,7 +169,7 @@ impl Play {
         self.run(alloc, outside, text)
     }
 
-    fn reads(&self, alloc: Global, line: &str, text: &mut String) -> Result<(), Memory> {
+    fn reads(&mut self, alloc: Global, line: &str, text: &mut String) -> Result<(), Memory> {
         let (Some(most), Some(calls)) = (number(line, 1), number(line, 2)) else {
             return Ok(text.push_str(WRONG)?);
         };
@@ -114,7 +184,7 @@ impl Play {
         Ok(())
     }
 
-    fn writes(&self, alloc: Global, line: &str, text: &mut String) -> Result<(), Memory> {
+    fn writes(&mut self, alloc: Global, line: &str, text: &mut String) -> Result<(), Memory> {
         let (Some(most), Some(calls)) = (number(line, 1), number(line, 2)) else {
             return Ok(text.push_str(WRONG)?);
         };
@@ -136,7 +206,17 @@ impl Play {
                 *self = Play::of(alloc, behind(line, "command"))?;
                 Ok(())
             }
+            "words" => self.rename(alloc, behind(line, "words")),
+            "lines" => {
+                self.input.keep(number(line, 1).unwrap_or(0));
+                Ok(())
+            }
+            "line" => self
+                .input
+                .replace(alloc, number(line, 1).unwrap_or(0), behind_two(line)),
+            "pipe" => self.pipe(alloc, behind(line, "pipe")),
             "run" => self.run(alloc, SOUND, text),
+            "measure" => self.measure(alloc, text),
             "outside" => self.outside(alloc, line, text),
             "reads" => self.reads(alloc, line, text),
             "writes" => self.writes(alloc, line, text),
@@ -149,16 +229,20 @@ impl Play {
     fn takes(&mut self, line: &str) -> Result<bool, Memory> {
         match word(line, 0) {
             "input" => {
-                self.put(behind(line, "input"))?;
-                self.feed(1)?;
+                self.input.repeat(1, behind(line, "input"))?;
                 Ok(true)
             }
             "tail" => {
-                self.put(behind(line, "tail"))?;
+                self.input.put(behind(line, "tail"))?;
                 Ok(true)
             }
             "feeds" => {
-                self.feed(number(line, 1).unwrap_or(0))?;
+                self.input.repeat(number(line, 1).unwrap_or(0), "")?;
+                Ok(true)
+            }
+            "many" => {
+                self.input
+                    .repeat(number(line, 1).unwrap_or(0), behind_two(line))?;
                 Ok(true)
             }
             _ => Ok(false),
@@ -170,8 +254,7 @@ impl Play {
 fn cut(alloc: Global, bytes: &[u8], text: &mut String) -> Result<(), Memory> {
     let mut play = Play::of(alloc, "show")?;
     let digits = hex::encode(alloc, bytes)?;
-    play.put(digits.as_str())?;
-    play.feed(1)?;
+    play.input.repeat(1, digits.as_str())?;
     play.run(alloc, SOUND, text)
 }
 
@@ -187,6 +270,11 @@ fn cuts(alloc: Global, digits: &str, text: &mut String) -> Result<(), Memory> {
         cut(alloc, &bytes[..count], text)?;
     }
     Ok(())
+}
+
+// All behind the first two words.
+fn behind_two(line: &str) -> &str {
+    behind(behind(line, word(line, 0)), word(line, 1))
 }
 
 // Whether a line is printed and no more.

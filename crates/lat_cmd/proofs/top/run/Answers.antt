@@ -1,6 +1,18 @@
-use Rattle.lat_cmd.proofs.Limit.{limit_told}
+use Rattle.std.proofs.Common.{codes, refl, sym, ◌∙◌}
+use Rattle.lat_cmd.specs.Answers.{plain}
+use Rattle.lat_cmd.proofs.Ending.{of_command, input_read, input_told}
 use Rattle.lat_cmd.proofs.top.run.Goals as goal
 
-pub returns-in-Err-Limit-clause-answer : goal.returns-in-Err-Limit-clause-answer
-returns-in-Err-Limit-clause-answer g c =
-    limit_told _ _ _ _ _ (c.in-Err-Limit.ensures.limit (let is = c.in-Err-Limit.field-0-is in cc)) c.told-in-Err-Limit.ensures.told
+pub returns-in_default-clause-words : goal.returns-in_default-clause-words
+returns-in_default-clause-words g c = λ none. (c.told.ensures.told (plain (1, codes "words\n")) refl refl tt, refl)
+
+pub returns-clause-answer : goal.returns-clause-answer
+returns-clause-answer g c =
+    let is = c.in-Ok-answered.ensures.answer in
+    of_command _ _ c.in-Some.command (sym c.in-Some.ensures)
+    (input_told c.in-Some.command _ _ _ _ c.deref.result.now
+    (input_read c.in-Some.command _ c.in-Ok.input.items c.deref.result.now c.deref.ensures.value c.in-Ok.ensures.all)
+    (c.told-2.ensures.told _ is.status (c.as_str.ensures.value ∙ is.text) is.world))
+
+pub returns-clause-unread : goal.returns-clause-unread
+returns-clause-unread g c = of_command _ _ c.in-Some.command (sym c.in-Some.ensures) c.in-Ok.ensures.unread

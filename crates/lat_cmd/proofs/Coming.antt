@@ -1,0 +1,118 @@
+-- What a command comes to has one of its statuses, and a world exactly where it makes one and is done.
+use Rattle.std.proofs.Common.{◌≡◌, ℕ, ◌⊎◌, inl, inr, Bool, true, false, ◌&&◌, List, length, Option, Some, None, Result, Ok, Err, refl, sym, ap, ◌∙◌, subst}
+use Rattle.std.specs.Prelude.{IfOk, is_some, nat_eq, nat_lt, if◌then◌else◌}
+use Rattle.lat_machines.specs.world.Machines.{Setups}
+use Rattle.lat_base.specs.declared.memory.Memory.{Memory}
+use Rattle.lat_show.specs.ShowOf as shows
+use Rattle.lat_choose.specs.ChooseOf as chooses
+use Rattle.lat_audit.specs.AuditOf as audits
+use Rattle.lat_entries.specs.CaptureText.{Capture as CaptureText, capture_of}
+use Rattle.lat_schedule.specs.ScheduleText as schedules
+use Rattle.lat_schedule.specs.declared.schedule.Schedule.{Schedule}
+use Rattle.lat_schedule.specs.declared.schedule.ScheduleFault.{ScheduleFault}
+use Rattle.lat_text.specs.Lines.{lines_of}
+use Rattle.lat_wire.specs.declared.fault.EventFault.{EventFault}
+use Rattle.lat_wire.specs.declared.fault.EventFault.TheVariants as faults
+use Rattle.lat_replay.specs.Kept.{Kept}
+use Rattle.lat_replay.specs.Setups.{setups_shown}
+use Rattle.lat_replay.specs.Played.{State, Played, Through, Refused, open_state, played}
+use Rattle.lat_growth.specs.Grown as gen
+use Rattle.lat_cmd.specs.declared.command.Command.{Command}
+use Rattle.lat_cmd.specs.declared.command.Command.TheVariants.{Show, Choose, Replay, Capture, Audit, Gen, Bench}
+use Rattle.lat_cmd.specs.declared.outcome.Outcome.{Outcome}
+use Rattle.lat_cmd.specs.Answers.{Ended, Answer, Tale, plain, with_world, told_to, told_of, told_at, told_behind, reported, captured, gen_of, bench_of, answer_to, HandsBack}
+use Rattle.lat_cmd.specs.Commands.{ComesTo, makes_world}
+use Rattle.lat_cmd.specs.Outcomes.{IsOutcome, WorldWhereDone}
+
+-- what an answer of a command is
+abbrev pub Fits : Command → Answer → Type 0
+Fits c a = ComesTo c a.status × (is_some a.world ≡ (makes_world c && nat_eq a.status 0))
+
+show_fits : (r : Result (List ℕ) ℕ) → Fits Show (plain (shows.answer_of r))
+show_fits (Ok text) = (inl refl, refl)
+show_fits (Err number) = (inr refl, refl)
+
+choose_fits : (r : Result (List ℕ) ℕ) → Fits Choose (plain (chooses.answer_of r))
+choose_fits (Ok text) = (inl refl, refl)
+choose_fits (Err number) = (inr refl, refl)
+
+audit_fits : (r : Result CaptureText ℕ) → Fits Audit (plain (audits.answer_of r))
+audit_fits (Ok c) = (inl refl, refl)
+audit_fits (Err number) = (inr refl, refl)
+
+report_fits : (u : Setups) (t : State) → Fits Replay (reported u t)
+unfolding reported
+report_fits u t = (inl refl, refl)
+
+capture_fits : (p : ℕ) (u : Setups) (t : State) → Fits Replay (captured p u t)
+unfolding captured
+capture_fits p u t = (inl refl, refl)
+
+played_fits : (tale : Tale) (u : Setups) (first : ℕ) (p : Played) → ((t : State) → Fits Replay (tale u t)) → Fits Replay (told_to tale u first p)
+played_fits tale u first (Through t) told = told t
+played_fits tale u first (Refused index faults.FramesFull t) told = (inr (inr (inr refl)), refl)
+played_fits tale u first (Refused index (faults.Backward at last) t) told = (inr (inr (inl refl)), refl)
+played_fits tale u first (Refused index faults.OwnAddress t) told = (inr (inr (inl refl)), refl)
+played_fits tale u first (Refused index (faults.NoFrame place sent) t) told = (inr (inr (inl refl)), refl)
+played_fits tale u first (Refused index (faults.Old acknowledgement number newest) t) told = (inr (inr (inl refl)), refl)
+played_fits tale u first (Refused index faults.Memory t) told = (inr (inr (inr refl)), refl)
+
+of_fits : (tale : Tale) (s : Schedule) → ((u : Setups) (t : State) → Fits Replay (tale u t)) → Fits Replay (told_of tale s)
+unfolding told_of
+of_fits tale s told =
+    let u : Setups = setups_shown s.setup in
+    played_fits tale u s.first (played u (open_state u) s.events) (told u)
+
+either : (P : Result Schedule ScheduleFault → Type 0) (b : Bool) (x y : Result Schedule ScheduleFault) → P x → P y → P (if b then x else y)
+either P true x y p q = p
+either P false x y p q = q
+
+schedule_fits : (tale : Tale) (r : Result Schedule ℕ) → ((u : Setups) (t : State) → Fits Replay (tale u t)) → Fits Replay (told_at tale (schedules.answer_of r))
+schedule_fits tale (Err number) told = (inr (inl refl), refl)
+schedule_fits tale (Ok s) told =
+    let P : Result Schedule ScheduleFault → Type 0 = λ x. Fits Replay (told_at tale x) in
+    either P (nat_lt 100000 (length s.events)) _ _ (inr (inr (inr refl)), refl) (of_fits tale s told)
+
+tale_fits : (tale : Tale) (input : List ℕ) → ((u : Setups) (t : State) → Fits Replay (tale u t)) → Fits Replay (told_behind tale input)
+unfolding told_behind
+tale_fits tale input told = schedule_fits tale (schedules.schedule_at (record { number = 1; lines = lines_of input })) told
+
+grown_fits : (text : List ℕ) (u : Setups) (t : State) → ((with_world text u t).status ≡ 0) × (is_some (with_world text u t).world ≡ true)
+grown_fits text u t = (refl, refl)
+
+gen_fits : (seed : ℕ) → ((gen_of seed).status ≡ 0) × (is_some (gen_of seed).world ≡ true)
+unfolding gen_of
+gen_fits seed = grown_fits (gen.gen_text seed) gen.setups (gen.grown seed).state
+
+bench_fits : (seed : ℕ) → ((bench_of seed).status ≡ 0) × (is_some (bench_of seed).world ≡ true)
+unfolding bench_of
+bench_fits seed = grown_fits (gen.bench_text seed) gen.setups (gen.grown seed).state
+
+done_fits : (status : ℕ) (is : Bool) → (status ≡ 0) × (is ≡ true) → is ≡ (true && nat_eq status 0)
+done_fits status is h = h.1 ∙ ap (λ n. nat_eq n 0) (sym h.0)
+
+pub fits : (c : Command) (input : List ℕ) → Fits c (answer_to c input)
+fits Show input = show_fits (shows.lines_shown 1 (lines_of input))
+fits Choose input = choose_fits (chooses.printed_after (chooses.opening_of (lines_of input)))
+fits Replay input = tale_fits reported input report_fits
+fits (Capture p) input = tale_fits (captured p) input (capture_fits p)
+fits Audit input = audit_fits (capture_of input)
+fits (Gen seed) input = ((gen_fits seed).0, done_fits (gen_of seed).status (is_some (gen_of seed).world) (gen_fits seed))
+fits (Bench seed) input = ((bench_fits seed).0, done_fits (bench_of seed).status (is_some (bench_of seed).world) (bench_fits seed))
+
+pub same_some : {H : Type 0} (e : Option Ended) (w : Option (Kept H)) → HandsBack e w → is_some w ≡ is_some e
+same_some None None h = refl
+same_some (Some e) (Some k) h = refl
+same_some None (Some k) h = absurd h
+same_some (Some e) None h = absurd h
+
+pub comes_to : {H : Type 0} (c : Command) (input : List ℕ) (r : Result (Outcome H) Memory) → IfOk r (λ o. IsOutcome (answer_to c input) o) → IfOk r (λ o. ComesTo c o.status)
+comes_to c input (Ok o) is = subst (λ s. ComesTo c s) (sym is.status) (fits c input).0
+comes_to c input (Err e) is = tt
+
+pub has_world : {H : Type 0} (c : Command) (input : List ℕ) (r : Result (Outcome H) Memory) → IfOk r (λ o. IsOutcome (answer_to c input) o) → IfOk r (λ o. WorldWhereDone c o.status o.world)
+has_world c input (Ok o) is =
+    same_some (answer_to c input).world o.world is.world
+    ∙ (fits c input).1
+    ∙ ap (λ s. makes_world c && nat_eq s 0) (sym is.status)
+has_world c input (Err e) is = tt

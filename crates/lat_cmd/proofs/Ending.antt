@@ -1,0 +1,71 @@
+-- How a run ends.
+use Rattle.std.proofs.Common.{◌≡◌, ℕ, ◌<◌, ◌≤◌, ◌⊎◌, inl, inr, Bool, true, false, ltb, ◌&&◌, List, length, Option, Some, None, Result, Ok, Err, refl, sym, ap, ◌∙◌, subst, arith}
+use Rattle.std.specs.Prelude.{IfSome, is_some, nat_eq, codes}
+use Rattle.std.proofs.lemmas.Bool.Decides.{nat_tests}
+use Rattle.lat_replay.specs.Kept.{Kept}
+use Rattle.lat_cmd.specs.declared.command.Command.{Command}
+use Rattle.lat_cmd.specs.declared.outcome.Outcome.{Outcome}
+use Rattle.lat_cmd.specs.declared.top.RunEnd.{RunEnd}
+use Rattle.lat_cmd.specs.Answers.{Answer, plain, answer_of, answer_to, input_of, HandsBack}
+use Rattle.lat_cmd.specs.Commands.{reads, makes_world, ComesTo, IsStatusOf}
+use Rattle.lat_cmd.specs.Outcomes.{IsOutcome, IsEarly, Tells, Answers, WorldWhereDone}
+
+-- an input past the limit
+past_limit : (c : Command) (input : List ℕ) → 16777216 < length input → answer_of c input ≡ plain (6, codes "limit bytes\n")
+past_limit c input h =
+    let past : ltb 16777216 (length input) ≡ true = grind (arith, nat_tests) in
+    rw past
+
+-- one that isn't
+within_limit : (c : Command) (input : List ℕ) → length input ≤ 16777216 → answer_of c input ≡ answer_to c input
+within_limit c input h =
+    let within : ltb 16777216 (length input) ≡ false = grind (arith, nat_tests) in
+    rw within
+
+known : (P : List ℕ → Type 0) (o : Option (List ℕ)) (xs : List ℕ) → o ≡ Some xs → IfSome o P → P xs
+known P o xs is p = subst (λ z. IfSome z P) is p
+
+-- what the command of the words is
+pub of_command : (P : Command → Type 0) (words : Option Command) (command : Command) → words ≡ Some command → P command → IfSome words P
+of_command P words command is p = subst (λ z. IfSome z P) (sym is) p
+
+if_known : (P : List ℕ → Type 0) (o : Option (List ℕ)) → ((xs : List ℕ) → o ≡ Some xs → P xs) → IfSome o P
+if_known P None p = tt
+if_known P (Some xs) p = p xs refl
+
+-- the answer to the input, whichever is known
+abbrev pub AnswersInput : {H : Type 0} → (left : Option (List ℕ)) → RunEnd H → (before now : Option (List ℕ)) → Command → Type 0
+AnswersInput left end before now c = IfSome (input_of c left) (λ input. Answers (answer_of c input) end before now)
+
+pub early : {H : Type 0} (c : Command) (left : Option (List ℕ)) (end : RunEnd H) (before now : Option (List ℕ)) → IsEarly end.status → end.world ≡ None → AnswersInput left end before now c
+early c left end before now is none = if_known _ (input_of c left) (λ xs e. inl (is, none))
+
+pub limit_told : {H : Type 0} (c : Command) (left : Option (List ℕ)) (end : RunEnd H) (before now : Option (List ℕ)) → IfSome (input_of c left) (λ xs. 16777216 < length xs) → Tells (plain (6, codes "limit bytes\n")) end before now → AnswersInput left end before now c
+limit_told c left end before now past tells =
+    if_known _ (input_of c left) (λ xs e. inr (subst (λ (a : Answer). Tells a end before now) (sym (past_limit c xs (known (λ ys. 16777216 < length ys) (input_of c left) xs e past))) tells))
+
+pub input_told : {H : Type 0} (c : Command) (left : Option (List ℕ)) (end : RunEnd H) (before now : Option (List ℕ)) (input : List ℕ) → IfSome (input_of c left) (λ xs. (input ≡ xs) × (length xs ≤ 16777216)) → Tells (answer_to c input) end before now → AnswersInput left end before now c
+input_told c left end before now input read tells =
+    if_known _ (input_of c left) (λ xs e.
+    let r : (input ≡ xs) × (length xs ≤ 16777216) = known (λ ys. (input ≡ ys) × (length ys ≤ 16777216)) (input_of c left) xs e read in
+    inr (subst (λ (a : Answer). Tells a end before now) (ap (answer_to c) r.0 ∙ sym (within_limit c xs r.1)) tells))
+
+-- the input, by the slice that is read
+pub input_read : (c : Command) (left : Option (List ℕ)) (input now : List ℕ) → now ≡ input → IfSome (input_of c left) (λ xs. (input ≡ xs) × (length xs ≤ 16777216)) → IfSome (input_of c left) (λ xs. (now ≡ xs) × (length xs ≤ 16777216))
+input_read c left input now same read = subst (λ (ys : List ℕ). IfSome (input_of c left) (λ xs. (ys ≡ xs) × (length xs ≤ 16777216))) (sym same) read
+
+-- what a call that tells ends with
+abbrev pub EndsAs : {H : Type 0} → ℕ → Option (Kept H) → RunEnd H → Type 0
+EndsAs status world end = (end ≡ record { status = status; world = world }) ⊎ (end ≡ record { status = 5; world = None })
+
+no_world : (b : Bool) → false ≡ (b && false)
+no_world true = refl
+no_world false = refl
+
+pub world_so : {H : Type 0} (c : Command) (status : ℕ) (world : Option (Kept H)) (end : RunEnd H) → EndsAs status world end → WorldWhereDone c status world → WorldWhereDone c end.status end.world
+world_so c status world end (inl is) w = subst (λ (r : RunEnd _). WorldWhereDone c r.status r.world) (sym is) w
+world_so c status world end (inr is) w = subst (λ (r : RunEnd _). WorldWhereDone c r.status r.world) (sym is) (no_world (makes_world c))
+
+pub status_so : {H : Type 0} (c : Command) (status : ℕ) (world : Option (Kept H)) (end : RunEnd H) → EndsAs status world end → IsStatusOf c status → IsStatusOf c end.status
+status_so c status world end (inl is) w = subst (λ (r : RunEnd _). IsStatusOf c r.status) (sym is) w
+status_so c status world end (inr is) w = subst (λ (r : RunEnd _). IsStatusOf c r.status) (sym is) (inr (inl refl))

@@ -1,0 +1,6 @@
+use Rattle.std.proofs.Common.{refl}
+use Rattle.lat_cmd.proofs.Forming.{is_bench}
+use Rattle.lat_cmd.proofs.growth.measured.Goals as goal
+
+pub returns : goal.returns
+returns g c = is_bench c.args.seed c.in_ok-text.world _ refl c.in_ok-text.ensures.text refl c.in_ok-text.ensures.setups c.in_ok-text.ensures.world

@@ -1,0 +1,58 @@
+//! What each command comes to.
+
+ghost use Rattle.std.specs.Prelude.{IfOk};
+ghost use Rattle.lat_wire.specs.Rates.{RatesWhatIsLeft};
+ghost use Rattle.lat_cmd.specs.Answers.{answer_to};
+ghost use Rattle.lat_cmd.specs.Commands.{ComesTo};
+ghost use Rattle.lat_cmd.specs.Laws.{IsLawful};
+ghost use Rattle.lat_cmd.specs.Outcomes.{IsOutcome, WorldWhereDone};
+
+use crate::capture::capture;
+use crate::command::Command;
+use crate::growth::{made, measured};
+use crate::outcome::Outcome;
+use crate::replay::replay;
+use crate::texts::{audited, chosen, shown};
+use lat_base::Memory;
+use lat_node::RatingRule;
+use std::alloc::Global;
+
+// The answer of a command to this input.
+fn outcome_of<H: RatingRule>(
+    alloc: Global,
+    command: Command,
+    rule: H,
+    input: &[u8],
+) -> Result<Outcome<H>, Memory>
+    requires fact { H.fact rule }
+    requires rates { RatesWhatIsLeft (H.may rule) }
+    ensures answer { IfOk result (λ o. IsOutcome (answer_to command input.now) o) }
+    ensures law { IfOk result (λ o. IsLawful command input.now) }
+{
+    match command {
+        Command::Show => shown(alloc, input),
+        Command::Choose => chosen(alloc, input),
+        Command::Replay => replay(alloc, rule, input),
+        Command::Capture(circuit) => capture(alloc, rule, input, circuit),
+        Command::Audit => audited(alloc, input),
+        Command::Gen(seed) => made(alloc, seed, rule),
+        Command::Bench(seed) => measured(alloc, seed, rule),
+    }
+}
+
+/// What a command comes to for this input.
+pub(crate) fn answered<H: RatingRule>(
+    alloc: Global,
+    command: Command,
+    rule: H,
+    input: &[u8],
+) -> Result<Outcome<H>, Memory>
+    requires fact { H.fact rule }
+    requires rates { RatesWhatIsLeft (H.may rule) }
+    ensures answer { IfOk result (λ o. IsOutcome (answer_to command input.now) o) }
+    ensures status { IfOk result (λ o. ComesTo command o.status) }
+    ensures world { IfOk result (λ o. WorldWhereDone command o.status o.world) }
+    ensures law { IfOk result (λ o. IsLawful command input.now) }
+{
+    outcome_of(alloc, command, rule, input)
+}

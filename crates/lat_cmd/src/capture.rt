@@ -1,0 +1,54 @@
+//! What `capture` comes to.
+
+ghost use Rattle.std.specs.Prelude.{IfOk};
+ghost use Rattle.lat_tap.specs.CapturedText.{AuditIsLegal};
+ghost use Rattle.lat_wire.specs.Rates.{RatesWhatIsLeft};
+ghost use Rattle.lat_replay.specs.Kept.{setups_of};
+ghost use Rattle.lat_replay.specs.Played.{State, StandsAt};
+ghost use Rattle.lat_cmd.specs.Answers.{captured, capture_of};
+ghost use Rattle.lat_cmd.specs.Laws.{CaptureIsLegal};
+ghost use Rattle.lat_cmd.specs.Outcomes.{IsOutcome};
+
+use crate::course::{Course, course_of};
+use crate::outcome::Outcome;
+use lat_base::Memory;
+use lat_node::RatingRule;
+use lat_replay::World;
+use lat_tap::capture_onto;
+use std::alloc::Global;
+
+// What is captured of a circuit of the server in a world.
+fn captured<H: RatingRule>(
+    alloc: Global,
+    world: World<H>,
+    circuit: u16,
+) -> Result<Outcome<H>, Memory>
+    ensures answer { IfOk result (λ o. (t : State) → StandsAt world t → IsOutcome (captured circuit (setups_of world) t) o) }
+    ensures legal { IfOk result (λ o. (t : State) → StandsAt world t → AuditIsLegal (setups_of world) t.machines circuit) }
+{
+    let mut text = String::new(alloc);
+    capture_onto(alloc, &mut text, world.wire(), circuit)?;
+    Ok(Outcome {
+        status: 0,
+        text,
+        world: Some(world),
+    })
+}
+
+/// Plays the schedule that an input is, and prints what is captured of a circuit of the server.
+pub(crate) fn capture<H: RatingRule>(
+    alloc: Global,
+    rule: H,
+    input: &[u8],
+    circuit: u16,
+) -> Result<Outcome<H>, Memory>
+    requires fact { H.fact rule }
+    requires rates { RatesWhatIsLeft (H.may rule) }
+    ensures answer { IfOk result (λ o. IsOutcome (capture_of circuit input.now) o) }
+    ensures legal { IfOk result (λ o. CaptureIsLegal circuit input.now) }
+{
+    match course_of(alloc, rule, input)? {
+        Course::Through(world) => captured(alloc, world, circuit),
+        Course::Stopped(outcome) => Ok(outcome),
+    }
+}

@@ -1,0 +1,113 @@
+//! Where a schedule leads.
+
+ghost use Rattle.std.specs.Prelude.{◌≡◌, ◌≢◌, ◌≤◌, IfOk, length};
+ghost use Rattle.lat_model.specs.Lists.{Each};
+ghost use Rattle.lat_report.specs.RefusedText.{refused_text, status};
+ghost use Rattle.lat_schedule.specs.Events.{IsEvent};
+ghost use Rattle.lat_schedule.specs.Setups.{IsSetup};
+ghost use Rattle.lat_schedule.specs.declared.schedule.ScheduleFault.TheVariants as reading;
+ghost use Rattle.lat_wire.specs.Rates.{RatesWhatIsLeft};
+ghost use Rattle.lat_wire.specs.declared.fault.EventFault.TheVariants as faults;
+ghost use Rattle.lat_cmd.specs.Answers.{plain, misread, told_of, told_behind};
+ghost use Rattle.lat_cmd.specs.Outcomes.{IsOutcome};
+ghost use Rattle.lat_cmd.specs.Courses.{Runs};
+ghost use Rattle.lat_cmd.specs.Refusals.{refused_of};
+
+use crate::outcome::Outcome;
+use lat_base::Memory;
+use lat_node::RatingRule;
+use lat_replay::{EventFault, Schedule, ScheduleFault, World, read_schedule};
+use lat_report::{Refused, refused_onto};
+use lat_text::wrong_line;
+use std::alloc::Global;
+
+/// The course of a schedule: the world behind its last event; or what is answered where it has none, whatever the command.
+#[derive(Drop)]
+pub(crate) enum Course<H: RatingRule> {
+    Through(World<H>),
+    Stopped(Outcome<H>),
+}
+
+// How the line of a refused event says why. Want of memory has no line.
+fn refused_of(fault: EventFault) -> Result<Refused, Memory>
+    ensures value { IfOk result (λ refused. refused ≡ refused_of fault) }
+    ensures kept { IfOk result (λ refused. fault ≢ faults.Memory) }
+{
+    match fault {
+        EventFault::FramesFull => Ok(Refused::FramesLimit),
+        EventFault::Backward { at, last } => Ok(Refused::Backward { at, last }),
+        EventFault::OwnAddress => Ok(Refused::OwnAddress),
+        EventFault::NoFrame { index, sent } => Ok(Refused::NoFrame { index, sent }),
+        EventFault::Old {
+            acknowledgement,
+            number,
+            newest,
+        } => Ok(Refused::Old {
+            acknowledgement,
+            number,
+            newest,
+        }),
+        EventFault::Memory => Err(Memory),
+    }
+}
+
+// The line that says why the event of a line is refused.
+fn refused<H: RatingRule>(alloc: Global, line: u64, refused: Refused) -> Result<Outcome<H>, Memory>
+    ensures { IfOk result (λ o. IsOutcome (plain (status refused, refused_text line refused)) o) }
+{
+    let mut text = String::new(alloc);
+    refused_onto(&mut text, line, refused)?;
+    Ok(Outcome::plain(refused.status(), text))
+}
+
+// No schedule.
+fn misread<H: RatingRule>(alloc: Global, fault: ScheduleFault) -> Result<Outcome<H>, Memory>
+    ensures value { IfOk result (λ o. IsOutcome (misread fault) o) }
+    ensures kept { IfOk result (λ o. fault ≢ reading.Memory) }
+{
+    match fault {
+        ScheduleFault::Form { line } => Ok(Outcome::plain(2, wrong_line(alloc, line as usize)?)),
+        ScheduleFault::Events { line } => refused(alloc, u64::from(line), Refused::EventsLimit),
+        ScheduleFault::Memory => Err(Memory),
+    }
+}
+
+// Plays a schedule.
+fn played<H: RatingRule>(alloc: Global, rule: H, schedule: &Schedule) -> Result<Course<H>, Memory>
+    requires fact { H.fact rule }
+    requires rates { RatesWhatIsLeft (H.may rule) }
+    requires setup { IsSetup schedule.now.setup }
+    requires events { Each (IsEvent schedule.now.setup.server.own) schedule.now.events }
+    requires few { length schedule.now.events ≤ 100000 }
+    ensures { IfOk result (λ course. Runs (λ tale. told_of tale schedule.now) course) }
+{
+    let mut world = World::make(alloc, &schedule.setup, rule)?;
+    match world.play(alloc, schedule.events.as_slice()) {
+        Ok(()) => Ok(Course::Through(world)),
+        Err(stopped) => {
+            let why = refused_of(stopped.fault)?;
+            let line = u64::from(schedule.first) + stopped.index as u64;
+            let outcome = refused(alloc, line, why)?;
+            Ok(Course::Stopped(outcome))
+        }
+    }
+}
+
+/// Plays the schedule that an input is.
+pub(crate) fn course_of<H: RatingRule>(
+    alloc: Global,
+    rule: H,
+    input: &[u8],
+) -> Result<Course<H>, Memory>
+    requires fact { H.fact rule }
+    requires rates { RatesWhatIsLeft (H.may rule) }
+    ensures { IfOk result (λ course. Runs (λ tale. told_behind tale input.now) course) }
+{
+    match read_schedule(alloc, input) {
+        Ok(schedule) => played(alloc, rule, &schedule),
+        Err(fault) => {
+            let outcome = misread(alloc, fault)?;
+            Ok(Course::Stopped(outcome))
+        }
+    }
+}

@@ -1,0 +1,44 @@
+//! What the commands on generated schedules come to.
+
+ghost use Rattle.std.specs.Prelude.{IfOk};
+ghost use Rattle.lat_wire.specs.Rates.{RatesWhatIsLeft};
+ghost use Rattle.lat_cmd.specs.Answers.{gen_of, bench_of};
+ghost use Rattle.lat_cmd.specs.Outcomes.{IsOutcome};
+
+use crate::outcome::Outcome;
+use lat_base::Memory;
+use lat_growth::{benched, generated};
+use lat_node::RatingRule;
+use std::alloc::Global;
+
+/// Prints a generated schedule.
+pub(crate) fn made<H: RatingRule>(alloc: Global, seed: u64, rule: H) -> Result<Outcome<H>, Memory>
+    requires fact { H.fact rule }
+    requires rates { RatesWhatIsLeft (H.may rule) }
+    ensures { IfOk result (λ o. IsOutcome (gen_of seed) o) }
+{
+    let (text, world) = generated(alloc, seed, rule)?;
+    Ok(Outcome {
+        status: 0,
+        text,
+        world: Some(world),
+    })
+}
+
+/// Tells in one line what it comes to.
+pub(crate) fn measured<H: RatingRule>(
+    alloc: Global,
+    seed: u64,
+    rule: H,
+) -> Result<Outcome<H>, Memory>
+    requires fact { H.fact rule }
+    requires rates { RatesWhatIsLeft (H.may rule) }
+    ensures { IfOk result (λ o. IsOutcome (bench_of seed) o) }
+{
+    let (text, world) = benched(alloc, seed, rule)?;
+    Ok(Outcome {
+        status: 0,
+        text,
+        world: Some(world),
+    })
+}

@@ -1,0 +1,44 @@
+//! What `replay` comes to.
+
+ghost use Rattle.std.specs.Prelude.{IfOk};
+ghost use Rattle.lat_wire.specs.Rates.{RatesWhatIsLeft};
+ghost use Rattle.lat_replay.specs.Kept.{setups_of};
+ghost use Rattle.lat_replay.specs.Played.{State, StandsAt};
+ghost use Rattle.lat_cmd.specs.Answers.{reported, replay_of};
+ghost use Rattle.lat_cmd.specs.Outcomes.{IsOutcome};
+
+use crate::course::{Course, course_of};
+use crate::outcome::Outcome;
+use lat_base::Memory;
+use lat_node::RatingRule;
+use lat_replay::World;
+use std::alloc::Global;
+
+// The report of a world.
+fn reported<H: RatingRule>(alloc: Global, world: World<H>) -> Result<Outcome<H>, Memory>
+    ensures { IfOk result (λ o. (t : State) → StandsAt world t → IsOutcome (reported (setups_of world) t) o) }
+{
+    let mut text = String::new(alloc);
+    world.report(alloc, &mut text)?;
+    Ok(Outcome {
+        status: 0,
+        text,
+        world: Some(world),
+    })
+}
+
+/// Plays the schedule that an input is, and reports what became of it.
+pub(crate) fn replay<H: RatingRule>(
+    alloc: Global,
+    rule: H,
+    input: &[u8],
+) -> Result<Outcome<H>, Memory>
+    requires fact { H.fact rule }
+    requires rates { RatesWhatIsLeft (H.may rule) }
+    ensures { IfOk result (λ o. IsOutcome (replay_of input.now) o) }
+{
+    match course_of(alloc, rule, input)? {
+        Course::Through(world) => reported(alloc, world),
+        Course::Stopped(outcome) => Ok(outcome),
+    }
+}

@@ -1,0 +1,40 @@
+//! What the commands come to that make no world.
+
+ghost use Rattle.std.specs.Prelude.{IfOk};
+ghost use Rattle.lat_show.specs.ShowOf.{show_of};
+ghost use Rattle.lat_audit.specs.AuditOf.{audit_of};
+ghost use Rattle.lat_choose.specs.ChooseOf.{choose_of};
+ghost use Rattle.lat_cmd.specs.Answers.{plain};
+ghost use Rattle.lat_cmd.specs.Outcomes.{IsOutcome};
+
+use crate::outcome::Outcome;
+use lat_audit::audit;
+use lat_base::Memory;
+use lat_choose::choose;
+use lat_node::RatingRule;
+use lat_show::show;
+use std::alloc::Global;
+
+/// Prints payloads.
+pub(crate) fn shown<H: RatingRule>(alloc: Global, input: &[u8]) -> Result<Outcome<H>, Memory>
+    ensures { IfOk result (λ o. IsOutcome (plain (show_of input.now)) o) }
+{
+    let (status, text) = show(alloc, input)?;
+    Ok(Outcome::plain(status, text))
+}
+
+/// Names the best nodes.
+pub(crate) fn chosen<H: RatingRule>(alloc: Global, input: &[u8]) -> Result<Outcome<H>, Memory>
+    ensures { IfOk result (λ o. IsOutcome (plain (choose_of input.now)) o) }
+{
+    let (status, text) = choose(alloc, input)?;
+    Ok(Outcome::plain(status, text))
+}
+
+/// Audits a capture.
+pub(crate) fn audited<H: RatingRule>(alloc: Global, input: &[u8]) -> Result<Outcome<H>, Memory>
+    ensures { IfOk result (λ o. IsOutcome (plain (audit_of input.now)) o) }
+{
+    let (status, text) = audit(alloc, input)?;
+    Ok(Outcome::plain(status, text))
+}
