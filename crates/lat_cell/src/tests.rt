@@ -1,6 +1,5 @@
-//! The cell over a core of the tests' own, and its workers in threads.
+//! The cell over a core of the tests' own, without threads.
 
 mod echo;
 mod outside;
 mod rows;
-mod threads;

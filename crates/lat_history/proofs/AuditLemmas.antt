@@ -28,7 +28,7 @@ both_none : (a b : Option SeatFault) → first_of a b ≡ None → (a ≡ None) 
 both_none None b e = (refl, e)
 both_none (Some f) b e = absurd (search (rules, e))
 
-same_by : (b : Bool) (seat kept share : ℕ) → nat_eq kept share ≡ b → differs seat kept share ≡ None → kept ≡ share
+pub same_by : (b : Bool) (seat kept share : ℕ) → nat_eq kept share ≡ b → differs seat kept share ≡ None → kept ≡ share
 same_by true seat kept share is e = grind (arith, is)
 same_by false seat kept share is e = grind (arith, is, e)
 
@@ -40,7 +40,7 @@ agrees_at seat h s e =
       bytes = same_by _ seat (kept_bytes seat h) (share_bytes seat s) refl both.1;
     }
 
-by_place : (b : Bool) (k seat at : ℕ) (h : List Past) (s : List SeatView) → nat_eq at seat ≡ b → seat_fault seat h s ≡ None → seat ≤ at → at < seat + suc k → (seat + 1 ≤ at → SeatAgrees h s at) → SeatAgrees h s at
+pub by_place : (b : Bool) (k seat at : ℕ) (h : List Past) (s : List SeatView) → nat_eq at seat ≡ b → seat_fault seat h s ≡ None → seat ≤ at → at < seat + suc k → (seat + 1 ≤ at → SeatAgrees h s at) → SeatAgrees h s at
 by_place true k seat at h s is e low high next = let same : at ≡ seat = grind (arith, is) in rw same (agrees_at seat h s e)
 by_place false k seat at h s is e low high next = next (grind (arith, is))
 

@@ -1,5 +1,5 @@
 -- Each seat's counts in the history against its share.
-use Rattle.std.specs.Prelude.{◌≡◌, ℕ, ◌+◌, ◌==◌, zero, suc, List, count_by, sum_by, find, if◌then◌else◌, Option, Some, None}
+use Rattle.std.specs.Prelude.{◌≡◌, ◌≢◌, ◌⊎◌, ◌<◌, ℕ, ◌+◌, ◌==◌, zero, suc, List, count_by, sum_by, find, if◌then◌else◌, Option, Some, None}
 use Rattle.std.specs.Option.{option_map_or}
 use Rattle.lat_history.specs.CellView.{SeatView}
 use Rattle.lat_history.specs.Counts.{seat_of, put_in}
@@ -52,3 +52,22 @@ audit_of h shares = faults_from 66 0 h shares
 pub record SeatAgrees (h : List Past) (shares : List SeatView) (seat : ℕ) : Type 0 where
   pub events : kept_events seat h ≡ share_events seat shares
   pub bytes : kept_bytes seat h ≡ share_bytes seat shares
+
+-- the events that a fault names: those of its seat in the history and in its share, and they differ
+pub record EventsDiffer (h : List Past) (shares : List SeatView) (f : SeatFault) : Type 0 where
+  pub kept : f.kept ≡ kept_events f.seat h
+  pub share : f.share ≡ share_events f.seat shares
+  pub differ : f.kept ≢ f.share
+
+-- the bytes that a fault names, behind events that agree
+pub record BytesDiffer (h : List Past) (shares : List SeatView) (f : SeatFault) : Type 0 where
+  pub events : kept_events f.seat h ≡ share_events f.seat shares
+  pub kept : f.kept ≡ kept_bytes f.seat h
+  pub share : f.share ≡ share_bytes f.seat shares
+  pub differ : f.kept ≢ f.share
+
+-- the first pair that differs: each seat before it agrees, and at its own it is the events, or else the bytes
+pub record IsFirstToDiffer (h : List Past) (shares : List SeatView) (f : SeatFault) : Type 0 where
+  pub within : f.seat < 66
+  pub before : (seat : ℕ) → seat < f.seat → SeatAgrees h shares seat
+  pub here : EventsDiffer h shares f ⊎ BytesDiffer h shares f

@@ -1,5 +1,6 @@
 pub mod Counts
 pub mod History
+pub mod Numbers
 pub mod CellView
 pub mod Audits
 pub mod Seats

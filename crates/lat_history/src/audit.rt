@@ -1,7 +1,8 @@
 //! Each seat's counts in the history against its share.
 
 ghost use Rattle.std.specs.Prelude.{◌≡◌, ◌+◌, ◌<◌, ◌≤◌, ◌*◌, ℕ, Ok, Err, Some, None, IfSome, IsOk, OnOk, length};
-ghost use Rattle.lat_history.specs.Audits.{kept_events, kept_bytes, share_events, share_bytes, share_at, differs, seat_fault, audit_of, SeatAgrees};
+ghost use Rattle.lat_history.specs.Audits.{kept_events, kept_bytes, share_events, share_bytes, share_at, differs, seat_fault, audit_of};
+ghost use Rattle.lat_history.specs.Audits.{SeatAgrees, IsFirstToDiffer};
 
 use crate::cell::Cell;
 use crate::fault::SeatFault;
@@ -98,6 +99,8 @@ impl<C: Core, T: Tx, E: Ledger, B: Ledger, F: Ledger> Cell<C, T, E, B, F> {
         ensures fault { (f : SeatFault) → result ≡ Err f → audit_of self.now.history shares.now ≡ Some f }
         ensures ok { OnOk result (audit_of self.now.history shares.now ≡ None) }
         ensures agrees { OnOk result ((seat : ℕ) → seat < 66 → SeatAgrees self.now.history shares.now seat) }
+        ensures only { ((seat : ℕ) → seat < 66 → SeatAgrees self.now.history shares.now seat) → IsOk result }
+        ensures first { (f : SeatFault) → result ≡ Err f → IsFirstToDiffer self.now.history shares.now f }
     {
         match audited(self.history(), shares) {
             Some(fault) => Err(fault),

@@ -3,6 +3,7 @@
 ghost use Rattle.std.specs.Prelude.{◌≡◌, ◌≤◌, [], length, true, false, None, IfOk};
 ghost use Rattle.lat_history.specs.Counts.{ShowsLimit};
 ghost use Rattle.lat_history.specs.History.{IsRun, FramesOf, LastAre, run_of};
+ghost use Rattle.lat_history.specs.Numbers.{Counted, FullIsShown};
 ghost use Rattle.lat_history.specs.Seats.{all_seats};
 
 use crate::fault::FullAt;
@@ -43,17 +44,30 @@ pub struct Cell<C: Core, T: Tx, E: Ledger, B: Ledger, F: Ledger> {
 }
 
 impl<C: Core, T: Tx, E: Ledger, B: Ledger, F: Ledger> Model for Cell<C, T, E, B, F> {
-    ghost use Rattle.std.specs.Prelude.{◌≡◌, ◌≤◌, ◌*◌, [], vec_len, is_some, nat_lt};
+    ghost use Rattle.std.specs.Prelude.{◌≡◌, []};
     ghost use Rattle.lat_history.specs.CellView.{CellView};
-    ghost use Rattle.lat_history.specs.Counts.{bytes_put, bytes_kept, ShowsLimit};
     ghost use Rattle.lat_history.specs.History.{IsRun, FramesOf, LastAre};
-    ghost use Rattle.lat_history.specs.declared.cell.TheConstants.{MOST, BYTES};
+    ghost use Rattle.lat_history.specs.Numbers.{Counted, Limited, FullIsShown};
 
     ghost Value = { CellView C T };
 
-    ghost view = { λ a. record { core = a.core; tx = a.tx; sent = a.sent; history = a.history.items; stopping = a.stopping; full = a.full; full_seats = a.fulls.total } };
+    ghost view = { λ a. record {
+      core = a.core;
+      tx = a.tx;
+      sent = a.sent;
+      history = a.history.items;
+      stopping = a.stopping;
+      full = a.full;
+      full_seats = a.fulls.total;
+    } };
 
-    ghost invariant = { λ a. IsRun C.made C.opening C.stands C.next C.answer a.core a.history.items × LastAre (T.tried a.tx) a.sent (FramesOf C.next C.frames (C.opening a.core) a.history.items) × (a.sent ≤ 256 * vec_len a.history) × C.valid a.core × (a.events.total ≡ vec_len a.history) × (vec_len a.history ≤ MOST) × (a.bytes.total ≡ bytes_put a.history.items) × (a.bytes.total ≤ 65535 * vec_len a.history) × (a.kept ≡ bytes_kept a.history.items) × (a.kept ≤ BYTES) × (is_some a.full ≡ nat_lt 0 a.fulls.total) × ShowsLimit a.full × (a.out ≡ []) };
+    ghost invariant = { λ a. IsRun C.made C.opening C.stands C.next C.answer a.core a.history.items
+        × LastAre (T.tried a.tx) a.sent (FramesOf C.next C.frames (C.opening a.core) a.history.items)
+        × C.valid a.core
+        × Counted a.history.items a.events.total a.bytes.total
+        × Limited a.history.items a.kept a.sent
+        × FullIsShown a.full a.fulls.total
+        × (a.out ≡ []) };
 }
 
 impl<C: Core, T: Tx, E: Ledger, B: Ledger, F: Ledger> Cell<C, T, E, B, F> {
@@ -115,6 +129,16 @@ impl<C: Core, T: Tx, E: Ledger, B: Ledger, F: Ledger> Cell<C, T, E, B, F> {
         ensures limit { ShowsLimit result }
     {
         self.full
+    }
+
+    /// The books of the three ledgers. That of events has the history's length, that of bytes has the bytes put; that of refused
+    /// seats is above 0 exactly where the cell is full, and the cell then shows which limit was met.
+    pub fn books(&self) -> (&Book<E>, &Book<B>, &Book<F>)
+        ensures counted { Counted self.now.history result.0.now.total result.1.now.total }
+        ensures seats { result.2.now.total ≡ self.now.full_seats }
+        ensures full { FullIsShown self.now.full result.2.now.total }
+    {
+        (&self.events, &self.bytes, &self.fulls)
     }
 
     /// Says that all workers are to end. Nothing else changes.

@@ -28,7 +28,12 @@ impl<E: Ledger, B: Ledger, F: Ledger> Model for LineShare<E, B, F> {
 
     ghost view = { λ a. record { seat = a.seat; events = a.events; bytes = a.bytes; full = a.full; parts = a.in_events.parts } };
 
-    ghost invariant = { λ a. (a.in_events.amount ≡ a.events) × (0 < a.in_events.parts) × (a.in_bytes.amount ≡ a.bytes) × (a.in_bytes.parts ≡ a.in_events.parts) × (a.in_full.amount ≡ (if a.full then 1 else 0)) × (a.in_full.parts ≡ a.in_events.parts) };
+    ghost invariant = { λ a. (a.in_events.amount ≡ a.events)
+        × (0 < a.in_events.parts)
+        × (a.in_bytes.amount ≡ a.bytes)
+        × (a.in_bytes.parts ≡ a.in_events.parts)
+        × (a.in_full.amount ≡ (if a.full then 1 else 0))
+        × (a.in_full.parts ≡ a.in_events.parts) };
 }
 
 impl<E: Ledger, B: Ledger, F: Ledger> LineShare<E, B, F> {

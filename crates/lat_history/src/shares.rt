@@ -96,7 +96,9 @@ impl<E: Ledger, B: Ledger, F: Ledger> Uncut<E, B, F> {
         requires parts { (1 < self.old.events.parts) × (self.old.bytes.parts ≡ self.old.events.parts) × (self.old.full.parts ≡ self.old.events.parts) }
         requires none { (self.old.events.amount ≡ 0) × (self.old.bytes.amount ≡ 0) × (self.old.full.amount ≡ 0) }
         ensures seat { result ≡ fresh seat 1 }
-        ensures parts { (self.new.events.parts + 1 ≡ self.old.events.parts) × (self.new.bytes.parts + 1 ≡ self.old.bytes.parts) × (self.new.full.parts + 1 ≡ self.old.full.parts) }
+        ensures parts { (self.new.events.parts + 1 ≡ self.old.events.parts)
+            × (self.new.bytes.parts + 1 ≡ self.old.bytes.parts)
+            × (self.new.full.parts + 1 ≡ self.old.full.parts) }
         ensures none { (self.new.events.amount ≡ 0) × (self.new.bytes.amount ≡ 0) × (self.new.full.amount ≡ 0) }
     {
         LineShare::make(

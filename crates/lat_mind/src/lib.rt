@@ -2,5 +2,7 @@
 #![tactic(auto)]
 
 mod mind;
+#[cfg(test)]
+mod tests;
 
 pub use mind::{Fact, LineMind, Move, Seen};

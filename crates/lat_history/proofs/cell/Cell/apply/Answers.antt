@@ -1,4 +1,4 @@
-use Rattle.std.proofs.Common.{◌∙◌, ap, refl, ◌++◌, ◌∷◌, [], length, arith}
+use Rattle.std.proofs.Common.{◌∙◌, ap, refl, ◌++◌, ◌∷◌, [], ◌≡◌, ◌+◌, length, length-append, arith}
 use Rattle.std.proofs.lemmas.List.Sums.{sum_by_push}
 use Rattle.lat_history.specs.Counts.{past, put_in, bytes_in, bytes_put, bytes_kept}
 use Rattle.lat_history.specs.History.{FramesOf, run_of}
@@ -14,7 +14,8 @@ invariant_of-self-2 g c =
     let s = m.opening old.core in
     let h = old.history.items in
     let p = past c.args.event c.in_ok-answer.answer in
-    let now = c.push_reserved.ensures.items ∙ (λ i. c.reserved.ensures.items i ++ past c.args.event (c.copy_in-copy.ensures i) ∷ []) in (
+    let now = c.push_reserved.ensures.items ∙ (λ i. c.reserved.ensures.items i ++ past c.args.event (c.copy_in-copy.ensures i) ∷ []) in
+    let more : length c.push_reserved.new.self.items ≡ length h + 1 = ap length now ∙ length-append h (p ∷ []) in (
       one_more m.made m.opening m.stands m.next m.answer old.core c.step.new.self h c.args.event c.in_ok-answer.answer c.push_reserved.new.self.items
           c.self.invariant.0 step.opening step.state step.answer now,
       rw (step.opening, now) (last_more (told old.tx) (told c.send_all.new.tx) old.sent c.frames-frames.result.now (FramesOf m.next m.frames s h) (FramesOf m.next m.frames s (h ++ p ∷ []))
@@ -22,16 +23,19 @@ invariant_of-self-2 g c =
           (λ xs q.
           let f : m.frames (run_of m.next s h) c.args.event c.frames-frames.result.now = rw c.frames-frames.ensures.value (step.frames (run_of m.next s h) c.self.invariant.0.run) in
           frames_of-push m.next m.frames s h p xs c.frames-frames.result.now q f)),
-      omega (arith, c.self.invariant.2, c.frames-frames.ensures.most, ap length c.frames-frames.ensures.value, c.reserved.ensures.len, c.push_reserved.ensures.len),
       step.valid,
-      omega (arith, c.count.ensures.books.0, c.self.invariant.4, c.reserved.ensures.len, c.push_reserved.ensures.len),
-      omega (arith, c.len-place.ensures, c.if-place-ge-MOST.false, c.reserved.ensures.len, c.push_reserved.ensures.len),
-      omega (arith, c.count.ensures.books.1, c.self.invariant.6, c.put.ensures, ap bytes_put now ∙ sum_by_push put_in h p),
-      omega (arith, c.count.ensures.books.1, c.self.invariant.7, c.put.ensures, c.put.type_inv, c.reserved.ensures.len, c.push_reserved.ensures.len),
-      omega (arith, c.self.invariant.8, c.bytes-more.ensures, ap bytes_kept now ∙ sum_by_push (λ q. bytes_in q.event) h p),
-      omega (arith, c.self.invariant.9, c.if-more-self.false),
-      c.self.invariant.10,
-      c.self.invariant.11,
+      record {
+        events = omega (arith, c.count.ensures.books.0, c.self.invariant.3.events, more);
+        bytes = omega (arith, c.count.ensures.books.1, c.self.invariant.3.bytes, c.put.ensures, ap bytes_put now ∙ sum_by_push put_in h p);
+        most = omega (arith, c.count.ensures.books.1, c.self.invariant.3.most, c.put.ensures, c.put.type_inv, more);
+      },
+      record {
+        events = omega (arith, c.len-place.ensures, c.if-place-ge-MOST.false, more);
+        bytes = omega (arith, c.self.invariant.4.bytes, c.bytes-more.ensures, ap bytes_kept now ∙ sum_by_push (λ q. bytes_in q.event) h p);
+        most = omega (arith, c.self.invariant.4.most, c.if-more-self.false);
+        frames = omega (arith, c.self.invariant.4.frames, c.frames-frames.ensures.most, ap length c.frames-frames.ensures.value, more);
+      },
+      c.self.invariant.5,
       c.clear.ensures,
     )
 

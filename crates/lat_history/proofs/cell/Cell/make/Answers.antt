@@ -9,15 +9,9 @@ invariant_of-cell g c =
     rw c.new.ensures.items (
       record { as_made = c.requires.made; run = c.requires.stands; legal = tt },
       last_none (g.T.Tx.tried c.args.tx) (FramesOf m.next m.frames (m.opening c.args.core) []) refl,
-      search rules,
       c.requires.valid,
-      search rules,
-      search rules,
-      search rules,
-      search rules,
-      search rules,
-      search rules,
-      search rules,
-      search rules,
+      record { events = search rules; bytes = search rules; most = search rules },
+      record { events = search rules; bytes = search rules; most = search rules; frames = search rules },
+      record { some = search rules; limit = search rules },
       search rules,
     )

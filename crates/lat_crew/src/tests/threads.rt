@@ -1,0 +1,137 @@
+//! Two lines, a wire and a clock in threads round a server core, a node core at the other end of the carrier. A gate holds line
+//! 1 until line 2 has its bytes back, so that lines which work one after another, or don't work at all, fail the test. The
+//! carrier fails at each of its sends in turn.
+
+ghost use Rattle.std.specs.Prelude.{◌≡◌, IfOk};
+ghost use Rattle.lat_server.specs.Kept.{AtRest};
+ghost use Rattle.lat_server.specs.Stands.{IsMachine, opening};
+
+use super::cores::{LINES, node, server};
+use super::crew::{Came, Place, run};
+use super::far::Far;
+use super::free::Free;
+use super::outside::Signs;
+use lat_base::{Core, Event, Memory, Name};
+use lat_cell::Blanks;
+use lat_node::NodeCore;
+use lat_outside::MemTx;
+use lat_server::ServerCore;
+use std::alloc::Global;
+use std::marker::Brand;
+use std::sync::ledger::{Blank, Ledger};
+use std::sync::{Mutex, Wait};
+use std::thread::Threads;
+use std::time::Clock;
+
+/// More sends than a run makes.
+const SENDS: u64 = 1000;
+
+fn name(bytes: &[u8]) -> Result<Name, Memory> {
+    Name::read(bytes).map_err(|_| Memory)
+}
+
+// A server that has done nothing.
+fn fresh_server(alloc: Global) -> Result<ServerCore, Memory>
+    ensures { IfOk result (λ k. IsMachine k (opening k) × AtRest k) }
+{
+    ServerCore::make(alloc, &server(alloc, name(b"TS1")?))
+}
+
+// A node behind its first announcement.
+fn announced_node(alloc: Global, service: &Name) -> Result<Far<NodeCore<Free>>, Memory> {
+    let core = NodeCore::make(alloc, &node(alloc, name(b"VAX1")?, service)?, Free)?;
+    let mut far = Far::new(alloc, core, LINES)?;
+    far.tell(alloc, &Event::Announce)?;
+    Ok(far)
+}
+
+// What comes of a run, and whether its carrier failed, where the send of this number is to fail.
+fn played<
+    N: Core + Send,
+    E: Ledger + Sync,
+    B: Ledger + Sync,
+    F: Ledger + Sync,
+    R: Threads + Wait + Clock + Sync,
+>(
+    rt: &R,
+    alloc: Global,
+    far: Far<N>,
+    service: Name,
+    fails: u64,
+    blanks: Blanks,
+) -> Option<(Came, bool, bool)>
+    requires names { (blanks.events.name ≡ E.name) × (blanks.bytes.name ≡ B.name) × (blanks.full.name ≡ F.name) }
+    requires parts { (blanks.events.parts ≡ E.parts) × (blanks.bytes.parts ≡ B.parts) × (blanks.full.parts ≡ F.parts) }
+    requires many { (E.parts ≡ 66) × (B.parts ≡ 66) × (F.parts ≡ 66) }
+{
+    let (far, signs, failing) = (Mutex::new(far), Signs::new(), [fails]);
+    let place = Place {
+        rt,
+        alloc,
+        far: &far,
+        signs: &signs,
+        service,
+    };
+    let tx = MemTx::new(alloc, &failing);
+    let Ok(core) = fresh_server(alloc) else {
+        return None;
+    };
+    let came = run::<ServerCore, MemTx, N, E, B, F, R>(&place, core, tx, blanks)?;
+    Some((came, signs.is_late(), signs.has_lost()))
+}
+
+fn one<E: Ledger + Sync, B: Ledger + Sync, F: Ledger + Sync, R: Threads + Wait + Clock + Sync>(
+    rt: &R,
+    alloc: Global,
+    fails: u64,
+    blanks: Blanks,
+) -> Option<(Came, bool, bool)>
+    requires names { (blanks.events.name ≡ E.name) × (blanks.bytes.name ≡ B.name) × (blanks.full.name ≡ F.name) }
+    requires parts { (blanks.events.parts ≡ E.parts) × (blanks.bytes.parts ≡ B.parts) × (blanks.full.parts ≡ F.parts) }
+    requires many { (E.parts ≡ 66) × (B.parts ≡ 66) × (F.parts ≡ 66) }
+{
+    let service = Name::read(b"VAX").ok()?;
+    let far = announced_node(alloc, &service).ok()?;
+    played::<NodeCore<Free>, E, B, F, R>(rt, alloc, far, service, fails, blanks)
+}
+
+fn blanks() -> Blanks
+    ensures { (result.events.parts ≡ 66) × (result.bytes.parts ≡ 66) × (result.full.parts ≡ 66) }
+{
+    Blanks {
+        events: Blank::new(66),
+        bytes: Blank::new(66),
+        full: Blank::new(66),
+    }
+}
+
+#[test]
+fn workers_work_at_once(rt: HostRuntime) {
+    for fails in 0..SENDS {
+        let came = one::<Brand, Brand, Brand, HostRuntime>(&rt, rt.alloc(), fails, blanks());
+        assert!(rt; came.is_some(), "memory, where send {fails} fails");
+        let Some((came, late, lost)) = came else {
+            return;
+        };
+        assert!(rt; !late, "line 1 waited in vain, where send {fails} fails");
+        assert!(rt;
+            came.back,
+            "each line has its bytes back, where send {fails} fails"
+        );
+        assert!(rt;
+            came.ended,
+            "each line came to its end, where send {fails} fails"
+        );
+        assert!(rt;
+            came.audited,
+            "each share is that of the history, where send {fails} fails"
+        );
+        assert!(rt;
+            came.summed,
+            "the shares add up to the history, where send {fails} fails"
+        );
+        if fails > 0 && !lost {
+            return;
+        }
+    }
+}
