@@ -4,8 +4,8 @@ use crate::hear::hand;
 use crate::play::Play;
 use crate::print::answer_onto;
 use crate::station::Station;
-use crate::words::{name, number};
 use lat_base::{Answer, Event, Memory, Name, OutBox};
+use lat_script::{ScriptFault, name, number};
 use std::alloc::Global;
 
 // A STOP of source 0 to this circuit, with reason 3.
@@ -16,16 +16,22 @@ fn stop(circuit: u16) -> [u8; 10] {
 
 impl<S: Station, N: Station> Play<S, N> {
     /// Connects line 1 so many times, and ends its circuit each time.
-    pub fn draw(&mut self, alloc: Global, line: &str, text: &mut String) -> Result<(), Memory> {
+    pub fn draw(
+        &mut self,
+        alloc: Global,
+        line: &str,
+        text: &mut String,
+    ) -> Result<(), ScriptFault> {
+        let times = number(line, 1)?;
         let Some(service) = name(line, 2) else {
             return Ok(text.push_str("no name\n")?);
         };
         let mut out = OutBox::make(alloc)?;
         let mut last = Answer::Done;
-        for _ in 0..number(line, 1) {
+        for _ in 0..times {
             last = self.draw_one(alloc, service, &mut out)?;
         }
-        answer_onto(alloc, text, &last)
+        Ok(answer_onto(alloc, text, &last)?)
     }
 
     fn draw_one(

@@ -4,8 +4,8 @@ use crate::play::{Play, Side, side_at};
 use crate::post::Post;
 use crate::print::answer_onto;
 use crate::station::Station;
-use crate::words::{address, bytes, name, number, short, word};
 use lat_base::{Addr, Answer, Bytes, EVERYONE, Event, Memory, Name, OutBox, Payload};
+use lat_script::{ScriptFault, address, bytes, name, number, short, word};
 use std::alloc::Global;
 
 /// Where the announcements of `announcers` and the commands of `askers` come from.
@@ -31,13 +31,13 @@ pub fn hand<C: Station>(
 
 impl<S: Station, N: Station> Play<S, N> {
     // The moment that this word is, or the latest so far.
-    fn moment_at(&mut self, line: &str, place: usize) -> u64 {
+    fn moment_at(&mut self, line: &str, place: u8) -> Result<u64, ScriptFault> {
         if word(line, place) != "" {
-            let now = number(line, place);
+            let now = number(line, place)?;
             self.latest = self.latest.max(now);
-            return now;
+            return Ok(now);
         }
-        self.latest
+        Ok(self.latest)
     }
 
     fn hear(
@@ -71,24 +71,34 @@ impl<S: Station, N: Station> Play<S, N> {
     }
 
     /// Delivers a frame.
-    pub fn deliver(&mut self, alloc: Global, line: &str, text: &mut String) -> Result<(), Memory> {
-        match self.frame_at(number(line, 1) as usize) {
+    pub fn deliver(
+        &mut self,
+        alloc: Global,
+        line: &str,
+        text: &mut String,
+    ) -> Result<(), ScriptFault> {
+        match self.frame_at(number(line, 1)? as usize) {
             Some((side, from, payload)) => {
-                let now = self.moment_at(line, 2);
-                self.hear(alloc, side, from, payload.bytes(), now, text)
+                let now = self.moment_at(line, 2)?;
+                Ok(self.hear(alloc, side, from, payload.bytes(), now, text)?)
             }
             None => Ok(text.push_str("not for it\n")?),
         }
     }
 
     /// Hands a payload to a core.
-    pub fn inject(&mut self, alloc: Global, line: &str, text: &mut String) -> Result<(), Memory> {
+    pub fn inject(
+        &mut self,
+        alloc: Global,
+        line: &str,
+        text: &mut String,
+    ) -> Result<(), ScriptFault> {
         let Some(from) = address(line, 2) else {
             return Ok(text.push_str("no address\n")?);
         };
         let payload = bytes(alloc, line, 3)?;
-        let now = self.moment_at(line, 4);
-        self.hear(alloc, side_at(line, 1), from, &payload, now, text)
+        let now = self.moment_at(line, 4)?;
+        Ok(self.hear(alloc, side_at(line, 1), from, &payload, now, text)?)
     }
 
     /// Hands the server the announcements of nodes N1, N2 and so on.
@@ -97,10 +107,11 @@ impl<S: Station, N: Station> Play<S, N> {
         alloc: Global,
         line: &str,
         text: &mut String,
-    ) -> Result<(), Memory> {
+    ) -> Result<(), ScriptFault> {
+        let nodes = short(line, 1)?;
         let mut out = OutBox::make(alloc)?;
         let mut last = Answer::Done;
-        for number in 0..short(line, 1) {
+        for number in 0..nodes {
             let payload = announcement(alloc, number)?;
             last = hand(
                 alloc,
@@ -111,17 +122,23 @@ impl<S: Station, N: Station> Play<S, N> {
                 &mut out,
             )?;
         }
-        answer_onto(alloc, text, &last)
+        Ok(answer_onto(alloc, text, &last)?)
     }
 
     /// Hands the server the commands of a node's requests from one number up to another, all of one service.
-    pub fn askers(&mut self, alloc: Global, line: &str, text: &mut String) -> Result<(), Memory> {
+    pub fn askers(
+        &mut self,
+        alloc: Global,
+        line: &str,
+        text: &mut String,
+    ) -> Result<(), ScriptFault> {
+        let (first, end) = (number(line, 1)?, number(line, 2)?.min(65_536));
         let Some(service) = name(line, 3) else {
             return Ok(text.push_str("no name\n")?);
         };
         let mut out = OutBox::make(alloc)?;
         let mut last = Answer::Done;
-        for request in number(line, 1)..number(line, 2).min(65_536) {
+        for request in first..end {
             let payload = command(alloc, request as u16, &service)?;
             last = hand(
                 alloc,
@@ -132,7 +149,7 @@ impl<S: Station, N: Station> Play<S, N> {
                 &mut out,
             )?;
         }
-        answer_onto(alloc, text, &last)
+        Ok(answer_onto(alloc, text, &last)?)
     }
 }
 

@@ -5,8 +5,12 @@
 //! A script is a list of blocks with an empty line between them. Each begins anew: its lines up to `go` say what both cores
 //! are made of, those behind it are events and questions. A line is words with a blank between them. A line that begins with
 //! `#` is printed as it is; of another one the line itself is printed behind `> `, and then what it answers. The cores are `s`,
-//! the server, and `n`, the node. Moments are milliseconds. A word that isn't there or isn't a number counts as 0, a number
-//! that is too large as the greatest one; an address is twelve hex digits.
+//! the server, and `n`, the node. Moments are milliseconds; an address is twelve hex digits.
+//!
+//! Numbers are in decimal, without a sign or a needless 0: moments, frames and records, FROM, TO and the N of `draw` are below
+//! 2^64, circuits, ids of requests, INCARNATION and each other N 65,535 at most, and what is left 255. Of a line with another word
+//! in the place of a number, or with an odd number of hex digits, nothing is done, and `line N word M isn't a number up to K` or
+//! `line N word M isn't hex digits` is printed, with the numbers of the line and of its word, both counted from 1.
 //!
 //! | Line before `go` | Says |
 //! |---|---|
@@ -50,35 +54,15 @@ mod script;
 mod setup;
 mod station;
 mod tell;
-mod words;
 
-use lat_base::Memory;
-use lat_outside::{StdSink, StdSource, read_all, write_all};
+use lat_outside::{StdSink, StdSource};
+use lat_script::run;
 use script::played;
-use std::alloc::Global;
 use std::io;
 use std::process::ExitCode;
 
-const INPUT_BYTES: usize = 16_777_216;
-
-fn text_of(alloc: Global, input: &[u8]) -> Result<String, Memory> {
-    match str::from_utf8(input) {
-        Ok(script) => played(alloc, script),
-        Err(_) => Ok(String::from_str(alloc, "no text\n")?),
-    }
-}
-
 fn main(rt: HostRuntime) -> ExitCode {
     let mut source = StdSource::new(rt.stdin());
-    let Ok(input) = read_all(rt.alloc(), &mut source, INPUT_BYTES) else {
-        return ExitCode::from(4);
-    };
-    let Ok(text) = text_of(rt.alloc(), &input) else {
-        return ExitCode::from(9);
-    };
     let mut sink = StdSink::new(io::writer(&rt));
-    match write_all(&mut sink, text.as_bytes()) {
-        Ok(()) => ExitCode::from(0),
-        Err(_) => ExitCode::from(5),
-    }
+    ExitCode::from(run(rt.alloc(), played, &mut source, &mut sink))
 }

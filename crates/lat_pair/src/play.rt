@@ -4,8 +4,8 @@ use crate::event::event_of;
 use crate::post::Post;
 use crate::print::{answer_onto, frame_onto};
 use crate::station::Station;
-use crate::words::word;
 use lat_base::{Addr, Event, Memory, OutBox, Payload};
+use lat_script::{ScriptFault, word};
 use std::alloc::Global;
 
 /// The one core or the other.
@@ -16,7 +16,7 @@ pub enum Side {
 }
 
 /// The core that this word means.
-pub fn side_at(line: &str, place: usize) -> Side {
+pub fn side_at(line: &str, place: u8) -> Side {
     if word(line, place) == "s" {
         Side::Server
     } else {
@@ -86,13 +86,13 @@ impl<S: Station, N: Station> Play<S, N> {
         side: Side,
         line: &str,
         text: &mut String,
-    ) -> Result<(), Memory> {
+    ) -> Result<(), ScriptFault> {
         match event_of(alloc, line, self.server.own())? {
             Some(event) => {
                 if let Event::Time { now } = &event {
                     self.latest = self.latest.max(*now);
                 }
-                self.step(alloc, side, &event, text)
+                Ok(self.step(alloc, side, &event, text)?)
             }
             None => Ok(text.push_str("no event\n")?),
         }

@@ -1,10 +1,8 @@
 //! Answers, frames and books in words.
 
-use lat_base::{
-    Answer, Heard, Item, Kept, LineBook, LineSession, Mark, Memory, OutFrame, SessionEnd,
-    SessionState,
-};
+use lat_base::{Answer, Item, Kept, LineBook, LineSession, Memory, OutFrame};
 use lat_queue::Record;
+use lat_script::{answer_word, end_onto, heard_onto, items_onto, mark_onto};
 use lat_seq::Span;
 use lat_show::show;
 use lat_text::{address_onto, name_onto};
@@ -34,44 +32,6 @@ pub fn answer_onto(alloc: Global, text: &mut String, answer: &Answer) -> Result<
     Ok(())
 }
 
-// An answer without a number.
-fn answer_word(answer: &Answer) -> &'static str {
-    match answer {
-        Answer::StartRefused => "start-refused\n",
-        Answer::Announced => "announced\n",
-        Answer::DirectoryFull => "directory-full\n",
-        Answer::NotKept => "not-kept\n",
-        Answer::Noted => "noted\n",
-        Answer::Apart => "apart\n",
-        Answer::Solicited => "solicited\n",
-        Answer::Ignored => "ignored\n",
-        Answer::Done => "done\n",
-        Answer::NoLine => "no-line\n",
-        Answer::Busy => "busy\n",
-        Answer::NoService => "no-service\n",
-        Answer::SessionsFull => "sessions-full\n",
-        Answer::CircuitsFull => "circuits-full\n",
-        Answer::IdsOut => "ids-out\n",
-        Answer::Closed => "closed\n",
-        Answer::Full => "full\n",
-        Answer::IdUsed => "id-used\n",
-        Answer::NotHere => "not-here\n",
-        _ => "other\n",
-    }
-}
-
-fn heard_onto(text: &mut String, heard: Heard) -> Result<(), AllocError> {
-    match heard {
-        Heard::Running => text.push_str("running\n"),
-        Heard::Taken(slots) => write!(text, "taken {slots}\n"),
-        Heard::Again => text.push_str("again\n"),
-        Heard::AckOnly => text.push_str("ack-only\n"),
-        Heard::Foreign => text.push_str("foreign\n"),
-        Heard::Broke(reason) => write!(text, "broke {reason}\n"),
-        Heard::Ended(reason) => write!(text, "ended {reason}\n"),
-    }
-}
-
 fn kept_onto(text: &mut String, kept: Kept) -> Result<(), AllocError> {
     match kept {
         Kept::Waiting(place) => write!(text, "waiting {place}"),
@@ -87,29 +47,7 @@ fn kept_onto(text: &mut String, kept: Kept) -> Result<(), AllocError> {
 fn took_onto(alloc: Global, text: &mut String, items: &[Item]) -> Result<(), AllocError> {
     let count = items.len();
     write!(text, "took {count}")?;
-    for item in items {
-        item_onto(alloc, text, *item)?;
-    }
-    text.push_str("\n")
-}
-
-fn item_onto(alloc: Global, text: &mut String, item: Item) -> Result<(), AllocError> {
-    match item {
-        Item::Byte(byte) => write!(text, " {byte:02x}"),
-        Item::Set(setting) => {
-            let digits = hex::encode(alloc, setting)?;
-            write!(text, " set {digits}")
-        }
-    }
-}
-
-fn mark_onto(text: &mut String, mark: Mark) -> Result<(), AllocError> {
-    match mark {
-        Mark::Fresh => text.push_str("fresh"),
-        Mark::Again(back) => write!(text, "again {back}"),
-        Mark::Bare => text.push_str("bare"),
-        Mark::Plain => text.push_str("plain"),
-    }
+    items_onto(alloc, text, items)
 }
 
 /// Adds a frame of this number to the text: its mark, where it goes, its circuit, and what is shown of it.
@@ -132,18 +70,6 @@ pub fn frame_onto(
     Ok(())
 }
 
-/// The word of a session's state.
-pub fn state_word(state: SessionState) -> &'static str {
-    match state {
-        SessionState::Free => "free\n",
-        SessionState::Calling => "calling\n",
-        SessionState::Asked => "asked\n",
-        SessionState::Live => "live\n",
-        SessionState::Closing => "closing\n",
-        SessionState::Left => "left\n",
-    }
-}
-
 /// The word of a circuit's span.
 pub fn span_word(span: Option<Span>) -> &'static str {
     match span {
@@ -155,15 +81,6 @@ pub fn span_word(span: Option<Span>) -> &'static str {
 
 pub fn yes_word(yes: bool) -> &'static str {
     if yes { "yes\n" } else { "no\n" }
-}
-
-fn end_onto(text: &mut String, end: Option<SessionEnd>) -> Result<(), AllocError> {
-    match end {
-        Some(SessionEnd::Closed) => text.push_str("closed\n"),
-        Some(SessionEnd::Rejected(reason)) => write!(text, "rejected {reason}\n"),
-        Some(SessionEnd::Circuit(reason)) => write!(text, "circuit {reason}\n"),
-        None => text.push_str("open\n"),
-    }
 }
 
 fn session_onto(
@@ -190,7 +107,10 @@ fn session_onto(
     write!(text, " circuit {circuit} session {session}")?;
     write!(text, " at the peer {peer_circuit} {peer_session}")?;
     write!(text, " given {given} used {used} end ")?;
-    Ok(end_onto(text, end)?)
+    match end {
+        Some(end) => Ok(end_onto(text, end)?),
+        None => Ok(text.push_str("open\n")?),
+    }
 }
 
 /// Adds the last two sessions of a line to the text.

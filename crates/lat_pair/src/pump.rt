@@ -4,8 +4,8 @@ use crate::hear::hand;
 use crate::play::Play;
 use crate::post::Post;
 use crate::station::Station;
-use crate::words::word;
 use lat_base::{Addr, Answer, Bytes, Event, Item, Memory, OutBox, Payload};
+use lat_script::word;
 use std::alloc::Global;
 
 /// How many bytes are put at each end.

@@ -6,25 +6,15 @@ use crate::play::{Play, Side};
 use crate::post::Post;
 use crate::setup::Setup;
 use crate::station::Station;
-use crate::words::{is_remark, word};
 use lat_base::Memory;
 use lat_node::{NodeCore, RateHook, RatingRule};
+use lat_script::{Part, ScriptFault, is_command, line_behind, refused_onto, word};
 use lat_server::ServerCore;
 use std::alloc::Global;
 
-// Prints a line, and tells whether there is more to do.
-fn is_command(line: &str, text: &mut String) -> Result<bool, Memory> {
-    if is_remark(line) {
-        write!(text, "{line}\n")?;
-        return Ok(false);
-    }
-    write!(text, "> {line}\n")?;
-    Ok(true)
-}
-
 impl<S: Station, N: Station> Play<S, N> {
     // What one line does.
-    fn act(&mut self, alloc: Global, line: &str, text: &mut String) -> Result<(), Memory> {
+    fn act(&mut self, alloc: Global, line: &str, text: &mut String) -> Result<(), ScriptFault> {
         match word(line, 0) {
             "s" => self.event(alloc, Side::Server, line, text),
             "n" => self.event(alloc, Side::Node, line, text),
@@ -33,15 +23,16 @@ impl<S: Station, N: Station> Play<S, N> {
             "announcers" => self.announcers(alloc, line, text),
             "askers" => self.askers(alloc, line, text),
             "draw" => self.draw(alloc, line, text),
-            "pump" => self.pump(alloc, line, text),
+            "pump" => Ok(self.pump(alloc, line, text)?),
             _ => self.tell(alloc, line, text),
         }
     }
 
-    fn act_all(&mut self, alloc: Global, lines: &str, text: &mut String) -> Result<(), Memory> {
-        for line in lines.lines() {
+    fn act_all(&mut self, alloc: Global, lines: Part, text: &mut String) -> Result<(), Memory> {
+        for (at, line) in lines.text.lines().enumerate() {
             if is_command(line, text)? {
-                self.act(alloc, line, text)?;
+                let done = self.act(alloc, line, text);
+                refused_onto(text, lines.first.saturating_add(at as u64), done)?;
             }
         }
         Ok(())
@@ -54,7 +45,7 @@ fn play_cores<S: Station, N: Station>(
     setup: &Setup,
     server: S,
     node: N,
-    lines: &str,
+    lines: Part,
     text: &mut String,
 ) -> Result<(), Memory>
     requires server { S.valid server × (S.count server ≡ setup.now.server.lines) }
@@ -74,7 +65,7 @@ fn play_by<H: RatingRule>(
     alloc: Global,
     setup: &Setup,
     rule: H,
-    lines: &str,
+    lines: Part,
     text: &mut String,
 ) -> Result<(), Memory>
     requires { H.fact rule }
@@ -85,7 +76,7 @@ fn play_by<H: RatingRule>(
 }
 
 // The rule is the least of 255 and the lines that are left.
-fn play(alloc: Global, setup: &Setup, lines: &str, text: &mut String) -> Result<(), Memory> {
+fn play(alloc: Global, setup: &Setup, lines: Part, text: &mut String) -> Result<(), Memory> {
     let rule = |used: u16, max: u16| -> u8
         requires { used ≤ max }
         ensures { result ≡ min (max - used) 255 }
@@ -94,21 +85,27 @@ fn play(alloc: Global, setup: &Setup, lines: &str, text: &mut String) -> Result<
 }
 
 // What the lines before `go` say.
-fn setup_of(alloc: Global, lines: &str, text: &mut String) -> Result<Setup, Memory> {
+fn setup_of(alloc: Global, lines: Part, text: &mut String) -> Result<Setup, Memory> {
     let mut setup = Setup::usual(alloc)?;
-    for line in lines.lines() {
+    for (at, line) in lines.text.lines().enumerate() {
         if is_command(line, text)? {
-            setup.told(alloc, line)?;
+            let done = setup.told(alloc, line);
+            refused_onto(text, lines.first.saturating_add(at as u64), done)?;
         }
     }
     Ok(setup)
 }
 
-fn block_onto(alloc: Global, block: &str, text: &mut String) -> Result<(), Memory> {
-    match block.split_once("\ngo\n") {
+fn block_onto(alloc: Global, block: Part, text: &mut String) -> Result<(), Memory> {
+    let first = block.first;
+    match block.text.split_once("\ngo\n") {
         Some((head, lines)) => {
-            let setup = setup_of(alloc, head, text)?;
+            let setup = setup_of(alloc, Part { first, text: head }, text)?;
             text.push_str("> go\n")?;
+            let lines = Part {
+                first: line_behind(first, head, "\ngo\n"),
+                text: lines,
+            };
             play(alloc, &setup, lines, text)
         }
         None => Ok(text.push_str("no go\n")?),
@@ -118,11 +115,13 @@ fn block_onto(alloc: Global, block: &str, text: &mut String) -> Result<(), Memor
 /// What is printed of a script.
 pub fn played(alloc: Global, script: &str) -> Result<String, Memory> {
     let mut text = String::new(alloc);
+    let mut first = 1;
     for (place, block) in script.split("\n\n").enumerate() {
         if place > 0 {
             text.push_str("\n")?;
         }
-        block_onto(alloc, block, &mut text)?;
+        block_onto(alloc, Part { first, text: block }, &mut text)?;
+        first = line_behind(first, block, "\n\n");
     }
     Ok(text)
 }

@@ -1,16 +1,16 @@
 //! What both cores are made of.
 
-ghost use Rattle.std.specs.Prelude.{◌≡◌, true, false, nat_eq};
+ghost use Rattle.std.specs.Prelude.{◌≡◌, true, false, nat_eq, IfOk};
 ghost use Rattle.std.specs.List.{list_any};
 ghost use Rattle.lat_circuit.specs.Agrees.{IsTiming};
 ghost use Rattle.lat_lines.specs.Kept.{IsLine};
 ghost use Rattle.lat_server.specs.Config.{IsConfig};
 ghost use Rattle.lat_server.specs.declared.config.Offer.{Offer};
 
-use crate::words::{address, byte, bytes, name, short, word};
 use lat_base::{Addr, Bytes, Memory, Name};
 use lat_node::NodeConfig;
 use lat_queue::Services16;
+use lat_script::{ScriptFault, address, byte, bytes, name, short, word};
 use lat_server::{Offer, Offers, ServerConfig, Timing};
 use std::alloc::Global;
 use std::marker::Model;
@@ -44,17 +44,17 @@ const USUAL: Timing = Timing {
 };
 
 // The numbers that a line states, brought into their bounds.
-fn timing_of(line: &str) -> Timing
-    ensures { IsTiming result }
+fn timing_of(line: &str) -> Result<Timing, ScriptFault>
+    ensures { IfOk result IsTiming }
 {
-    Timing {
-        timer: byte(line, 1).clamp(1, 100),
-        keepalive: byte(line, 2).max(1),
-        sessions: byte(line, 3).clamp(1, 64),
-        extra: byte(line, 4),
-        ceiling: byte(line, 5).clamp(1, 15),
+    Ok(Timing {
+        timer: byte(line, 1)?.clamp(1, 100),
+        keepalive: byte(line, 2)?.max(1),
+        sessions: byte(line, 3)?.clamp(1, 64),
+        extra: byte(line, 4)?,
+        ceiling: byte(line, 5)?.clamp(1, 15),
         wide: word(line, 6) == "wide",
-    }
+    })
 }
 
 impl Setup {
@@ -86,13 +86,14 @@ impl Setup {
     }
 
     /// What a line says of them.
-    pub fn told(&mut self, alloc: Global, line: &str) -> Result<(), Memory> {
+    pub fn told(&mut self, alloc: Global, line: &str) -> Result<(), ScriptFault> {
         match word(line, 0) {
-            "server" => self.tell_server(alloc, line),
-            "node" => self.tell_node(line),
+            "server" => self.tell_server(alloc, line)?,
+            "node" => self.tell_node(line)?,
             "circuit" => {
-                self.server.timing = timing_of(line);
-                self.node.timing = timing_of(line);
+                let timing = timing_of(line)?;
+                self.server.timing = timing;
+                self.node.timing = timing;
             }
             "groups" => self.tell_groups(alloc, line)?,
             "service" => self.tell_service(line)?,
@@ -102,27 +103,30 @@ impl Setup {
         Ok(())
     }
 
-    fn tell_server(&mut self, alloc: Global, line: &str) {
+    fn tell_server(&mut self, alloc: Global, line: &str) -> Result<(), ScriptFault> {
+        let lines = byte(line, 3)?;
         self.server.own = address(line, 1).unwrap_or(self.server.own);
         self.server.name = name(line, 2).unwrap_or(self.server.name);
         self.server.offers = Offers::new(alloc);
-        self.server.lines = byte(line, 3).clamp(1, 32);
+        self.server.lines = lines.clamp(1, 32);
+        Ok(())
     }
 
-    fn tell_node(&mut self, line: &str) {
+    fn tell_node(&mut self, line: &str) -> Result<(), ScriptFault> {
+        let (lines, incarnation, timer) = (byte(line, 3)?, short(line, 4)?, byte(line, 5)?);
         self.node.own = address(line, 1).unwrap_or(self.node.own);
         self.node.name = name(line, 2).unwrap_or(self.node.name);
-        self.node.lines = byte(line, 3).clamp(1, 64);
-        self.node.incarnation = short(line, 4);
-        self.node.timer = byte(line, 5).max(1);
+        self.node.lines = lines.clamp(1, 64);
+        self.node.incarnation = incarnation;
+        self.node.timer = timer.max(1);
+        Ok(())
     }
 
-    fn tell_groups(&mut self, alloc: Global, line: &str) -> Result<(), Memory> {
-        let heard = bytes(alloc, line, 1)?;
-        self.server.groups = mask_of(&heard);
-        let mask = bytes(alloc, line, 2)?;
+    fn tell_groups(&mut self, alloc: Global, line: &str) -> Result<(), ScriptFault> {
+        let (heard, mask) = (bytes(alloc, line, 1)?, bytes(alloc, line, 2)?);
         let count = mask.len().min(32);
         self.node.groups = Bytes::copy(alloc, &mask[..count])?;
+        self.server.groups = mask_of(&heard);
         Ok(())
     }
 
@@ -133,8 +137,8 @@ impl Setup {
         }
     }
 
-    fn tell_offer(&mut self, line: &str) -> Result<(), Memory> {
-        let place = byte(line, 1);
+    fn tell_offer(&mut self, line: &str) -> Result<(), ScriptFault> {
+        let place = byte(line, 1)?;
         let Some(service) = name(line, 2) else {
             return Ok(());
         };
@@ -145,7 +149,7 @@ impl Setup {
             line: place,
             service,
         };
-        offer_more(&mut self.server, offer)
+        Ok(offer_more(&mut self.server, offer)?)
     }
 
     // Whether the server has this line, and nothing is offered there.

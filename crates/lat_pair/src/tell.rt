@@ -2,17 +2,19 @@
 
 use crate::play::{Play, Side, side_at};
 use crate::post::Post;
-use crate::print::{book_onto, record_onto, span_word, state_word, yes_word};
+use crate::print::{book_onto, record_onto, span_word, yes_word};
 use crate::station::Station;
-use crate::words::{address, byte, number, short, word};
-use lat_base::Memory;
+use lat_script::{ScriptFault, address, byte, number, short, state_word, word};
 use std::alloc::Global;
 
 impl<S: Station, N: Station> Play<S, N> {
     /// What is told at a question.
-    pub fn tell(&self, alloc: Global, line: &str, text: &mut String) -> Result<(), Memory> {
+    pub fn tell(&self, alloc: Global, line: &str, text: &mut String) -> Result<(), ScriptFault> {
         match word(line, 0) {
-            "record" => record_onto(alloc, text, self.server.record_at(number(line, 1) as usize)),
+            "record" => {
+                let record = self.server.record_at(number(line, 1)? as usize);
+                Ok(record_onto(alloc, text, record)?)
+            }
             "used" => {
                 let used = self.node.used().unwrap_or(0);
                 Ok(write!(text, "{used}\n")?)
@@ -31,13 +33,15 @@ fn tell_onto<C: Station>(
     post: &Post<C>,
     line: &str,
     text: &mut String,
-) -> Result<(), Memory> {
-    let place = byte(line, 2);
+) -> Result<(), ScriptFault> {
     match word(line, 0) {
-        "book" => return book_onto(alloc, text, post.book(place)),
-        "state" => text.push_str(state_word(post.state(place)))?,
+        "book" => book_onto(alloc, text, post.book(byte(line, 2)?))?,
+        "state" => {
+            let state = state_word(post.state(byte(line, 2)?));
+            write!(text, "{state}\n")?;
+        }
         "waiting" => {
-            let waiting = post.waiting(place);
+            let waiting = post.waiting(byte(line, 2)?);
             write!(text, "{waiting}\n")?;
         }
         "moment" => {
@@ -48,17 +52,18 @@ fn tell_onto<C: Station>(
             let finished = post.finished();
             write!(text, "{finished}\n")?;
         }
-        "span" => text.push_str(span_word(post.span(short(line, 2))))?,
-        "names" => text.push_str(yes_word(names(post, line)))?,
+        "span" => text.push_str(span_word(post.span(short(line, 2)?)))?,
+        "names" => text.push_str(yes_word(names(post, line)?))?,
         _ => text.push_str("no command\n")?,
     }
     Ok(())
 }
 
 // Whether a RUN of the address and the ids in this line names a circuit.
-fn names<C: Station>(post: &Post<C>, line: &str) -> bool {
-    match address(line, 2) {
-        Some(from) => post.names(from, short(line, 3), short(line, 4)),
+fn names<C: Station>(post: &Post<C>, line: &str) -> Result<bool, ScriptFault> {
+    let (to, from) = (short(line, 3)?, short(line, 4)?);
+    Ok(match address(line, 2) {
+        Some(address) => post.names(address, to, from),
         None => false,
-    }
+    })
 }

@@ -23,41 +23,24 @@
 //! | `reads READ CALLS`, `writes WRITE CALLS` | does so for each failing call from 1 to CALLS, of the source and of the sink, and prints each status and what was written |
 //! | `cuts HEX` | what `show` prints of the first bytes of this payload, as many as 0, 1 and so on to one byte less than all |
 //!
-//! What was written is printed as it is; where it doesn't end with a line feed, `%` and a line feed follow it. A word that
-//! isn't a number makes its line `wrong`.
+//! What was written is printed as it is; where it doesn't end with a line feed, `%` and a line feed follow it. Numbers are in
+//! decimal, without a sign or a needless 0. Of a line with another word in the place of a number, or with an odd number of hex
+//! digits, nothing is done, and `line N word M isn't a number up to 18446744073709551615` or `line N word M isn't hex digits` is
+//! printed, with the numbers of the line and of its word, both counted from 1. Another command is `wrong`.
 #![tactic(auto)]
 
 mod input;
 mod play;
 mod words;
 
-use lat_base::Memory;
-use lat_outside::{StdSink, StdSource, read_all, write_all};
+use lat_outside::{StdSink, StdSource};
+use lat_script::run;
 use play::played;
-use std::alloc::Global;
 use std::io;
 use std::process::ExitCode;
 
-const INPUT_BYTES: usize = 16_777_216;
-
-fn text_of(alloc: Global, input: &[u8]) -> Result<String, Memory> {
-    match str::from_utf8(input) {
-        Ok(file) => played(alloc, file),
-        Err(_) => Ok(String::from_str(alloc, "no text\n")?),
-    }
-}
-
 fn main(rt: HostRuntime) -> ExitCode {
     let mut source = StdSource::new(rt.stdin());
-    let Ok(input) = read_all(rt.alloc(), &mut source, INPUT_BYTES) else {
-        return ExitCode::from(4);
-    };
-    let Ok(text) = text_of(rt.alloc(), &input) else {
-        return ExitCode::from(9);
-    };
     let mut sink = StdSink::new(io::writer(&rt));
-    match write_all(&mut sink, text.as_bytes()) {
-        Ok(()) => ExitCode::from(0),
-        Err(_) => ExitCode::from(5),
-    }
+    ExitCode::from(run(rt.alloc(), played, &mut source, &mut sink))
 }

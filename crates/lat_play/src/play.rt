@@ -4,11 +4,11 @@ ghost use Rattle.std.specs.Prelude.{◌≡◌, ◌≤◌, ◌-◌, min};
 ghost use Rattle.lat_wire.specs.Rates.{RatesWhatIsLeft};
 
 use crate::input::Input;
-use crate::words::{behind, number, word};
-use hex::FromHexError;
+use crate::words::behind;
 use lat_base::Memory;
 use lat_cmd::{RateHook, RatingRule, run};
 use lat_outside::{MemSink, MemSource};
+use lat_script::{ScriptFault, bytes, is_command, number, refused_onto, word};
 use std::alloc::Global;
 
 // The words of the program's next runs, their input, and what the last run wrote.
@@ -34,8 +34,6 @@ const SOUND: Outside = Outside {
     write_most: 4096,
     failing_write: 0,
 };
-
-const WRONG: &str = "wrong\n";
 
 // Text that was written, with a mark where its last line has no line feed.
 fn written_onto(text: &mut String, written: &[u8]) -> Result<(), Memory> {
@@ -151,28 +149,18 @@ impl Play {
         )?)
     }
 
-    fn outside(&mut self, alloc: Global, line: &str, text: &mut String) -> Result<(), Memory> {
-        let (Some(read_most), Some(failing_read), Some(write_most), Some(failing_write)) = (
-            number(line, 1),
-            number(line, 2),
-            number(line, 3),
-            number(line, 4),
-        ) else {
-            return Ok(text.push_str(WRONG)?);
-        };
+    fn outside(&mut self, alloc: Global, line: &str, text: &mut String) -> Result<(), ScriptFault> {
         let outside = Outside {
-            read_most: read_most as usize,
-            failing_read,
-            write_most: write_most as usize,
-            failing_write,
+            read_most: number(line, 1)? as usize,
+            failing_read: number(line, 2)?,
+            write_most: number(line, 3)? as usize,
+            failing_write: number(line, 4)?,
         };
-        self.run(alloc, outside, text)
+        Ok(self.run(alloc, outside, text)?)
     }
 
-    fn reads(&mut self, alloc: Global, line: &str, text: &mut String) -> Result<(), Memory> {
-        let (Some(most), Some(calls)) = (number(line, 1), number(line, 2)) else {
-            return Ok(text.push_str(WRONG)?);
-        };
+    fn reads(&mut self, alloc: Global, line: &str, text: &mut String) -> Result<(), ScriptFault> {
+        let (most, calls) = (number(line, 1)?, number(line, 2)?);
         for call in 0..calls {
             let outside = Outside {
                 read_most: most as usize,
@@ -184,10 +172,8 @@ impl Play {
         Ok(())
     }
 
-    fn writes(&mut self, alloc: Global, line: &str, text: &mut String) -> Result<(), Memory> {
-        let (Some(most), Some(calls)) = (number(line, 1), number(line, 2)) else {
-            return Ok(text.push_str(WRONG)?);
-        };
+    fn writes(&mut self, alloc: Global, line: &str, text: &mut String) -> Result<(), ScriptFault> {
+        let (most, calls) = (number(line, 1)?, number(line, 2)?);
         for call in 0..calls {
             let outside = Outside {
                 write_most: most as usize,
@@ -200,53 +186,44 @@ impl Play {
     }
 
     // What one line of the file does.
-    fn act(&mut self, alloc: Global, line: &str, text: &mut String) -> Result<(), Memory> {
+    fn act(&mut self, alloc: Global, line: &str, text: &mut String) -> Result<(), ScriptFault> {
         match word(line, 0) {
-            "command" => {
-                *self = Play::of(alloc, behind(line, "command"))?;
-                Ok(())
-            }
-            "words" => self.rename(alloc, behind(line, "words")),
-            "lines" => {
-                self.input.keep(number(line, 1).unwrap_or(0));
-                Ok(())
-            }
+            "command" => *self = Play::of(alloc, behind(line, "command"))?,
+            "words" => self.rename(alloc, behind(line, "words"))?,
+            "lines" => self.input.keep(number(line, 1)?),
             "line" => self
                 .input
-                .replace(alloc, number(line, 1).unwrap_or(0), behind_two(line)),
-            "pipe" => self.pipe(alloc, behind(line, "pipe")),
-            "run" => self.run(alloc, SOUND, text),
-            "measure" => self.measure(alloc, text),
-            "outside" => self.outside(alloc, line, text),
-            "reads" => self.reads(alloc, line, text),
-            "writes" => self.writes(alloc, line, text),
-            "cuts" => cuts(alloc, word(line, 1), text),
-            _ => Ok(text.push_str(WRONG)?),
+                .replace(alloc, number(line, 1)?, behind_two(line))?,
+            "pipe" => self.pipe(alloc, behind(line, "pipe"))?,
+            "run" => self.run(alloc, SOUND, text)?,
+            "measure" => self.measure(alloc, text)?,
+            "outside" => self.outside(alloc, line, text)?,
+            "reads" => self.reads(alloc, line, text)?,
+            "writes" => self.writes(alloc, line, text)?,
+            "cuts" => cuts(alloc, &bytes(alloc, line, 1)?, text)?,
+            _ => text.push_str("wrong\n")?,
         }
+        Ok(())
     }
 
     // A line that puts something behind the input, which isn't printed; else false.
-    fn takes(&mut self, line: &str) -> Result<bool, Memory> {
+    fn takes(&mut self, line: &str) -> Result<bool, ScriptFault> {
         match word(line, 0) {
-            "input" => {
-                self.input.repeat(1, behind(line, "input"))?;
-                Ok(true)
-            }
-            "tail" => {
-                self.input.put(behind(line, "tail"))?;
-                Ok(true)
-            }
-            "feeds" => {
-                self.input.repeat(number(line, 1).unwrap_or(0), "")?;
-                Ok(true)
-            }
-            "many" => {
-                self.input
-                    .repeat(number(line, 1).unwrap_or(0), behind_two(line))?;
-                Ok(true)
-            }
-            _ => Ok(false),
+            "input" => self.input.repeat(1, behind(line, "input"))?,
+            "tail" => self.input.put(behind(line, "tail"))?,
+            "feeds" => self.input.repeat(number(line, 1)?, "")?,
+            "many" => self.input.repeat(number(line, 1)?, behind_two(line))?,
+            _ => return Ok(false),
         }
+        Ok(true)
+    }
+
+    // What one line does; it is printed, unless it puts something behind the input.
+    fn line(&mut self, alloc: Global, line: &str, text: &mut String) -> Result<(), ScriptFault> {
+        if self.takes(line)? || !is_command(line, text)? {
+            return Ok(());
+        }
+        self.act(alloc, line, text)
     }
 }
 
@@ -259,12 +236,7 @@ fn cut(alloc: Global, bytes: &[u8], text: &mut String) -> Result<(), Memory> {
 }
 
 // That of each number of bytes but all.
-fn cuts(alloc: Global, digits: &str, text: &mut String) -> Result<(), Memory> {
-    let bytes = match hex::decode(alloc, digits) {
-        Ok(bytes) => bytes,
-        Err(FromHexError::OutOfMemory) => return Err(Memory),
-        Err(_) => return Ok(text.push_str(WRONG)?),
-    };
+fn cuts(alloc: Global, bytes: &[u8], text: &mut String) -> Result<(), Memory> {
     for count in 0..bytes.len() {
         write!(text, "{count} bytes, ")?;
         cut(alloc, &bytes[..count], text)?;
@@ -277,22 +249,13 @@ fn behind_two(line: &str) -> &str {
     behind(behind(line, word(line, 0)), word(line, 1))
 }
 
-// Whether a line is printed and no more.
-fn is_remark(line: &str) -> bool {
-    line == "" || word(line, 0) == "#"
-}
-
 /// What is printed of a file.
 pub fn played(alloc: Global, file: &str) -> Result<String, Memory> {
     let mut text = String::new(alloc);
     let mut play = Play::of(alloc, "")?;
-    for line in file.lines() {
-        if is_remark(line) {
-            write!(text, "{line}\n")?;
-        } else if !play.takes(line)? {
-            write!(text, "> {line}\n")?;
-            play.act(alloc, line, &mut text)?;
-        }
+    for (at, line) in file.lines().enumerate() {
+        let done = play.line(alloc, line, &mut text);
+        refused_onto(&mut text, (at as u64).saturating_add(1), done)?;
     }
     Ok(text)
 }

@@ -15,40 +15,24 @@
 //! |---|---|
 //! | `announce` | announces |
 //! | `hear HEX` | hears a payload from aa0004000104 at moment 0 |
+//!
+//! LINES is a number in decimal, 255 at most, without a sign or a needless 0. A block with another word there is not played, and of a
+//! line `hear` with an odd number of hex digits nothing is done: `line N word M isn't a number up to 255` or
+//! `line N word M isn't hex digits` is printed, with the numbers of the line in the script and of its word, both counted from 1.
 #![tactic(auto)]
 
 mod play;
 mod rules;
 mod script;
-mod words;
 
-use lat_base::Memory;
-use lat_outside::{StdSink, StdSource, read_all, write_all};
+use lat_outside::{StdSink, StdSource};
+use lat_script::run;
 use script::played;
-use std::alloc::Global;
 use std::io;
 use std::process::ExitCode;
 
-const INPUT_BYTES: usize = 1_048_576;
-
-fn text_of(alloc: Global, input: &[u8]) -> Result<String, Memory> {
-    match str::from_utf8(input) {
-        Ok(script) => played(alloc, script),
-        Err(_) => Ok(String::from_str(alloc, "no text\n")?),
-    }
-}
-
 fn main(rt: HostRuntime) -> ExitCode {
     let mut source = StdSource::new(rt.stdin());
-    let Ok(input) = read_all(rt.alloc(), &mut source, INPUT_BYTES) else {
-        return ExitCode::from(4);
-    };
-    let Ok(text) = text_of(rt.alloc(), &input) else {
-        return ExitCode::from(9);
-    };
     let mut sink = StdSink::new(io::writer(&rt));
-    match write_all(&mut sink, text.as_bytes()) {
-        Ok(()) => ExitCode::SUCCESS,
-        Err(_) => ExitCode::from(5),
-    }
+    ExitCode::from(run(rt.alloc(), played, &mut source, &mut sink))
 }

@@ -1,7 +1,7 @@
 //! A core that is told events, and what it sends to no circuit.
 
-use crate::words::{bytes, word};
-use lat_base::{Addr, Core, Event, Memory, OutBox, OutFrame};
+use lat_base::{Addr, Bytes, Core, Event, Memory, OutBox, OutFrame};
+use lat_script::{Part, ScriptFault, bytes, refused_onto, word};
 use std::alloc::Global;
 use std::marker::Model;
 
@@ -51,26 +51,27 @@ impl<C: Core> Play<C> {
     }
 
     // What one line does.
-    fn act(&mut self, alloc: Global, line: &str, text: &mut String) -> Result<(), Memory> {
+    fn act(&mut self, alloc: Global, line: &str, text: &mut String) -> Result<(), ScriptFault> {
         match word(line, 0) {
-            "announce" => self.tell(alloc, &Event::Announce, text),
+            "announce" => Ok(self.tell(alloc, &Event::Announce, text)?),
             "hear" => {
                 let heard = Event::Heard {
                     from: PEER,
-                    payload: bytes(alloc, line, 1)?,
+                    payload: Bytes::copy(alloc, &bytes(alloc, line, 1)?)?,
                     now: 0,
                 };
-                self.tell(alloc, &heard, text)
+                Ok(self.tell(alloc, &heard, text)?)
             }
             _ => Ok(()),
         }
     }
 
     /// What each of the lines does, but the first.
-    pub fn act_all(&mut self, alloc: Global, lines: &str, text: &mut String) -> Result<(), Memory> {
-        for line in lines.lines() {
+    pub fn act_all(&mut self, alloc: Global, lines: Part, text: &mut String) -> Result<(), Memory> {
+        for (at, line) in lines.text.lines().enumerate() {
             write!(text, "> {line}\n")?;
-            self.act(alloc, line, text)?;
+            let done = self.act(alloc, line, text);
+            refused_onto(text, lines.first.saturating_add(at as u64), done)?;
         }
         Ok(())
     }

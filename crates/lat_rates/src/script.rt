@@ -4,9 +4,9 @@ ghost use Rattle.lat_tariff.specs.Tariffs.{AreKnown};
 
 use crate::play::Play;
 use crate::rules::{ByRoom, Flat, Unseen};
-use crate::words::{byte, word};
 use lat_base::{Addr, Bytes, Memory, Name};
 use lat_lines::Timing;
+use lat_script::{Part, ScriptFault, byte, line_behind, refused_onto, word};
 use lat_tariff::{NodeConfig, Rule, SteadyRule, Tariff, TariffCore, are_apart};
 use std::alloc::Global;
 
@@ -44,7 +44,7 @@ fn play<R: SteadyRule>(
     alloc: Global,
     rules: Vec<Rule<R>>,
     lines: u8,
-    block: &str,
+    block: Part,
     text: &mut String,
 ) -> Result<(), Memory>
     requires { AreKnown R.fact rules.items }
@@ -69,7 +69,7 @@ fn play<R: SteadyRule>(
 }
 
 // Two services, by rules of two types.
-fn play_two(alloc: Global, lines: u8, block: &str, text: &mut String) -> Result<(), Memory> {
+fn play_two(alloc: Global, lines: u8, block: Part, text: &mut String) -> Result<(), Memory> {
     let login: Box<dyn SteadyRule + Send> = Box::new(alloc, ByRoom)?;
     let print: Box<dyn SteadyRule + Send> = Box::new(alloc, Flat { rating: 9 })?;
     let mut rules = Vec::new(alloc);
@@ -79,7 +79,7 @@ fn play_two(alloc: Global, lines: u8, block: &str, text: &mut String) -> Result<
 }
 
 // 32 services.
-fn play_many(alloc: Global, lines: u8, block: &str, text: &mut String) -> Result<(), Memory> {
+fn play_many(alloc: Global, lines: u8, block: Part, text: &mut String) -> Result<(), Memory> {
     let mut rules = Vec::new(alloc);
     for rating in 1..33_u8 {
         let service = [b'N', b'0' + rating / 10, b'0' + rating % 10];
@@ -89,12 +89,11 @@ fn play_many(alloc: Global, lines: u8, block: &str, text: &mut String) -> Result
 }
 
 // What one block does.
-fn play_block(alloc: Global, block: &str, text: &mut String) -> Result<(), Memory> {
-    let first = block.lines().next().unwrap_or("");
-    let lines = byte(first, 1);
+fn play_block(alloc: Global, block: Part, text: &mut String) -> Result<(), ScriptFault> {
+    let first = block.text.lines().next().unwrap_or("");
     match word(first, 0) {
-        "two" => play_two(alloc, lines, block, text),
-        "many" => play_many(alloc, lines, block, text),
+        "two" => Ok(play_two(alloc, byte(first, 1)?, block, text)?),
+        "many" => Ok(play_many(alloc, byte(first, 1)?, block, text)?),
         _ => Ok(()),
     }
 }
@@ -102,9 +101,12 @@ fn play_block(alloc: Global, block: &str, text: &mut String) -> Result<(), Memor
 /// What a script does, printed.
 pub fn played(alloc: Global, script: &str) -> Result<String, Memory> {
     let mut text = String::new(alloc);
+    let mut first = 1;
     for block in script.split("\n\n") {
-        play_block(alloc, block, &mut text)?;
+        let done = play_block(alloc, Part { first, text: block }, &mut text);
+        refused_onto(&mut text, first, done)?;
         write!(text, "\n")?;
+        first = line_behind(first, block, "\n\n");
     }
     Ok(text)
 }

@@ -3,13 +3,12 @@
 ghost use Rattle.std.specs.Prelude.{◌≡◌};
 
 use crate::print::{
-    count_onto, done_onto, due_onto, end_onto, fault_word, heard_onto, items_onto, life_onto,
-    maybe_onto, state_word,
+    count_onto, done_onto, due_onto, ended_onto, fault_word, life_onto, maybe_onto,
 };
-use crate::words::{byte, bytes, number, short, word};
-use lat_base::{Item, Memory, Name, OutBox, SessionState};
+use lat_base::{Item, Memory, OutBox, SessionState};
 use lat_circuit::Circuit;
 use lat_frames::{Message, message_ok};
+use lat_script::{ScriptFault, byte, bytes, heard_onto, items_onto, name, short, state_word, word};
 use std::alloc::{AllocError, Global};
 
 /// A circuit whose sessions are on its own side.
@@ -55,7 +54,7 @@ impl End {
     }
 
     fn connect(&mut self, line: &str, text: &mut String) -> Result<(), AllocError> {
-        let Ok(service) = Name::read(word(line, 1).as_bytes()) else {
+        let Some(service) = name(line, 1) else {
             return text.push_str("no name\n");
         };
         if !self.circuit.lives() || !self.circuit.is_master() {
@@ -145,14 +144,14 @@ impl End {
     }
 
     /// What it answers to a command that names no end: the calls that one end alone has.
-    pub fn own_call(&mut self, line: &str, text: &mut String) -> Result<(), AllocError> {
-        let id = byte(line, 1);
+    pub fn own_call(&mut self, line: &str, text: &mut String) -> Result<(), ScriptFault> {
         match word(line, 0) {
-            "connect" => self.connect(line, text),
-            "answer" => self.answer(id, text),
-            "reject" => self.reject(id, byte(line, 2), text),
-            _ => self.asked(text),
+            "connect" => self.connect(line, text)?,
+            "answer" => self.answer(byte(line, 1)?, text)?,
+            "reject" => self.reject(byte(line, 1)?, byte(line, 2)?, text)?,
+            _ => self.asked(text)?,
         }
+        Ok(())
     }
 
     /// What it answers to a command that names it and a session.
@@ -161,41 +160,45 @@ impl End {
         alloc: Global,
         line: &str,
         text: &mut String,
-    ) -> Result<(), Memory> {
-        let id = byte(line, 2);
+    ) -> Result<(), ScriptFault> {
         match word(line, 0) {
-            "put" => self.put(id, &bytes(alloc, line, 3)?, text)?,
+            "put" => self.put(byte(line, 2)?, &bytes(alloc, line, 3)?, text)?,
             "fill" => {
-                let filling = vec![in alloc; 0x61; usize::from(short(line, 3))]?;
+                let (id, count) = (byte(line, 2)?, short(line, 3)?);
+                let filling = vec![in alloc; 0x61; usize::from(count)]?;
                 self.put(id, &filling, text)?;
             }
-            "set" => self.set(id, &bytes(alloc, line, 3)?, text)?,
-            "attend" => self.attend(id, byte(line, 3), text)?,
-            "take" => self.take(alloc, id, short(line, 3), text)?,
-            "close" => self.close(id, text)?,
-            _ => self.tell(line, id, text)?,
+            "set" => self.set(byte(line, 2)?, &bytes(alloc, line, 3)?, text)?,
+            "attend" => self.attend(byte(line, 2)?, byte(line, 3)?, text)?,
+            "take" => self.take(alloc, byte(line, 2)?, short(line, 3)?, text)?,
+            "close" => self.close(byte(line, 2)?, text)?,
+            "held" => maybe_onto(text, Some(self.circuit.held()))?,
+            "lives" => life_onto(text, self.circuit.ended_by())?,
+            _ => self.tell(line, text)?,
         }
         Ok(())
     }
 
-    // What it tells of a session, or of itself.
-    fn tell(&self, line: &str, id: u8, text: &mut String) -> Result<(), AllocError> {
+    // What it tells of a session.
+    fn tell(&self, line: &str, text: &mut String) -> Result<(), ScriptFault> {
         match word(line, 0) {
-            "state" => text.push_str(state_word(self.circuit.state(id))),
-            "mark" => maybe_onto(text, self.circuit.mark(id)),
+            "state" => {
+                let state = state_word(self.circuit.state(byte(line, 2)?));
+                write!(text, "{state}\n")?;
+            }
+            "mark" => maybe_onto(text, self.circuit.mark(byte(line, 2)?))?,
             "waiting" => {
-                let waiting = self.circuit.waiting(id);
-                write!(text, "{waiting}\n")
+                let waiting = self.circuit.waiting(byte(line, 2)?);
+                write!(text, "{waiting}\n")?;
             }
             "totals" => {
-                let (given, used) = self.circuit.totals(id);
-                write!(text, "given {given} used {used}\n")
+                let (given, used) = self.circuit.totals(byte(line, 2)?);
+                write!(text, "given {given} used {used}\n")?;
             }
-            "ended" => end_onto(text, self.circuit.ended(id)),
-            "peer" => maybe_onto(text, Some(self.circuit.peer(id))),
-            "held" => maybe_onto(text, Some(self.circuit.held())),
-            "lives" => life_onto(text, self.circuit.ended_by()),
-            _ => text.push_str("no command\n"),
+            "ended" => ended_onto(text, self.circuit.ended(byte(line, 2)?))?,
+            "peer" => maybe_onto(text, Some(self.circuit.peer(byte(line, 2)?)))?,
+            _ => text.push_str("no command\n")?,
         }
+        Ok(())
     }
 }

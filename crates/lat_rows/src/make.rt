@@ -1,14 +1,14 @@
 //! How the two ends begin.
 
-ghost use Rattle.std.specs.Prelude.{◌≡◌, ◌+◌, ◌<◌, ◌≤◌, [], true, length, IfOk, IfSome};
+ghost use Rattle.std.specs.Prelude.{◌≡◌, ◌+◌, ◌<◌, ◌≤◌, [], true, length, IfOk};
 ghost use Rattle.lat_frames.specs.Conditions.{InfoFits};
 ghost use Rattle.lat_circuit.specs.Agrees.{IsTiming};
 
 use crate::end::End;
-use crate::words::{byte, word};
 use lat_base::{Addr, Memory, Name, OutBox};
 use lat_circuit::{Circuit, CircuitConfig, Timing};
 use lat_frames::StartInfo;
+use lat_script::{ScriptFault, byte, word};
 use std::alloc::Global;
 
 const SERVER: Addr = Addr([0xaa, 0x00, 0x04, 0x00, 0x01, 0x04]);
@@ -23,28 +23,32 @@ pub struct Setup {
 }
 
 // The numbers that a line states, brought into their bounds.
-fn timing_of(line: &str) -> Timing
-    ensures { IsTiming result }
+fn timing_of(line: &str) -> Result<Timing, ScriptFault>
+    ensures { IfOk result IsTiming }
 {
-    Timing {
-        timer: byte(line, 1).clamp(1, 100),
-        keepalive: byte(line, 2).max(1),
-        sessions: byte(line, 3).clamp(1, 64),
-        extra: byte(line, 4),
-        ceiling: byte(line, 5).clamp(1, 15),
+    Ok(Timing {
+        timer: byte(line, 1)?.clamp(1, 100),
+        keepalive: byte(line, 2)?.max(1),
+        sessions: byte(line, 3)?.clamp(1, 64),
+        extra: byte(line, 4)?,
+        ceiling: byte(line, 5)?.clamp(1, 15),
         wide: word(line, 6) == "word",
-    }
+    })
+}
+
+// The name that these bytes are. They are always one here.
+fn name(bytes: &[u8]) -> Result<Name, Memory> {
+    Name::read(bytes).map_err(|_| Memory)
 }
 
 /// The server TS1 and the node VAX1, with the numbers that a line states.
-pub fn setup_of(line: &str) -> Option<Setup>
-    ensures master { IfSome result (λ setup. IsTiming setup.master.timing) }
-    ensures slave { IfSome result (λ setup. IsTiming setup.slave.timing) }
+pub fn setup_of(line: &str) -> Result<Setup, ScriptFault>
+    ensures master { IfOk result (λ setup. IsTiming setup.master.timing) }
+    ensures slave { IfOk result (λ setup. IsTiming setup.slave.timing) }
 {
-    let timing = timing_of(line);
-    let server = Name::read(b"TS1").ok()?;
-    let node = Name::read(b"VAX1").ok()?;
-    Some(Setup {
+    let timing = timing_of(line)?;
+    let (server, node) = (name(b"TS1")?, name(b"VAX1")?);
+    Ok(Setup {
         master: CircuitConfig {
             own: SERVER,
             peer: NODE,

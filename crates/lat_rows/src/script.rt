@@ -1,16 +1,16 @@
 //! The lines of a script, in order.
 
-ghost use Rattle.std.specs.Prelude.{◌≡◌, ◌+◌, ◌<◌, ◌≤◌, [], length};
+ghost use Rattle.std.specs.Prelude.{◌≡◌, []};
 ghost use Rattle.lat_circuit.specs.Agrees.{IsTiming};
 
 use crate::end::End;
 use crate::make::{Setup, answered, called, room_used_again, setup_of};
 use crate::print::frame_onto;
 use crate::rounds::{Round, rounds_onto};
-use crate::words::{byte, bytes, number, short, word};
 use lat_base::{Memory, OutBox, Payload};
 use lat_frames::{FrameFault, Message, message_ok, read_message};
-use std::alloc::{AllocError, Global};
+use lat_script::{ScriptFault, byte, bytes, is_command, number, refused_onto, short, word};
+use std::alloc::Global;
 
 // A frame that was made.
 #[derive(Drop)]
@@ -41,11 +41,12 @@ fn pick<'x>(
     if is_one { one } else { other }
 }
 
-// The moment that this word is, or the end's own where there is no word.
-fn moment_of(line: &str, place: usize, end: &Option<End>) -> u64 {
+// The moment that this word is; where there is no word the end's own, or 0 without an end.
+fn moment_of(line: &str, place: u8, end: &Option<End>) -> Result<u64, ScriptFault> {
     match end {
-        Some(end) if word(line, place) == "" => end.circuit.moment(),
-        _ => number(line, place),
+        _ if word(line, place) != "" => number(line, place),
+        Some(end) => Ok(end.circuit.moment()),
+        None => Ok(0),
     }
 }
 
@@ -82,15 +83,16 @@ impl Play {
         Ok(())
     }
 
-    fn time(&mut self, alloc: Global, line: &str, text: &mut String) -> Result<(), Memory> {
+    fn time(&mut self, alloc: Global, line: &str, text: &mut String) -> Result<(), ScriptFault> {
         let by_master = word(line, 1) == "m";
+        let now = number(line, 2)?;
         let end = pick(&mut self.master, &mut self.slave, by_master);
         let Some(end) = end else {
             return Ok(text.push_str(NO_CIRCUIT)?);
         };
         let mut out = OutBox::make(alloc)?;
-        end.time(number(line, 2), &mut out, text)?;
-        self.keep(alloc, by_master, &out, text)
+        end.time(now, &mut out, text)?;
+        Ok(self.keep(alloc, by_master, &out, text)?)
     }
 
     // Makes a slave where a START calls it.
@@ -158,22 +160,22 @@ impl Play {
         }
     }
 
-    fn deliver(&mut self, alloc: Global, line: &str, text: &mut String) -> Result<(), Memory> {
-        let Some(frame) = self.frames.get(number(line, 1) as usize) else {
+    fn deliver(&mut self, alloc: Global, line: &str, text: &mut String) -> Result<(), ScriptFault> {
+        let Some(frame) = self.frames.get(number(line, 1)? as usize) else {
             return Ok(text.push_str("no frame\n")?);
         };
         let (by_master, payload) = (frame.by_master, frame.payload.copy());
         let end = if by_master { &self.slave } else { &self.master };
-        let now = moment_of(line, 2, end);
-        self.hear_payload(alloc, by_master, payload.bytes(), now, text)
+        let now = moment_of(line, 2, end)?;
+        Ok(self.hear_payload(alloc, by_master, payload.bytes(), now, text)?)
     }
 
-    fn inject(&mut self, alloc: Global, line: &str, text: &mut String) -> Result<(), Memory> {
+    fn inject(&mut self, alloc: Global, line: &str, text: &mut String) -> Result<(), ScriptFault> {
         let by_master = word(line, 1) == "s";
         let payload = bytes(alloc, line, 2)?;
         let end = if by_master { &self.slave } else { &self.master };
-        let now = moment_of(line, 3, end);
-        self.hear_payload(alloc, by_master, &payload, now, text)
+        let now = moment_of(line, 3, end)?;
+        Ok(self.hear_payload(alloc, by_master, &payload, now, text)?)
     }
 
     // The calls that one end alone has.
@@ -182,15 +184,20 @@ impl Play {
         of_master: bool,
         line: &str,
         text: &mut String,
-    ) -> Result<(), AllocError> {
+    ) -> Result<(), ScriptFault> {
         let end = pick(&mut self.master, &mut self.slave, of_master);
         match end {
             Some(end) => end.own_call(line, text),
-            None => text.push_str(NO_CIRCUIT),
+            None => Ok(text.push_str(NO_CIRCUIT)?),
         }
     }
 
-    fn session_call(&mut self, alloc: Global, line: &str, text: &mut String) -> Result<(), Memory> {
+    fn session_call(
+        &mut self,
+        alloc: Global,
+        line: &str,
+        text: &mut String,
+    ) -> Result<(), ScriptFault> {
         let end = pick(&mut self.master, &mut self.slave, word(line, 1) == "m");
         match end {
             Some(end) => end.session_call(alloc, line, text),
@@ -198,37 +205,38 @@ impl Play {
         }
     }
 
-    fn rounds(&mut self, alloc: Global, line: &str, text: &mut String) -> Result<(), Memory> {
+    fn rounds(&mut self, alloc: Global, line: &str, text: &mut String) -> Result<(), ScriptFault> {
         let (Some(master), Some(slave)) = (&mut self.master, &mut self.slave) else {
             return Ok(text.push_str(NO_CIRCUIT)?);
         };
+        let rounds = number(line, 1)?;
         let round = Round {
-            size: byte(line, 2),
-            take: short(line, 3),
+            size: byte(line, 2)?,
+            take: short(line, 3)?,
         };
-        rounds_onto(alloc, master, slave, number(line, 1), round, text)
+        Ok(rounds_onto(alloc, master, slave, rounds, round, text)?)
     }
 
     // What one command answers.
-    fn act(&mut self, alloc: Global, line: &str, text: &mut String) -> Result<(), Memory> {
+    fn act(&mut self, alloc: Global, line: &str, text: &mut String) -> Result<(), ScriptFault> {
         match word(line, 0) {
-            "call" => self.call(alloc, short(line, 1), text),
-            "room" => self.room(alloc, byte(line, 1), text),
+            "call" => Ok(self.call(alloc, short(line, 1)?, text)?),
+            "room" => Ok(self.room(alloc, byte(line, 1)?, text)?),
             "time" => self.time(alloc, line, text),
             "deliver" => self.deliver(alloc, line, text),
             "hear" => self.inject(alloc, line, text),
             "rounds" => self.rounds(alloc, line, text),
-            "connect" => Ok(self.own_call(true, line, text)?),
-            "answer" | "reject" | "asked" => Ok(self.own_call(false, line, text)?),
+            "connect" => self.own_call(true, line, text),
+            "answer" | "reject" | "asked" => self.own_call(false, line, text),
             _ => self.session_call(alloc, line, text),
         }
     }
 }
 
 // Nothing was made of what this line states.
-fn fresh(alloc: Global, line: &str) -> Option<Play> {
+fn fresh(alloc: Global, line: &str) -> Result<Play, ScriptFault> {
     let setup = setup_of(line)?;
-    Some(Play {
+    Ok(Play {
         setup,
         master: None,
         slave: None,
@@ -241,9 +249,9 @@ fn line_onto(
     play: &mut Option<Play>,
     line: &str,
     text: &mut String,
-) -> Result<(), Memory> {
+) -> Result<(), ScriptFault> {
     if word(line, 0) == "ends" {
-        *play = fresh(alloc, line);
+        *play = Some(fresh(alloc, line)?);
         return Ok(());
     }
     match play {
@@ -252,21 +260,14 @@ fn line_onto(
     }
 }
 
-// Whether a line is printed and no more.
-fn is_remark(line: &str) -> bool {
-    line == "" || word(line, 0) == "#"
-}
-
 /// What is printed of a script.
 pub fn played(alloc: Global, script: &str) -> Result<String, Memory> {
     let mut text = String::new(alloc);
     let mut play = None;
-    for line in script.lines() {
-        if is_remark(line) {
-            write!(text, "{line}\n")?;
-        } else {
-            write!(text, "> {line}\n")?;
-            line_onto(alloc, &mut play, line, &mut text)?;
+    for (at, line) in script.lines().enumerate() {
+        if is_command(line, &mut text)? {
+            let done = line_onto(alloc, &mut play, line, &mut text);
+            refused_onto(&mut text, (at as u64).saturating_add(1), done)?;
         }
     }
     Ok(text)

@@ -9,13 +9,12 @@
 mod play;
 
 use lat_base::Memory;
-use lat_outside::{StdSink, StdSource, read_all, write_all};
+use lat_outside::{StdSink, StdSource};
+use lat_script::run;
 use play::played;
 use std::alloc::Global;
 use std::io;
 use std::process::ExitCode;
-
-const INPUT_BYTES: usize = 16_777_216;
 
 // What is printed of all schedules of a text.
 fn all_played(alloc: Global, text: &str) -> Result<String, Memory> {
@@ -29,24 +28,8 @@ fn all_played(alloc: Global, text: &str) -> Result<String, Memory> {
     Ok(out)
 }
 
-fn text_of(alloc: Global, input: &[u8]) -> Result<String, Memory> {
-    match str::from_utf8(input) {
-        Ok(text) => all_played(alloc, text),
-        Err(_) => Ok(String::from_str(alloc, "no text\n")?),
-    }
-}
-
 fn main(rt: HostRuntime) -> ExitCode {
     let mut source = StdSource::new(rt.stdin());
-    let Ok(input) = read_all(rt.alloc(), &mut source, INPUT_BYTES) else {
-        return ExitCode::from(4);
-    };
-    let Ok(text) = text_of(rt.alloc(), &input) else {
-        return ExitCode::from(9);
-    };
     let mut sink = StdSink::new(io::writer(&rt));
-    match write_all(&mut sink, text.as_bytes()) {
-        Ok(()) => ExitCode::from(0),
-        Err(_) => ExitCode::from(5),
-    }
+    ExitCode::from(run(rt.alloc(), all_played, &mut source, &mut sink))
 }

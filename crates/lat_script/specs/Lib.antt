@@ -1,0 +1,5 @@
+pub mod Words
+pub mod Lines
+pub mod Refusal
+pub mod Printed
+pub mod Runs
