@@ -2,9 +2,9 @@
 
 ghost use Rattle.lat_switch.specs.Kept.{IsValid};
 
-use lat_base::{Answer, Core, Item, SessionState};
+use lat_base::{Answer, Core};
+use lat_script::{answer_word, items_onto, state_word};
 use lat_switch::SwitchCore;
-use lat_text::{byte_onto, hex_onto};
 use std::alloc::{AllocError, Global};
 
 /// Adds what an event is answered to the text.
@@ -14,44 +14,11 @@ pub fn answer_onto(alloc: Global, text: &mut String, answer: &Answer) -> Result<
             write!(text, "connected circuit {circuit} session {session}\n")
         }
         Answer::Put(count) => write!(text, "put {count}\n"),
-        Answer::Took(items) => took_onto(alloc, text, items.as_slice()),
-        Answer::Done => text.push_str("done\n"),
-        Answer::NoLine => text.push_str("no-line\n"),
-        Answer::Busy => text.push_str("busy\n"),
-        Answer::NoService => text.push_str("no-service\n"),
-        Answer::SessionsFull => text.push_str("sessions-full\n"),
-        Answer::Closed => text.push_str("closed\n"),
-        Answer::Full => text.push_str("full\n"),
-        Answer::NotHere => text.push_str("not-here\n"),
-        _ => text.push_str("other\n"),
-    }
-}
-
-fn took_onto(alloc: Global, text: &mut String, items: &[Item]) -> Result<(), AllocError> {
-    text.push_str("took")?;
-    for item in items {
-        match item {
-            Item::Byte(byte) => {
-                text.push_str(" ")?;
-                byte_onto(alloc, text, *byte)?;
-            }
-            Item::Set(setting) => {
-                text.push_str(" set ")?;
-                hex_onto(alloc, text, setting)?;
-            }
+        Answer::Took(items) => {
+            text.push_str("took")?;
+            items_onto(alloc, text, items.as_slice())
         }
-    }
-    text.push_str("\n")
-}
-
-fn state_word(state: SessionState) -> &'static str {
-    match state {
-        SessionState::Free => "free",
-        SessionState::Calling => "calling",
-        SessionState::Asked => "asked",
-        SessionState::Live => "live",
-        SessionState::Closing => "closing",
-        SessionState::Left => "left",
+        _ => text.push_str(answer_word(answer)),
     }
 }
 

@@ -61,8 +61,9 @@ fn block_onto(alloc: Global, block: &str, text: &mut String) -> Result<(), Memor
     write!(text, "{title}\n")?;
     match read_schedule(alloc, lines.as_bytes()) {
         Ok(schedule) => play(alloc, &schedule, text),
+        Err(ScheduleFault::Form { line }) => Ok(write!(text, "line {line} form\n")?),
+        Err(ScheduleFault::Events { line }) => Ok(write!(text, "line {line} limit events\n")?),
         Err(ScheduleFault::Memory) => Err(Memory),
-        Err(_) => Ok(text.push_str("no schedule\n")?),
     }
 }
 

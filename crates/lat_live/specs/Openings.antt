@@ -5,7 +5,9 @@ use Rattle.lat_machines.specs.values.Names.{Name}
 use Rattle.lat_machines.specs.values.Timing.{Timing}
 use Rattle.lat_machines.specs.server.Server.{ServerConfig}
 use Rattle.lat_machines.specs.node.Node.{NodeConfig}
+use Rattle.lat_circuit.specs.declared.config.Timing.{Timing as OwnTiming}
 use Rattle.lat_words.specs.declared.config.Config.{Config}
+use Rattle.lat_switch.specs.declared.config.SwitchConfig.{SwitchConfig}
 
 -- the usual timing, on wide circuits
 abbrev pub usual_wide : Timing
@@ -20,6 +22,16 @@ server_config c = record {
   offers = [];
   groups = replicate 32 255;
   timing = usual_wide;
+}
+
+-- a switch whose server listens to all groups
+abbrev pub switch_config : Config → SwitchConfig
+switch_config c = record {
+  own = c.station.address;
+  name = c.station.name;
+  lines = c.lines.count;
+  groups = replicate 32 255;
+  timing = record { timer = 8; keepalive = 20; sessions = 64; extra = 7; ceiling = 4; wide = true };
 }
 
 -- a node in its first incarnation, for every server, with these services, announced each 30 seconds

@@ -14,6 +14,7 @@ use Rattle.lat_live.specs.declared.ran.Ran.TheVariants as ran
 -- what is told of the cell that ran, whatever its core
 abbrev pub told_of : {H P T E B F : Type 0} → Ran H P T E B F → Option Told
 told_of (ran.Server cell) = Some (told cell)
+told_of (ran.Switch cell) = Some (told cell)
 told_of (ran.Node cell) = Some (told cell)
 told_of (ran.Tariff cell) = Some (told cell)
 told_of ran.Not = None
@@ -21,6 +22,7 @@ told_of ran.Not = None
 -- the role that ran
 abbrev pub role_of : {H P T E B F : Type 0} → Ran H P T E B F → Option Role
 role_of (ran.Server cell) = Some roles.Server
+role_of (ran.Switch cell) = Some roles.Switch
 role_of (ran.Node cell) = Some roles.Node
 role_of (ran.Tariff cell) = Some roles.Tariff
 role_of ran.Not = None

@@ -7,15 +7,20 @@ ghost use Rattle.lat_server.specs.Stands as servers;
 ghost use Rattle.lat_node.specs.Config.{config_shown, IsConfig};
 ghost use Rattle.lat_node.specs.Kept as node;
 ghost use Rattle.lat_node.specs.Stands as nodes;
+ghost use Rattle.lat_switch.specs.Config.{open_switch};
+ghost use Rattle.lat_switch.specs.Core as switch;
+ghost use Rattle.lat_switch.specs.Kept as switches;
+ghost use Rattle.lat_switch.specs.Stands.{Stands};
 ghost use Rattle.lat_tariff.specs.Kept as tariffs;
 ghost use Rattle.lat_tariff.specs.Tariffs.{names, AreKnown};
-ghost use Rattle.lat_live.specs.Openings.{server_config, node_config};
+ghost use Rattle.lat_live.specs.Openings.{server_config, switch_config, node_config};
 
 use lat_base::{Bytes, Memory, Name};
 use lat_hook::RatingRule;
 use lat_node::{NodeConfig, NodeCore};
 use lat_queue::Services16;
 use lat_server::{Offers, ServerConfig, ServerCore, Timing};
+use lat_switch::{SwitchConfig, SwitchCore};
 use lat_tariff::{SteadyRule, Tariff, TariffCore};
 use lat_words::Config;
 use std::alloc::Global;
@@ -36,6 +41,7 @@ pub const ANNOUNCE_SECONDS: u8 = 30;
 /// The server that the words tell of: it listens to all groups, and no line offers a service. `Memory` where none is found.
 pub fn server_core(alloc: Global, config: &Config) -> Result<ServerCore, Memory>
     requires { (1 ≤ config.now.lines.count) × (config.now.lines.count ≤ 32) }
+    ensures made { IfOk result (λ k. servers.IsMade (servers.opening k)) }
     ensures stands { IfOk result (λ k. servers.IsMachine k (servers.opening k)) }
     ensures config { IfOk result (λ k. server.config_of k ≡ server_config config.now) }
     ensures rest { IfOk result server.AtRest }
@@ -49,6 +55,24 @@ pub fn server_core(alloc: Global, config: &Config) -> Result<ServerCore, Memory>
         timing: TIMING,
     };
     ServerCore::make(alloc, &config)
+}
+
+/// The switch that the words tell of: its server listens to all groups. `Memory` where none is found.
+pub fn switch_core(alloc: Global, config: &Config) -> Result<SwitchCore, Memory>
+    requires { (1 ≤ config.now.lines.count) × (config.now.lines.count ≤ 8) }
+    ensures made { IfOk result (λ k. switch.IsMade (switch.opening k)) }
+    ensures stands { IfOk result (λ k. Stands k (switch.opening k)) }
+    ensures opening { IfOk result (λ k. switch.opening k ≡ open_switch (switch_config config.now)) }
+    ensures valid { IfOk result switches.IsValid }
+{
+    let config = SwitchConfig {
+        own: config.station.address,
+        name: config.station.name,
+        lines: config.lines.count,
+        groups: [0xff; 32],
+        timing: TIMING,
+    };
+    SwitchCore::make(alloc, &config)
 }
 
 // The list of one service.
@@ -87,6 +111,7 @@ pub fn node_core<H: RatingRule>(
 ) -> Result<NodeCore<H>, Memory>
     requires lines { (1 ≤ config.now.lines.count) × (config.now.lines.count ≤ 64) }
     requires fact { H.fact rule }
+    ensures made { IfOk result (λ k. nodes.IsMade (nodes.opening k)) }
     ensures stands { IfOk result (λ k. nodes.IsMachine k (nodes.opening k)) }
     ensures config { IfOk result (λ k. (node.config_of k ≡ node_config config.now (config.now.lines.service ∷ [])) × (k.rule ≡ rule)) }
     ensures rest { IfOk result (λ k. node.AtRest k × H.fact k.rule) }
@@ -106,6 +131,7 @@ pub fn tariff_core<H: RatingRule, P: SteadyRule>(
     requires lines { (1 ≤ config.now.lines.count) × (config.now.lines.count ≤ 64) }
     requires fact { H.fact rule }
     requires rules { AreKnown P.fact tariff }
+    ensures made { IfOk result (λ k. tariffs.IsMade (tariffs.opening k)) }
     ensures stands { IfOk result (λ k. tariffs.IsMachine k (tariffs.opening k)) }
     ensures config { IfOk result (λ k. (node.config_of k.node ≡ node_config config.now (names tariff)) × (k.node.rule ≡ rule) × (k.rules ≡ tariff)) }
     ensures valid { IfOk result (λ k. node.AtRest k.node × H.fact k.node.rule × AreKnown P.fact k.rules) }

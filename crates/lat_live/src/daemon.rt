@@ -9,13 +9,13 @@ ghost use Rattle.lat_live.specs.Printed.{IsPrinted, IsOwn, RoseIn};
 ghost use Rattle.lat_live.specs.Served.{told_of, role_of, AreRight, AreWrong, BackOf, refusal, IsNotRun};
 
 use crate::ran::Served;
-use crate::roles::{nothing, serve_node, serve_server, serve_tariff};
+use crate::roles::serve_in_role;
 use lat_base::Memory;
 use lat_cell::Blanks;
 use lat_hook::RatingRule;
 use lat_outside::{Clock, Gate, LineEnd, Opener, Sink, Tx, write_all};
 use lat_tariff::{SteadyRule, Tariff};
-use lat_words::{Role, config_of};
+use lat_words::config_of;
 use std::alloc::Global;
 use std::sync::Wait;
 use std::sync::ledger::Ledger;
@@ -88,16 +88,10 @@ pub fn serve<
 {
     let config = match config_of(alloc, words) {
         Ok(Some(config)) => config,
-        Ok(None) => return nothing(alloc, refuse(out)),
-        Err(Memory) => return nothing(alloc, 9),
+        Ok(None) => return Served::nothing(alloc, refuse(out)),
+        Err(Memory) => return Served::nothing(alloc, 9),
     };
-    match config.role {
-        Role::Server => serve_server(rt, alloc, &config, blanks, opener, clock, gate, out),
-        Role::Node => serve_node(rt, alloc, &config, blanks, opener, clock, gate, rule, out),
-        Role::Tariff => {
-            serve_tariff(
-                rt, alloc, &config, blanks, opener, clock, gate, rule, tariff, out,
-            )
-        }
-    }
+    serve_in_role(
+        rt, alloc, &config, blanks, opener, clock, gate, rule, tariff, out,
+    )
 }

@@ -11,6 +11,8 @@ mod roles;
 mod running;
 mod seats;
 mod serving;
+#[cfg(test)]
+mod tests;
 
 pub use daemon::serve;
 pub use lists::{Ends, Lines};

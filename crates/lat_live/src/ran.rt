@@ -1,6 +1,6 @@
 //! What became of a daemon.
 
-ghost use Rattle.std.specs.Prelude.{◌≡◌, IfSome, None};
+ghost use Rattle.std.specs.Prelude.{◌≡◌, IfSome, None, []};
 ghost use Rattle.lat_words.specs.declared.config.Role.TheVariants as roles;
 ghost use Rattle.lat_live.specs.declared.ran.Ran.TheVariants as rans;
 ghost use Rattle.lat_live.specs.Printed.{told_in};
@@ -8,12 +8,15 @@ ghost use Rattle.lat_live.specs.Served.{told_of, role_of};
 
 use crate::lists::{Ends, Lines};
 use crate::seats::Given;
+use crate::serving::CoreServed;
 use lat_cell::{Cell, Shares};
 use lat_hook::RatingRule;
 use lat_node::NodeCore;
 use lat_outside::{LineEnd, Tx};
 use lat_server::ServerCore;
+use lat_switch::SwitchCore;
 use lat_tariff::{SteadyRule, TariffCore};
+use std::alloc::Global;
 use std::sync::ledger::Ledger;
 
 /// The cell of a daemon, by its role.
@@ -22,48 +25,9 @@ pub enum Ran<H: RatingRule, P: SteadyRule, T: Tx, E: Ledger, B: Ledger, F: Ledge
     /// No worker was started.
     Not,
     Server(Cell<ServerCore, T, E, B, F>),
+    Switch(Cell<SwitchCore, T, E, B, F>),
     Node(Cell<NodeCore<H>, T, E, B, F>),
     Tariff(Cell<TariffCore<H, P>, T, E, B, F>),
-}
-
-impl<H: RatingRule, P: SteadyRule, T: Tx, E: Ledger, B: Ledger, F: Ledger> Ran<H, P, T, E, B, F> {
-    /// A server's cell, where it ran.
-    pub(crate) fn of_server(cell: Option<Cell<ServerCore, T, E, B, F>>) -> Ran<H, P, T, E, B, F>
-        ensures told { told_of result ≡ told_in cell }
-        ensures role { IfSome (role_of result) (λ role. role ≡ roles.Server) }
-        ensures none { result ≡ rans.Not → cell ≡ None }
-    {
-        match cell {
-            Some(cell) => Ran::Server(cell),
-            None => Ran::Not,
-        }
-    }
-
-    /// A node's cell, where it ran.
-    pub(crate) fn of_node(cell: Option<Cell<NodeCore<H>, T, E, B, F>>) -> Ran<H, P, T, E, B, F>
-        ensures told { told_of result ≡ told_in cell }
-        ensures role { IfSome (role_of result) (λ role. role ≡ roles.Node) }
-        ensures none { result ≡ rans.Not → cell ≡ None }
-    {
-        match cell {
-            Some(cell) => Ran::Node(cell),
-            None => Ran::Not,
-        }
-    }
-
-    /// The cell of a node with a tariff, where it ran.
-    pub(crate) fn of_tariff(
-        cell: Option<Cell<TariffCore<H, P>, T, E, B, F>>,
-    ) -> Ran<H, P, T, E, B, F>
-        ensures told { told_of result ≡ told_in cell }
-        ensures role { IfSome (role_of result) (λ role. role ≡ roles.Tariff) }
-        ensures none { result ≡ rans.Not → cell ≡ None }
-    {
-        match cell {
-            Some(cell) => Ran::Tariff(cell),
-            None => Ran::Not,
-        }
-    }
 }
 
 /// What a daemon hands back: the status to end with, its cell, the shares of all seats (the wire, the lines by rising number, the
@@ -85,16 +49,12 @@ pub struct Served<
     pub lines: Lines<L>,
 }
 
-/// What ran, with this status, and what its seats gave back.
-pub(crate) fn handed_back<
-    H: RatingRule,
-    P: SteadyRule,
-    T: Tx,
-    L: LineEnd,
-    E: Ledger,
-    B: Ledger,
-    F: Ledger,
->(status: u8, ran: Ran<H, P, T, E, B, F>, given: Given<L, E, B, F>) -> Served<H, P, T, L, E, B, F>
+// What ran, with this status, and what its seats gave back.
+fn handed_back<H: RatingRule, P: SteadyRule, T: Tx, L: LineEnd, E: Ledger, B: Ledger, F: Ledger>(
+    status: u8,
+    ran: Ran<H, P, T, E, B, F>,
+    given: Given<L, E, B, F>,
+) -> Served<H, P, T, L, E, B, F>
     ensures status { result.status ≡ status }
     ensures ran { result.ran ≡ ran }
     ensures shares { result.shares ≡ given.shares.items }
@@ -112,5 +72,100 @@ pub(crate) fn handed_back<
         shares: Shares::of(shares),
         ends: Ends::of(ends),
         lines: Lines::of(lines),
+    }
+}
+
+impl<H: RatingRule, P: SteadyRule, T: Tx, L: LineEnd, E: Ledger, B: Ledger, F: Ledger> Served<
+    H,
+    P,
+    T,
+    L,
+    E,
+    B,
+    F,
+> {
+    /// No worker was started.
+    pub(crate) fn nothing(alloc: Global, status: u8) -> Served<H, P, T, L, E, B, F>
+        ensures status { result.status ≡ status }
+        ensures none { result.ran ≡ rans.Not }
+        ensures empty { (result.shares ≡ []) × (result.ends ≡ []) × (result.lines ≡ []) }
+    {
+        handed_back(status, Ran::Not, Given::none(alloc))
+    }
+
+    /// What came of a server.
+    pub(crate) fn of_server(
+        done: CoreServed<ServerCore, T, L, E, B, F>,
+    ) -> Served<H, P, T, L, E, B, F>
+        ensures status { result.status ≡ done.status }
+        ensures told { told_of result.ran ≡ told_in done.ran }
+        ensures role { IfSome (role_of result.ran) (λ role. role ≡ roles.Server) }
+        ensures none { result.ran ≡ rans.Not → done.ran ≡ None }
+        ensures shares { result.shares ≡ done.given.shares.items }
+        ensures ends { result.ends ≡ done.given.ends.items }
+        ensures lines { result.lines ≡ done.given.lines.items }
+    {
+        let CoreServed { status, ran, given } = done;
+        match ran {
+            Some(cell) => handed_back(status, Ran::Server(cell), given),
+            None => handed_back(status, Ran::Not, given),
+        }
+    }
+
+    /// What came of a server with several sessions on each line.
+    pub(crate) fn of_switch(
+        done: CoreServed<SwitchCore, T, L, E, B, F>,
+    ) -> Served<H, P, T, L, E, B, F>
+        ensures status { result.status ≡ done.status }
+        ensures told { told_of result.ran ≡ told_in done.ran }
+        ensures role { IfSome (role_of result.ran) (λ role. role ≡ roles.Switch) }
+        ensures none { result.ran ≡ rans.Not → done.ran ≡ None }
+        ensures shares { result.shares ≡ done.given.shares.items }
+        ensures ends { result.ends ≡ done.given.ends.items }
+        ensures lines { result.lines ≡ done.given.lines.items }
+    {
+        let CoreServed { status, ran, given } = done;
+        match ran {
+            Some(cell) => handed_back(status, Ran::Switch(cell), given),
+            None => handed_back(status, Ran::Not, given),
+        }
+    }
+
+    /// What came of a node.
+    pub(crate) fn of_node(
+        done: CoreServed<NodeCore<H>, T, L, E, B, F>,
+    ) -> Served<H, P, T, L, E, B, F>
+        ensures status { result.status ≡ done.status }
+        ensures told { told_of result.ran ≡ told_in done.ran }
+        ensures role { IfSome (role_of result.ran) (λ role. role ≡ roles.Node) }
+        ensures none { result.ran ≡ rans.Not → done.ran ≡ None }
+        ensures shares { result.shares ≡ done.given.shares.items }
+        ensures ends { result.ends ≡ done.given.ends.items }
+        ensures lines { result.lines ≡ done.given.lines.items }
+    {
+        let CoreServed { status, ran, given } = done;
+        match ran {
+            Some(cell) => handed_back(status, Ran::Node(cell), given),
+            None => handed_back(status, Ran::Not, given),
+        }
+    }
+
+    /// What came of a node with a tariff.
+    pub(crate) fn of_tariff(
+        done: CoreServed<TariffCore<H, P>, T, L, E, B, F>,
+    ) -> Served<H, P, T, L, E, B, F>
+        ensures status { result.status ≡ done.status }
+        ensures told { told_of result.ran ≡ told_in done.ran }
+        ensures role { IfSome (role_of result.ran) (λ role. role ≡ roles.Tariff) }
+        ensures none { result.ran ≡ rans.Not → done.ran ≡ None }
+        ensures shares { result.shares ≡ done.given.shares.items }
+        ensures ends { result.ends ≡ done.given.ends.items }
+        ensures lines { result.lines ≡ done.given.lines.items }
+    {
+        let CoreServed { status, ran, given } = done;
+        match ran {
+            Some(cell) => handed_back(status, Ran::Tariff(cell), given),
+            None => handed_back(status, Ran::Not, given),
+        }
     }
 }

@@ -2,20 +2,18 @@
 
 ghost use Rattle.std.specs.Prelude.{◌≡◌, ◌⊎◌, [], IfSome};
 ghost use Rattle.lat_words.specs.Configs.{Within};
-ghost use Rattle.lat_words.specs.declared.config.Role.TheVariants as roles;
 ghost use Rattle.lat_tariff.specs.Tariffs.{AreKnown};
 ghost use Rattle.lat_live.specs.declared.ran.Ran.TheVariants as ran;
 ghost use Rattle.lat_live.specs.Printed.{IsPrinted, IsOwn, RoseIn};
 ghost use Rattle.lat_live.specs.Seating.{GivenBack};
 ghost use Rattle.lat_live.specs.Served.{told_of, role_of};
 
-use crate::cores::{ANNOUNCE_SECONDS, node_core, server_core, tariff_core};
-use crate::ran::{Ran, Served, handed_back};
-use crate::seats::Given;
-use crate::serving::{CoreServed, Plan, serve_core};
+use crate::cores::{ANNOUNCE_SECONDS, node_core, server_core, switch_core, tariff_core};
+use crate::ran::Served;
+use crate::serving::{Plan, serve_core};
 use lat_cell::Blanks;
 use lat_hook::RatingRule;
-use lat_outside::{Clock, Gate, LineEnd, Opener, Sink, Tx};
+use lat_outside::{Clock, Gate, Opener, Sink};
 use lat_tariff::{SteadyRule, Tariff};
 use lat_words::{Config, Role};
 use std::alloc::Global;
@@ -23,13 +21,13 @@ use std::sync::Wait;
 use std::sync::ledger::Ledger;
 use std::thread::Threads;
 
-// What a daemon of these words is to do. A server connects each line, and ends when all lines have ended. A node's lines wait for
-// sessions; it announces its services, and ends after so many sessions.
+// What a daemon of these words is to do. A server and a switch connect each line, and end when all lines have
+// ended. A node's lines wait for sessions; it announces its services, and ends after so many sessions.
 fn plan_of<'a>(config: &'a Config) -> Plan<'a>
     ensures { (result.lines ≡ config.entry.now.lines.count) × (result.line_port ≡ config.entry.now.lines.port) }
 {
     let (service, announce, sessions) = match config.role {
-        Role::Server => (Some(config.lines.service), None, None),
+        Role::Server | Role::Switch => (Some(config.lines.service), None, None),
         Role::Node | Role::Tariff => (None, Some(ANNOUNCE_SECONDS), Some(config.lines.sessions)),
     };
     Plan {
@@ -44,116 +42,8 @@ fn plan_of<'a>(config: &'a Config) -> Plan<'a>
     }
 }
 
-/// No worker was started.
-pub fn nothing<H: RatingRule, P: SteadyRule, T: Tx, L: LineEnd, E: Ledger, B: Ledger, F: Ledger>(
-    alloc: Global,
-    status: u8,
-) -> Served<H, P, T, L, E, B, F>
-    ensures status { result.status ≡ status }
-    ensures none { result.ran ≡ ran.Not }
-    ensures empty { (result.shares ≡ []) × (result.ends ≡ []) × (result.lines ≡ []) }
-{
-    handed_back(status, Ran::Not, Given::none(alloc))
-}
-
-/// Does all that a server does once its words are read.
-pub fn serve_server<
-    O: Opener,
-    K: Clock + Send,
-    G: Gate + Sync,
-    H: RatingRule + Send,
-    P: SteadyRule + Send,
-    S: Sink,
-    E: Ledger + Sync,
-    B: Ledger + Sync,
-    F: Ledger + Sync,
-    R: Threads + Wait + Sync,
->(
-    rt: &R,
-    alloc: Global,
-    config: &Config,
-    blanks: Blanks,
-    opener: &mut O,
-    clock: K,
-    gate: &G,
-    out: &mut S,
-) -> Served<H, P, O::T, O::L, E, B, F>
-    requires role { config.now.role ≡ roles.Server }
-    requires within { Within config.now.role config.now.lines }
-    requires names { (blanks.events.name ≡ E.name) × (blanks.bytes.name ≡ B.name) × (blanks.full.name ≡ F.name) }
-    requires parts { (blanks.events.parts ≡ E.parts) × (blanks.bytes.parts ≡ B.parts) × (blanks.full.parts ≡ F.parts) }
-    requires many { (E.parts ≡ 66) × (B.parts ≡ 66) × (F.parts ≡ 66) }
-    ensures role { IfSome (role_of result.ran) (λ role. role ≡ roles.Server) }
-    ensures ended { IfSome (told_of result.ran) (λ t. IsPrinted S.told S.faults out.old out.new t result.shares result.ends result.status) }
-    ensures back { IfSome (told_of result.ran) (λ t. GivenBack O.L.faults config.now.lines.count result.shares result.ends result.lines) }
-    ensures own { IsOwn result.status ⊎ ((result.status ≡ 4) ⊎ (result.status ≡ 5)) }
-    ensures opener { result.status ≡ 4 → RoseIn O.faults opener.old opener.new }
-    ensures sink { result.status ≡ 5 → RoseIn S.faults out.old out.new }
-    ensures none { result.ran ≡ ran.Not → (result.status ≡ 4) ⊎ (result.status ≡ 9) }
-    ensures silent { result.status ≡ 4 → S.told out.new ≡ S.told out.old }
-    ensures memory { result.status ≡ 9 → S.told out.new ≡ S.told out.old }
-    ensures empty { result.ran ≡ ran.Not → (result.shares ≡ []) × (result.ends ≡ []) × (result.lines ≡ []) }
-{
-    let Ok(core) = server_core(alloc, config) else {
-        return nothing(alloc, 9);
-    };
-    let plan = plan_of(config);
-    let done = serve_core(rt, alloc, &plan, core, blanks, opener, clock, gate, out);
-    let CoreServed { status, ran, given } = done;
-    handed_back(status, Ran::of_server(ran), given)
-}
-
-/// Does all that a node does once its words are read.
-pub fn serve_node<
-    O: Opener,
-    K: Clock + Send,
-    G: Gate + Sync,
-    H: RatingRule + Send,
-    P: SteadyRule + Send,
-    S: Sink,
-    E: Ledger + Sync,
-    B: Ledger + Sync,
-    F: Ledger + Sync,
-    R: Threads + Wait + Sync,
->(
-    rt: &R,
-    alloc: Global,
-    config: &Config,
-    blanks: Blanks,
-    opener: &mut O,
-    clock: K,
-    gate: &G,
-    rule: H,
-    out: &mut S,
-) -> Served<H, P, O::T, O::L, E, B, F>
-    requires role { config.now.role ≡ roles.Node }
-    requires within { Within config.now.role config.now.lines }
-    requires fact { H.fact rule }
-    requires names { (blanks.events.name ≡ E.name) × (blanks.bytes.name ≡ B.name) × (blanks.full.name ≡ F.name) }
-    requires parts { (blanks.events.parts ≡ E.parts) × (blanks.bytes.parts ≡ B.parts) × (blanks.full.parts ≡ F.parts) }
-    requires many { (E.parts ≡ 66) × (B.parts ≡ 66) × (F.parts ≡ 66) }
-    ensures role { IfSome (role_of result.ran) (λ role. role ≡ roles.Node) }
-    ensures ended { IfSome (told_of result.ran) (λ t. IsPrinted S.told S.faults out.old out.new t result.shares result.ends result.status) }
-    ensures back { IfSome (told_of result.ran) (λ t. GivenBack O.L.faults config.now.lines.count result.shares result.ends result.lines) }
-    ensures own { IsOwn result.status ⊎ ((result.status ≡ 4) ⊎ (result.status ≡ 5)) }
-    ensures opener { result.status ≡ 4 → RoseIn O.faults opener.old opener.new }
-    ensures sink { result.status ≡ 5 → RoseIn S.faults out.old out.new }
-    ensures none { result.ran ≡ ran.Not → (result.status ≡ 4) ⊎ (result.status ≡ 9) }
-    ensures silent { result.status ≡ 4 → S.told out.new ≡ S.told out.old }
-    ensures memory { result.status ≡ 9 → S.told out.new ≡ S.told out.old }
-    ensures empty { result.ran ≡ ran.Not → (result.shares ≡ []) × (result.ends ≡ []) × (result.lines ≡ []) }
-{
-    let Ok(core) = node_core(alloc, config, rule) else {
-        return nothing(alloc, 9);
-    };
-    let plan = plan_of(config);
-    let done = serve_core(rt, alloc, &plan, core, blanks, opener, clock, gate, out);
-    let CoreServed { status, ran, given } = done;
-    handed_back(status, Ran::of_node(ran), given)
-}
-
-/// Does all that a node with a tariff does once its words are read.
-pub fn serve_tariff<
+/// Does all that a daemon does in its role, once its words are read.
+pub fn serve_in_role<
     O: Opener,
     K: Clock + Send,
     G: Gate + Sync,
@@ -176,14 +66,13 @@ pub fn serve_tariff<
     tariff: Tariff<P>,
     out: &mut S,
 ) -> Served<H, P, O::T, O::L, E, B, F>
-    requires role { config.now.role ≡ roles.Tariff }
     requires within { Within config.now.role config.now.lines }
     requires fact { H.fact rule }
     requires rules { AreKnown P.fact tariff }
     requires names { (blanks.events.name ≡ E.name) × (blanks.bytes.name ≡ B.name) × (blanks.full.name ≡ F.name) }
     requires parts { (blanks.events.parts ≡ E.parts) × (blanks.bytes.parts ≡ B.parts) × (blanks.full.parts ≡ F.parts) }
     requires many { (E.parts ≡ 66) × (B.parts ≡ 66) × (F.parts ≡ 66) }
-    ensures role { IfSome (role_of result.ran) (λ role. role ≡ roles.Tariff) }
+    ensures role { IfSome (role_of result.ran) (λ role. role ≡ config.now.role) }
     ensures ended { IfSome (told_of result.ran) (λ t. IsPrinted S.told S.faults out.old out.new t result.shares result.ends result.status) }
     ensures back { IfSome (told_of result.ran) (λ t. GivenBack O.L.faults config.now.lines.count result.shares result.ends result.lines) }
     ensures own { IsOwn result.status ⊎ ((result.status ≡ 4) ⊎ (result.status ≡ 5)) }
@@ -194,11 +83,27 @@ pub fn serve_tariff<
     ensures memory { result.status ≡ 9 → S.told out.new ≡ S.told out.old }
     ensures empty { result.ran ≡ ran.Not → (result.shares ≡ []) × (result.ends ≡ []) × (result.lines ≡ []) }
 {
-    let Ok(core) = tariff_core(alloc, config, rule, tariff) else {
-        return nothing(alloc, 9);
-    };
     let plan = plan_of(config);
-    let done = serve_core(rt, alloc, &plan, core, blanks, opener, clock, gate, out);
-    let CoreServed { status, ran, given } = done;
-    handed_back(status, Ran::of_tariff(ran), given)
+    match config.role {
+        Role::Server => {
+            let core = server_core(alloc, config);
+            let done = serve_core(rt, alloc, &plan, core, blanks, opener, clock, gate, out);
+            Served::of_server(done)
+        }
+        Role::Switch => {
+            let core = switch_core(alloc, config);
+            let done = serve_core(rt, alloc, &plan, core, blanks, opener, clock, gate, out);
+            Served::of_switch(done)
+        }
+        Role::Node => {
+            let core = node_core(alloc, config, rule);
+            let done = serve_core(rt, alloc, &plan, core, blanks, opener, clock, gate, out);
+            Served::of_node(done)
+        }
+        Role::Tariff => {
+            let core = tariff_core(alloc, config, rule, tariff);
+            let done = serve_core(rt, alloc, &plan, core, blanks, opener, clock, gate, out);
+            Served::of_tariff(done)
+        }
+    }
 }

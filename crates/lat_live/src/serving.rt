@@ -9,7 +9,7 @@ ghost use Rattle.lat_live.specs.Seating.{GivenBack, share_of};
 use crate::opening::{OpenFault, open_lines};
 use crate::running::{Ending, run_all};
 use crate::seats::{Given, Seated, take_seats};
-use lat_base::{Addr, Core, Name};
+use lat_base::{Addr, Core, Memory, Name};
 use lat_cell::{Blanks, Cell, LineDone, LineShare};
 use lat_ending::print_end;
 use lat_outside::{Clock, Gate, LineEnd, Opener, Rx, Sink, Tx};
@@ -56,15 +56,17 @@ struct Start<C: Core, T: Tx, X: Rx, L: LineEnd, E: Ledger, B: Ledger, F: Ledger>
     given: Given<L, E, B, F>,
 }
 
-// Opens all, and takes all memory.
+// Opens all, and takes all memory, where it was found for the core.
 fn opened<O: Opener, C: Core, E: Ledger, B: Ledger, F: Ledger>(
     alloc: Global,
     plan: &Plan,
-    core: C,
+    core: Result<C, Memory>,
     blanks: Blanks,
     opener: &mut O,
 ) -> Result<Start<C, O::T, O::R, O::L, E, B, F>, OpenFault>
-    requires made { (C.made (C.opening core)) × (C.stands core (C.opening core)) × (C.valid core) }
+    requires made { IfOk core (λ c. C.made (C.opening c)) }
+    requires stands { IfOk core (λ c. C.stands c (C.opening c)) }
+    requires valid { IfOk core C.valid }
     requires lines { (1 ≤ plan.now.lines) × (plan.now.lines ≤ 64) × (plan.now.line_port + plan.now.lines ≤ 65536) }
     requires names { (blanks.events.name ≡ E.name) × (blanks.bytes.name ≡ B.name) × (blanks.full.name ≡ F.name) }
     requires parts { (blanks.events.parts ≡ E.parts) × (blanks.bytes.parts ≡ B.parts) × (blanks.full.parts ≡ F.parts) }
@@ -77,6 +79,7 @@ fn opened<O: Opener, C: Core, E: Ledger, B: Ledger, F: Ledger>(
     ensures rooms { IfOk result (λ s. (plan.now.lines ≤ vec_capacity s.given.ends) × (plan.now.lines ≤ vec_capacity s.given.lines)) }
     ensures fault { result ≡ Err OpenFault.Failed → Rose (O.faults opener.old) (O.faults opener.new) }
 {
+    let core = core?;
     let (tx, rx) = opener.open_carrier(plan.own, plan.port, plan.peers)?;
     let lines = open_lines(alloc, opener, plan.line_port, plan.lines)?;
     let given = Given::room(alloc, lines.len())?;
@@ -124,7 +127,8 @@ fn printed<C: Core, T: Tx, S: Sink, E: Ledger, B: Ledger, F: Ledger>(
 }
 
 /// Opens the carrier and then the lines by rising number, runs all workers of a cell round the core at once until each has ended,
-/// and prints what came of it. It may wait, and its return isn't promised. The core is as it was made.
+/// and prints what came of it. It may wait, and its return isn't promised. The core is as it was made; where no memory was found
+/// for it, nothing is opened.
 ///
 /// The status is 4 only where the opener's count of faults rose, with nothing written; 9 for want of memory; else that of the
 /// text, which is printed of the cell, the shares and the ends that are handed back. No cell is handed back only at 4 and 9.
@@ -142,14 +146,16 @@ pub fn serve_core<
     rt: &R,
     alloc: Global,
     plan: &Plan,
-    core: C,
+    core: Result<C, Memory>,
     blanks: Blanks,
     opener: &mut O,
     clock: K,
     gate: &G,
     out: &mut S,
 ) -> CoreServed<C, O::T, O::L, E, B, F>
-    requires made { (C.made (C.opening core)) × (C.stands core (C.opening core)) × (C.valid core) }
+    requires made { IfOk core (λ c. C.made (C.opening c)) }
+    requires stands { IfOk core (λ c. C.stands c (C.opening c)) }
+    requires valid { IfOk core C.valid }
     requires lines { (1 ≤ plan.now.lines) × (plan.now.lines ≤ 64) × (plan.now.line_port + plan.now.lines ≤ 65536) }
     requires names { (blanks.events.name ≡ E.name) × (blanks.bytes.name ≡ B.name) × (blanks.full.name ≡ F.name) }
     requires parts { (blanks.events.parts ≡ E.parts) × (blanks.bytes.parts ≡ B.parts) × (blanks.full.parts ≡ F.parts) }

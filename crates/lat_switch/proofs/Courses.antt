@@ -1,5 +1,5 @@
 -- What has come so far, and one thing more.
-use Rattle.std.proofs.Common.{◌≡◌, ℕ, ◌+◌, ◌-◌, ◌≤◌, ◌<◌, Bool, true, false, cond, ◌&&◌, List, [], ◌∷◌, ◌++◌, map, fold, length, get_or, refl, sym, ap, ◌∙◌, subst, Option, Some, None, arith, nat_eq, IsTrue}
+use Rattle.std.proofs.Common.{◌≡◌, ℕ, ◌+◌, ◌-◌, ◌≤◌, Bool, true, false, cond, List, [], ◌∷◌, map, fold, length, get_or, refl, sym, ap, ◌∙◌, subst, Option, Some, arith}
 use Rattle.std.specs.Prelude.{slice_set}
 use Rattle.std.proofs.lemmas.List.{get_or_default, length-map, length-set}
 use Rattle.std.proofs.Math.Seq.{map-set_same}
@@ -21,9 +21,9 @@ use Rattle.lat_server.specs.Stands as server
 use Rattle.lat_server.specs.Stands.{Machine, IsMachine, stepped, answered}
 use Rattle.lat_switch.specs.declared.piece.Piece.{Piece}
 use Rattle.lat_switch.specs.declared.reading.Progress.{Progress}
-use Rattle.lat_switch.specs.Kept.{Kept, IsValid, IsSame, IsQuiet, IsInner}
+use Rattle.lat_switch.specs.Kept.{Kept, IsValid, IsSame, IsInner}
 use Rattle.lat_switch.specs.Lines.{Line, no_line, has_session, gives_way, first_free}
-use Rattle.lat_switch.specs.Switch.{Switch, line_in, line_on, with_line, Course, begins, after, tells, answer_to, changes, Step, refuses, relays}
+use Rattle.lat_switch.specs.Switch.{Switch, line_in, line_on, Course, begins, after, tells, answer_to, changes, Step, refuses, relays}
 use Rattle.lat_switch.specs.Calls.{is_connected, shown_if, connects_at, either_done, closes, closes_one}
 use Rattle.lat_switch.specs.Reading.{Reading, reads}
 use Rattle.lat_switch.specs.Steps.{on_line}
@@ -31,7 +31,6 @@ use Rattle.lat_machines.specs.cores.Lines.{line_exists}
 use Rattle.lat_switch.specs.Stands.{Stands, HasCome, HasDone}
 use Rattle.lat_switch.specs.Progress.{HasRead, ReadsOn, ClosesOn}
 use Rattle.lat_switch.proofs.Lines.{firsts_kept, places}
-use Rattle.lat_switch.proofs.Quiet.{quiet_out}
 
 -- nothing yet
 pub has_begun : (k : Kept) (s : Switch) → Stands k s → HasCome (begins s) k []

@@ -8,3 +8,4 @@ pub mod Makes
 pub mod Readings
 pub mod Steps
 pub mod Runs
+pub mod shown

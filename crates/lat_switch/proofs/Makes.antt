@@ -1,5 +1,5 @@
 -- A switch as it is made.
-use Rattle.std.proofs.Common.{◌≡◌, ℕ, ◌*◌, ◌≤◌, List, [], map, length, refl, sym, ap, ◌∙◌, subst, arith}
+use Rattle.std.proofs.Common.{◌≡◌, ℕ, ◌*◌, ◌≤◌, List, [], map, length, refl, sym, ap, ◌∙◌, subst}
 use Rattle.lat_machines.specs.server.Server.{ServerConfig, open_server}
 use Rattle.lat_machines.specs.values.Addresses.{address}
 use Rattle.lat_circuit.specs.Frames.{timing_shown}
@@ -13,7 +13,7 @@ use Rattle.lat_switch.specs.declared.config.SwitchConfig.{SwitchConfig}
 use Rattle.lat_switch.specs.Config.{inner_config, open_switch}
 use Rattle.lat_switch.specs.Core.{IsMade, opening}
 use Rattle.lat_switch.specs.Kept.{Kept, Holds, IsValid}
-use Rattle.lat_switch.specs.Lines.{Line, opened_lines}
+use Rattle.lat_switch.specs.Lines.{opened_lines}
 use Rattle.lat_switch.specs.Stands.{Stands}
 use Rattle.lat_switch.specs.Switch.{Switch}
 use Rattle.lat_switch.proofs.Lines.{length_opened}

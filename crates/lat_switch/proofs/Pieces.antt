@@ -1,12 +1,11 @@
 -- Runs and keys.
-use Rattle.std.proofs.Common.{◌≡◌, ◌≢◌, ℕ, zero, suc, ◌+◌, ◌≤◌, ◌<◌, refl, sym, ap, ◌∙◌, subst, Bool, true, false, not, cond, ◌||◌, List, [], ◌∷◌, length, get_or, take, drop, arith, nat_eq, true≢false}
-use Rattle.std.specs.Prelude.{unwrap_or, position}
-use Rattle.std.specs.List.{position_or_len, prefix_len}
+use Rattle.std.proofs.Common.{◌≡◌, ◌≢◌, ℕ, zero, suc, ◌+◌, ◌<◌, refl, sym, ap, ◌∙◌, subst, Bool, true, false, not, cond, ◌||◌, List, [], ◌∷◌, length, get_or, take, drop, arith, nat_eq, true≢false}
+use Rattle.std.specs.List.{position_or_len}
 use Rattle.std.proofs.lemmas.Bool.Decides.{nat_tests}
 use Rattle.std.proofs.lemmas.List.Sums.{prefix_len-le-length}
 use Rattle.lat_switch.specs.declared.piece.Piece.{Piece}
 use Rattle.lat_switch.specs.declared.piece.Piece.TheVariants as pieces
-use Rattle.lat_switch.specs.Pieces.{joined, pieces_of, is_key, run_length, size_of, sizes}
+use Rattle.lat_switch.specs.Pieces.{joined, pieces_of, is_key, run_length, sizes}
 
 sizes_joined : (b : ℕ) (ps : List Piece) → sizes (joined b ps) ≡ 1 + sizes ps
 sizes_joined b (pieces.Run bytes ∷ ps) = grind arith

@@ -1,5 +1,5 @@
 -- Where nothing is offered, a call on a line makes no frame.
-use Rattle.std.proofs.Common.{◌≡◌, ℕ, List, [], ◌∷◌, map, refl, sym, ap, ◌∙◌, subst}
+use Rattle.std.proofs.Common.{◌≡◌, ℕ, List, [], ◌∷◌, map, refl, ap, ◌∙◌}
 use Rattle.lat_base.specs.declared.event.Event.{Event}
 use Rattle.lat_base.specs.declared.event.Event.TheVariants as events
 use Rattle.lat_base.specs.declared.outbox.OutFrame.{OutFrame}
@@ -8,8 +8,7 @@ use Rattle.lat_machines.specs.values.Events.{Puts, Sets, Attends, Closes}
 use Rattle.lat_machines.specs.server.Server as machine
 use Rattle.lat_machines.specs.server.Server.{ServerConfig, Server, Passing, Offer, offer_on, grantable, grants_by, grant_line, grant_lines, finished_requests}
 use Rattle.lat_payload.specs.Frames.{seen, expected}
-use Rattle.lat_server.specs.Kept.{config_of}
-use Rattle.lat_server.specs.Stands.{Machine, IsMachine, stepped, Frames}
+use Rattle.lat_server.specs.Stands.{Machine, stepped, Frames}
 use Rattle.lat_switch.specs.Kept.{IsQuiet}
 
 -- a line grants nothing

@@ -1,11 +1,9 @@
 -- What a server does at a switch is the run of the inner events.
-use Rattle.std.proofs.Common.{◌≡◌, ℕ, Bool, true, false, cond, List, [], ◌∷◌, ◌++◌, fold, take, refl, sym, ap, ◌∙◌, subst, Option, Some, None, append_assoc, length, nat_eq}
+use Rattle.std.proofs.Common.{◌≡◌, ℕ, Bool, true, false, cond, List, [], ◌∷◌, ◌++◌, fold, take, refl, sym, ap, ◌∙◌, Option, Some, None, append_assoc, length}
 use Rattle.std.proofs.lemmas.List.{append-nil}
 use Rattle.lat_base.specs.declared.event.Event.{Event}
 use Rattle.lat_base.specs.declared.event.Event.TheVariants as events
-use Rattle.lat_base.specs.declared.answer.Answer.{Answer}
 use Rattle.lat_machines.specs.cores.Lines.{line_exists}
-use Rattle.lat_machines.specs.values.Frames.{OutFrame}
 use Rattle.lat_machines.specs.values.Names.{Name}
 use Rattle.lat_server.specs.Stands as server
 use Rattle.lat_server.specs.Stands.{Machine, stepped}
@@ -15,10 +13,10 @@ use Rattle.lat_switch.specs.Lines.{Line, first_free, has_session, shows, inner_l
 use Rattle.lat_switch.specs.Switch.{Switch, line_on, Course, begins, tells, answer_to, changes, Step}
 use Rattle.lat_switch.specs.Pieces.{pieces_of}
 use Rattle.lat_switch.specs.Calls.{connects, connects_at, shown_if, is_connected, closes, closes_one, either_done}
-use Rattle.lat_switch.specs.Reading.{Reading, starts, put_on, connects_own, reads_piece, reads, reads_all, puts_pieces, puts}
-use Rattle.lat_switch.specs.Steps.{on_line, does, switch_step}
+use Rattle.lat_switch.specs.Reading.{Reading, starts, put_on, connects_own, reads_piece, reads, puts_pieces, puts}
+use Rattle.lat_switch.specs.Steps.{does, switch_step}
 use Rattle.lat_switch.specs.Core.{next}
-use Rattle.lat_switch.specs.Runs.{server_run, server_frames, switch_run, inner_events, switch_frames, IsRun}
+use Rattle.lat_switch.specs.Runs.{server_run, server_frames, inner_events, IsRun}
 
 pub run-append : (m : Machine) (es fs : List Event) → server_run m (es ++ fs) ≡ server_run (server_run m es) fs
 run-append m [] fs = refl

@@ -1,11 +1,11 @@
 -- Connecting and closing on a line of a switch.
-use Rattle.std.specs.Prelude.{ℕ, Bool, true, false, cond, List, fold, Option, Some, None}
+use Rattle.std.specs.Prelude.{ℕ, Bool, true, false, cond, fold, Option, Some, None}
 use Rattle.lat_base.specs.declared.answer.Answer.{Answer}
 use Rattle.lat_base.specs.declared.answer.Answer.TheVariants as answers
 use Rattle.lat_base.specs.declared.event.Event.TheVariants as events
 use Rattle.lat_machines.specs.values.Names.{Name}
 use Rattle.lat_switch.specs.Lines.{inner_lines, first_free, has_session, shows}
-use Rattle.lat_switch.specs.Switch.{line_on, Course, tells, answer_to, changes, Step, refuses, relays}
+use Rattle.lat_switch.specs.Switch.{line_on, Course, tells, answer_to, changes, Step, refuses}
 
 abbrev pub is_connected : Answer → Bool
 is_connected (answers.Connected circuit session) = true

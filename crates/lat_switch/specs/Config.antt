@@ -1,5 +1,5 @@
 -- What a switch is made of, and the switch as it is opened.
-use Rattle.std.specs.Prelude.{ℕ, ◌*◌, ◌≤◌, []}
+use Rattle.std.specs.Prelude.{◌*◌, ◌≤◌, []}
 use Rattle.lat_machines.specs.values.Addresses.{address}
 use Rattle.lat_machines.specs.server.Server.{ServerConfig, open_server}
 use Rattle.lat_circuit.specs.Agrees.{IsTiming}

@@ -10,3 +10,4 @@ pub mod Stands
 pub mod Core
 pub mod Progress
 pub mod Runs
+pub mod Shown

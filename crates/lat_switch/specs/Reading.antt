@@ -1,5 +1,5 @@
 -- How the bytes of a put are read, in order.
-use Rattle.std.specs.Prelude.{ℕ, suc, ◌+◌, Bool, true, false, cond, ◌&&◌, List, [], ◌∷◌, length, take, fold, nat_eq, Option, Some, None}
+use Rattle.std.specs.Prelude.{ℕ, ◌+◌, Bool, true, false, cond, ◌&&◌, List, [], ◌∷◌, length, take, fold, nat_eq, Option, Some, None}
 use Rattle.lat_base.specs.declared.answer.Answer.{Answer}
 use Rattle.lat_base.specs.declared.answer.Answer.TheVariants as answers
 use Rattle.lat_base.specs.declared.event.Event.{Event}
@@ -8,7 +8,7 @@ use Rattle.lat_machines.specs.values.Names.{Name}
 use Rattle.lat_switch.specs.declared.piece.Piece.{Piece}
 use Rattle.lat_switch.specs.declared.piece.Piece.TheVariants as pieces
 use Rattle.lat_switch.specs.Lines.{shows_next}
-use Rattle.lat_switch.specs.Switch.{line_on, Course, tells, answer_to, changes, Step, refuses, relays}
+use Rattle.lat_switch.specs.Switch.{line_on, Course, tells, answer_to, changes, Step, relays}
 use Rattle.lat_switch.specs.Pieces.{pieces_of}
 use Rattle.lat_switch.specs.Calls.{connects}
 

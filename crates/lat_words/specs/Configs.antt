@@ -6,7 +6,7 @@ use Rattle.lat_text.specs.Digits.{address_of}
 use Rattle.lat_text.specs.NameWritten.{name_of}
 use Rattle.lat_words.specs.Commands.{is_taken, rows}
 use Rattle.lat_words.specs.declared.config.Role.{Role}
-use Rattle.lat_words.specs.declared.config.Role.TheVariants.{Server, Node, Tariff}
+use Rattle.lat_words.specs.declared.config.Role.TheVariants.{Server, Switch, Node, Tariff}
 use Rattle.lat_words.specs.declared.config.Station.{Station}
 use Rattle.lat_words.specs.declared.config.Lines.{Lines}
 use Rattle.lat_words.specs.declared.config.Config.{Config}
@@ -19,13 +19,15 @@ found >>= f = option_and_then f found
 abbrev pub role_of : List ℕ → Option Role
 role_of text =
     if bytes_eq text (codes "server") then Some Server
+    else if bytes_eq text (codes "switch") then Some Switch
     else if bytes_eq text (codes "node") then Some Node
     else if bytes_eq text (codes "tariff") then Some Tariff
     else None
 
--- a server has 1 to 32 lines, a node with or without a tariff 1 to 64
+-- a server has 1 to 32 lines, a switch 1 to 8, a node with or without a tariff 1 to 64
 abbrev pub most_lines : Role → ℕ
 most_lines Server = 32
+most_lines Switch = 8
 most_lines Node = 64
 most_lines Tariff = 64
 

@@ -7,6 +7,8 @@ use lat_base::{Addr, Name};
 #[derive(Clone, Copy, Debug, PartialEq, Eq)]
 pub enum Role {
     Server,
+    /// A server with several sessions on each line.
+    Switch,
     Node,
     /// A node whose services have each a rule of rating of its own.
     Tariff,
@@ -25,14 +27,14 @@ pub struct Station {
 /// Its lines.
 #[derive(Drop)]
 pub struct Lines {
-    /// A server has 1 to 32, a node or a tariff node 1 to 64.
+    /// A server has 1 to 32, a switch 1 to 8, a node or a tariff node 1 to 64.
     pub count: u8,
     /// The port that line 1 listens on. Each further line listens on the next one.
     pub port: u16,
-    /// What a server's lines are connected to, or what a node offers. A tariff node offers the services of its tariff and
-    /// ignores it.
+    /// What the lines of a server or a switch are connected to, or what a node offers. A tariff node offers the services of
+    /// its tariff and ignores it.
     pub service: Name,
-    /// After so many sessions a node or a tariff node ends. A server ignores it.
+    /// After so many sessions a node or a tariff node ends. A server and a switch ignore it.
     pub sessions: u32,
 }
 

@@ -17,6 +17,8 @@ fn role_of(text: &[u8]) -> Option<Role>
 {
     if text == "server".as_bytes() {
         Some(Role::Server)
+    } else if text == "switch".as_bytes() {
+        Some(Role::Switch)
     } else if text == "node".as_bytes() {
         Some(Role::Node)
     } else if text == "tariff".as_bytes() {
@@ -32,6 +34,7 @@ fn most_lines(role: Role) -> u64
 {
     match role {
         Role::Server => 32,
+        Role::Switch => 8,
         Role::Node | Role::Tariff => 64,
     }
 }

@@ -17,7 +17,7 @@ const WORDS: [(&str, &str); 9] = [
 
 // Values that make the words wrong.
 const WRONG: [(&str, &str); 17] = [
-    ("--role", "switch"),
+    ("--role", "router"),
     ("--role", "server --role server"),
     ("--role", "server --help"),
     ("--name", "seventeen-letters"),
@@ -37,8 +37,9 @@ const WRONG: [(&str, &str); 17] = [
 ];
 
 // Values that leave them right.
-const RIGHT: [(&str, &str); 7] = [
+const RIGHT: [(&str, &str); 8] = [
     ("--role", "node"),
+    ("--role", "switch"),
     ("--role", "tariff"),
     ("--lines", "32"),
     ("--line-port", "65534"),

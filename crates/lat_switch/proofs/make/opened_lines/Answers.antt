@@ -1,4 +1,4 @@
-use Rattle.std.proofs.Common.{◌≡◌, ◌-◌, ◌++◌, ◌∷◌, [], sym, ap, ◌∙◌, arith}
+use Rattle.std.proofs.Common.{◌-◌, ◌++◌, ◌∷◌, [], sym, ap, ◌∙◌, arith}
 use Rattle.lat_switch.specs.Lines.{opened_lines}
 use Rattle.lat_switch.proofs.Lines.{opened_more}
 use Rattle.lat_switch.proofs.make.opened_lines.Goals as goal

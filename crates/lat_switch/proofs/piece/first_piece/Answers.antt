@@ -1,4 +1,4 @@
-use Rattle.std.proofs.Common.{◌≡◌, ◌≢◌, ◌<◌, ◌∷◌, ℕ, List, sym, ap, ◌∙◌, subst, arith, length, take, drop, get_or}
+use Rattle.std.proofs.Common.{◌≡◌, ◌<◌, ◌∷◌, ℕ, sym, ap, ◌∙◌, arith, drop}
 use Rattle.std.specs.List.{position_or_len}
 use Rattle.lat_switch.specs.declared.piece.Piece.TheVariants as pieces
 use Rattle.lat_switch.specs.Pieces.{is_key, pieces_of}

@@ -1,4 +1,4 @@
-use Rattle.std.proofs.Common.{◌≡◌, true, false, sym, ◌∙◌, arith}
+use Rattle.std.proofs.Common.{sym, ◌∙◌, arith}
 use Rattle.lat_switch.proofs.Lines.{free_here, free_behind, free_none}
 use Rattle.lat_switch.proofs.line.Line.first_free.Goals as goal
 

@@ -1,4 +1,4 @@
-use Rattle.std.proofs.Common.{◌≡◌, true, false, sym, ap, ◌∙◌, arith}
+use Rattle.std.proofs.Common.{sym, ap, ◌∙◌, arith}
 use Rattle.lat_switch.specs.Lines.{Line}
 use Rattle.lat_switch.proofs.Lines.{turn_here, turn_behind, turn_none}
 use Rattle.lat_switch.proofs.line.Line.next_session.Goals as goal

@@ -1,4 +1,4 @@
-use Rattle.std.proofs.Common.{◌≡◌, List, ℕ, refl, sym, subst}
+use Rattle.std.proofs.Common.{List, ℕ, refl, sym, subst}
 use Rattle.std.specs.Prelude.{IfOk}
 use Rattle.lat_base.specs.Answers.{PutFits, TookFits}
 use Rattle.lat_base.specs.declared.answer.Answer.TheVariants as answers

@@ -1,4 +1,4 @@
-use Rattle.std.proofs.Common.{◌≡◌, sym, ap, ◌∙◌}
+use Rattle.std.proofs.Common.{sym, ap, ◌∙◌}
 use Rattle.lat_base.specs.declared.event.Event.TheVariants as events
 use Rattle.lat_switch.specs.Lines.{Line}
 use Rattle.lat_switch.specs.Switch.{Course, line_on, relays}

@@ -1,4 +1,4 @@
-use Rattle.std.proofs.Common.{◌≡◌, ℕ, ◌+◌, List, [], ◌∷◌, map, drop, refl, sym, ap, subst, ◌∙◌, arith}
+use Rattle.std.proofs.Common.{◌≡◌, ℕ, ◌+◌, [], ◌∷◌, map, drop, refl, ap, subst, ◌∙◌, arith}
 use Rattle.lat_base.specs.declared.answer.Answer.TheVariants as answers
 use Rattle.lat_switch.specs.Calls.{closes}
 use Rattle.lat_switch.specs.Lines.{Line}

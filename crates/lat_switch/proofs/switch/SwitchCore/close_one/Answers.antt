@@ -1,7 +1,6 @@
-use Rattle.std.proofs.Common.{◌≡◌, true, false, sym, subst, ◌∙◌}
+use Rattle.std.proofs.Common.{sym, subst, ◌∙◌}
 use Rattle.lat_server.specs.Stands.{IsMachine}
 use Rattle.lat_switch.specs.Kept.{Kept}
-use Rattle.lat_switch.specs.Lines.{has_session}
 use Rattle.lat_switch.proofs.Courses.{passed_over, closed_one, same_itself}
 use Rattle.lat_switch.proofs.switch.SwitchCore.close_one.Goals as goal
 

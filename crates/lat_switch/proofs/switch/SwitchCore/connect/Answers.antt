@@ -1,6 +1,6 @@
 use Rattle.std.proofs.Common.{◌≡◌, ℕ, Option, Some, None, sym, ap, subst, refl, ◌∙◌}
 use Rattle.lat_base.specs.declared.answer.Answer.TheVariants as answers
-use Rattle.lat_server.specs.Stands.{Machine, IsMachine}
+use Rattle.lat_server.specs.Stands.{IsMachine}
 use Rattle.lat_switch.specs.Calls.{connects_at}
 use Rattle.lat_switch.specs.Kept.{Kept, IsInner}
 use Rattle.lat_switch.specs.Lines.{Line, first_free}

@@ -1,4 +1,4 @@
-use Rattle.std.proofs.Common.{◌≡◌, true, false, sym, ◌∙◌}
+use Rattle.std.proofs.Common.{true, false, sym, ◌∙◌}
 use Rattle.lat_base.specs.declared.event.Event.TheVariants as events
 use Rattle.lat_lines.specs.Answers as lines
 use Rattle.lat_switch.specs.Switch.{tells}

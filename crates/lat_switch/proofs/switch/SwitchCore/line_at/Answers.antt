@@ -1,4 +1,4 @@
-use Rattle.std.proofs.Common.{◌≡◌, ◌-◌, get_or, ap, ◌∙◌}
+use Rattle.std.proofs.Common.{◌-◌, get_or, ap, ◌∙◌}
 use Rattle.lat_switch.specs.Kept.{Kept}
 use Rattle.lat_switch.proofs.Courses.{line_was}
 use Rattle.lat_switch.proofs.switch.SwitchCore.line_at.Goals as goal

@@ -1,4 +1,4 @@
-use Rattle.std.proofs.Common.{◌≡◌, sym, subst, arith}
+use Rattle.std.proofs.Common.{sym, subst, arith}
 use Rattle.lat_server.specs.Config.{AreOffers}
 use Rattle.lat_switch.specs.Kept.{Kept}
 use Rattle.lat_switch.proofs.Makes.{IsOpened, inner_is, none_offered, opened_holds, opened_made, opened_stands, opened_is, opened_valid}

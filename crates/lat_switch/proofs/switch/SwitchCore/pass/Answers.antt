@@ -1,4 +1,4 @@
-use Rattle.std.proofs.Common.{◌≡◌, map, sym, ap, subst, ◌∙◌}
+use Rattle.std.proofs.Common.{map, sym, ap, subst, ◌∙◌}
 use Rattle.lat_base.specs.Answers.{TookFits}
 use Rattle.lat_lines.specs.Answers as lines
 use Rattle.lat_server.specs.Stands.{Machine, IsMachine, opening, next}

@@ -1,10 +1,9 @@
-use Rattle.std.proofs.Common.{◌≡◌, ◌≤◌, ◌<◌, ℕ, List, [], ◌∷◌, length, take, refl, sym, ap, subst, ◌∙◌, arith, eqb-true}
+use Rattle.std.proofs.Common.{◌≡◌, ◌≤◌, ℕ, List, [], ◌∷◌, length, take, refl, sym, ap, subst, ◌∙◌, arith, eqb-true}
 use Rattle.std.proofs.lemmas.Bool.{eqb-false}
-use Rattle.lat_switch.specs.declared.piece.Piece.{Piece}
 use Rattle.lat_switch.specs.Pieces.{pieces_of, sizes}
 use Rattle.lat_switch.specs.Progress.{HasRead}
 use Rattle.lat_switch.specs.Reading.{puts, reads_all}
-use Rattle.lat_switch.specs.Stands.{HasDone, Does}
+use Rattle.lat_switch.specs.Stands.{Does}
 use Rattle.lat_switch.proofs.Readings.{has_put, sizes_within, some_pieces}
 use Rattle.lat_switch.proofs.switch.SwitchCore.put.Goals as goal
 

@@ -1,4 +1,4 @@
-use Rattle.std.proofs.Common.{◌≡◌, sym, ◌∙◌}
+use Rattle.std.proofs.Common.{sym, ◌∙◌}
 use Rattle.lat_switch.specs.Reading.{puts}
 use Rattle.lat_switch.proofs.Courses.{no_such_line, same_itself}
 use Rattle.lat_switch.proofs.Lined.{lined}

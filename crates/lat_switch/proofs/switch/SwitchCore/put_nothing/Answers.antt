@@ -1,4 +1,4 @@
-use Rattle.std.proofs.Common.{◌≡◌, ap, subst, ◌∙◌, []}
+use Rattle.std.proofs.Common.{ap, subst, ◌∙◌, []}
 use Rattle.lat_base.specs.declared.event.Event.TheVariants as events
 use Rattle.lat_switch.specs.Lines.{Line}
 use Rattle.lat_switch.specs.Stands.{HasDone}

@@ -1,7 +1,7 @@
-use Rattle.std.proofs.Common.{◌≡◌, ℕ, ◌+◌, ◌≤◌, List, [], ◌∷◌, ◌++◌, refl, sym, ap, subst, ◌∙◌, arith, None, length}
+use Rattle.std.proofs.Common.{◌≡◌, List, [], ◌∷◌, ◌++◌, refl, ap, subst, ◌∙◌, arith, length}
 use Rattle.std.specs.Prelude.{option_to_list}
 use Rattle.lat_switch.specs.declared.piece.Piece.{Piece}
-use Rattle.lat_switch.specs.Pieces.{size_of, sizes}
+use Rattle.lat_switch.specs.Pieces.{sizes}
 use Rattle.lat_switch.specs.Progress.{ReadsOn}
 use Rattle.lat_switch.specs.Reading.{starts, reads_all}
 use Rattle.lat_switch.proofs.Courses.{same_itself, same_then, reads_on, read_all}

@@ -1,4 +1,4 @@
-use Rattle.std.proofs.Common.{◌≡◌, ◌+◌, Bool, true, false, not, refl, sym, ap, subst, ◌∙◌, arith}
+use Rattle.std.proofs.Common.{◌≡◌, ◌+◌, Bool, true, false, not, refl, sym, ap, subst, arith}
 use Rattle.lat_switch.specs.declared.piece.Piece.{Piece}
 use Rattle.lat_switch.specs.declared.piece.Piece.TheVariants as pieces
 use Rattle.lat_switch.specs.declared.reading.Progress.{Progress}

@@ -1,4 +1,4 @@
-use Rattle.std.proofs.Common.{◌≡◌, sym, ap, ◌∙◌, arith, nat_eq}
+use Rattle.std.proofs.Common.{ap, ◌∙◌, arith, nat_eq}
 use Rattle.lat_switch.specs.Lines.{Line}
 use Rattle.lat_switch.proofs.Courses.{line_shown}
 use Rattle.lat_switch.proofs.Readings.{has_run, accepted_within}

@@ -1,4 +1,4 @@
-use Rattle.std.proofs.Common.{◌≡◌, [], map, sym, ap, subst, ◌∙◌}
+use Rattle.std.proofs.Common.{map, sym, ap, subst, ◌∙◌}
 use Rattle.lat_machines.specs.server.Server.{ServerConfig}
 use Rattle.lat_server.specs.Stands.{Machine, IsMachine, opening, next}
 use Rattle.lat_switch.specs.Kept.{Kept, IsValid}

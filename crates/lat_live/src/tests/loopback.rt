@@ -1,0 +1,197 @@
+//! A server and a node at once, over the loopback address.
+
+ghost use Rattle.std.specs.Prelude.{◌≡◌, ◌<◌};
+ghost use Rattle.lat_live.specs.Ledgers.{AreBlanks};
+
+use super::daemon::{Came, daemon, new_blanks};
+use lat_cell::Blanks;
+use lat_udp::{NetOpener, RealClock};
+use std::alloc::Global;
+use std::io::{self, Read, Write};
+use std::marker::Brand;
+use std::net::{Ipv4Addr, Net, TcpListener, TcpStream};
+use std::sync::Wait;
+use std::sync::ledger::Ledger;
+use std::test::Fail;
+use std::thread::{self, Threads};
+use std::time::{Clock, Duration};
+
+/// What a server and a node are told, and the port of the first of their four lines.
+#[derive(Clone, Copy, Drop)]
+struct Case {
+    server: &'static str,
+    node: &'static str,
+    first: u16,
+}
+
+const CASES: [Case; 3] = [
+    Case {
+        server: "latd --role server --name TS1 --address aa0004000104 --port 47201 --lines 2 --line-port 47203 --service VAX --sessions 1 47202",
+        node: "latd --role node --name VAX1 --address aa0004000204 --port 47202 --lines 2 --line-port 47205 --service VAX --sessions 2 47201",
+        first: 47_203,
+    },
+    Case {
+        server: "latd --role server --name TS1 --address aa0004000104 --port 47211 --lines 2 --line-port 47213 --service PRINT --sessions 1 47212",
+        node: "latd --role tariff --name VAX1 --address aa0004000204 --port 47212 --lines 2 --line-port 47215 --service VAX --sessions 2 47211",
+        first: 47_213,
+    },
+    Case {
+        server: "latd --role switch --name TS1 --address aa0004000104 --port 47221 --lines 2 --line-port 47223 --service VAX --sessions 1 47222",
+        node: "latd --role node --name VAX1 --address aa0004000204 --port 47222 --lines 2 --line-port 47225 --service VAX --sessions 2 47221",
+        first: 47_223,
+    },
+];
+
+fn connected<R: Net<Listener = TcpListener, Stream = TcpStream> + Clock>(
+    rt: &R,
+    port: u16,
+) -> io::Result<TcpStream> {
+    for _ in 0..200 {
+        if let Ok(stream) = TcpStream::connect(rt, (Ipv4Addr::LOCALHOST, port)) {
+            stream.set_read_timeout(Some(Duration::from_millis(10)))?;
+            return Ok(stream);
+        }
+        thread::sleep(rt, Duration::from_millis(10));
+    }
+    Err(io::ErrorKind::NotFound.into())
+}
+
+fn is_hi(stream: &mut TcpStream) -> bool {
+    let mut bytes = [0; 2];
+    stream.read_exact(&mut bytes).is_ok() && &bytes == b"hi"
+}
+
+// Whether one of two lines gives `hi` within some ten seconds.
+fn gives_hi(one: &mut TcpStream, two: &mut TcpStream) -> bool {
+    for _ in 0..500 {
+        if is_hi(one) || is_hi(two) {
+            return true;
+        }
+    }
+    false
+}
+
+// Sends `hi` into the server's line 2, and into its line 1 only once it has come out at the node. Lines that are worked one after
+// another pass nothing on.
+fn passed<R: Net<Listener = TcpListener, Stream = TcpStream> + Clock>(
+    rt: &R,
+    line: u16,
+) -> io::Result<bool>
+    requires { line < 60000 }
+{
+    let (mut first, mut second) = (connected(rt, line + 2)?, connected(rt, line + 3)?);
+    let (mut one, mut two) = (connected(rt, line)?, connected(rt, line + 1)?);
+    two.write_all(b"hi")?;
+    let two_passed = gives_hi(&mut first, &mut second);
+    one.write_all(b"hi")?;
+    Ok(two_passed && gives_hi(&mut first, &mut second))
+}
+
+/// What came of both, and whether both lines of the server passed their bytes on.
+#[derive(Drop)]
+struct Ended {
+    server: Came,
+    node: Came,
+    is_passed: io::Result<bool>,
+}
+
+// A daemon over the sockets.
+fn real<
+    E: Ledger + Sync,
+    B: Ledger + Sync,
+    F: Ledger + Sync,
+    R: Threads
+        + Wait
+        + Net<Listener = TcpListener, Stream = TcpStream>
+        + Clock
+        + Copy
+        + Send
+        + Sync,
+>(rt: &R, alloc: Global, text: &str, blanks: Blanks) -> Came
+    requires { AreBlanks blanks E.name E.parts B.name B.parts F.name F.parts }
+{
+    let mut opener = NetOpener::new(*rt);
+    let clock = RealClock::new(*rt);
+    daemon::<_, _, E, B, F, R>(rt, alloc, text, blanks, &mut opener, clock, &[])
+}
+
+fn pair<
+    E: Ledger + Sync,
+    B: Ledger + Sync,
+    F: Ledger + Sync,
+    P: Ledger + Sync,
+    Q: Ledger + Sync,
+    S: Ledger + Sync,
+    R: Threads
+        + Wait
+        + Net<Listener = TcpListener, Stream = TcpStream>
+        + Clock
+        + Copy
+        + Send
+        + Sync,
+>(rt: &R, alloc: Global, case: Case, blanks: Blanks, others: Blanks) -> (Came, Came)
+    requires blanks { AreBlanks blanks E.name E.parts B.name B.parts F.name F.parts }
+    requires others { AreBlanks others P.name P.parts Q.name Q.parts S.name S.parts }
+{
+    thread::join(
+        rt,
+        move ||
+            requires { AreBlanks blanks E.name E.parts B.name B.parts F.name F.parts }
+        { real::<E, B, F, R>(rt, alloc, case.server, blanks) },
+        move ||
+            requires { AreBlanks others P.name P.parts Q.name Q.parts S.name S.parts }
+        { real::<P, Q, S, R>(rt, alloc, case.node, others) },
+    )
+}
+
+fn session<
+    E: Ledger + Sync,
+    B: Ledger + Sync,
+    F: Ledger + Sync,
+    P: Ledger + Sync,
+    Q: Ledger + Sync,
+    S: Ledger + Sync,
+    R: Threads
+        + Wait
+        + Net<Listener = TcpListener, Stream = TcpStream>
+        + Clock
+        + Copy
+        + Send
+        + Sync,
+>(rt: &R, alloc: Global, case: Case, blanks: Blanks, others: Blanks) -> Ended
+    requires lines { case.first < 60000 }
+    requires blanks { AreBlanks blanks E.name E.parts B.name B.parts F.name F.parts }
+    requires others { AreBlanks others P.name P.parts Q.name Q.parts S.name S.parts }
+{
+    let ((server, node), is_passed) = thread::join(
+        rt,
+        move ||
+            requires { AreBlanks blanks E.name E.parts B.name B.parts F.name F.parts × AreBlanks others P.name P.parts Q.name Q.parts S.name S.parts }
+        { pair::<E, B, F, P, Q, S, R>(rt, alloc, case, blanks, others) },
+        move ||
+            requires { case.first < 60000 }
+        { passed(rt, case.first) },
+    );
+    Ended {
+        server,
+        node,
+        is_passed,
+    }
+}
+
+#[test]
+fn two_lines_at_once(rt: HostRuntime) -> Result<(), Fail> {
+    for case in CASES {
+        let ended = session::<Brand, Brand, Brand, Brand, Brand, Brand, HostRuntime>(
+            &rt,
+            rt.alloc(),
+            case,
+            new_blanks(),
+            new_blanks(),
+        );
+        assert!(rt; ended.is_passed?);
+        assert_eq!(rt; ended.server.0, 0);
+        assert_eq!(rt; ended.node.0, 0);
+    }
+    Ok(())
+}

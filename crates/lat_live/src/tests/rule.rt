@@ -1,0 +1,44 @@
+//! A tariff of one service.
+
+ghost use Rattle.std.specs.Prelude.{IfSome};
+ghost use Rattle.lat_tariff.specs.Tariffs.{AreKnown};
+
+use lat_base::Name;
+use lat_tariff::{Rule, SteadyRule, Tariff};
+use std::alloc::Global;
+
+/// Whether a line is free.
+#[derive(Drop)]
+pub struct OneWhileFree;
+
+impl SteadyRule for OneWhileFree {
+    ghost use Rattle.std.specs.Prelude.{◌≡◌, nat_lt, if◌then◌else◌};
+    ghost use Rattle.std.proofs.Common.{rules};
+
+    ghost may = { λ rule used max rating. rating ≡ (if nat_lt used max then 1 else 0) };
+
+    ghost fact = { λ rule. Unit {0} };
+
+    ghost full = { Prim.search rules };
+
+    ghost steady = { Prim.search rules };
+
+    fn rate(&self, used: u16, max: u16) -> u8 {
+        u8::from(used < max)
+    }
+}
+
+/// The tariff of the service PRINT alone, where memory is found.
+pub fn printing(alloc: Global) -> Option<Tariff<OneWhileFree>>
+    ensures { IfSome result (λ tariff. AreKnown (λ rule. Unit {0}) tariff) }
+{
+    let name = Name::read(b"PRINT").ok()?;
+    let mut rules = Vec::new(alloc);
+    rules
+        .push(Rule {
+            name,
+            rule: OneWhileFree,
+        })
+        .ok()?;
+    Some(Tariff::make(rules))
+}
