@@ -122,12 +122,15 @@ if [ $# -eq 3 ]; then
     exit
 fi
 
+# a cell that is told a hundred events
+each_allocation lat_hundred "" -
 # the printed form of a message, a choice, a schedule played whole, one with a lost frame, its capture, and generated schedules
 each_allocation lat show "$top/examples/run.hex"
 each_allocation lat choose "$top/examples/choices.txt"
 each_allocation lat replay "$top/crates/lat/stdin"
 each_allocation lat replay "$top/examples/lost.txt"
 each_allocation lat "capture 1" "$top/examples/lost.txt"
+each_allocation lat "settle 60" "$top/examples/unheard.txt"
 each_allocation lat audit "$top/examples/capture.txt"
 each_allocation lat "gen 7" -
 each_allocation lat "bench 7" -

@@ -1,44 +1,58 @@
 -- What is captured behind a schedule.
-use Rattle.std.proofs.Common.{◌≡◌, ℕ, List, Option, Some, None, Result, Ok, Err, refl, sym, ap, ◌∙◌, subst}
-use Rattle.std.specs.Prelude.{IfOk}
+use Rattle.std.proofs.Common.{◌≡◌, ◌≢◌, ◌⊎◌, inl, inr, ℕ, ◌≤◌, Bool, true, false, ◌&&◌, List, length, Option, Some, None, Result, Ok, Err, refl, sym}
+use Rattle.std.proofs.Common.{ap, ◌∙◌, subst}
+use Rattle.std.specs.Prelude.{IfOk, is_some, nat_eq, codes}
+use Rattle.std.proofs.lemmas.Bool.{true≢false}
 use Rattle.lat_base.specs.declared.memory.Memory.{Memory}
-use Rattle.lat_machines.specs.world.Machines.{Setups}
-use Rattle.lat_tap.specs.CapturedText.{AuditIsLegal}
+use Rattle.lat_machines.specs.world.Machines.{Setups, Machines}
+use Rattle.lat_captures.specs.Entries.{Capture}
+use Rattle.lat_captures.specs.Audit.{run_count}
+use Rattle.lat_audit.specs.Printed as printing
+use Rattle.lat_tap.specs.CapturedText.{captured_text, AuditIsLegal}
 use Rattle.lat_replay.specs.Kept.{Kept, setups_of}
 use Rattle.lat_replay.specs.Played.{State, StandsAt}
+use Rattle.lat_cmd.specs.declared.command.Command.TheVariants as commands
 use Rattle.lat_cmd.specs.declared.course.Course.{Course}
 use Rattle.lat_cmd.specs.declared.course.Course.TheVariants as courses
 use Rattle.lat_cmd.specs.declared.outcome.Outcome.{Outcome}
-use Rattle.lat_cmd.specs.Answers.{Ended, Answer, Tale, told_behind, captured, HandsBack}
+use Rattle.lat_cmd.specs.Answers.{Answer, Tale, plain, told_behind, captured, HandsBack}
 use Rattle.lat_cmd.specs.Courses.{Runs}
-use Rattle.lat_cmd.specs.Laws.{CaptureIsLegal}
+use Rattle.lat_cmd.specs.Laws.{IsLegalText, CaptureIsLegal}
 use Rattle.lat_cmd.specs.Outcomes.{IsOutcome}
+use Rattle.lat_cmd.proofs.Coming.{fits, same_some}
+use Rattle.lat_cmd.proofs.Ending.{within_limit}
 
-same_end : (P : Ended → Type 0) (x e : Ended) (o : Option Ended) → o ≡ Some x → o ≡ Some e → P x → P e
-same_end P x e o p q h =
-    let one : Some x ≡ Some e = sym p ∙ q in
-    let same : x ≡ e = cc in
-    subst P same h
-
-captured_world : (p : ℕ) (u : Setups) (t : State) → (captured p u t).world ≡ Some (record { setups = u; state = t })
+-- what is printed of a circuit
+captured_prints : (p : ℕ) (u : Setups) (t : State) → (captured p u t).text ≡ captured_text u t.machines p
 unfolding captured
-captured_world p u t = refl
+captured_prints p u t = refl
 
-not_stopped : {H : Type 0} (answer : Tale → Answer) (c : Course H) (o : Outcome H) (tale : Tale) (e : Ended) → c ≡ courses.Stopped o → Runs answer c → (answer tale).world ≡ Some e → ⊥
-not_stopped answer c o tale e is runs some =
-    let p : Runs answer (courses.Stopped o) = subst (λ (x : Course _). Runs answer x) is runs in
-    let back : HandsBack (answer tale).world o.world = (p.1 tale).world in
-    let here : HandsBack (Some e) o.world = subst (λ x. HandsBack x o.world) some back in
-    subst (λ (w : Option (Kept _)). HandsBack (Some e) w) p.0 here
+printed_legal :
+    (u : Setups) (m : Machines) (p : ℕ) (o : Option Capture) → printing.capture_of u m p ≡ o → AuditIsLegal u m p → IsLegalText (captured_text u m p)
+printed_legal u m p None is legal = inl (ap printing.printed is)
+printed_legal u m p (Some c) is legal =
+    inr (run_count c.entries, λ few. within_limit commands.Audit (captured_text u m p) few ∙ ap plain (legal c is))
 
--- what is captured behind a schedule
+-- a command that was stopped has another status
+undone : {H : Type 0} (a : Answer) (w : Option (Kept H)) → w ≡ None → HandsBack a.world w → is_some a.world ≡ nat_eq a.status 0 → a.status ≡ 0 → ⊥
+undone a w none back fit done =
+    true≢false (sym (same_some a.world w back ∙ fit ∙ ap (λ n. nat_eq n 0) done) ∙ ap (λ (x : Option (Kept _)). is_some x) none)
 
-pub capture_through : {H : Type 0} (input : List ℕ) (p : ℕ) (c : Course H) (k : Kept H) (r : Result (Outcome H) Memory) → c ≡ courses.Through k → Runs (λ tale. told_behind tale input) c → IfOk r (λ o. (t : State) → StandsAt k t → AuditIsLegal (setups_of k) t.machines p) → IfOk r (λ o. CaptureIsLegal p input)
+pub capture_through :
+    {H : Type 0} (input : List ℕ) (p : ℕ) (c : Course H) (k : Kept H) (r : Result (Outcome H) Memory) → c ≡ courses.Through k →
+    Runs (λ tale. told_behind tale input) c → IfOk r (λ o. (t : State) → StandsAt k t → AuditIsLegal (setups_of k) t.machines p) →
+    IfOk r (λ o. CaptureIsLegal p input)
 capture_through input p c k (Err e) is runs legal = tt
 capture_through input p c k (Ok o) is runs legal =
     let q : Runs (λ tale. told_behind tale input) (courses.Through k) = subst (λ (x : Course _). Runs (λ tale. told_behind tale input) x) is runs in
-    λ e some. same_end (λ x. AuditIsLegal x.setups x.state.machines p) (record { setups = setups_of k; state = q.0 }) e (told_behind (captured p) input).world
-    (ap (λ (a : Answer). a.world) (q.2 (captured p)) ∙ captured_world p (setups_of k) q.0) some (legal q.0 q.1)
+    let u : Setups = setups_of k in
+    let text : (told_behind (captured p) input).text ≡ captured_text u q.0.machines p =
+    ap (λ (a : Answer). a.text) (q.3 (captured p)) ∙ captured_prints p u q.0 in
+    λ done. subst (λ xs. IsLegalText xs) (sym text) (printed_legal u q.0.machines p (printing.capture_of u q.0.machines p) refl (legal q.0 q.1))
 
-pub capture_stopped : {H : Type 0} (input : List ℕ) (p : ℕ) (c : Course H) (o : Outcome H) → c ≡ courses.Stopped o → Runs (λ tale. told_behind tale input) c → CaptureIsLegal p input
-capture_stopped input p c o is runs = λ e some. absurd (not_stopped (λ tale. told_behind tale input) c o (captured p) e is runs some)
+pub capture_stopped :
+    {H : Type 0} (input : List ℕ) (p : ℕ) (c : Course H) (o : Outcome H) → c ≡ courses.Stopped o → Runs (λ tale. told_behind tale input) c →
+    CaptureIsLegal p input
+capture_stopped input p c o is runs =
+    let q : Runs (λ tale. told_behind tale input) (courses.Stopped o) = subst (λ (x : Course _). Runs (λ tale. told_behind tale input) x) is runs in
+    λ done. absurd (undone (told_behind (captured p) input) o.world q.0 (q.1 (captured p)).world (fits (commands.Capture p) input).1 done)

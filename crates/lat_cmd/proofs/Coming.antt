@@ -7,6 +7,7 @@ use Rattle.lat_show.specs.ShowOf as shows
 use Rattle.lat_choose.specs.ChooseOf as chooses
 use Rattle.lat_audit.specs.AuditOf as audits
 use Rattle.lat_entries.specs.CaptureText.{Capture as CaptureText, capture_of}
+use Rattle.lat_settle.specs.Rounds as rounds
 use Rattle.lat_schedule.specs.ScheduleText as schedules
 use Rattle.lat_schedule.specs.declared.schedule.Schedule.{Schedule}
 use Rattle.lat_schedule.specs.declared.schedule.ScheduleFault.{ScheduleFault}
@@ -18,9 +19,10 @@ use Rattle.lat_replay.specs.Setups.{setups_shown}
 use Rattle.lat_replay.specs.Played.{State, Played, Through, Refused, open_state, played}
 use Rattle.lat_growth.specs.Grown as gen
 use Rattle.lat_cmd.specs.declared.command.Command.{Command}
-use Rattle.lat_cmd.specs.declared.command.Command.TheVariants.{Show, Choose, Replay, Capture, Audit, Gen, Bench}
+use Rattle.lat_cmd.specs.declared.command.Command.TheVariants.{Show, Choose, Replay, Capture, Settle, Audit, Gen, Bench}
 use Rattle.lat_cmd.specs.declared.outcome.Outcome.{Outcome}
-use Rattle.lat_cmd.specs.Answers.{Ended, Answer, Tale, plain, with_world, told_to, told_of, told_at, told_behind, reported, captured, gen_of, bench_of, answer_to, HandsBack}
+use Rattle.lat_cmd.specs.Answers.{Ended, Answer, Tale, plain, with_world, told_to, told_of, told_at, told_behind, reported, captured, settled}
+use Rattle.lat_cmd.specs.Answers.{settled_to, gen_of, bench_of, answer_to, HandsBack}
 use Rattle.lat_cmd.specs.Commands.{ComesTo, makes_world}
 use Rattle.lat_cmd.specs.Outcomes.{IsOutcome, WorldWhereDone}
 
@@ -47,6 +49,19 @@ report_fits u t = (inl refl, refl)
 capture_fits : (p : ℕ) (u : Setups) (t : State) → Fits Replay (captured p u t)
 unfolding captured
 capture_fits p u t = (inl refl, refl)
+
+settled_fits : (u : Setups) (t : State) (p : Played) → Fits Replay (settled_to u t p)
+settled_fits u t (Through b) = (inl refl, refl)
+settled_fits u t (Refused round faults.FramesFull b) = (inr (inr (inr refl)), refl)
+settled_fits u t (Refused round (faults.Backward at last) b) = (inr (inr (inl refl)), refl)
+settled_fits u t (Refused round faults.OwnAddress b) = (inr (inr (inl refl)), refl)
+settled_fits u t (Refused round (faults.NoFrame place sent) b) = (inr (inr (inl refl)), refl)
+settled_fits u t (Refused round (faults.Old acknowledgement number newest) b) = (inr (inr (inl refl)), refl)
+settled_fits u t (Refused round faults.Memory b) = (inr (inr (inr refl)), refl)
+
+settle_fits : (count : ℕ) (u : Setups) (t : State) → Fits Replay (settled count u t)
+unfolding settled
+settle_fits count u t = settled_fits u t (rounds.settled u t count)
 
 played_fits : (tale : Tale) (u : Setups) (first : ℕ) (p : Played) → ((t : State) → Fits Replay (tale u t)) → Fits Replay (told_to tale u first p)
 played_fits tale u first (Through t) told = told t
@@ -96,6 +111,7 @@ fits Show input = show_fits (shows.lines_shown 1 (lines_of input))
 fits Choose input = choose_fits (chooses.printed_after (chooses.opening_of (lines_of input)))
 fits Replay input = tale_fits reported input report_fits
 fits (Capture p) input = tale_fits (captured p) input (capture_fits p)
+fits (Settle count) input = tale_fits (settled count) input (settle_fits count)
 fits Audit input = audit_fits (capture_of input)
 fits (Gen seed) input = ((gen_fits seed).0, done_fits (gen_of seed).status (is_some (gen_of seed).world) (gen_fits seed))
 fits (Bench seed) input = ((bench_fits seed).0, done_fits (bench_of seed).status (is_some (bench_of seed).world) (bench_fits seed))
@@ -106,11 +122,15 @@ same_some (Some e) (Some k) h = refl
 same_some None (Some k) h = absurd h
 same_some (Some e) None h = absurd h
 
-pub comes_to : {H : Type 0} (c : Command) (input : List ℕ) (r : Result (Outcome H) Memory) → IfOk r (λ o. IsOutcome (answer_to c input) o) → IfOk r (λ o. ComesTo c o.status)
+pub comes_to :
+    {H : Type 0} (c : Command) (input : List ℕ) (r : Result (Outcome H) Memory) → IfOk r (λ o. IsOutcome (answer_to c input) o) →
+    IfOk r (λ o. ComesTo c o.status)
 comes_to c input (Ok o) is = subst (λ s. ComesTo c s) (sym is.status) (fits c input).0
 comes_to c input (Err e) is = tt
 
-pub has_world : {H : Type 0} (c : Command) (input : List ℕ) (r : Result (Outcome H) Memory) → IfOk r (λ o. IsOutcome (answer_to c input) o) → IfOk r (λ o. WorldWhereDone c o.status o.world)
+pub has_world :
+    {H : Type 0} (c : Command) (input : List ℕ) (r : Result (Outcome H) Memory) → IfOk r (λ o. IsOutcome (answer_to c input) o) →
+    IfOk r (λ o. WorldWhereDone c o.status o.world)
 has_world c input (Ok o) is =
     same_some (answer_to c input).world o.world is.world
     ∙ (fits c input).1

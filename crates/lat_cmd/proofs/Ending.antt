@@ -1,13 +1,16 @@
 -- How a run ends.
-use Rattle.std.proofs.Common.{◌≡◌, ℕ, ◌<◌, ◌≤◌, ◌⊎◌, inl, inr, Bool, true, false, ltb, ◌&&◌, List, length, Option, Some, None, Result, Ok, Err, refl, sym, ap, ◌∙◌, subst, arith}
+use Rattle.std.proofs.Common.{◌≡◌, ◌≢◌, ℕ, ◌<◌, ◌≤◌, ◌⊎◌, inl, inr, Bool, true, false, ltb, ◌&&◌, List, length, Option, Some, None, Result, Ok, Err}
+use Rattle.std.proofs.Common.{refl, sym, ap, ◌∙◌, subst, arith}
 use Rattle.std.specs.Prelude.{IfSome, is_some, nat_eq, codes}
 use Rattle.std.proofs.lemmas.Bool.Decides.{nat_tests}
 use Rattle.lat_replay.specs.Kept.{Kept}
 use Rattle.lat_cmd.specs.declared.command.Command.{Command}
+use Rattle.lat_cmd.specs.declared.command.Command.TheVariants.{Show, Choose, Replay, Capture, Settle, Audit, Gen, Bench}
 use Rattle.lat_cmd.specs.declared.outcome.Outcome.{Outcome}
 use Rattle.lat_cmd.specs.declared.top.RunEnd.{RunEnd}
-use Rattle.lat_cmd.specs.Answers.{Answer, plain, answer_of, answer_to, input_of, HandsBack}
+use Rattle.lat_cmd.specs.Answers.{Answer, plain, answer_of, answer_to, capture_of, settle_of, input_of, HandsBack}
 use Rattle.lat_cmd.specs.Commands.{reads, makes_world, ComesTo, IsStatusOf}
+use Rattle.lat_cmd.specs.Laws.{SettleTakesAll, IsLawful, ObeysLaw}
 use Rattle.lat_cmd.specs.Outcomes.{IsOutcome, IsEarly, Tells, Answers, WorldWhereDone}
 
 -- an input past the limit
@@ -17,7 +20,7 @@ past_limit c input h =
     rw past
 
 -- one that isn't
-within_limit : (c : Command) (input : List ℕ) → length input ≤ 16777216 → answer_of c input ≡ answer_to c input
+pub within_limit : (c : Command) (input : List ℕ) → length input ≤ 16777216 → answer_of c input ≡ answer_to c input
 within_limit c input h =
     let within : ltb 16777216 (length input) ≡ false = grind (arith, nat_tests) in
     rw within
@@ -37,21 +40,32 @@ if_known P (Some xs) p = p xs refl
 abbrev pub AnswersInput : {H : Type 0} → (left : Option (List ℕ)) → RunEnd H → (before now : Option (List ℕ)) → Command → Type 0
 AnswersInput left end before now c = IfSome (input_of c left) (λ input. Answers (answer_of c input) end before now)
 
-pub early : {H : Type 0} (c : Command) (left : Option (List ℕ)) (end : RunEnd H) (before now : Option (List ℕ)) → IsEarly end.status → end.world ≡ None → AnswersInput left end before now c
+pub early :
+    {H : Type 0} (c : Command) (left : Option (List ℕ)) (end : RunEnd H) (before now : Option (List ℕ)) → IsEarly end.status → end.world ≡ None →
+    AnswersInput left end before now c
 early c left end before now is none = if_known _ (input_of c left) (λ xs e. inl (is, none))
 
-pub limit_told : {H : Type 0} (c : Command) (left : Option (List ℕ)) (end : RunEnd H) (before now : Option (List ℕ)) → IfSome (input_of c left) (λ xs. 16777216 < length xs) → Tells (plain (6, codes "limit bytes\n")) end before now → AnswersInput left end before now c
+pub limit_told :
+    {H : Type 0} (c : Command) (left : Option (List ℕ)) (end : RunEnd H) (before now : Option (List ℕ)) →
+    IfSome (input_of c left) (λ xs. 16777216 < length xs) → Tells (plain (6, codes "limit bytes\n")) end before now →
+    AnswersInput left end before now c
 limit_told c left end before now past tells =
-    if_known _ (input_of c left) (λ xs e. inr (subst (λ (a : Answer). Tells a end before now) (sym (past_limit c xs (known (λ ys. 16777216 < length ys) (input_of c left) xs e past))) tells))
+    if_known _ (input_of c left) (λ xs e. inr (subst (λ (a : Answer). Tells a end before now)
+    (sym (past_limit c xs (known (λ ys. 16777216 < length ys) (input_of c left) xs e past))) tells))
 
-pub input_told : {H : Type 0} (c : Command) (left : Option (List ℕ)) (end : RunEnd H) (before now : Option (List ℕ)) (input : List ℕ) → IfSome (input_of c left) (λ xs. (input ≡ xs) × (length xs ≤ 16777216)) → Tells (answer_to c input) end before now → AnswersInput left end before now c
+pub input_told :
+    {H : Type 0} (c : Command) (left : Option (List ℕ)) (end : RunEnd H) (before now : Option (List ℕ)) (input : List ℕ) →
+    IfSome (input_of c left) (λ xs. (input ≡ xs) × (length xs ≤ 16777216)) → Tells (answer_to c input) end before now →
+    AnswersInput left end before now c
 input_told c left end before now input read tells =
     if_known _ (input_of c left) (λ xs e.
     let r : (input ≡ xs) × (length xs ≤ 16777216) = known (λ ys. (input ≡ ys) × (length ys ≤ 16777216)) (input_of c left) xs e read in
     inr (subst (λ (a : Answer). Tells a end before now) (ap (answer_to c) r.0 ∙ sym (within_limit c xs r.1)) tells))
 
 -- the input, by the slice that is read
-pub input_read : (c : Command) (left : Option (List ℕ)) (input now : List ℕ) → now ≡ input → IfSome (input_of c left) (λ xs. (input ≡ xs) × (length xs ≤ 16777216)) → IfSome (input_of c left) (λ xs. (now ≡ xs) × (length xs ≤ 16777216))
+pub input_read :
+    (c : Command) (left : Option (List ℕ)) (input now : List ℕ) → now ≡ input →
+    IfSome (input_of c left) (λ xs. (input ≡ xs) × (length xs ≤ 16777216)) → IfSome (input_of c left) (λ xs. (now ≡ xs) × (length xs ≤ 16777216))
 input_read c left input now same read = subst (λ (ys : List ℕ). IfSome (input_of c left) (λ xs. (ys ≡ xs) × (length xs ≤ 16777216))) (sym same) read
 
 -- what a call that tells ends with
@@ -62,10 +76,56 @@ no_world : (b : Bool) → false ≡ (b && false)
 no_world true = refl
 no_world false = refl
 
-pub world_so : {H : Type 0} (c : Command) (status : ℕ) (world : Option (Kept H)) (end : RunEnd H) → EndsAs status world end → WorldWhereDone c status world → WorldWhereDone c end.status end.world
+pub world_so :
+    {H : Type 0} (c : Command) (status : ℕ) (world : Option (Kept H)) (end : RunEnd H) → EndsAs status world end → WorldWhereDone c status world →
+    WorldWhereDone c end.status end.world
 world_so c status world end (inl is) w = subst (λ (r : RunEnd _). WorldWhereDone c r.status r.world) (sym is) w
 world_so c status world end (inr is) w = subst (λ (r : RunEnd _). WorldWhereDone c r.status r.world) (sym is) (no_world (makes_world c))
 
-pub status_so : {H : Type 0} (c : Command) (status : ℕ) (world : Option (Kept H)) (end : RunEnd H) → EndsAs status world end → IsStatusOf c status → IsStatusOf c end.status
+pub status_so :
+    {H : Type 0} (c : Command) (status : ℕ) (world : Option (Kept H)) (end : RunEnd H) → EndsAs status world end → IsStatusOf c status →
+    IsStatusOf c end.status
 status_so c status world end (inl is) w = subst (λ (r : RunEnd _). IsStatusOf c r.status) (sym is) w
 status_so c status world end (inr is) w = subst (λ (r : RunEnd _). IsStatusOf c r.status) (sym is) (inr (inl refl))
+
+-- no law speaks of a run that answers another status than 0 and 3
+pub lawless : (c : Command) (left : Option (List ℕ)) (status : ℕ) (before now : Option (List ℕ)) → status ≢ 0 → status ≢ 3 → ObeysLaw c left status before now
+lawless (Capture p) left status before now undone passes = λ done. absurd (undone done)
+lawless (Settle count) left status before now undone passes =
+    if_known (λ xs. SettleTakesAll count xs status) left (λ xs is ended one lossless. record { passes = passes; all = λ done. absurd (undone done) })
+lawless Show left status before now undone passes = tt
+lawless Choose left status before now undone passes = tt
+lawless Replay left status before now undone passes = tt
+lawless Audit left status before now undone passes = tt
+lawless (Gen seed) left status before now undone passes = tt
+lawless (Bench seed) left status before now undone passes = tt
+
+pub failed : (c : Command) (left : Option (List ℕ)) (status : ℕ) (before now : Option (List ℕ)) → status ≡ 5 → ObeysLaw c left status before now
+failed c left status before now five = lawless c left status before now (λ e. omega (arith, e, five)) (λ e. omega (arith, e, five))
+
+pub lawless_told :
+    {H : Type 0} (c : Command) (left : Option (List ℕ)) (status : ℕ) (world : Option (Kept H)) (end : RunEnd H) (before now : Option (List ℕ)) →
+    EndsAs status world end → status ≢ 0 → status ≢ 3 → ObeysLaw c left end.status before now
+lawless_told c left status world end before now (inl is) undone passes =
+    subst (λ (r : RunEnd _). ObeysLaw c left r.status before now) (sym is) (lawless c left status before now undone passes)
+lawless_told c left status world end before now (inr is) undone passes =
+    failed c left end.status before now (ap (λ (r : RunEnd _). r.status) is)
+
+-- the law of an answer is that of the run that told it
+pub lawful_told :
+    {H : Type 0} (c : Command) (left : Option (List ℕ)) (input : List ℕ) (end : RunEnd H) (before now : Option (List ℕ)) →
+    IfSome (input_of c left) (λ xs. (input ≡ xs) × (length xs ≤ 16777216)) → IsLawful c input → Tells (answer_to c input) end before now →
+    ObeysLaw c left end.status before now
+lawful_told c left input end before now read law (inr stopped) = failed c left end.status before now stopped.0
+lawful_told (Capture p) left input end before now read law (inl told) = λ done. ((capture_of p input).text, told.1, law (sym told.0 ∙ done))
+lawful_told (Settle count) left input end before now read law (inl told) =
+    let here : SettleTakesAll count input end.status = subst (λ s. SettleTakesAll count input s) (sym told.0) law in
+    if_known (λ xs. SettleTakesAll count xs end.status) left (λ xs is.
+    let r : (input ≡ xs) × (length xs ≤ 16777216) = known (λ ys. (input ≡ ys) × (length ys ≤ 16777216)) left xs is read in
+    subst (λ ys. SettleTakesAll count ys end.status) r.0 here)
+lawful_told Show left input end before now read law (inl told) = tt
+lawful_told Choose left input end before now read law (inl told) = tt
+lawful_told Replay left input end before now read law (inl told) = tt
+lawful_told Audit left input end before now read law (inl told) = tt
+lawful_told (Gen seed) left input end before now read law (inl told) = tt
+lawful_told (Bench seed) left input end before now read law (inl told) = tt

@@ -27,7 +27,9 @@ is_plain a o status text none = record {
 }
 
 -- with one
-pub is_with_world : {H : Type 0} (text : List ℕ) (u : Setups) (t : State) (k : Kept H) (o : Outcome H) → o.status ≡ 0 → string_bytes o.text ≡ text → o.world ≡ Some k → setups_of k ≡ u → StandsAt k t → IsOutcome (with_world text u t) o
+pub is_with_world :
+    {H : Type 0} (text : List ℕ) (u : Setups) (t : State) (k : Kept H) (o : Outcome H) → o.status ≡ 0 → string_bytes o.text ≡ text →
+    o.world ≡ Some k → setups_of k ≡ u → StandsAt k t → IsOutcome (with_world text u t) o
 is_with_world text u t k o status same is made stands = record {
   status = status;
   text = same;
@@ -35,14 +37,20 @@ is_with_world text u t k o status same is made stands = record {
 }
 
 -- the report of a world
-pub is_reported : {H : Type 0} (k : Kept H) (o : Outcome H) (before : List ℕ) → before ≡ [] → o.status ≡ 0 → o.world ≡ Some k → ((w : Machines) → Stands k w → string_bytes o.text ≡ before ++ report_text (report (setups_of k) w)) → (t : State) → StandsAt k t → IsOutcome (reported (setups_of k) t) o
+pub is_reported :
+    {H : Type 0} (k : Kept H) (o : Outcome H) (before : List ℕ) → before ≡ [] → o.status ≡ 0 → o.world ≡ Some k →
+    ((w : Machines) → Stands k w → string_bytes o.text ≡ before ++ report_text (report (setups_of k) w)) → (t : State) → StandsAt k t →
+    IsOutcome (reported (setups_of k) t) o
 unfolding reported
 is_reported k o before none status is text t stands =
     is_with_world (report_text (report (setups_of k) t.machines)) (setups_of k) t k o status
     (text t.machines stands.machines ∙ ap (λ xs. xs ++ report_text (report (setups_of k) t.machines)) none) is refl stands
 
 -- what is captured in a world
-pub is_captured : {H : Type 0} (k : Kept H) (wire : wires.Kept H) (p : ℕ) (o : Outcome H) (before : List ℕ) → wire ≡ k.wire → before ≡ [] → o.status ≡ 0 → o.world ≡ Some k → ((w : Machines) → wired.Stands wire w → string_bytes o.text ≡ before ++ captured_text (wires.setups_of wire) w p) → (t : State) → StandsAt k t → IsOutcome (captured p (setups_of k) t) o
+pub is_captured :
+    {H : Type 0} (k : Kept H) (wire : wires.Kept H) (p : ℕ) (o : Outcome H) (before : List ℕ) → wire ≡ k.wire → before ≡ [] → o.status ≡ 0 →
+    o.world ≡ Some k → ((w : Machines) → wired.Stands wire w → string_bytes o.text ≡ before ++ captured_text (wires.setups_of wire) w p) →
+    (t : State) → StandsAt k t → IsOutcome (captured p (setups_of k) t) o
 unfolding captured
 is_captured k wire p o before same none status is text t stands =
     let told : (w : Machines) → wired.Stands k.wire w → string_bytes o.text ≡ before ++ captured_text (wires.setups_of k.wire) w p =
@@ -50,29 +58,42 @@ is_captured k wire p o before same none status is text t stands =
     is_with_world (captured_text (setups_of k) t.machines p) (setups_of k) t k o status
     (told t.machines stands.machines.wire ∙ ap (λ xs. xs ++ captured_text (setups_of k) t.machines p) none) is refl stands
 
-pub audit_legal : {H : Type 0} (k : Kept H) (wire : wires.Kept H) (p : ℕ) → wire ≡ k.wire → ((w : Machines) → wired.Stands wire w → AuditIsLegal (wires.setups_of wire) w p) → (t : State) → StandsAt k t → AuditIsLegal (setups_of k) t.machines p
+pub audit_legal :
+    {H : Type 0} (k : Kept H) (wire : wires.Kept H) (p : ℕ) → wire ≡ k.wire →
+    ((w : Machines) → wired.Stands wire w → AuditIsLegal (wires.setups_of wire) w p) → (t : State) → StandsAt k t →
+    AuditIsLegal (setups_of k) t.machines p
 audit_legal k wire p same legal t stands =
     let told : (w : Machines) → wired.Stands k.wire w → AuditIsLegal (wires.setups_of k.wire) w p =
     subst (λ (x : wires.Kept _). (w : Machines) → wired.Stands x w → AuditIsLegal (wires.setups_of x) w p) same legal in
     told t.machines stands.machines.wire
 
-pub is_gen : {H : Type 0} (seed : ℕ) (k : Kept H) (o : Outcome H) → o.status ≡ 0 → string_bytes o.text ≡ gen.gen_text seed → o.world ≡ Some k → setups_of k ≡ gen.setups → StandsAt k (gen.grown seed).state → IsOutcome (gen_of seed) o
+pub is_gen :
+    {H : Type 0} (seed : ℕ) (k : Kept H) (o : Outcome H) → o.status ≡ 0 → string_bytes o.text ≡ gen.gen_text seed → o.world ≡ Some k →
+    setups_of k ≡ gen.setups → StandsAt k (gen.grown seed).state → IsOutcome (gen_of seed) o
 unfolding gen_of
 is_gen seed k o status text is made stands = is_with_world (gen.gen_text seed) gen.setups (gen.grown seed).state k o status text is made stands
 
-pub is_bench : {H : Type 0} (seed : ℕ) (k : Kept H) (o : Outcome H) → o.status ≡ 0 → string_bytes o.text ≡ gen.bench_text seed → o.world ≡ Some k → setups_of k ≡ gen.setups → StandsAt k (gen.grown seed).state → IsOutcome (bench_of seed) o
+pub is_bench :
+    {H : Type 0} (seed : ℕ) (k : Kept H) (o : Outcome H) → o.status ≡ 0 → string_bytes o.text ≡ gen.bench_text seed → o.world ≡ Some k →
+    setups_of k ≡ gen.setups → StandsAt k (gen.grown seed).state → IsOutcome (bench_of seed) o
 unfolding bench_of
 is_bench seed k o status text is made stands = is_with_world (gen.bench_text seed) gen.setups (gen.grown seed).state k o status text is made stands
 
 -- what a command answers is what its own call came to
-pub answers_as : {H : Type 0} (command c : Command) (input : List ℕ) (r : Result (Outcome H) Memory) → command ≡ c → IfOk r (λ o. IsOutcome (answer_to c input) o) → IfOk r (λ o. IsOutcome (answer_to command input) o)
+pub answers_as :
+    {H : Type 0} (command c : Command) (input : List ℕ) (r : Result (Outcome H) Memory) → command ≡ c →
+    IfOk r (λ o. IsOutcome (answer_to c input) o) → IfOk r (λ o. IsOutcome (answer_to command input) o)
 answers_as command c input r is o = subst (λ (x : Command). IfOk r (λ o. IsOutcome (answer_to x input) o)) (sym is) o
 
 -- a law of a command is that of its own call
-pub lawful_as : {H : Type 0} (command c : Command) (input : List ℕ) (r : Result (Outcome H) Memory) → command ≡ c → IfOk r (λ o. IsLawful c input) → IfOk r (λ o. IsLawful command input)
+pub lawful_as :
+    {H : Type 0} (command c : Command) (input : List ℕ) (r : Result (Outcome H) Memory) → command ≡ c → IfOk r (λ o. IsLawful c input) →
+    IfOk r (λ o. IsLawful command input)
 lawful_as command c input r is law = subst (λ (x : Command). IfOk r (λ o. IsLawful x input)) (sym is) law
 
-pub no_law : {H : Type 0} (command c : Command) (input : List ℕ) (r : Result (Outcome H) Memory) → command ≡ c → IsLawful c input → IfOk r (λ o. IsLawful command input)
+pub no_law :
+    {H : Type 0} (command c : Command) (input : List ℕ) (r : Result (Outcome H) Memory) → command ≡ c → IsLawful c input →
+    IfOk r (λ o. IsLawful command input)
 no_law command c input (Ok o) is law = subst (λ (x : Command). IsLawful x input) (sym is) law
 no_law command c input (Err e) is law = tt
 

@@ -1,10 +1,14 @@
 -- Where a schedule leads.
-use Rattle.std.proofs.Common.{◌≡◌, ◌≢◌, ℕ, suc, ◌+◌, ◌<◌, ◌≤◌, length, List, [], ◌∷◌, Option, Some, None, Result, Ok, Err, refl, sym, ap, ◌∙◌, subst, arith}
+use Rattle.std.proofs.Common.{◌≡◌, ◌≢◌, ℕ, suc, ◌+◌, ◌*◌, ◌<◌, ◌≤◌, ◌^◌, length, List, [], ◌∷◌, Option, Some, None, Result, Ok, Err, refl, sym, ap}
+use Rattle.std.proofs.Common.{◌∙◌, subst, arith}
 use Rattle.std.specs.Prelude.{IfOk}
 use Rattle.lat_base.specs.declared.memory.Memory as memory
+use Rattle.lat_model.specs.Lists.{Each}
 use Rattle.lat_machines.specs.world.Machines.{Setups, open_machines}
 use Rattle.lat_report.specs.RefusedText.{refused_text, status}
 use Rattle.lat_report.specs.declared.refused.Refused.{Refused}
+use Rattle.lat_schedule.specs.Events.{IsEvent}
+use Rattle.lat_schedule.specs.Setups.{IsSetup}
 use Rattle.lat_schedule.specs.ScheduleText.{schedule_of, ReadsSchedule}
 use Rattle.lat_schedule.specs.declared.schedule.Schedule.{Schedule}
 use Rattle.lat_schedule.specs.declared.schedule.ScheduleFault.{ScheduleFault}
@@ -12,6 +16,7 @@ use Rattle.lat_schedule.specs.declared.schedule.ScheduleFault.TheVariants as rea
 use Rattle.lat_schedule.specs.declared.event.WorldEvent.{WorldEvent}
 use Rattle.lat_wire.specs.declared.fault.EventFault.{EventFault}
 use Rattle.lat_wire.specs.declared.fault.EventFault.TheVariants as faults
+use Rattle.lat_settle.proofs.Beginning.{schedules_begin, schedules_leave_room}
 use Rattle.lat_replay.specs.Kept.{Kept, setups_of, moment_of}
 use Rattle.lat_replay.specs.Setups.{setups_shown}
 use Rattle.lat_replay.specs.Stands.{Stands}
@@ -21,7 +26,7 @@ use Rattle.lat_cmd.specs.declared.course.Course.{Course}
 use Rattle.lat_cmd.specs.declared.course.Course.TheVariants as courses
 use Rattle.lat_cmd.specs.declared.outcome.Outcome.{Outcome}
 use Rattle.lat_cmd.specs.Answers.{Answer, Tale, plain, misread, told_to, told_of, told_at, told_behind, HandsBack}
-use Rattle.lat_cmd.specs.Courses.{Runs}
+use Rattle.lat_cmd.specs.Courses.{Leaves, Runs}
 use Rattle.lat_cmd.specs.Outcomes.{IsOutcome}
 use Rattle.lat_cmd.specs.Refusals.{refused_of}
 
@@ -30,20 +35,39 @@ pub opens : {H : Type 0} (k : Kept H) → Stands k (open_machines (setups_of k))
 opens k stands moment = record { machines = stands; moment = moment }
 
 -- a schedule that is played whole
-through : (tale : Tale) (s : Schedule) (u v : Setups) (t : State) → u ≡ setups_shown s.setup → v ≡ u → played u (open_state u) s.events ≡ Through t → told_of tale s ≡ tale v t
+through :
+    (tale : Tale) (s : Schedule) (u v : Setups) (t : State) → u ≡ setups_shown s.setup → v ≡ u → played u (open_state u) s.events ≡ Through t →
+    told_of tale s ≡ tale v t
 unfolding told_of
 through tale s u v t made same all =
     let w : Setups = setups_shown s.setup in
     let here : played w (open_state w) s.events ≡ Through t = subst (λ x. played x (open_state x) s.events ≡ Through t) made all in
     ap (λ (p : Played). told_to tale w s.first p) here ∙ ap (λ (x : Setups). tale x t) (sym (same ∙ made))
 
-pub runs_through : {H : Type 0} (s : Schedule) (k new : Kept H) (es : List WorldEvent) → setups_of k ≡ setups_shown s.setup → es ≡ s.events → setups_of new ≡ setups_of k → (t : State) × (played (setups_of k) (open_state (setups_of k)) es ≡ Through t) × StandsAt new t → Runs (λ tale. told_of tale s) (courses.Through new)
-runs_through s k new es made are same p =
+leaves :
+    (s : Schedule) (u v : Setups) (t : State) → IsSetup s.setup → Each (IsEvent s.setup.server.own) s.events → u ≡ setups_shown s.setup → v ≡ u →
+    played u (open_state u) s.events ≡ Through t → Leaves v t
+leaves s u v t setup events made same all =
+    let here : played (setups_shown s.setup) (open_state (setups_shown s.setup)) s.events ≡ Through t =
+    subst (λ x. played x (open_state x) s.events ≡ Through t) made all in
+    subst (λ (x : Setups). Leaves x t) (sym (same ∙ made)) (record {
+      room = schedules_leave_room s.setup s.events t setup events here;
+      begins = schedules_begin s.setup s.events t setup events here;
+    })
+
+pub runs_through :
+    {H : Type 0} (s : Schedule) (k new : Kept H) (es : List WorldEvent) → IsSetup s.setup → Each (IsEvent s.setup.server.own) s.events →
+    setups_of k ≡ setups_shown s.setup → es ≡ s.events → setups_of new ≡ setups_of k →
+    (t : State) × (played (setups_of k) (open_state (setups_of k)) es ≡ Through t) × StandsAt new t →
+    Runs (λ tale. told_of tale s) (courses.Through new)
+runs_through s k new es setup events made are same p =
     let u : Setups = setups_of k in
     let all : played u (open_state u) s.events ≡ Through p.0 = subst (λ (xs : List WorldEvent). played u (open_state u) xs ≡ Through p.0) are p.1 in
-    (p.0, p.2, λ tale. through tale s u (setups_of new) p.0 made same all)
+    (p.0, p.2, leaves s u (setups_of new) p.0 setup events made same all, λ tale. through tale s u (setups_of new) p.0 made same all)
 
-stops : (u : Setups) (s : State) (es : List WorldEvent) (index : ℕ) (fault : EventFault) (t : State) → fault ≢ faults.Memory → StopsBy u s es index fault t → played u s es ≡ plays.Refused index fault t
+stops :
+    (u : Setups) (s : State) (es : List WorldEvent) (index : ℕ) (fault : EventFault) (t : State) → fault ≢ faults.Memory →
+    StopsBy u s es index fault t → played u s es ≡ plays.Refused index fault t
 stops u s es index faults.Memory t other by = absurd (other refl)
 stops u s es index faults.FramesFull t other by = by
 stops u s es index (faults.Backward at last) t other by = by
@@ -52,11 +76,15 @@ stops u s es index (faults.NoFrame place sent) t other by = by
 stops u s es index (faults.Old acknowledgement number newest) t other by = by
 
 -- an event that is refused is one of them
-below_one : (o : Option EventFault) (i : ℕ) (s : State) (rest : Played) (n m : ℕ) (f : EventFault) (t : State) → unless o i s rest ≡ plays.Refused n f t → (rest ≡ plays.Refused n f t → n < suc i + m) → n < i + suc m
+below_one :
+    (o : Option EventFault) (i : ℕ) (s : State) (rest : Played) (n m : ℕ) (f : EventFault) (t : State) → unless o i s rest ≡ plays.Refused n f t →
+    (rest ≡ plays.Refused n f t → n < suc i + m) → n < i + suc m
 below_one None i s rest n m f t p q = let h : n < suc i + m = q p in omega arith
 below_one (Some g) i s rest n m f t p q = let e : i ≡ n = cc in omega arith
 
-below_from : (u : Setups) (i : ℕ) (s : State) (es : List WorldEvent) (n : ℕ) (f : EventFault) (t : State) → played_from u i s es ≡ plays.Refused n f t → n < i + length es
+below_from :
+    (u : Setups) (i : ℕ) (s : State) (es : List WorldEvent) (n : ℕ) (f : EventFault) (t : State) → played_from u i s es ≡ plays.Refused n f t →
+    n < i + length es
 below_from u i s [] n f t p = let z : ⊥ = cc in absurd z
 below_from u i s (e ∷ es) n f t p =
     below_one (refusal u s e) i s (played_from u (suc i) (next u s e) es) n (length es) f t p (below_from u (suc i) (next u s e) es n f t)
@@ -70,7 +98,10 @@ none_of None h = refl
 none_of (Some k) h = absurd h
 
 -- one that is refused
-refuses : {H : Type 0} (tale : Tale) (s : Schedule) (u : Setups) (t : State) (index line : ℕ) (fault : EventFault) (r : Refused) (o : Outcome H) → u ≡ setups_shown s.setup → played u (open_state u) s.events ≡ plays.Refused index fault t → r ≡ refused_of fault → line ≡ s.first + index → IsOutcome (plain (status r, refused_text line r)) o → IsOutcome (told_of tale s) o
+refuses :
+    {H : Type 0} (tale : Tale) (s : Schedule) (u : Setups) (t : State) (index line : ℕ) (fault : EventFault) (r : Refused) (o : Outcome H) →
+    u ≡ setups_shown s.setup → played u (open_state u) s.events ≡ plays.Refused index fault t → r ≡ refused_of fault → line ≡ s.first + index →
+    IsOutcome (plain (status r, refused_text line r)) o → IsOutcome (told_of tale s) o
 unfolding told_of
 refuses tale s u t index line fault r o made all same at is =
     let w : Setups = setups_shown s.setup in
@@ -81,34 +112,53 @@ refuses tale s u t index line fault r o made all same at is =
     (subst (λ (x : Refused). IsOutcome (plain (status x, refused_text line x)) o) same is) in
     subst (λ (p : Played). IsOutcome (told_to tale w s.first p) o) (sym there) here
 
-pub runs_stopped : {H : Type 0} (s : Schedule) (u : Setups) (es : List WorldEvent) (index line : ℕ) (fault : EventFault) (r : Refused) (t : State) (o : Outcome H) → u ≡ setups_shown s.setup → es ≡ s.events → StopsBy u (open_state u) es index fault t → fault ≢ faults.Memory → r ≡ refused_of fault → line ≡ s.first + index → IsOutcome (plain (status r, refused_text line r)) o → Runs (λ tale. told_of tale s) (courses.Stopped o)
-runs_stopped s u es index line fault r t o made are by other same at is =
-    (none_of o.world is.world, λ tale. refuses tale s u t index line fault r o made (subst (λ (xs : List WorldEvent). played u (open_state u) xs ≡ plays.Refused index fault t) are (stops u (open_state u) es index fault t other by)) same at is)
+pub runs_stopped :
+    {H : Type 0} (s : Schedule) (u : Setups) (es : List WorldEvent) (index line : ℕ) (fault : EventFault) (r : Refused) (t : State) (o : Outcome H) →
+    u ≡ setups_shown s.setup → es ≡ s.events → StopsBy u (open_state u) es index fault t → fault ≢ faults.Memory → r ≡ refused_of fault →
+    line ≡ s.first + index → IsOutcome (plain (status r, refused_text line r)) o → Runs (λ tale. told_of tale s) (courses.Stopped o)
+runs_stopped s u es index line fault r t o made are by other same at is = (
+  none_of o.world is.world,
+  λ tale. refuses tale s u t index line fault r o made
+      (subst (λ (xs : List WorldEvent). played u (open_state u) xs ≡ plays.Refused index fault t) are
+      (stops u (open_state u) es index fault t other by)) same at is,
+)
 
 -- a text that is a schedule
-read_course : {H : Type 0} (x : Result Schedule ScheduleFault) (input : List ℕ) (c : Course H) → x ≡ schedule_of input → Runs (λ tale. told_at tale x) c → Runs (λ tale. told_behind tale input) c
+read_course :
+    {H : Type 0} (x : Result Schedule ScheduleFault) (input : List ℕ) (c : Course H) → x ≡ schedule_of input → Runs (λ tale. told_at tale x) c →
+    Runs (λ tale. told_behind tale input) c
 unfolding told_behind
 read_course x input c is runs = subst (λ (z : Result Schedule ScheduleFault). Runs (λ tale. told_at tale z) c) is runs
 
-pub read_as : {H : Type 0} (s : Schedule) (input : List ℕ) (r : Result (Course H) memory.Memory) → ReadsSchedule (Ok s) input → IfOk r (λ course. Runs (λ tale. told_of tale s) course) → IfOk r (λ course. Runs (λ tale. told_behind tale input) course)
+pub read_as :
+    {H : Type 0} (s : Schedule) (input : List ℕ) (r : Result (Course H) memory.Memory) → ReadsSchedule (Ok s) input →
+    IfOk r (λ course. Runs (λ tale. told_of tale s) course) → IfOk r (λ course. Runs (λ tale. told_behind tale input) course)
 read_as s input (Ok c) reads runs = read_course (Ok s) input c reads runs
 read_as s input (Err e) reads runs = tt
 
 -- one that is none
-pub misread_as : {H : Type 0} (fault : ScheduleFault) (input : List ℕ) (o : Outcome H) → ReadsSchedule (Err fault) input → fault ≢ reading.Memory → IsOutcome (misread fault) o → Runs (λ tale. told_behind tale input) (courses.Stopped o)
-misread_as (reading.Form line) input o reads other is = read_course (Err (reading.Form line)) input (courses.Stopped o) reads (none_of o.world is.world, λ tale. is)
-misread_as (reading.Events line) input o reads other is = read_course (Err (reading.Events line)) input (courses.Stopped o) reads (none_of o.world is.world, λ tale. is)
+pub misread_as :
+    {H : Type 0} (fault : ScheduleFault) (input : List ℕ) (o : Outcome H) → ReadsSchedule (Err fault) input → fault ≢ reading.Memory →
+    IsOutcome (misread fault) o → Runs (λ tale. told_behind tale input) (courses.Stopped o)
+misread_as (reading.Form line) input o reads other is =
+    read_course (Err (reading.Form line)) input (courses.Stopped o) reads (none_of o.world is.world, λ tale. is)
+misread_as (reading.Events line) input o reads other is =
+    read_course (Err (reading.Events line)) input (courses.Stopped o) reads (none_of o.world is.world, λ tale. is)
 misread_as reading.Memory input o reads other is = absurd (other refl)
 
 -- a course leads to the tale of its world
-pub of_through : {H : Type 0} (tale : Tale) (answer : Tale → Answer) (c : Course H) (k : Kept H) (r : Result (Outcome H) memory.Memory) → c ≡ courses.Through k → Runs answer c → IfOk r (λ o. (t : State) → StandsAt k t → IsOutcome (tale (setups_of k) t) o) → IfOk r (λ o. IsOutcome (answer tale) o)
+pub of_through :
+    {H : Type 0} (tale : Tale) (answer : Tale → Answer) (c : Course H) (k : Kept H) (r : Result (Outcome H) memory.Memory) → c ≡ courses.Through k →
+    Runs answer c → IfOk r (λ o. (t : State) → StandsAt k t → IsOutcome (tale (setups_of k) t) o) → IfOk r (λ o. IsOutcome (answer tale) o)
 of_through tale answer c k (Ok o) is runs told =
     let p : Runs answer (courses.Through k) = subst (λ (x : Course _). Runs answer x) is runs in
-    subst (λ (a : Answer). IsOutcome a o) (sym (p.2 tale)) (told p.0 p.1)
+    subst (λ (a : Answer). IsOutcome a o) (sym (p.3 tale)) (told p.0 p.1)
 of_through tale answer c k (Err e) is runs told = tt
 
 -- or to its outcome
-pub of_stopped : {H : Type 0} (tale : Tale) (answer : Tale → Answer) (c : Course H) (o : Outcome H) → c ≡ courses.Stopped o → Runs answer c → IsOutcome (answer tale) o
+pub of_stopped :
+    {H : Type 0} (tale : Tale) (answer : Tale → Answer) (c : Course H) (o : Outcome H) → c ≡ courses.Stopped o → Runs answer c →
+    IsOutcome (answer tale) o
 of_stopped tale answer c o is runs =
     let p : Runs answer (courses.Stopped o) = subst (λ (x : Course _). Runs answer x) is runs in
     p.1 tale

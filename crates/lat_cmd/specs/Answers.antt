@@ -6,6 +6,8 @@ use Rattle.lat_show.specs.ShowOf.{show_of}
 use Rattle.lat_choose.specs.ChooseOf.{choose_of}
 use Rattle.lat_audit.specs.AuditOf.{audit_of}
 use Rattle.lat_tap.specs.CapturedText.{captured_text}
+use Rattle.lat_settle.specs.Rounds as rounds
+use Rattle.lat_settle.specs.Texts as texts
 use Rattle.lat_growth.specs.Grown as gen
 use Rattle.lat_replay.specs.Kept.{Kept, setups_of}
 use Rattle.lat_replay.specs.Setups.{setups_shown}
@@ -19,7 +21,7 @@ use Rattle.lat_schedule.specs.declared.schedule.ScheduleFault.{ScheduleFault}
 use Rattle.lat_schedule.specs.declared.schedule.ScheduleFault.TheVariants as faults
 use Rattle.lat_text.specs.WrongLine.{wrong_line}
 use Rattle.lat_cmd.specs.declared.command.Command.{Command}
-use Rattle.lat_cmd.specs.declared.command.Command.TheVariants.{Show, Choose, Replay, Capture, Audit, Gen, Bench}
+use Rattle.lat_cmd.specs.declared.command.Command.TheVariants.{Show, Choose, Replay, Capture, Settle, Audit, Gen, Bench}
 use Rattle.lat_cmd.specs.Commands.{reads}
 use Rattle.lat_cmd.specs.Refusals.{refused_of}
 
@@ -81,6 +83,17 @@ captured p u t = with_world (captured_text u t.machines p) u t
 abbrev pub capture_of : (p : ℕ) → List ℕ → Answer
 capture_of p input = told_behind (captured p) input
 
+-- where rounds lead from a state: to the report of the world behind them, or to the line of the round in which an event is refused
+abbrev pub settled_to : Setups → State → Played → Answer
+settled_to u t (Through behind) = with_world (texts.told_of u t.machines (Through behind)).1 u behind
+settled_to u t (Refused round fault before) = plain (texts.told_of u t.machines (Refused round fault before))
+
+unfoldable pub settled : (count : ℕ) → Tale
+settled count u t = settled_to u t (rounds.settled u t count)
+
+abbrev pub settle_of : (count : ℕ) → List ℕ → Answer
+settle_of count input = told_behind (settled count) input
+
 unfoldable pub gen_of : ℕ → Answer
 gen_of seed = with_world (gen.gen_text seed) gen.setups (gen.grown seed).state
 
@@ -93,6 +106,7 @@ answer_to Show input = plain (show_of input)
 answer_to Choose input = plain (choose_of input)
 answer_to Replay input = replay_of input
 answer_to (Capture circuit) input = capture_of circuit input
+answer_to (Settle count) input = settle_of count input
 answer_to Audit input = plain (audit_of input)
 answer_to (Gen seed) input = gen_of seed
 answer_to (Bench seed) input = bench_of seed

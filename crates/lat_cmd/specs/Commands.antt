@@ -1,9 +1,9 @@
 -- The words of the program's commands, and the statuses that each has.
-use Rattle.std.specs.Prelude.{◌≡◌, ◌⊎◌, ℕ, ◌-◌, ◌^◌, Bool, true, false, List, [], ◌∷◌, Option, Some, None, option_map, codes, if◌then◌else◌}
+use Rattle.std.specs.Prelude.{◌≡◌, ◌≤◌, ◌⊎◌, ℕ, ◌-◌, ◌^◌, Bool, true, false, List, [], ◌∷◌, Option, Some, None, option_map, codes, if◌then◌else◌}
 use Rattle.std.specs.Str.{bytes_eq}
 use Rattle.lat_text.specs.Numbers.{number_within}
 use Rattle.lat_cmd.specs.declared.command.Command.{Command}
-use Rattle.lat_cmd.specs.declared.command.Command.TheVariants.{Show, Choose, Replay, Capture, Audit, Gen, Bench}
+use Rattle.lat_cmd.specs.declared.command.Command.TheVariants.{Show, Choose, Replay, Capture, Settle, Audit, Gen, Bench}
 
 -- a word alone
 abbrev pub plain_of : List ℕ → Option Command
@@ -14,12 +14,13 @@ plain_of w =
     else if bytes_eq w (codes "audit") then Some Audit
     else None
 
--- a word with a number behind it: one below 2^64, or the id of a circuit
+-- a word with a number behind it: one below 2^64, a circuit, or so many rounds
 abbrev pub numbered_of : List ℕ → List ℕ → Option Command
 numbered_of w number =
     if bytes_eq w (codes "gen") then option_map Gen (number_within 0 (2 ^ 64 - 1) number)
     else if bytes_eq w (codes "bench") then option_map Bench (number_within 0 (2 ^ 64 - 1) number)
     else if bytes_eq w (codes "capture") then option_map Capture (number_within 1 65535 number)
+    else if bytes_eq w (codes "settle") then option_map Settle (number_within 0 100000 number)
     else None
 
 -- the command that the words are
@@ -27,6 +28,11 @@ abbrev pub command_of : List (List ℕ) → Option Command
 command_of (w ∷ []) = plain_of w
 command_of (w ∷ number ∷ []) = numbered_of w number
 command_of words = None
+
+-- no more rounds are run
+abbrev pub IsBounded : Command → Type 0
+IsBounded (Settle rounds) = rounds ≤ 100000
+IsBounded command = Unit {0}
 
 -- two commands read nothing
 abbrev pub reads : Command → Bool
@@ -47,6 +53,7 @@ ComesTo (Gen seed) status = status ≡ 0
 ComesTo (Bench seed) status = status ≡ 0
 ComesTo Replay status = (status ≡ 0) ⊎ (status ≡ 2) ⊎ (status ≡ 3) ⊎ (status ≡ 6)
 ComesTo (Capture circuit) status = (status ≡ 0) ⊎ (status ≡ 2) ⊎ (status ≡ 3) ⊎ (status ≡ 6)
+ComesTo (Settle rounds) status = (status ≡ 0) ⊎ (status ≡ 2) ⊎ (status ≡ 3) ⊎ (status ≡ 6)
 ComesTo command status = (status ≡ 0) ⊎ (status ≡ 2)
 
 -- The statuses of its run: one of those; or a write failed, or no memory was found; and where it reads, a read failed or the

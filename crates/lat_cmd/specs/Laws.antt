@@ -1,14 +1,53 @@
 -- What holds of what is printed of schedules.
-use Rattle.std.specs.Prelude.{◌≡◌, ℕ, List, Some}
-use Rattle.lat_tap.specs.CapturedText.{AuditIsLegal}
+use Rattle.std.specs.Prelude.{◌≡◌, ◌≢◌, ◌⊎◌, ◌≤◌, ℕ, List, length, Option, Some, IfSome, codes}
+use Rattle.std.specs.Io.KnownBytes.{Appends}
+use Rattle.lat_machines.specs.world.Reports.{report}
+use Rattle.lat_captures.specs.Audit.{IsLegal}
+use Rattle.lat_audit.specs.AuditOf.{verdict_text}
+use Rattle.lat_rounds.specs.Lossless.{Lossless}
+use Rattle.lat_rounds.specs.Settles.{Enough, Settled}
 use Rattle.lat_cmd.specs.declared.command.Command.{Command}
-use Rattle.lat_cmd.specs.declared.command.Command.TheVariants.{Capture}
-use Rattle.lat_cmd.specs.Answers.{Ended, capture_of}
+use Rattle.lat_cmd.specs.declared.command.Command.TheVariants.{Capture, Settle, Audit}
+use Rattle.lat_cmd.specs.Answers.{Ended, plain, replay_of, capture_of, settle_of, answer_of}
 
--- the audit of what is captured in the world that is handed back is `legal`, with the number of its RUNs
+-- the line `none`; or a capture: where it is within the limit of an input, `audit` answers `legal` to it, with its RUNs
+abbrev pub IsLegalText : List ℕ → Type 0
+IsLegalText text =
+    (text ≡ codes "none\n")
+    ⊎ ((runs : ℕ) × (length text ≤ 16777216 → answer_of Audit text ≡ plain (0, verdict_text (IsLegal runs))))
+
+-- what is printed of circuit p behind the schedule that an input is
 abbrev pub CaptureIsLegal : (p : ℕ) → List ℕ → Type 0
-CaptureIsLegal p input = (e : Ended) → (capture_of p input).world ≡ Some e → AuditIsLegal e.setups e.state.machines p
+CaptureIsLegal p input = (capture_of p input).status ≡ 0 → IsLegalText (capture_of p input).text
 
+-- What so many rounds bring where nothing was lost: none is refused but for the number of frames; and where they are enough by
+-- the report behind them, each open session has taken all that the other end put
+pub record Brings (count : ℕ) (input : List ℕ) (status : ℕ) : Type 0 where
+  pub passes : status ≢ 3
+  pub all :
+      status ≡ 0 →
+      (behind : Ended) →
+      (settle_of count input).world ≡ Some behind →
+      Enough count (report behind.setups behind.state.machines) →
+      Settled behind.setups behind.state.machines
+
+-- they do so behind the schedule that an input is, if it lost nothing
+abbrev pub SettleTakesAll : (count : ℕ) → List ℕ → (status : ℕ) → Type 0
+SettleTakesAll count input status =
+    (before : Ended) →
+    (replay_of input).world ≡ Some before →
+    Lossless before.setups before.state.machines →
+    Brings count input status
+
+-- what holds of the answer to an input
 abbrev pub IsLawful : Command → List ℕ → Type 0
 IsLawful (Capture p) input = CaptureIsLegal p input
+IsLawful (Settle count) input = SettleTakesAll count input (settle_of count input).status
 IsLawful command input = Unit {0}
+
+-- What holds of a run with this status: what it wrote of a circuit is legal; and its rounds brought all that was put behind the
+-- schedule that the source had left, where that is known
+abbrev pub ObeysLaw : Command → (left : Option (List ℕ)) → (status : ℕ) → (before now : Option (List ℕ)) → Type 0
+ObeysLaw (Capture p) left status before now = status ≡ 0 → (text : List ℕ) × Appends before now text × IsLegalText text
+ObeysLaw (Settle count) left status before now = IfSome left (λ input. SettleTakesAll count input status)
+ObeysLaw command left status before now = Unit {0}

@@ -3,7 +3,7 @@
 ghost use Rattle.std.specs.Prelude.{IfOk};
 ghost use Rattle.lat_wire.specs.Rates.{RatesWhatIsLeft};
 ghost use Rattle.lat_cmd.specs.Answers.{answer_to};
-ghost use Rattle.lat_cmd.specs.Commands.{ComesTo};
+ghost use Rattle.lat_cmd.specs.Commands.{ComesTo, IsBounded};
 ghost use Rattle.lat_cmd.specs.Laws.{IsLawful};
 ghost use Rattle.lat_cmd.specs.Outcomes.{IsOutcome, WorldWhereDone};
 
@@ -12,6 +12,7 @@ use crate::command::Command;
 use crate::growth::{made, measured};
 use crate::outcome::Outcome;
 use crate::replay::replay;
+use crate::settle::settle;
 use crate::texts::{audited, chosen, shown};
 use lat_base::Memory;
 use lat_node::RatingRule;
@@ -26,6 +27,7 @@ fn outcome_of<H: RatingRule>(
 ) -> Result<Outcome<H>, Memory>
     requires fact { H.fact rule }
     requires rates { RatesWhatIsLeft (H.may rule) }
+    requires bounded { IsBounded command }
     ensures answer { IfOk result (λ o. IsOutcome (answer_to command input.now) o) }
     ensures law { IfOk result (λ o. IsLawful command input.now) }
 {
@@ -34,6 +36,7 @@ fn outcome_of<H: RatingRule>(
         Command::Choose => chosen(alloc, input),
         Command::Replay => replay(alloc, rule, input),
         Command::Capture(circuit) => capture(alloc, rule, input, circuit),
+        Command::Settle(rounds) => settle(alloc, rule, input, rounds),
         Command::Audit => audited(alloc, input),
         Command::Gen(seed) => made(alloc, seed, rule),
         Command::Bench(seed) => measured(alloc, seed, rule),
@@ -49,6 +52,7 @@ pub(crate) fn answered<H: RatingRule>(
 ) -> Result<Outcome<H>, Memory>
     requires fact { H.fact rule }
     requires rates { RatesWhatIsLeft (H.may rule) }
+    requires bounded { IsBounded command }
     ensures answer { IfOk result (λ o. IsOutcome (answer_to command input.now) o) }
     ensures status { IfOk result (λ o. ComesTo command o.status) }
     ensures world { IfOk result (λ o. WorldWhereDone command o.status o.world) }

@@ -17,6 +17,8 @@ pub enum Command {
     Replay,
     /// `capture P`: plays the schedule, and prints what is captured of circuit P of the server.
     Capture(u16),
+    /// `settle K`: plays the schedule, runs so many rounds behind it, and prints the report.
+    Settle(u32),
     /// `audit`: audits the capture that the input is.
     Audit,
     /// `gen N`: prints the schedule that is generated from this number.
@@ -55,6 +57,14 @@ fn circuit_of(number: &[u8]) -> Option<u16>
     Some(id as u16)
 }
 
+// A number of rounds.
+fn rounds_of(number: &[u8]) -> Option<u32>
+    ensures { result ≡ number_within 0 100000 number.now }
+{
+    let rounds = number_within(0, 100_000, number)?;
+    Some(rounds as u32)
+}
+
 // The command that is this word with a number behind it.
 fn numbered_of(word: &str, number: &str) -> Option<Command>
     ensures { result ≡ numbered_of word.now number.now }
@@ -63,6 +73,7 @@ fn numbered_of(word: &str, number: &str) -> Option<Command>
         "gen" => number_within(0, u64::MAX, number.as_bytes()).map(Command::Gen),
         "bench" => number_within(0, u64::MAX, number.as_bytes()).map(Command::Bench),
         "capture" => circuit_of(number.as_bytes()).map(Command::Capture),
+        "settle" => rounds_of(number.as_bytes()).map(Command::Settle),
         _ => None,
     }
 }

@@ -8,6 +8,7 @@ mod course;
 mod growth;
 mod outcome;
 mod replay;
+mod settle;
 mod texts;
 mod top;
 

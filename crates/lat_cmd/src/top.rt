@@ -6,6 +6,7 @@ ghost use Rattle.lat_outside.specs.declared.whole.ReadEnd.TheVariants as ends;
 ghost use Rattle.lat_wire.specs.Rates.{RatesWhatIsLeft};
 ghost use Rattle.lat_cmd.specs.Answers.{Answer, plain, answer_of, input_of, HandsBack};
 ghost use Rattle.lat_cmd.specs.Commands.{command_of, reads, IsStatusOf};
+ghost use Rattle.lat_cmd.specs.Laws.{ObeysLaw};
 ghost use Rattle.lat_cmd.specs.Outcomes.{IsEarly, Tells, Answers, WorldWhereDone};
 
 use crate::answer::answered;
@@ -112,6 +113,11 @@ pub fn run<S: Source, K: Sink, H: RatingRule>(
     ensures status { IfSome (command_of (map string_bytes words.now)) (λ c. IsStatusOf c result.status) }
     ensures world { IfSome (command_of (map string_bytes words.now)) (λ c. WorldWhereDone c result.status result.world) }
     ensures unread { IfSome (command_of (map string_bytes words.now)) (λ c. reads c ≡ false → src.new ≡ src.old) }
+
+    // What it prints of a circuit is `none`, or `audit` finds it legal; and where nothing was lost, enough rounds bring all that
+    // was put, and are refused for the number of frames alone.
+    ensures law { IfSome (command_of (map string_bytes words.now)) (λ c.
+        ObeysLaw c (S.left src.old) result.status (K.told out.old) (K.told out.new)) }
 
     // Each fault has its cause, and want of memory or a failed read writes nothing.
     ensures read { result.status ≡ 4 → Rose (S.faults src.old) (S.faults src.new) }

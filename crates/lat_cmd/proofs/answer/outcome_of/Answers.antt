@@ -1,4 +1,4 @@
-use Rattle.lat_cmd.specs.declared.command.Command.TheVariants.{Show, Choose, Replay, Capture, Audit, Gen, Bench}
+use Rattle.lat_cmd.specs.declared.command.Command.TheVariants.{Show, Choose, Replay, Capture, Settle, Audit, Gen, Bench}
 use Rattle.lat_cmd.proofs.Forming.{answers_as, lawful_as, no_law}
 use Rattle.lat_cmd.proofs.answer.outcome_of.Goals as goal
 
@@ -21,10 +21,19 @@ pub returns-in-Replay-clause-law : goal.returns-in-Replay-clause-law
 returns-in-Replay-clause-law g c = no_law c.args.command Replay c.args.input.now c.replay.result c.in-Replay.is tt
 
 pub returns-in-Capture-clause-answer : goal.returns-in-Capture-clause-answer
-returns-in-Capture-clause-answer g c = answers_as c.args.command (Capture c.in-Capture.circuit) c.args.input.now c.capture.result c.in-Capture.is c.capture.ensures.answer
+returns-in-Capture-clause-answer g c =
+    answers_as c.args.command (Capture c.in-Capture.circuit) c.args.input.now c.capture.result c.in-Capture.is c.capture.ensures.answer
 
 pub returns-in-Capture-clause-law : goal.returns-in-Capture-clause-law
-returns-in-Capture-clause-law g c = lawful_as c.args.command (Capture c.in-Capture.circuit) c.args.input.now c.capture.result c.in-Capture.is c.capture.ensures.legal
+returns-in-Capture-clause-law g c =
+    lawful_as c.args.command (Capture c.in-Capture.circuit) c.args.input.now c.capture.result c.in-Capture.is c.capture.ensures.legal
+
+pub returns-in-Settle-clause-answer : goal.returns-in-Settle-clause-answer
+returns-in-Settle-clause-answer g c =
+    answers_as c.args.command (Settle c.in-Settle.rounds) c.args.input.now c.settle.result c.in-Settle.is c.settle.ensures.answer
+
+pub returns-in-Settle-clause-law : goal.returns-in-Settle-clause-law
+returns-in-Settle-clause-law g c = lawful_as c.args.command (Settle c.in-Settle.rounds) c.args.input.now c.settle.result c.in-Settle.is c.settle.ensures.all
 
 pub returns-in-Audit-clause-answer : goal.returns-in-Audit-clause-answer
 returns-in-Audit-clause-answer g c = answers_as c.args.command Audit c.args.input.now c.audited.result c.in-Audit.is c.audited.ensures

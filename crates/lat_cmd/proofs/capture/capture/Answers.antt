@@ -5,15 +5,19 @@ use Rattle.lat_cmd.proofs.capture.capture.Goals as goal
 
 pub returns-in-Through-clause-answer : goal.returns-in-Through-clause-answer
 returns-in-Through-clause-answer g c =
-    of_through (captured c.args.circuit) (λ tale. told_behind tale c.args.input.now) c.in_ok-world.field-0 c.in-Through.world c.captured.result c.in-Through.is c.in_ok-world.ensures c.captured.ensures.answer
+    of_through (captured c.args.circuit) (λ tale. told_behind tale c.args.input.now) c.in_ok-world.field-0 c.in-Through.world c.captured.result
+    c.in-Through.is c.in_ok-world.ensures c.captured.ensures.answer
 
 pub returns-in-Through-clause-legal : goal.returns-in-Through-clause-legal
 returns-in-Through-clause-legal g c =
-    capture_through c.args.input.now c.args.circuit c.in_ok-world.field-0 c.in-Through.world c.captured.result c.in-Through.is c.in_ok-world.ensures c.captured.ensures.legal
+    capture_through c.args.input.now c.args.circuit c.in_ok-world.field-0 c.in-Through.world c.captured.result c.in-Through.is c.in_ok-world.ensures
+    c.captured.ensures.legal
 
 pub returns-in-Stopped-clause-answer : goal.returns-in-Stopped-clause-answer
 returns-in-Stopped-clause-answer g c =
-    of_stopped (captured c.args.circuit) (λ tale. told_behind tale c.args.input.now) c.in_ok-world.field-0 c.in-Stopped.outcome c.in-Stopped.is c.in_ok-world.ensures
+    of_stopped (captured c.args.circuit) (λ tale. told_behind tale c.args.input.now) c.in_ok-world.field-0 c.in-Stopped.outcome c.in-Stopped.is
+    c.in_ok-world.ensures
 
 pub returns-in-Stopped-clause-legal : goal.returns-in-Stopped-clause-legal
-returns-in-Stopped-clause-legal g c = capture_stopped c.args.input.now c.args.circuit c.in_ok-world.field-0 c.in-Stopped.outcome c.in-Stopped.is c.in_ok-world.ensures
+returns-in-Stopped-clause-legal g c =
+    capture_stopped c.args.input.now c.args.circuit c.in_ok-world.field-0 c.in-Stopped.outcome c.in-Stopped.is c.in_ok-world.ensures
