@@ -13,6 +13,7 @@ pub mod Touch
 pub mod Stays
 pub mod Writes
 pub mod Counts
+pub mod Reached
 pub mod Asking
 pub mod Results
 pub mod Reasons

@@ -3,10 +3,10 @@ use Rattle.std.proofs.Common.{◌≡◌, ◌≢◌, ℕ, zero, suc, ◌+◌, sym
 use Rattle.std.proofs.lemmas.Bool.{false≢true, and_parts, cases_eq, false_from_ne_true}
 use Rattle.lat_model.specs.Lists.{upwards, is_empty}
 use Rattle.lat_model.specs.sessions.Slots.{Slot, Reject, slot_len}
-use Rattle.lat_model.specs.sessions.Session.{Session, rejecting, peer}
+use Rattle.lat_model.specs.sessions.Session.{Session, rejecting, peer, free}
 use Rattle.lat_model.specs.sessions.Offers.{Offer, Nothing, Unfit, Offers, fit, offer}
 use Rattle.lat_model.specs.sessions.Packing.{Packing, turn_by, turn, turn_all}
-use Rattle.lat_model.proofs.sessions.Forms.{formed_as}
+use Rattle.lat_model.proofs.sessions.Forms.{formed_as, formed_free}
 use Rattle.lat_session.specs.Packed.{NoRejects}
 use Rattle.lat_stream.specs.Does.{reject_due}
 use Rattle.lat_session.proofs.PackForm.{forms}
@@ -108,3 +108,30 @@ turn_no_rejects p k n g j =
 pub turns_no_rejects : (ks : List ℕ) (p : Packing) → NoRejects p → NoRejects (turn_all ks p)
 turns_no_rejects [] p n = n
 turns_no_rejects (k ∷ ks) p n = turns_no_rejects ks (turn p k) (turn_no_rejects p k n)
+
+-- a session that is free stays free
+
+formed_stays : (s : Session) (n : ℕ) (x : Slot) → free s ≡ true → free (formed_as s n x) ≡ true
+formed_stays s n x h = go (free (formed_as s n x)) refl
+  where
+    go : (b : Bool) → free (formed_as s n x) ≡ b → b ≡ true
+    go true e = refl
+    go false e = absurd (false≢true (sym (formed_free s n x e) ∙ h))
+
+turn_stays : (p : Packing) (k : ℕ) → free (p.after.session k) ≡ true → free ((turn p k).after.session k) ≡ true
+turn_stays p k h = go p.going (offer p.after.master p.after.ceiling p.room (p.after.session k))
+  where
+    go : (b : Bool) (o : Offer) → free ((cond b (turn_by p k o) p).after.session k) ≡ true
+    go true Nothing = h
+    go true Unfit = h
+    go true (Offers x) = ap free (forms p.after k x).changed.same ∙ formed_stays (p.after.session k) (forms p.after k x).generation x h
+    go false o = h
+
+pub turns_stay : (ks : List ℕ) (p : Packing) (j : ℕ) → free (p.after.session j) ≡ true → free ((turn_all ks p).after.session j) ≡ true
+turns_stay [] p j h = h
+turns_stay (k ∷ ks) p j h =
+    turns_stay ks (turn p k) j
+    (⊎_elim {C = free ((turn p k).after.session j) ≡ true}
+    (λ z. ap (λ i. free ((turn p k).after.session i)) z ∙ turn_stays p k (ap (λ i. free (p.after.session i)) (sym z) ∙ h))
+    (λ z. ap free (turn_other p k j z) ∙ h)
+    (cases_eq j k))

@@ -1,16 +1,21 @@
 -- States of sessions, and who has them.
-use Rattle.std.specs.Prelude.{ℕ, Bool, true, false, cond, nat_eq, Option, None, Some}
+use Rattle.std.specs.Prelude.{◌≡◌, ℕ, Bool, true, false, cond, nat_eq, List, [], ◌∷◌, Option, None, Some}
 use Rattle.lat_base.specs.declared.state.SessionState.{SessionState}
 use Rattle.lat_base.specs.declared.state.SessionState.TheVariants.{Free, Asked}
 use Rattle.lat_model.specs.Lists.{upwards, least}
 use Rattle.lat_model.specs.sessions.Session.{state}
 use Rattle.lat_model.specs.sessions.Sessions.{Sessions, named}
-use Rattle.lat_stream.specs.Kept.{state_shown}
+use Rattle.lat_stream.specs.Kept.{Kept, state_shown}
 use Rattle.lat_session.specs.declared.getters.Asked as asking
 
 abbrev pub is_free : SessionState → Bool
 is_free Free = true
 is_free s = false
+
+-- no place of them has a session
+abbrev pub AllFree : List Kept → Type 0
+AllFree [] = Unit {0}
+AllFree (k ∷ ks) = (is_free k.state ≡ true) × AllFree ks
 
 abbrev pub is_asked : SessionState → Bool
 is_asked Asked = true

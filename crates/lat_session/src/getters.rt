@@ -1,7 +1,8 @@
 //! What the table tells of its sessions. No call takes memory. Of an id that no session had, each tells that there is
 //! none.
 
-ghost use Rattle.std.specs.Prelude.{◌≡◌, ◌+◌, ◌-◌, ◌<◌, ◌≤◌, cond, true, length, position, count_by, filter, false, not, MatchOption, IfSome};
+ghost use Rattle.std.specs.Prelude.{◌≡◌, ◌+◌, ◌-◌, ◌<◌, ◌≤◌, cond, true, length, position, count_by, filter, false, not, nat_eq, MatchOption, IfSome};
+ghost use Rattle.std.specs.List.{list_any};
 ghost use Rattle.std.specs.Option.{is_some};
 ghost use Rattle.lat_base.specs.declared.state.SessionState.TheVariants as states;
 ghost use Rattle.lat_model.specs.Lists.{upwards};
@@ -66,6 +67,13 @@ impl Sessions {
         ensures { (e : States) → Stands self.now e → result ≡ held e }
     {
         self.count_held()
+    }
+
+    /// Whether any session isn't free.
+    pub fn is_any_held(&self) -> bool
+        ensures { (e : States) → Stands self.now e → result ≡ not (nat_eq (held e) 0) }
+    {
+        self.has_held()
     }
 
     /// How many items `take` could give now, 0 where it is refused.
@@ -183,22 +191,25 @@ impl Sessions {
         }
     }
 
+    fn has_held(&self) -> bool
+        ensures { result ≡ list_any (λ (k : Kept). not (is_free k.state)) self.now.sessions }
+    {
+        let mut reached = self.sessions.reached().iter();
+        reached.any(|session| !is_free(session))
+    }
+
     fn count_held(&self) -> u8
         ensures { result ≡ count_by (λ (k : Kept). not (is_free k.state)) self.now.sessions }
     {
-        self.sessions
-            .iter()
-            .filter(|session| !is_free(session))
-            .count() as u8
+        let reached = self.sessions.reached().iter();
+        reached.filter(|session| !is_free(session)).count() as u8
     }
 
     fn count_asked(&self) -> u8
         ensures { result ≡ count_by (λ (k : Kept). is_asked k.state) self.now.sessions }
     {
-        self.sessions
-            .iter()
-            .filter(|session| is_asked(session))
-            .count() as u8
+        let reached = self.sessions.reached().iter();
+        reached.filter(|session| is_asked(session)).count() as u8
     }
 
     // Where the session of an id stands, `None` of an id that no session has.
@@ -218,13 +229,15 @@ impl Sessions {
     fn first_asked(&self) -> Option<usize>
         ensures { result ≡ position (λ (k : Kept). is_asked k.state) self.now.sessions }
     {
-        self.sessions.iter().position(|session| is_asked(session))
+        let mut reached = self.sessions.reached().iter();
+        reached.position(|session| is_asked(session))
     }
 
     // Where the first place is whose session is free.
     pub(crate) fn first_free(&self) -> Option<usize>
         ensures { result ≡ position (λ (k : Kept). is_free k.state) self.now.sessions }
     {
-        self.sessions.iter().position(|session| is_free(session))
+        let mut all = self.sessions.all().iter();
+        all.position(|session| is_free(session))
     }
 }

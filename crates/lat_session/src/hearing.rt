@@ -166,7 +166,8 @@ impl Sessions {
     fn has_peer(&self, from: u8) -> bool
         ensures { result ≡ list_any (has_peer from) self.now.sessions }
     {
-        self.sessions.iter().any(|session| has_peer(session, from))
+        let mut reached = self.sessions.reached().iter();
+        reached.any(|session| has_peer(session, from))
     }
 
     // A reject for this peer's id waits.

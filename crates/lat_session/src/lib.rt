@@ -6,6 +6,7 @@ mod calls;
 mod getters;
 mod hearing;
 mod packing;
+mod places;
 mod table;
 
 pub use ask::Ask;

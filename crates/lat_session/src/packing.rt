@@ -5,7 +5,8 @@ ghost use Rattle.std.specs.List.{remove};
 ghost use Rattle.lat_model.specs.Lists.{upwards, Each};
 ghost use Rattle.lat_model.specs.ends.End.{wire_of};
 ghost use Rattle.lat_model.specs.sessions.Packing.{Packing, turn, turn_all, waiting_rejects, pack};
-ghost use Rattle.lat_model.specs.sessions.Sessions.{Sessions as States};
+ghost use Rattle.lat_model.specs.sessions.Session.{free};
+ghost use Rattle.lat_model.specs.sessions.Sessions.{Sessions as States, named};
 ghost use Rattle.lat_model.specs.sessions.Slots as sessions;
 ghost use Rattle.lat_slots.specs.Layout.{slot_text};
 ghost use Rattle.lat_stream.specs.Kept.{Kept};
@@ -81,16 +82,24 @@ impl Sessions {
         ensures same { SameEnd self.old self.new }
     {
         let served = self.served;
-        let count = self.size();
+        let last = served.max(self.last_reached());
         let mut progress = Progress {
             room,
             formed: 0,
             ended: false,
         };
         self.pack_rejects(&mut progress, out);
-        self.pack_ids(served, count, &mut progress, out);
+        self.pack_ids(served, last, &mut progress, out);
         self.pack_ids(0, served, &mut progress, out);
         progress.formed
+    }
+
+    // An id behind which none has a session.
+    fn last_reached(&self) -> u8
+        ensures within { result ≤ length self.now.sessions }
+        ensures free { (e : States) (id : ℕ) → Stands self.now e → result < id → free (named e id) ≡ true }
+    {
+        self.sessions.reached().len() as u8
     }
 
     // Packs the rejects that wait.

@@ -1,16 +1,14 @@
 //! The table of the sessions of one end of a circuit.
 
-ghost use Rattle.std.specs.Prelude.{◌≡◌, ◌≤◌, true, min, replicate, length, IfOk};
+ghost use Rattle.std.specs.Prelude.{◌≡◌, ◌≤◌, min, length, IfOk};
 ghost use Rattle.lat_model.specs.ends.Starting.{no_sessions};
-ghost use Rattle.lat_model.specs.sessions.Session.{blank};
 ghost use Rattle.lat_model.specs.sessions.Sessions.{Sessions as States};
 ghost use Rattle.lat_session.specs.Stands.{Stands};
-ghost use Rattle.lat_stream.specs.Kept.{kept_of};
 ghost use Rattle.lat_session.specs.Table.{SameEnd};
 
 use crate::ask::Ask;
+use crate::places::Places;
 use lat_base::Memory;
-use lat_stream::Stream;
 use std::alloc::Global;
 use std::marker::Model;
 
@@ -26,7 +24,7 @@ pub struct Sessions {
     pub(crate) agreed: u8,
     pub(crate) ceiling: u8,
     pub(crate) served: u8,
-    pub(crate) sessions: Vec<Stream>,
+    pub(crate) sessions: Places,
     pub(crate) asks: Vec<Ask>,
 }
 
@@ -42,13 +40,13 @@ impl Model for Sessions {
       agreed = a.agreed;
       ceiling = a.ceiling;
       served = a.served;
-      sessions = a.sessions.items;
+      sessions = a.sessions;
       asks = a.asks.items;
     } };
 
     ghost invariant = { λ a.
-        (a.served ≤ length a.sessions.items)
-        × (1 ≤ a.agreed) × (a.agreed ≤ length a.sessions.items) × (length a.sessions.items ≤ 64)
+        (a.served ≤ length a.sessions)
+        × (1 ≤ a.agreed) × (a.agreed ≤ length a.sessions) × (length a.sessions ≤ 64)
         × (1 ≤ a.ceiling) × (a.ceiling ≤ 15)
         × (length a.asks.items ≤ 255) × (255 ≤ vec_capacity a.asks)
         × All (λ x. reason_of x ≤ 15) a.asks.items };
@@ -69,7 +67,7 @@ impl Sessions {
             agreed,
             ceiling,
             served: 0,
-            sessions: places(alloc, agreed, ceiling)?,
+            sessions: Places::make(alloc, agreed, ceiling)?,
             asks: Vec::with_capacity(alloc, OPEN_ASKS)?,
         })
     }
@@ -86,7 +84,7 @@ impl Sessions {
         self.agreed = agreed;
         self.ceiling = ceiling;
         self.served = 0;
-        reset_all(&mut self.sessions, ceiling);
+        self.sessions.reset(ceiling);
         self.asks.clear();
     }
 
@@ -104,25 +102,5 @@ impl Sessions {
         ensures { result ≡ length self.now.sessions }
     {
         self.sessions.len() as u8
-    }
-}
-
-fn places(alloc: Global, count: u8, ceiling: u8) -> Result<Vec<Stream>, Memory>
-    requires { (1 ≤ ceiling) × (ceiling ≤ 15) }
-    ensures { IfOk result (λ v. v.items ≡ replicate count (kept_of true ceiling blank)) }
-{
-    let mut all = Vec::with_capacity(alloc, count as usize)?;
-    for _ in 0..count {
-        all.push(Stream::make(alloc, ceiling)?)?;
-    }
-    Ok(all)
-}
-
-fn reset_all(sessions: &mut [Stream], ceiling: u8)
-    requires { (1 ≤ ceiling) × (ceiling ≤ 15) }
-    ensures { sessions.new ≡ replicate (length sessions.old) (kept_of true ceiling blank) }
-{
-    for session in sessions.iter_mut() {
-        session.reset(ceiling);
     }
 }

@@ -52,9 +52,15 @@ leading [] = []
 leading (Byte b ∷ xs) = b ∷ leading xs
 leading (Set t ∷ xs) = []
 
-abbrev pub is_byte : Option Item → Bool
-is_byte (Some (Byte b)) = true
-is_byte _ = false
+abbrev pub is_byte : Item → Bool
+is_byte (Byte b) = true
+is_byte (Set t) = false
+
+-- the bytes among the items
+abbrev pub bytes_in : List Item → List ℕ
+bytes_in [] = []
+bytes_in (Byte b ∷ xs) = b ∷ bytes_in xs
+bytes_in (Set t ∷ xs) = bytes_in xs
 
 -- those that one slot takes
 abbrev pub next_bytes : ℕ → Kept → List ℕ

@@ -1,6 +1,6 @@
 //! The slots that a session forms.
 
-ghost use Rattle.std.specs.Prelude.{◌≡◌, ◌≢◌, ℕ, List, ◌+◌, ◌<◌, ◌≤◌, true, false, ◌++◌, ◌||◌, ◌&&◌, length, take, drop, min, nat_lt, nat_le, slice_get, None};
+ghost use Rattle.std.specs.Prelude.{◌≡◌, ◌≢◌, ℕ, List, [], ◌∷◌, ◌+◌, ◌<◌, ◌≤◌, true, false, ◌++◌, ◌||◌, ◌&&◌, length, take, drop, min, nat_lt, nat_le, None};
 ghost use Rattle.circular_buffer.specs.Buffer.{buffer};
 ghost use Rattle.lat_base.specs.Names.{IsName};
 ghost use Rattle.lat_base.specs.declared.state.SessionState.TheVariants as states;
@@ -14,7 +14,7 @@ ghost use Rattle.lat_stream.specs.Does.{Does, reject_due};
 ghost use Rattle.lat_stream.specs.Kept.{kept_of};
 ghost use Rattle.lat_stream.specs.Sound.{Sound};
 ghost use Rattle.lat_stream.specs.Wire.{IsFormed};
-ghost use Rattle.lat_stream.specs.Turns.{Meets, turn_of, later_turn, over, data_turn, due, gave, framed, stopped, is_byte, leading, next_bytes, start_slot, bytes_offer, credits_offer, kept_after, offer_at};
+ghost use Rattle.lat_stream.specs.Turns.{Meets, turn_of, later_turn, over, data_turn, due, gave, framed, stopped, is_byte, leading, bytes_in, next_bytes, start_slot, bytes_offer, credits_offer, kept_after, offer_at};
 
 use crate::opening::Opening;
 use crate::stream::Stream;
@@ -295,18 +295,14 @@ fn most_bytes(size: u8, room: u16) -> u8
 fn leading_count(items: &HeapCircularBuffer<Item>, most: u8) -> u8
     ensures { result ≡ length (take most (leading items.now.items)) }
 {
-    for count in 0..most {
-        if !is_byte(items, usize::from(count)) {
-            return count;
-        }
-    }
-    most
+    let first = items.iter().take(usize::from(most));
+    first.take_while(|item| is_byte(item)).count() as u8
 }
 
-fn is_byte(items: &HeapCircularBuffer<Item>, place: usize) -> bool
-    ensures { result ≡ is_byte (slice_get items.now.items place) }
+fn is_byte(item: &Item) -> bool
+    ensures { result ≡ is_byte item.now }
 {
-    matches!(items.get(place), Some(Item::Byte(_)))
+    matches!(item, Item::Byte(_))
 }
 
 // Moves the first `count` items, which are bytes.
@@ -316,19 +312,29 @@ fn move_bytes(items: &mut HeapCircularBuffer<Item>, count: u8, out: &mut Payload
     ensures items { items.new ≡ buffer (drop count items.old.items) items.old.capacity }
     ensures bytes { out.new ≡ out.old ++ take count (leading items.old.items) }
 {
-    for _ in 0..count {
-        move_byte(items, out);
+    let count = usize::from(count);
+    let (front, back) = items.as_slices();
+    let from_front = count.min(front.len());
+    write_bytes(&front[..from_front], out);
+    write_bytes(&back[..count - from_front], out);
+    items.truncate_front(items.len() - count);
+}
+
+// Writes the bytes among the items.
+fn write_bytes(items: &[Item], out: &mut Payload)
+    requires { length out.old + length items.now ≤ 1500 }
+    ensures { out.new ≡ out.old ++ bytes_in items.now }
+{
+    for item in items {
+        write_byte(item, out);
     }
 }
 
-// Moves the first item; one that isn't a byte is dropped.
-#[tactic(auto, using(crate::proofs::FormsBytes::first_alone))]
-fn move_byte(items: &mut HeapCircularBuffer<Item>, out: &mut Payload)
+fn write_byte(item: &Item, out: &mut Payload)
     requires { length out.old < 1500 }
-    ensures items { items.new ≡ buffer (drop 1 items.old.items) items.old.capacity }
-    ensures bytes { out.new ≡ out.old ++ take 1 (leading items.old.items) }
+    ensures { out.new ≡ out.old ++ bytes_in (item.now ∷ []) }
 {
-    if let Some(Item::Byte(b)) = items.pop_front() {
-        out.push(b);
+    if let Item::Byte(b) = item {
+        out.push(*b);
     }
 }

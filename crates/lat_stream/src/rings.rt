@@ -9,6 +9,9 @@ use circular_buffer::HeapCircularBuffer;
 use lat_base::Item;
 use lat_credit::Credits;
 
+/// How many bytes become items at once.
+const PIECE_BYTES: usize = 64;
+
 /// Adds as many of the bytes as fit, and tells how many.
 pub(crate) fn push_bytes(ring: &mut HeapCircularBuffer<Item>, bytes: &[u8]) -> usize
     ensures count { result ≡ min (length bytes.now) (ring.old.capacity - length ring.old.items) }
@@ -23,9 +26,21 @@ fn push_all(ring: &mut HeapCircularBuffer<Item>, bytes: &[u8])
     requires { length ring.old.items + length bytes.now ≤ ring.old.capacity }
     ensures { ring.new ≡ buffer (ring.old.items ++ map kept_items.Byte bytes.now) ring.old.capacity }
 {
-    for b in bytes {
-        ring.push_back(Item::Byte(*b));
+    for piece in bytes.chunks(PIECE_BYTES) {
+        push_piece(ring, piece);
     }
+}
+
+fn push_piece(ring: &mut HeapCircularBuffer<Item>, piece: &[u8])
+    requires piece { length piece.now ≤ 64 }
+    requires room { length ring.old.items + length piece.now ≤ ring.old.capacity }
+    ensures { ring.new ≡ buffer (ring.old.items ++ map kept_items.Byte piece.now) ring.old.capacity }
+{
+    let mut items = [Item::Byte(0); PIECE_BYTES];
+    for (i, b) in piece.iter().enumerate() {
+        items[i] = Item::Byte(*b);
+    }
+    ring.fill_from_slice(&items[..piece.len()]);
 }
 
 /// Takes `taken` more items of the held slots. Those of which all are taken are held no more.

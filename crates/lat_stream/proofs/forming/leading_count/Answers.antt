@@ -1,15 +1,15 @@
-use Rattle.std.proofs.Common.{◌≡◌, ◌∙◌, sym, ap, arith, false, slice_get, length-take}
-use Rattle.lat_stream.specs.Turns.{leading, is_byte}
-use Rattle.lat_stream.proofs.FormsBytes.{one_more, no_more}
+use Rattle.std.proofs.Common.{◌∙◌, rules}
+use Rattle.std.proofs.lemmas.Iterator.{YieldsList-from_take}
+use Rattle.std.proofs.lemmas.Iterator.Consumers.{YieldsList-at, YieldsList-from_rest, count_from_yields_List}
+use Rattle.std.proofs.lemmas.Iterator.Search.{YieldsList-from_take_while}
+use borrow.Author.Tests.{tests}
+use Rattle.lat_stream.specs.Turns.{is_byte}
+use Rattle.lat_stream.proofs.FormsBytes.{leading_counted}
 use Rattle.lat_stream.proofs.forming.leading_count.Goals as goal
 
-pub returns-then-not-is_byte : goal.returns-then-not-is_byte
-returns-then-not-is_byte c =
-    let xs = c.args.items.now.items in
-    let e : is_byte (slice_get xs c.loop-count.count) ≡ false = ap (λ n. is_byte (slice_get xs n)) (sym c.from.ensures) ∙ sym c.is_byte.ensures ∙ c.if-not-is_byte.true in
-    omega (arith, no_more xs c.loop-count.count c.loop-count.invariant e, c.loop-count-test.true, length-take c.args.most (leading xs))
-
-pub loop-count-preserved : goal.loop-count-preserved
-loop-count-preserved c =
-    let xs = c.args.items.now.items in
-    one_more xs c.loop-count.count c.loop-count.invariant (ap (λ n. is_byte (slice_get xs n)) (sym c.from.ensures) ∙ sym c.is_byte.ensures ∙ c.if-not-is_byte.false)
+pub returns : goal.returns
+returns c =
+    count_from_yields_List c.take_while.result _ c.count.ensures.ran (YieldsList-from_take_while _ is_byte
+    (YieldsList-at c.take_while.ensures.source (YieldsList-from_take c.args.most (YieldsList-at c.take-first.ensures.source (YieldsList-from_rest c.args.items.now.items c.iter.ensures.rest)) (c.take-first.ensures.count ∙ c.from.ensures)))
+    c.take_while.ensures.closure c.take_while.ensures.done (λ x b q k. search (rules, tests)))
+    ∙ leading_counted c.args.items.now.items c.args.most

@@ -1,18 +1,24 @@
-use Rattle.std.proofs.Common.{ℕ, ◌+◌, ◌-◌, List, ◌++◌, sym, ap, ◌∙◌, subst, arith, take, drop}
-use Rattle.circular_buffer.specs.Buffer.{Buffer}
-use Rattle.lat_base.specs.declared.item.Item.{Item}
+use Rattle.std.proofs.Common.{◌-◌, ◌≤◌, ◌++◌, ◌∙◌, sym, ap, arith, length, take, length-take-le}
 use Rattle.lat_stream.specs.Turns.{leading}
-use Rattle.lat_stream.proofs.FormsBytes.{ToMove, moved_by}
+use Rattle.lat_stream.proofs.FormsBytes.{leading_within, rest_within, rest_fits, both_written}
 use Rattle.lat_stream.proofs.forming.move_bytes.Goals as goal
 
-pub loop-preserved : goal.loop-preserved
-loop-preserved c =
-    let left : ℕ = c.args.count - (c.loop.counter + 1) in
-    let all : List Item = c.args.items.now.items in
-    let step : ToMove left (drop 1 c.loop.items.items) all c.args.count (c.loop.out ++ take 1 (leading c.loop.items.items)) c.args.out.now =
-    moved_by (c.args.count - c.loop.counter) left c.loop.items.items all c.args.count c.loop.out c.args.out.now (omega (arith, c.loop-test.true)) c.loop.invariant.0
-    in
-    let items : ToMove left c.move_byte.new.items.items all c.args.count (c.loop.out ++ take 1 (leading c.loop.items.items)) c.args.out.now =
-    subst (λ (b : Buffer Item). ToMove left b.items all c.args.count (c.loop.out ++ take 1 (leading c.loop.items.items)) c.args.out.now) (sym c.move_byte.ensures.items) step
-    in
-    (subst (λ o. ToMove left c.move_byte.new.items.items all c.args.count o c.args.out.now) (sym c.move_byte.ensures.bytes) items, ap (λ (b : Buffer Item). b.capacity) c.move_byte.ensures.items ∙ c.loop.invariant.1, omega (arith, c.loop-test.true))
+pub slice_bounds-write_bytes-length : goal.slice_bounds-write_bytes-length
+slice_bounds-write_bytes-length c =
+    let few : c.from-count.result ≤ length (leading c.args.items.now.items) = omega (arith, c.from-count.ensures, c.requires.bytes) in
+    sym (length-take-le (c.from-count.result - c.min-from_front.result) c.as_slices.result.1.now (rest_within c.args.items.now.items c.as_slices.result.0.now c.as_slices.result.1.now c.from-count.result c.min-from_front.result c.as_slices.ensures c.min-from_front.ensures few))
+
+pub write_bytes-requires-2 : goal.write_bytes-requires-2
+write_bytes-requires-2 c =
+    rest_fits c.as_slices.result.0.now c.as_slices.result.1.now c.from-count.result c.min-from_front.result c.args.out.now c.write_bytes.new.out c.min-from_front.ensures
+    (omega (arith, c.from-count.ensures, c.requires.room)) c.write_bytes.ensures
+
+pub returns-clause-bytes : goal.returns-clause-bytes
+returns-clause-bytes c =
+    let few : c.from-count.result ≤ length (leading c.args.items.now.items) = omega (arith, c.from-count.ensures, c.requires.bytes) in
+    both_written c.args.items.now.items c.as_slices.result.0.now c.as_slices.result.1.now c.from-count.result c.min-from_front.result c.args.out.now c.write_bytes.new.out c.write_bytes-2.new.out
+    c.as_slices.ensures c.min-from_front.ensures few c.write_bytes.ensures c.write_bytes-2.ensures
+    ∙ ap (λ n. c.args.out.now ++ take n (leading c.args.items.now.items)) c.from-count.ensures
+
+pub overflow_sub-len : goal.overflow_sub-len
+overflow_sub-len c = omega (arith, c.from-count.ensures, c.len.ensures.len, c.requires.bytes, leading_within c.args.items.now.items)

@@ -10,31 +10,31 @@ use Rattle.lat_session.proofs.table.Sessions.asked_at.Goals as goal
 
 pub returns-then-is_asked-clause-model : goal.returns-then-is_asked-clause-model
 returns-then-is_asked-clause-model c = λ e st.
-    let was = kept_is c.args.self.now c.self.inside.sessions.items e c.in_ok-at.at c.args.id c.index.result.now (ap (λ (t : Table). t.sessions) c.self.view_is) c.in_ok-at.ensures.0 c.in_ok-at.ensures.1 c.index.ensures st in
+    let was = kept_is c.args.self.now c.self.inside.sessions e c.in_ok-at.at c.args.id c.index.result.now (ap (λ (t : Table). t.sessions) c.self.view_is) c.in_ok-at.ensures.0 c.in_ok-at.ensures.1 c.index.ensures st in
     told_here e c.in_ok-at.at c.args.id c.index.result.now c.asked_here.result c.in_ok-at.ensures.0 was (sym c.is_asked.ensures ∙ c.if-is_asked.true) (c.asked_here.ensures.model e st)
 
 pub returns-then-is_asked-clause-slave : goal.returns-then-is_asked-clause-slave
 returns-then-is_asked-clause-slave c = λ e st slave.
-    let was = kept_is c.args.self.now c.self.inside.sessions.items e c.in_ok-at.at c.args.id c.index.result.now (ap (λ (t : Table). t.sessions) c.self.view_is) c.in_ok-at.ensures.0 c.in_ok-at.ensures.1 c.index.ensures st in
+    let was = kept_is c.args.self.now c.self.inside.sessions e c.in_ok-at.at c.args.id c.index.result.now (ap (λ (t : Table). t.sessions) c.self.view_is) c.in_ok-at.ensures.0 c.in_ok-at.ensures.1 c.index.ensures st in
     told_waits e c.args.id c.asked_here.result slave (told_here e c.in_ok-at.at c.args.id c.index.result.now c.asked_here.result c.in_ok-at.ensures.0 was (sym c.is_asked.ensures ∙ c.if-is_asked.true) (c.asked_here.ensures.model e st))
 
 pub returns-else-is_asked-clause-model : goal.returns-else-is_asked-clause-model
 returns-else-is_asked-clause-model c = λ e st.
-    let was = kept_is c.args.self.now c.self.inside.sessions.items e c.in_ok-at.at c.args.id c.index.result.now (ap (λ (t : Table). t.sessions) c.self.view_is) c.in_ok-at.ensures.0 c.in_ok-at.ensures.1 c.index.ensures st in
+    let was = kept_is c.args.self.now c.self.inside.sessions e c.in_ok-at.at c.args.id c.index.result.now (ap (λ (t : Table). t.sessions) c.self.view_is) c.in_ok-at.ensures.0 c.in_ok-at.ensures.1 c.index.ensures st in
     told_none e c.args.id c.index.result.now was (sym c.is_asked.ensures ∙ c.if-is_asked.false)
 
 pub returns-else-is_asked-clause-slave : goal.returns-else-is_asked-clause-slave
 returns-else-is_asked-clause-slave c = λ e st slave.
-    let was = kept_is c.args.self.now c.self.inside.sessions.items e c.in_ok-at.at c.args.id c.index.result.now (ap (λ (t : Table). t.sessions) c.self.view_is) c.in_ok-at.ensures.0 c.in_ok-at.ensures.1 c.index.ensures st in
+    let was = kept_is c.args.self.now c.self.inside.sessions e c.in_ok-at.at c.args.id c.index.result.now (ap (λ (t : Table). t.sessions) c.self.view_is) c.in_ok-at.ensures.0 c.in_ok-at.ensures.1 c.index.ensures st in
     told_waits e c.args.id None slave (told_none e c.args.id c.index.result.now was (sym c.is_asked.ensures ∙ c.if-is_asked.false))
 
 pub returns-then-is_asked-clause-value : goal.returns-then-is_asked-clause-value
 returns-then-is_asked-clause-value c =
-    let here = ap state_in (read_here c.args.self.now c.self.inside.sessions.items c.in_ok-at.at c.args.id c.index.result.now (ap (λ (t : Table). t.sessions) c.self.view_is) c.in_ok-at.ensures.0 c.in_ok-at.ensures.1 c.index.ensures) in
+    let here = ap state_in (read_here c.args.self.now c.self.inside.sessions c.in_ok-at.at c.args.id c.index.result.now (ap (λ (t : Table). t.sessions) c.self.view_is) c.in_ok-at.ensures.0 c.in_ok-at.ensures.1 c.index.ensures) in
     let asks : is_asked (state_at c.args.self.now c.args.id) ≡ true = ap is_asked here ∙ sym c.is_asked.ensures ∙ c.if-is_asked.true in
     subst (λ i. state_at c.args.self.now i ≡ states.Asked → is_some c.asked_here.result ≡ true) c.in_ok-at.ensures.0 c.asked_here.ensures.value (is_asked_is (state_at c.args.self.now c.args.id) asks) ∙ sym asks
 
 pub returns-else-is_asked-clause-value : goal.returns-else-is_asked-clause-value
 returns-else-is_asked-clause-value c =
-    let here = ap state_in (read_here c.args.self.now c.self.inside.sessions.items c.in_ok-at.at c.args.id c.index.result.now (ap (λ (t : Table). t.sessions) c.self.view_is) c.in_ok-at.ensures.0 c.in_ok-at.ensures.1 c.index.ensures) in
+    let here = ap state_in (read_here c.args.self.now c.self.inside.sessions c.in_ok-at.at c.args.id c.index.result.now (ap (λ (t : Table). t.sessions) c.self.view_is) c.in_ok-at.ensures.0 c.in_ok-at.ensures.1 c.index.ensures) in
     sym (ap is_asked here ∙ sym c.is_asked.ensures ∙ c.if-is_asked.false)

@@ -13,14 +13,14 @@ use Rattle.lat_session.proofs.table.Sessions.attend.Goals as goal
 
 pub returns-in-Some-clause-answer : goal.returns-in-Some-clause-answer
 returns-in-Some-clause-answer c = λ e st.
-    let was = kept_is c.args.self.now c.self.inside.sessions.items e c.in-Some.at c.args.id c.index_mut-session.result.now (ap (λ (t : Table). t.sessions) c.self.view_is) c.in-Some.ensures.0 c.in-Some.ensures.1 c.index_mut-session.ensures.value st in
+    let was = kept_is c.args.self.now c.self.inside.sessions e c.in-Some.at c.args.id c.index_mut-session.result.now (ap (λ (t : Table). t.sessions) c.self.view_is) c.in-Some.ensures.0 c.in-Some.ensures.1 c.index_mut-session.ensures.value st in
     c.attend.ensures.answer e.master e.ceiling (named e c.args.id) (sound_at c.args.self.now e (e.at_id c.args.id) st) was
 
 pub returns-in-Some-clause-state : goal.returns-in-Some-clause-state
 returns-in-Some-clause-state c = λ e st.
     let s : Session = named e c.args.id in
     let next : Session = record s { attention = Some c.args.flag } in
-    let was = kept_is c.args.self.now c.self.inside.sessions.items e c.in-Some.at c.args.id c.index_mut-session.result.now (ap (λ (t : Table). t.sessions) c.self.view_is) c.in-Some.ensures.0 c.in-Some.ensures.1 c.index_mut-session.ensures.value st in
+    let was = kept_is c.args.self.now c.self.inside.sessions e c.in-Some.at c.args.id c.index_mut-session.result.now (ap (λ (t : Table). t.sessions) c.self.view_is) c.in-Some.ensures.0 c.in-Some.ensures.1 c.index_mut-session.ensures.value st in
     let done = done_or_closed (put_open s) c.attend.result (c.attend.new.self ≡ kept_of e.master e.ceiling next) (c.attend.new.self ≡ c.index_mut-session.result.now) (c.attend.ensures.answer e.master e.ceiling s (sound_at c.args.self.now e (e.at_id c.args.id) st) was) (c.attend.ensures.state e.master e.ceiling s was) c.attend.ensures.err in
     touched_stands c.args.self.now _ e (calls.Attend c.args.id c.args.flag) c.in-Some.at c.args.id c.attend.new.self (put_open s) next st c.in-Some.ensures.0 c.in-Some.ensures.1 refl
     (λ h. used e c.args.id (λ (z : Session). put_open z ≡ true) false≢true st.good h) refl refl

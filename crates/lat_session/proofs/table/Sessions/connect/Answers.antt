@@ -44,7 +44,7 @@ returns-in-Some-clause-state c = λ e st.
     let master = sym (ap (λ (t : Table). t.master) st.is) ∙ c.requires in
     let below : held e < e.agreed = omega (arith, c.if-held-self.false, c.held.ensures e st, agreed) in
     let at = free_at c.args.self.now e c.in-Some.at st below (sym c.first_free.ensures ∙ c.in-Some.is) in
-    let was = kept_is c.args.self.now c.self.inside.sessions.items e c.in-Some.at (least_free e) c.index_mut-session.result.now (ap (λ (t : Table). t.sessions) c.self.view_is) at.0 at.1 c.index_mut-session.ensures.value st in
+    let was = kept_is c.args.self.now c.self.inside.sessions e c.in-Some.at (least_free e) c.index_mut-session.result.now (ap (λ (t : Table). t.sessions) c.self.view_is) at.0 at.1 c.index_mut-session.ensures.value st in
     let made = c.call.ensures (least_free e) (least_some e below st.good.agreed) in
     connect_stands c.args.self.now _ e c.in-Some.at c.call.new.self c.args.service.now c.args.request st master below at.0 at.1
     (made ∙ ap (λ (k : Kept). kept_of true k.credits.ceiling (new_call e c.args.service.now c.args.request)) was)

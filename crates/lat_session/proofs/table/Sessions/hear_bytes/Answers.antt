@@ -11,7 +11,7 @@ use Rattle.lat_session.proofs.table.Sessions.hear_bytes.Goals as goal
 
 pub returns-in-Some-clause-hears : goal.returns-in-Some-clause-hears
 returns-in-Some-clause-hears c = λ e st.
-    let was = kept_is c.args.self.now c.self.inside.sessions.items e c.in-Some.at c.args.to c.index_mut-session.result.now (ap (λ (t : Table). t.sessions) c.self.view_is) c.in-Some.ensures.0 c.in-Some.ensures.1 c.index_mut-session.ensures.value st in
+    let was = kept_is c.args.self.now c.self.inside.sessions e c.in-Some.at c.args.to c.index_mut-session.result.now (ap (λ (t : Table). t.sessions) c.self.view_is) c.in-Some.ensures.0 c.in-Some.ensures.1 c.index_mut-session.ensures.value st in
     let sound = sound_at c.args.self.now e (e.at_id c.args.to) st in
     behind_hears c.args.self.now _ e c.in-Some.at c.args.to c.hear_bytes.new.self (sessions.DataA c.args.to c.args.from c.args.credits c.args.bytes.now) c.hear_bytes.result st (record { sends = λ q. absurd (false≢true q); byte = λ q. c.ranges.from.fits; small = omega (arith, c.requires, length-map c.args.bytes.now sessions.Byte) }) refl refl c.in-Some.ensures.0 c.in-Some.ensures.1
     (c.hear_bytes.ensures.answer e.master e.ceiling (named e c.args.to) c.args.to sound was)

@@ -15,7 +15,7 @@ use Rattle.lat_session.proofs.table.Sessions.hear_reject.Goals as goal
 pub returns-in-Some-clause-hears : goal.returns-in-Some-clause-hears
 returns-in-Some-clause-hears c = λ e from st.
     let s : Session = named e c.args.to in
-    let was = kept_is c.args.self.now c.self.inside.sessions.items e c.in-Some.at c.args.to c.index_mut-session.result.now (ap (λ (t : Table). t.sessions) c.self.view_is) c.in-Some.ensures.0 c.in-Some.ensures.1 c.index_mut-session.ensures.value st in
+    let was = kept_is c.args.self.now c.self.inside.sessions e c.in-Some.at c.args.to c.index_mut-session.result.now (ap (λ (t : Table). t.sessions) c.self.view_is) c.in-Some.ensures.0 c.in-Some.ensures.1 c.index_mut-session.ensures.value st in
     let b : (e.master && waits s) ≡ true = sym (c.is_calling.ensures.model e st) ∙ c.if-not-is_calling.false in
     let m : e.master ≡ true = (and_parts e.master (waits s) b).0 in
     let sound : Sound true e.ceiling s = subst (λ z. Sound z e.ceiling s) m (sound_at c.args.self.now e (e.at_id c.args.to) st) in

@@ -4,5 +4,5 @@ use Rattle.lat_session.proofs.table.Sessions.make.Goals as goal
 
 pub returns-clause-state : goal.returns-clause-state
 returns-clause-state c =
-    begins c.args.master c.args.agreed c.args.ceiling c.args.agreed c.in_ok-places.field-0.items c.in_ok-with_capacity.field-0.items
-    (omega arith) c.requires.agreed.1 c.in_ok-places.ensures c.in_ok-with_capacity.ensures.items
+    begins c.args.master c.args.agreed c.args.ceiling c.args.agreed c.in_ok-make.field-0 c.in_ok-with_capacity.field-0.items
+    (omega arith) c.requires.agreed.1 c.in_ok-make.ensures c.in_ok-with_capacity.ensures.items

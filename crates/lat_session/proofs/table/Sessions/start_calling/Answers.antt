@@ -18,14 +18,14 @@ use Rattle.lat_session.proofs.table.Sessions.start_calling.Goals as goal
 
 pub hear_start-requires : goal.hear_start-requires
 hear_start-requires c =
-    let here = read_here c.args.self.now c.self.inside.sessions.items c.in-Some.at c.args.to c.index_mut-session.result.now (ap (λ (t : Table). t.sessions) c.self.view_is) c.in-Some.ensures.0 c.in-Some.ensures.1 c.index_mut-session.ensures.value in
+    let here = read_here c.args.self.now c.self.inside.sessions c.in-Some.at c.args.to c.index_mut-session.result.now (ap (λ (t : Table). t.sessions) c.self.view_is) c.in-Some.ensures.0 c.in-Some.ensures.1 c.index_mut-session.ensures.value in
     (only_calling c.index_mut-session.result.now.state (sym (ap is_calling (ap state_in here)) ∙ c.requires.calling), c.requires.ids.1)
 
 pub returns-in-Some-clause-hears : goal.returns-in-Some-clause-hears
 returns-in-Some-clause-hears c = λ e service request st.
     let s : Session = named e c.args.to in
-    let was = kept_is c.args.self.now c.self.inside.sessions.items e c.in-Some.at c.args.to c.index_mut-session.result.now (ap (λ (t : Table). t.sessions) c.self.view_is) c.in-Some.ensures.0 c.in-Some.ensures.1 c.index_mut-session.ensures.value st in
-    let here = read_here c.args.self.now c.self.inside.sessions.items c.in-Some.at c.args.to c.index_mut-session.result.now (ap (λ (t : Table). t.sessions) c.self.view_is) c.in-Some.ensures.0 c.in-Some.ensures.1 c.index_mut-session.ensures.value in
+    let was = kept_is c.args.self.now c.self.inside.sessions e c.in-Some.at c.args.to c.index_mut-session.result.now (ap (λ (t : Table). t.sessions) c.self.view_is) c.in-Some.ensures.0 c.in-Some.ensures.1 c.index_mut-session.ensures.value st in
+    let here = read_here c.args.self.now c.self.inside.sessions c.in-Some.at c.args.to c.index_mut-session.result.now (ap (λ (t : Table). t.sessions) c.self.view_is) c.in-Some.ensures.0 c.in-Some.ensures.1 c.index_mut-session.ensures.value in
     let b : (e.master && waits s) ≡ true = sym (calling_shown e.master s) ∙ sym (ap (λ (k : Kept). is_calling k.state) was) ∙ sym (ap is_calling (ap state_in here)) ∙ c.requires.calling in
     let m : e.master ≡ true = (and_parts e.master (waits s) b).0 in
     let sound : Sound true e.ceiling s = subst (λ z. Sound z e.ceiling s) m (sound_at c.args.self.now e (e.at_id c.args.to) st) in

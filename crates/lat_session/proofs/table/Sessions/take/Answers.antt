@@ -14,12 +14,12 @@ use Rattle.lat_session.proofs.table.Sessions.take.Goals as goal
 
 pub returns-in-Some-clause-answer : goal.returns-in-Some-clause-answer
 returns-in-Some-clause-answer c = λ e st.
-    let was = kept_is c.args.self.now c.self.inside.sessions.items e c.in-Some.at c.args.id c.index_mut-session.result.now (ap (λ (t : Table). t.sessions) c.self.view_is) c.in-Some.ensures.0 c.in-Some.ensures.1 c.index_mut-session.ensures.value st in
+    let was = kept_is c.args.self.now c.self.inside.sessions e c.in-Some.at c.args.id c.index_mut-session.result.now (ap (λ (t : Table). t.sessions) c.self.view_is) c.in-Some.ensures.0 c.in-Some.ensures.1 c.index_mut-session.ensures.value st in
     c.take.ensures.answer e.master e.ceiling (named e c.args.id) (sound_at c.args.self.now e (e.at_id c.args.id) st) was
 
 pub returns-in-Some-clause-items : goal.returns-in-Some-clause-items
 returns-in-Some-clause-items c = λ e st.
-    let was = kept_is c.args.self.now c.self.inside.sessions.items e c.in-Some.at c.args.id c.index_mut-session.result.now (ap (λ (t : Table). t.sessions) c.self.view_is) c.in-Some.ensures.0 c.in-Some.ensures.1 c.index_mut-session.ensures.value st in
+    let was = kept_is c.args.self.now c.self.inside.sessions e c.in-Some.at c.args.id c.index_mut-session.result.now (ap (λ (t : Table). t.sessions) c.self.view_is) c.in-Some.ensures.0 c.in-Some.ensures.1 c.index_mut-session.ensures.value st in
     c.take.ensures.items e.master e.ceiling (named e c.args.id) (sound_at c.args.self.now e (e.at_id c.args.id) st) was
 
 pub returns-in-None-clause-items : goal.returns-in-None-clause-items
@@ -29,7 +29,7 @@ pub returns-in-Some-clause-state : goal.returns-in-Some-clause-state
 returns-in-Some-clause-state c = λ e st.
     let s : Session = named e c.args.id in
     let next : Session = record s { taken = s.taken + calls.take_count s (length c.args.out.now) } in
-    let was = kept_is c.args.self.now c.self.inside.sessions.items e c.in-Some.at c.args.id c.index_mut-session.result.now (ap (λ (t : Table). t.sessions) c.self.view_is) c.in-Some.ensures.0 c.in-Some.ensures.1 c.index_mut-session.ensures.value st in
+    let was = kept_is c.args.self.now c.self.inside.sessions e c.in-Some.at c.args.id c.index_mut-session.result.now (ap (λ (t : Table). t.sessions) c.self.view_is) c.in-Some.ensures.0 c.in-Some.ensures.1 c.index_mut-session.ensures.value st in
     let is = c.take.ensures.state e.master e.ceiling s (sound_at c.args.self.now e (e.at_id c.args.id) st) was in
     touched_stands c.args.self.now _ e (calls.Take c.args.id (length c.args.out.now)) c.in-Some.at c.args.id c.take.new.self (take_open s) next st c.in-Some.ensures.0 c.in-Some.ensures.1 refl
     (λ h. used e c.args.id (λ (z : Session). take_open z ≡ true) false≢true st.good h) refl refl
@@ -44,5 +44,5 @@ returns-in-None-clause-state c = λ e st. nothing_stands c.args.self.now e _ _ (
 
 pub returns-in-Some-clause-count : goal.returns-in-Some-clause-count
 returns-in-Some-clause-count c =
-    let here = read_here c.args.self.now c.self.inside.sessions.items c.in-Some.at c.args.id c.index_mut-session.result.now (ap (λ (t : Table). t.sessions) c.self.view_is) c.in-Some.ensures.0 c.in-Some.ensures.1 c.index_mut-session.ensures.value in
+    let here = read_here c.args.self.now c.self.inside.sessions c.in-Some.at c.args.id c.index_mut-session.result.now (ap (λ (t : Table). t.sessions) c.self.view_is) c.in-Some.ensures.0 c.in-Some.ensures.1 c.index_mut-session.ensures.value in
     subst (λ w. IfOk c.take.result (λ n. n ≡ min (length c.args.out.now) w)) (sym (ap waiting_in here)) c.take.ensures.count

@@ -8,7 +8,7 @@ use Rattle.lat_session.proofs.Stays.{sound_at}
 use Rattle.lat_session.proofs.table.Sessions.waiting.Goals as goal
 
 pub returns-in-Some-clause-model : goal.returns-in-Some-clause-model
-returns-in-Some-clause-model c = λ e st. c.waiting.ensures.model e.master e.ceiling (named e c.args.id) (sound_at c.args.self.now e (e.at_id c.args.id) st) (kept_is c.args.self.now c.self.inside.sessions.items e c.in-Some.at c.args.id c.index.result.now (ap (λ (t : Table). t.sessions) c.self.view_is) c.in-Some.ensures.0 c.in-Some.ensures.1 c.index.ensures st)
+returns-in-Some-clause-model c = λ e st. c.waiting.ensures.model e.master e.ceiling (named e c.args.id) (sound_at c.args.self.now e (e.at_id c.args.id) st) (kept_is c.args.self.now c.self.inside.sessions e c.in-Some.at c.args.id c.index.result.now (ap (λ (t : Table). t.sessions) c.self.view_is) c.in-Some.ensures.0 c.in-Some.ensures.1 c.index.ensures st)
 
 pub returns-in-None-clause-model : goal.returns-in-None-clause-model
 returns-in-None-clause-model c = λ e st. ap (λ (s : Session). cond (take_open s) (length (items s.came) - s.taken) 0) (sym (nothing_here c.args.self.now e c.args.id st c.in-None.ensures))

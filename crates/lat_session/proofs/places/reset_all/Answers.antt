@@ -2,7 +2,7 @@ use Rattle.std.proofs.Common.{◌++◌, ◌∙◌, ap, true, drop, replicate, sl
 use Rattle.lat_model.specs.sessions.Session.{blank}
 use Rattle.lat_stream.specs.Kept.{kept_of}
 use Rattle.lat_session.proofs.Writes.{replicated_next}
-use Rattle.lat_session.proofs.table.reset_all.Goals as goal
+use Rattle.lat_session.proofs.places.reset_all.Goals as goal
 
 pub loop-session-preserved : goal.loop-session-preserved
 loop-session-preserved c =

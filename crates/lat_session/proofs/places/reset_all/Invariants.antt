@@ -1,7 +1,7 @@
 use Rattle.std.proofs.Common.{◌≡◌, ◌++◌, true, replicate, drop}
 use Rattle.lat_model.specs.sessions.Session.{blank}
 use Rattle.lat_stream.specs.Kept.{kept_of}
-use Rattle.lat_session.proofs.table.reset_all.Given as goal
+use Rattle.lat_session.proofs.places.reset_all.Given as goal
 
 abbrev pub invariant-loop-session : goal.invariant-loop-session
 invariant-loop-session l =

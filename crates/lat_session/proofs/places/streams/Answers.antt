@@ -2,7 +2,7 @@ use Rattle.std.proofs.Common.{◌∙◌, ◌++◌, ◌∷◌, [], true, ap, repl
 use Rattle.std.proofs.lemmas.List.{replicate-append-replicate}
 use Rattle.lat_model.specs.sessions.Session.{blank}
 use Rattle.lat_stream.specs.Kept.{kept_of}
-use Rattle.lat_session.proofs.table.places.Goals as goal
+use Rattle.lat_session.proofs.places.streams.Goals as goal
 
 pub loop-preserved : goal.loop-preserved
 loop-preserved c =
