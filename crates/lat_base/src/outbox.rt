@@ -1,8 +1,10 @@
 //! The frames that an event makes, on their way to the carrier.
 
-ghost use Rattle.std.specs.Prelude.{◌≡◌, ◌<◌, ◌≤◌, [], ◌∷◌, ◌++◌, length, IfOk};
+ghost use Rattle.std.specs.Prelude.{◌≡◌, ◌-◌, ◌<◌, ◌≤◌, [], ◌∷◌, ◌++◌, length, take, vec_len, vec_capacity, IfOk};
+ghost use Rattle.std.specs.Borrow.{sem};
+ghost use Rattle.lat_base.specs.Lending.{LendsFrame, LendsPayload};
 
-use crate::addr::Addr;
+use crate::addr::{Addr, EVERYONE};
 use crate::memory::Memory;
 use crate::payload::Payload;
 use std::alloc::Global;
@@ -36,21 +38,49 @@ pub struct OutFrame {
 }
 
 /// The frames of one event, in the order in which they were made: at most 256, for which it has the room from the
-/// beginning. Contracts see their list.
+/// beginning. Contracts see their list. A frame that was dropped leaves its place, into which a later one is written.
 #[derive(Drop)]
 pub struct OutBox {
-    frames: Vec<OutFrame>,
+    /// Its frames, and behind them places that frames had.
+    places: Vec<OutFrame>,
+    count: usize,
 }
 
 impl Model for OutBox {
-    ghost use Rattle.std.specs.Prelude.{List, ◌≤◌, vec_len, vec_capacity};
+    ghost use Rattle.std.specs.Prelude.{List, take, ◌≤◌, vec_len, vec_capacity};
     ghost use Rattle.lat_base.specs.declared.outbox.OutFrame.{OutFrame};
 
     ghost Value = { List OutFrame };
 
-    ghost view = { λ a. a.frames.items };
+    ghost view = { λ a. take a.count a.places.items };
 
-    ghost invariant = { λ a. (vec_len a.frames ≤ 256) × (256 ≤ vec_capacity a.frames) };
+    ghost invariant = { λ a. (a.count ≤ vec_len a.places) × (vec_len a.places ≤ 256) × (256 ≤ vec_capacity a.places) };
+}
+
+impl OutFrame {
+    // A place that no frame was written into.
+    fn blank() -> OutFrame
+        ensures { result.payload ≡ [] }
+    {
+        OutFrame {
+            to: EVERYONE,
+            payload: Payload::empty(),
+            circuit: 0,
+            mark: Mark::Plain,
+        }
+    }
+
+    // Begins anew as the frame that is told, and lends its payload, which has no byte.
+    fn begin(&mut self, to: Addr, circuit: u16, mark: Mark) -> &mut Payload
+        ensures* written { sem 𝓛 (LendsFrame self.entry to circuit mark result) }
+        ensures empty { result.now ≡ [] }
+    {
+        self.to = to;
+        self.circuit = circuit;
+        self.mark = mark;
+        self.payload.clear();
+        &mut self.payload
+    }
 }
 
 impl OutBox {
@@ -59,7 +89,8 @@ impl OutBox {
         ensures { IfOk result (λ out. out ≡ []) }
     {
         Ok(OutBox {
-            frames: Vec::with_capacity(alloc, OUTBOX_FRAMES)?,
+            places: Vec::with_capacity(alloc, OUTBOX_FRAMES)?,
+            count: 0,
         })
     }
 
@@ -68,7 +99,30 @@ impl OutBox {
         requires { length self.old < 256 }
         ensures { self.new ≡ self.old ++ frame ∷ [] }
     {
-        self.frames.push_reserved(frame);
+        reach(&mut self.places, self.count);
+        self.places[self.count] = frame;
+        self.count += 1;
+    }
+
+    /// Adds a frame at the end, and lends its payload, which has no byte yet, to be written in its place. There must be room, as
+    /// for `push`. It takes no memory.
+    pub fn lend(&mut self, to: Addr, circuit: u16, mark: Mark) -> &mut Payload
+        requires { length self.old < 256 }
+        ensures* written { sem 𝓛 (LendsPayload self.entry to circuit mark result) }
+        ensures empty { result.now ≡ [] }
+    {
+        let at = self.count;
+        reach(&mut self.places, at);
+        self.count = at + 1;
+        self.places[at].begin(to, circuit, mark)
+    }
+
+    /// Drops its last frame. There must be one. The room stays.
+    pub fn withdraw(&mut self)
+        requires { 0 < length self.old }
+        ensures { self.new ≡ take (length self.old - 1) self.old }
+    {
+        self.count -= 1;
     }
 
     /// How many frames it has.
@@ -76,7 +130,7 @@ impl OutBox {
         ensures value { result ≡ length self.now }
         ensures most { length self.now ≤ 256 }
     {
-        self.frames.len()
+        self.count
     }
 
     /// The frames, first to last.
@@ -84,13 +138,26 @@ impl OutBox {
         ensures value { result.now ≡ self.now }
         ensures most { length self.now ≤ 256 }
     {
-        self.frames.as_slice()
+        &self.places[..self.count]
     }
 
     /// Drops all its frames. The room stays.
     pub fn clear(&mut self)
         ensures { self.new ≡ [] }
     {
-        self.frames.clear();
+        self.count = 0;
+    }
+}
+
+// Sees to it that there is a place behind those of the first `count`, which stay as they are.
+fn reach(places: &mut Vec<OutFrame>, count: usize)
+    requires count { (count ≤ vec_len places.old) × (count < 256) }
+    requires room { (vec_len places.old ≤ 256) × (256 ≤ vec_capacity places.old) }
+    ensures place { (count < vec_len places.new) × (vec_len places.new ≤ 256) }
+    ensures room { 256 ≤ vec_capacity places.new }
+    ensures first { take count places.new.items ≡ take count places.old.items }
+{
+    if count == places.len() {
+        places.push_reserved(OutFrame::blank());
     }
 }

@@ -22,3 +22,12 @@ is_lost w i x y was is = ap (λ z. z && not i) was ∙ ap (λ z. x && not z) is 
     twice : (y : Bool) → not (not y) ≡ y
     twice true = refl
     twice false = refl
+
+-- the tests of `unused`, the cheap ones first
+pub cheap_first : (m r o f : Bool) → ((m && r && o) && f) ≡ (m && r && f && o)
+cheap_first false r o f = refl
+cheap_first true false o f = refl
+cheap_first true true true true = refl
+cheap_first true true true false = refl
+cheap_first true true false true = refl
+cheap_first true true false false = refl

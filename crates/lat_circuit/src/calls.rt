@@ -22,7 +22,7 @@ impl Circuit {
     pub(crate) fn is_held(&self) -> bool
         ensures { (e : End) → Stands self.now e → result ≡ not (nat_eq (held e.half.sessions) 0) }
     {
-        self.sessions.held() != 0
+        self.sessions.is_any_held()
     }
 
     /// Where a session was held before and none is now, the time without one begins.

@@ -1,11 +1,12 @@
 //! One end of a circuit.
 
-ghost use Rattle.std.specs.Prelude.{◌≡◌, ◌<◌, ◌++◌, [], ◌∷◌, length};
-ghost use Rattle.lat_base.specs.declared.outbox.OutFrame.{OutFrame};
+ghost use Rattle.std.specs.Prelude.{◌≡◌, ◌<◌, [], length};
+ghost use Rattle.std.specs.Borrow.{sem};
+ghost use Rattle.lat_base.specs.Lending.{LendsPayload};
 
 use crate::config::CircuitConfig;
 use crate::moments::Moments;
-use lat_base::{Mark, OutBox, OutFrame, Payload};
+use lat_base::{Mark, OutBox, Payload};
 use lat_link::Link;
 use lat_session::Sessions;
 use std::marker::Model;
@@ -49,17 +50,11 @@ impl Model for Circuit {
     ghost invariant = { IsSound };
 }
 
-impl Circuit {
-    /// Adds a frame with this payload to those that go out to the peer.
-    pub(crate) fn push(&self, payload: Payload, mark: Mark, out: &mut OutBox)
-        requires { length out.old < 256 }
-        ensures { out.new ≡ out.old ++ record { to = self.now.facts.config.peer; payload = payload; circuit = self.now.facts.id; mark = mark } ∷ [] }
-    {
-        out.push(OutFrame {
-            to: self.config.peer,
-            payload,
-            circuit: self.link.ids().from,
-            mark,
-        });
-    }
+/// Adds a frame to the peer of a circuit at the end of those that go out, and lends its payload, which has no byte yet.
+pub(crate) fn lend<'a>(out: &'a mut OutBox, circuit: &Circuit, mark: Mark) -> &'a mut Payload
+    requires { length out.old < 256 }
+    ensures* written { sem 𝓛 (LendsPayload out.entry circuit.now.facts.config.peer circuit.now.facts.id mark result) }
+    ensures empty { result.now ≡ [] }
+{
+    out.lend(circuit.config.peer, circuit.link.ids().from, mark)
 }

@@ -13,7 +13,7 @@ ghost use Rattle.lat_machines.specs.values.Messages.{StopMessage};
 ghost use Rattle.lat_model.specs.ends.End.{CallStart, ReplyStart, Stopped};
 ghost use Rattle.lat_circuit.specs.Frames.{IsFormed, start_info, start_message, message_sent};
 
-use crate::circuit::Circuit;
+use crate::circuit::{Circuit, lend};
 use lat_base::{Addr, Mark, Name, OutBox, OutFrame, Payload};
 use lat_fields::{write_counted, write_number, write_padding};
 use lat_frames::write_plain_head;
@@ -194,9 +194,7 @@ impl Circuit {
         ensures frame { out.new ≡ out.old ++ record { to = self.now.facts.config.peer; payload = padded (message_text (message_of (start_message start))); circuit = self.now.facts.id; mark = marks.Plain } ∷ [] }
         ensures names { IsName start.slave × IsName start.name }
     {
-        let mut payload = Payload::empty();
-        start.write(&mut payload);
-        self.push(payload, Mark::Plain, out);
+        start.write(lend(out, self, Mark::Plain));
     }
 
     /// Whether its message numbers have two bytes.

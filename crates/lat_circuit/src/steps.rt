@@ -1,6 +1,8 @@
 //! What an end does at a time event or a RUN: it forms messages, sends them again, acknowledges, or ends.
 
-ghost use Rattle.std.specs.Prelude.{◌≡◌, ◌+◌, ◌<◌, ◌≤◌, ◌++◌, true, false, cond, List, length, map};
+ghost use Rattle.std.specs.Prelude.{◌≡◌, ◌+◌, ◌<◌, ◌≤◌, ◌++◌, true, false, cond, List, [], ◌∷◌, length, map};
+ghost use Rattle.lat_base.specs.declared.outbox.Mark.TheVariants.{Fresh};
+ghost use Rattle.lat_base.specs.Lending.{frame_of};
 ghost use Rattle.lat_model.specs.ends.End.{End, send_bare, settle, occasion, send_again, marked, send_start, finish, all_known};
 ghost use Rattle.lat_model.specs.numbers.Link.{again_frames, formed_frame};
 ghost use Rattle.lat_model.specs.sessions.Slots.{Slot};
@@ -10,7 +12,7 @@ ghost use Rattle.lat_circuit.specs.Frames.{AreFormed, frame_sent};
 ghost use Rattle.lat_circuit.specs.Stands.{Stands, Did};
 ghost use Rattle.lat_circuit.specs.Steps.{Keeps, form_slots};
 
-use crate::circuit::Circuit;
+use crate::circuit::{Circuit, lend};
 use lat_base::{Mark, OutBox, Payload};
 
 impl Circuit {
@@ -29,9 +31,7 @@ impl Circuit {
         ensures keeps { Keeps self.old self.new }
         ensures most { length out.new ≤ length out.old + 1 }
     {
-        let mut payload = Payload::empty();
-        self.link.bare(ask, &mut payload);
-        self.push(payload, Mark::Bare, out);
+        self.link.bare(ask, lend(out, self, Mark::Bare));
         self.owed = false;
         self.moments.sent_at = self.moments.now;
     }
@@ -61,26 +61,23 @@ impl Circuit {
         }
     }
 
-    // Forms the message whose slots stand in the payload behind its head, and sends it.
-    fn send_message(&mut self, slots: u8, mut payload: Payload, out: &mut OutBox)
-        requires room { length out.old < 256 }
+    // Forms the message whose slots stand in the payload behind its head. The payload is that of the frame that goes out.
+    fn form(&mut self, slots: u8, payload: &mut Payload)
         requires running { self.old.running ≡ true }
         requires open { self.old.link.sending.unacknowledged < self.old.link.sending.window }
-        requires head { head_size self.old.link.sending.span ≤ length payload }
+        requires head { head_size self.old.link.sending.span ≤ length payload.old }
         ensures did { (e : End) (m : List Slot) →
             Stands self.old e →
             IsMessage self.old.link.sending.span m →
-            payload ≡ frame_head self.old.link.ids self.old.link.sending.span false (formed_frame e.half.link m) 0 ++ slots_as_text m →
+            payload.old ≡ frame_head self.old.link.ids self.old.link.sending.span false (formed_frame e.half.link m) 0 ++ slots_as_text m →
             length m ≡ slots →
             Stands self.new (form_slots m e).end
-            × (out.new ≡ out.old ++ map (frame_sent self.new.facts) (form_slots m e).sent)
+            × (frame_of self.new.facts.config.peer self.new.facts.id Fresh payload.new ∷ [] ≡ map (frame_sent self.new.facts) (form_slots m e).sent)
             × AreFormed self.new.facts (form_slots m e).sent }
         ensures keeps { Keeps self.old self.new }
-        ensures most { length out.new ≤ length out.old + 1 }
     {
         self.moments.since = self.since_forming();
-        self.link.form(&mut payload, slots);
-        self.push(payload, Mark::Fresh, out);
+        self.link.form(payload, slots);
         self.owed = false;
         self.moments.sent_at = self.moments.now;
     }
@@ -97,13 +94,14 @@ impl Circuit {
         if !self.link.is_open() {
             return self.settle(out);
         }
-        let mut payload = Payload::empty();
-        self.link.begin(&mut payload);
-        let slots = self.sessions.pack(self.room, &mut payload);
+        let payload = lend(out, self, Mark::Fresh);
+        self.link.begin(payload);
+        let slots = self.sessions.pack(self.room, payload);
         if slots == 0 {
+            out.withdraw();
             return self.settle(out);
         }
-        self.send_message(slots, payload, out);
+        self.form(slots, payload);
     }
 
     // Sends all unacknowledged messages again, oldest first.
@@ -114,9 +112,8 @@ impl Circuit {
     {
         let count = self.link.unacknowledged();
         for place in 0..count {
-            let mut payload = Payload::empty();
-            self.link.repeat(place as usize, &mut payload);
-            self.push(payload, Mark::Again(count - 1 - place), out);
+            let payload = lend(out, self, Mark::Again(count - 1 - place));
+            self.link.repeat(place as usize, payload);
         }
     }
 
@@ -160,9 +157,7 @@ impl Circuit {
     {
         self.ended = Some(reason);
         if self.link.ids().to != 0 {
-            let mut payload = Payload::empty();
-            self.write_stop(reason, &mut payload);
-            self.push(payload, Mark::Plain, out);
+            self.write_stop(reason, lend(out, self, Mark::Plain));
         }
     }
 }

@@ -46,9 +46,8 @@ impl Circuit {
     {
         let time = 1000 * u64::from(self.keepalive);
         let is_over = passed(self.moments.empty_at, time, self.moments.now);
-        let is_free = self.sessions.held() == 0;
         let master = self.is_master();
-        both(all(master, self.running, is_free), is_over)
+        all(master, self.running, is_over) && !self.is_held()
     }
 
     /// Whether messages are unacknowledged, and it is time that they go out again.

@@ -1,5 +1,6 @@
-use Rattle.std.proofs.Common.{◌≡◌, ◌+◌, ◌-◌, ◌++◌, [], ◌∷◌, sym, ap, subst, ◌∙◌, arith, length, length-append}
+use Rattle.std.proofs.Common.{◌≡◌, ◌+◌, ◌-◌, ◌++◌, [], ◌∷◌, refl, sym, ap, subst, ◌∙◌, arith, length, length-append}
 use Rattle.lat_base.specs.declared.outbox.Mark.TheVariants as marks
+use Rattle.lat_base.specs.Lending.{frame_of}
 use Rattle.lat_link.specs.Links as link
 use Rattle.lat_circuit.specs.Kept.{Kept}
 use Rattle.lat_circuit.proofs.Packs.{RoundIs, round_step, round_whole}
@@ -9,17 +10,21 @@ pub loop-place-preserved : goal.loop-place-preserved
 loop-place-preserved c =
     let out = c.args.out.now in
     let place = c.loop-place.place in
+    let mark = marks.Again (c.unacknowledged-count.result - 1 - place) in
+    let k = c.args.self.now in
+    let frame = frame_of k.facts.config.peer k.facts.id mark c.repeat.new.payload in
+    let new = c.loop-place.out ++ frame ∷ [] in
     record {
       count = c.loop-place.invariant.count;
       few = c.loop-place.invariant.few;
-      length = omega (arith, c.loop-place.invariant.length, simp length-append at (ap length c.push.ensures));
-      frames = subst (RoundIs out (place + 1) c.push.new.out) c.self.view_is (
-          round_step c.self.inside c.unacknowledged-count.result place c.repeat.new.payload out c.loop-place.out c.push.new.out
+      length = omega (arith, c.loop-place.invariant.length, length-append c.loop-place.out (frame ∷ []));
+      frames = subst (RoundIs out (place + 1) new) c.self.view_is (
+          round_step c.self.inside c.unacknowledged-count.result place c.repeat.new.payload out c.loop-place.out new
           c.unacknowledged-count.ensures.state
           c.repeat.ensures
           (subst (RoundIs out place c.loop-place.out) (sym c.self.view_is) c.loop-place.invariant.frames)
-          (let P : Kept → Type 0 = λ k. c.push.new.out ≡ c.loop-place.out ++ (record { to = k.facts.config.peer; payload = c.repeat.new.payload; circuit = k.facts.id; mark = marks.Again (c.unacknowledged-count.result - 1 - place) }) ∷ [] in
-          subst P (sym c.self.view_is) c.push.ensures)
+          (let P : Kept → Type 0 = λ k. new ≡ c.loop-place.out ++ frame_of k.facts.config.peer k.facts.id mark c.repeat.new.payload ∷ [] in
+          subst P (sym c.self.view_is) refl)
           );
     }
 

@@ -1,5 +1,6 @@
-use Rattle.std.proofs.Common.{◌≡◌, ◌++◌, [], ◌∷◌, sym, ap, subst, ◌∙◌}
+use Rattle.std.proofs.Common.{◌≡◌, ◌++◌, [], ◌∷◌, refl, sym, ap, subst, ◌∙◌}
 use Rattle.lat_base.specs.declared.outbox.Mark.TheVariants as marks
+use Rattle.lat_base.specs.Lending.{frame_of}
 use Rattle.lat_circuit.specs.Kept.{Kept}
 use Rattle.lat_circuit.specs.Stands.{Stands}
 use Rattle.lat_circuit.proofs.Sending.{bare_did}
@@ -8,9 +9,11 @@ use Rattle.lat_circuit.proofs.circuit.Circuit.send_bare.Goals as goal
 pub returns-clause-did : goal.returns-clause-did
 returns-clause-did c = λ e st.
     let here = subst (λ k. Stands k e) (sym c.self.view_is) st in
-    let P : Kept → Type 0 = λ k. c.push.new.out ≡ c.args.out.now ++ (record { to = k.facts.config.peer; payload = c.bare.new.payload; circuit = k.facts.id; mark = marks.Bare }) ∷ [] in
-    bare_did c.self.inside c.args.ask c.bare.new.payload c.args.out.now c.push.new.out e c.self.invariant.1
+    let k = c.args.self.now in
+    let out = c.args.out.now ++ frame_of k.facts.config.peer k.facts.id marks.Bare c.bare.new.payload ∷ [] in
+    let P : Kept → Type 0 = λ k. out ≡ c.args.out.now ++ frame_of k.facts.config.peer k.facts.id marks.Bare c.bare.new.payload ∷ [] in
+    bare_did c.self.inside c.args.ask c.bare.new.payload c.args.out.now out e c.self.invariant.1
     (ap (λ (k : Kept). k.running) c.self.view_is ∙ c.requires.running)
     here
     (c.bare.ensures e.half.link here.link)
-    (subst P (sym c.self.view_is) c.push.ensures)
+    (subst P (sym c.self.view_is) refl)
