@@ -1,6 +1,7 @@
 //! The circuits of a core.
 
 ghost use Rattle.std.specs.Prelude.{◌≡◌, ◌≤◌, ◌<◌, ◌+◌, [], length, replicate, position, not, is_none, vec_capacity, Some, IfOk};
+ghost use Rattle.std.specs.List.{list_any};
 ghost use Rattle.lat_machines.specs.values.Addresses.{address};
 ghost use Rattle.lat_machines.specs.cores.Cores.{open_core, Core, at_moment};
 ghost use Rattle.lat_circuit.specs.Agrees.{IsTiming};
@@ -122,6 +123,13 @@ impl Circuits {
     {
         let circuit = self.held.remove(at);
         self.rooms.push_reserved(circuit.into_room());
+    }
+
+    /// Whether a circuit that has ended is held: its end can still be told.
+    pub fn has_ended(&self) -> bool
+        ensures { result ≡ list_any (λ (q : Kept). not (is_none q.ended)) self.now.held }
+    {
+        self.held.iter().any(|circuit| !circuit.lives())
     }
 
     // Where the first is that has ended.

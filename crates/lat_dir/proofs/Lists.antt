@@ -1,8 +1,11 @@
 -- Filtered lists.
 use Rattle.std.proofs.Common.{◌≡◌, ℕ, ◌≤◌, Bool, true, false, not, List, [], ◌∷◌, ◌++◌, length, map, filter, refl, sym, ap, ◌∙◌, arith, true≢false}
 use Rattle.std.specs.Prelude.{bytes_eq}
+use Rattle.std.proofs.lemmas.Option.{none-some}
 use Rattle.std.proofs.lemmas.Slice.Eq.{bytes_eq-Decides}
 use Rattle.std.specs.Bool.{one_answer}
+use Rattle.std.specs.Prelude.{None}
+use Rattle.std.specs.Map.{lookup, remove_entry}
 use Rattle.indexmap.specs.IndexMap.{insert_entry}
 
 pub bytes_eq_sym : (xs ys : List ℕ) → bytes_eq xs ys ≡ bytes_eq ys xs
@@ -65,3 +68,26 @@ insert_other {V} key v (e ∷ es) = by (bytes_eq e.0 key) refl (insert_other key
     by : (b : Bool) → bytes_eq e.0 key ≡ b → insert_entry bytes_eq (filter (λ x. not (bytes_eq x.0 key)) es) key v ≡ filter (λ x. not (bytes_eq x.0 key)) es ++ (key, v) ∷ [] → insert_entry bytes_eq (filter (λ x. not (bytes_eq x.0 key)) (e ∷ es)) key v ≡ filter (λ x. not (bytes_eq x.0 key)) (e ∷ es) ++ (key, v) ∷ []
     by true h ih = rw h ih
     by false h ih = rw (h, bytes_eq_sym key e.0 ∙ h) (ap (λ xs. e ∷ xs) ih)
+
+-- where no key is this one, none is dropped
+absent_whole : {V : Type 0} (key : List ℕ) (es : List (List ℕ × V)) → lookup (bytes_eq key) es ≡ None → es ≡ filter (λ e. not (bytes_eq e.0 key)) es
+absent_whole key [] none = refl
+absent_whole {V} key (e ∷ es) none = by (bytes_eq key e.0) refl (absent_whole key es) none
+  where
+    by : (b : Bool) → bytes_eq key e.0 ≡ b → (lookup (bytes_eq key) es ≡ None → es ≡ filter (λ x. not (bytes_eq x.0 key)) es)
+        → lookup (bytes_eq key) (e ∷ es) ≡ None → e ∷ es ≡ filter (λ x. not (bytes_eq x.0 key)) (e ∷ es)
+    by true h ih none = absurd (none-some e.1 (sym (rw h at none)))
+    by false h ih none = rw (bytes_eq_sym e.0 key ∙ h) (ap (λ xs. e ∷ xs) (ih (rw h at none)))
+
+-- the first entry of a key is dropped, and with it all of them
+pub remove_all : {V : Type 0} (key : List ℕ) (es : List (List ℕ × V)) → lookup (bytes_eq key) (remove_entry (bytes_eq key) es) ≡ None
+    → remove_entry (bytes_eq key) es ≡ filter (λ e. not (bytes_eq e.0 key)) es
+remove_all key [] none = refl
+remove_all {V} key (e ∷ es) none = by (bytes_eq key e.0) refl (remove_all key es) none
+  where
+    by : (b : Bool) → bytes_eq key e.0 ≡ b
+        → (lookup (bytes_eq key) (remove_entry (bytes_eq key) es) ≡ None → remove_entry (bytes_eq key) es ≡ filter (λ x. not (bytes_eq x.0 key)) es)
+        → lookup (bytes_eq key) (remove_entry (bytes_eq key) (e ∷ es)) ≡ None
+        → remove_entry (bytes_eq key) (e ∷ es) ≡ filter (λ x. not (bytes_eq x.0 key)) (e ∷ es)
+    by true h ih none = rw (h, bytes_eq_sym e.0 key ∙ h) (absent_whole key es (rw h at none))
+    by false h ih none = let rest = rw (h, h) at none in rw (h, bytes_eq_sym e.0 key ∙ h) (ap (λ xs. e ∷ xs) (ih rest))

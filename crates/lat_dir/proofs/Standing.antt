@@ -1,10 +1,8 @@
 -- What a directory keeps stands for what was heard.
-use Rattle.std.proofs.Common.{◌≡◌, ℕ, ◌+◌, ◌*◌, ◌≤◌, ◌<◌, Bool, true, false, not, List, [], ◌∷◌, ◌++◌, length, map, filter, nat_lt, nat_le, Result, Ok, Err, refl, sym, ap, ◌∙◌, arith}
+use Rattle.std.proofs.Common.{◌≡◌, ℕ, ◌+◌, ◌*◌, ◌≤◌, Bool, true, false, not, List, [], ◌∷◌, ◌++◌, length, map, filter, nat_lt, nat_le, Result, Ok, Err, refl, sym, ap, ◌∙◌, arith}
 use Rattle.std.specs.Prelude.{bytes_eq}
-use Rattle.std.proofs.lemmas.List.{length-map, map-append, append-nil, length-append}
+use Rattle.std.proofs.lemmas.List.{length-map, map-append, append-nil}
 use Rattle.std.proofs.lemmas.List.Elements.{filter-append}
-use Rattle.std.proofs.lemmas.Bool.Decides.{nat_tests}
-use Rattle.indexmap.specs.IndexMap.{insert_entry}
 use Rattle.lat_base.specs.declared.addr.Addr.{Addr}
 use Rattle.lat_notices.specs.declared.services.Service as services
 use Rattle.lat_notices.specs.declared.notice.Announcement as notices
@@ -16,20 +14,14 @@ use Rattle.lat_dir.specs.declared.directory.DirFault.TheVariants.{Full, Memory}
 use Rattle.lat_dir.specs.declared.node.Node.{Node}
 use Rattle.lat_dir.specs.Words.{Nodes, living, others, node_of, offer_of}
 use Rattle.lat_dir.specs.Stands.{Kept, Known, known, known_of, offer_in, service_shown, Stands, announcement_shown, heard, answer_to, at_moment, UnlessMemory}
-use Rattle.lat_dir.specs.Steps.{turned_away, is_full, answer_met, with_node, taken_in}
-use Rattle.lat_dir.proofs.Lists.{filter_map_is, filter_weaker, filter_swap, filter_shorter, filter_whole, insert_other}
+use Rattle.lat_dir.specs.Steps.{turned_away, trimmed, is_full, answer_met, with_node, taken_in}
+use Rattle.lat_dir.proofs.Lists.{filter_map_is, filter_swap}
+use Rattle.lat_dir.proofs.Trimming.{living_later, living_trimmed, trimmed_many}
 use Rattle.lat_dir.proofs.Latest.{apart, live_push}
 
 -- those of other names
 abbrev apart_from : List ℕ → List Known → List Known
 apart_from key ks = filter (λ k. not (bytes_eq k.key key)) ks
-
-later : (now next until : ℕ) → now ≤ next → nat_lt next until ≡ true → nat_lt now until ≡ true
-later now next until h e = grind (arith, nat_tests)
-
--- what lives later lives now
-pub living_later : (now next : ℕ) (nodes : Nodes) → now ≤ next → living next (living now nodes) ≡ living next nodes
-living_later now next nodes h = filter_weaker (λ e. nat_lt next e.1.until) (λ e. nat_lt now e.1.until) (λ e l. later now next e.1.until h l) nodes
 
 pub at_moment_stands : (now : ℕ) (k : Kept) (h : List HeardAnnouncement) → k.moment ≤ now → Stands k h → Stands (at_moment now k) h
 at_moment_stands now k h later stands next after =
@@ -43,23 +35,22 @@ known_apart x es = sym (filter_map_is (λ k. not (bytes_eq k.key (folded x.annou
 
 -- the other nodes that live later are those that are live then in the list
 others_live : (now next : ℕ) (k : Kept) (h : List HeardAnnouncement) (x : HeardAnnouncement) → Stands k h → k.moment ≤ now → now ≤ next
-    → map known (living next (others (folded x.announcement.node) (living now k.nodes))) ≡ map known_of (filter (apart x) (live k.groups next h))
+    → map known (living next (others (folded x.announcement.node) k.nodes)) ≡ map known_of (filter (apart x) (live k.groups next h))
 others_live now next k h x stands before after =
     let key = folded x.announcement.node in
-    ap (map known) (filter_swap (λ e. nat_lt next e.1.until) (λ e. not (bytes_eq e.0 key)) (living now k.nodes) ∙ ap (others key) (living_later now next k.nodes after))
+    ap (map known) (filter_swap (λ e. nat_lt next e.1.until) (λ e. not (bytes_eq e.0 key)) k.nodes)
     ∙ known_others key (living next k.nodes)
     ∙ ap (apart_from key) (stands next (omega (arith, before, after)))
     ∙ sym (known_apart x (live k.groups next h))
 
 -- 256 others are kept exactly where 256 others are live in the list
 full_is : (now : ℕ) (k : Kept) (h : List HeardAnnouncement) (x : HeardAnnouncement) → Stands k h → k.moment ≤ now
-    → is_full (folded x.announcement.node) (living now k.nodes) ≡ is_full_for k.groups now x.announcement.node h
+    → is_full now (folded x.announcement.node) k.nodes ≡ is_full_for k.groups now x.announcement.node h
 full_is now k h x stands before =
-    let key = folded x.announcement.node in
-    let rest = others key (living now k.nodes) in
-    let others_are : map known rest ≡ map known_of (filter (apart x) (live k.groups now h)) =
-    known_others key (living now k.nodes) ∙ ap (apart_from key) (stands now before) ∙ sym (known_apart x (live k.groups now h)) in
-    ap (nat_le 256) (sym (length-map rest known) ∙ ap length others_are ∙ length-map (filter (apart x) (live k.groups now h)) known_of)
+    let rest = living now (others (folded x.announcement.node) k.nodes) in
+    let others_are : map known rest ≡ map known_of (filter (apart x) (live k.groups now h)) = others_live now now k h x stands before (omega arith) in
+    trimmed_many now (others (folded x.announcement.node) k.nodes)
+    ∙ ap (nat_le 256) (sym (length-map rest known) ∙ ap length others_are ∙ length-map (filter (apart x) (live k.groups now h)) known_of)
 
 offers_are : (ss : List services.Service) → map offer_of ss ≡ map offer_in (map service_shown ss)
 offers_are [] = refl
@@ -102,79 +93,49 @@ turned_away_stands now from a k h before met stands next after =
 
 -- an announcement whose groups are met, where there is no room
 full_stands : (now : ℕ) (from : Addr) (a : notices.Announcement) (k : Kept) (h : List HeardAnnouncement) → k.moment ≤ now
-    → meets k.groups (announcement_shown a) ≡ true → is_full (folded a.node) (living now k.nodes) ≡ true → refuses k.groups now (announcement_shown a) h ≡ true
+    → meets k.groups (announcement_shown a) ≡ true → is_full now (folded a.node) k.nodes ≡ true → refuses k.groups now (announcement_shown a) h ≡ true
     → Stands k h → Stands (taken_in now (folded a.node) (node_of from a now) k) (heard k.groups now from a h)
 full_stands now from a k h before met full refused stands next after =
-    let nodes : with_node (folded a.node) (node_of from a now) (living now k.nodes) ≡ living now k.nodes = rw full refl in
+    let nodes : with_node now (folded a.node) (node_of from a now) k.nodes ≡ living now k.nodes = rw full refl in
     let list : heard k.groups now from a h ≡ h = rw refused refl in
     ap (λ ns. map known (living next ns)) nodes ∙ at_moment_stands now k h before stands next after ∙ sym (ap (λ es. map known_of (live k.groups next es)) list)
 
 -- the same, where there is room
 kept_stands : (now : ℕ) (from : Addr) (a : notices.Announcement) (k : Kept) (h : List HeardAnnouncement) → k.moment ≤ now
-    → meets k.groups (announcement_shown a) ≡ true → is_full (folded a.node) (living now k.nodes) ≡ false → refuses k.groups now (announcement_shown a) h ≡ false
+    → meets k.groups (announcement_shown a) ≡ true → is_full now (folded a.node) k.nodes ≡ false → refuses k.groups now (announcement_shown a) h ≡ false
     → Stands k h → Stands (taken_in now (folded a.node) (node_of from a now) k) (heard k.groups now from a h)
 kept_stands now from a k h before met full refused stands next after =
     let x = heard_as now from a in
-    let rest = others (folded a.node) (living now k.nodes) in
+    let rest = trimmed now (others (folded a.node) k.nodes) in
     let own = (folded a.node, node_of from a now) ∷ [] in
-    let nodes : with_node (folded a.node) (node_of from a now) (living now k.nodes) ≡ rest ++ own = rw full refl in
+    let nodes : with_node now (folded a.node) (node_of from a now) k.nodes ≡ rest ++ own = rw full refl in
+    let left = ap (map known) (living_trimmed now next (others (folded a.node) k.nodes) after) ∙ others_live now next k h x stands before after in
     let old = filter (apart x) (live k.groups next h) in
     let new = filter (is_live k.groups next) (x ∷ []) in
     let list = ap (λ es. map known_of (live k.groups next es)) (kept_list k.groups now from a h refused) ∙ ap (map known_of) (live_push k.groups next h x) ∙ map-append known_of old new in
     let cut = filter-append (λ e. nat_lt next e.1.until) rest own in
     let both : map known (living next rest) ++ map known (living next own) ≡ map known_of old ++ map known_of new =
-    λ j. others_live now next k h x stands before after j ++ new_live k.groups now next from a met j in
+    λ j. left j ++ new_live k.groups now next from a met j in
     ap (λ ns. map known (living next ns)) nodes ∙ ap (map known) cut ∙ map-append known (living next rest) (living next own) ∙ both ∙ sym list
 
 refused_is : (now : ℕ) (a : notices.Announcement) (from : Addr) (k : Kept) (h : List HeardAnnouncement) → k.moment ≤ now → Stands k h
-    → meets k.groups (announcement_shown a) ≡ true → refuses k.groups now (announcement_shown a) h ≡ is_full (folded a.node) (living now k.nodes)
+    → meets k.groups (announcement_shown a) ≡ true → refuses k.groups now (announcement_shown a) h ≡ is_full now (folded a.node) k.nodes
 refused_is now a from k h before stands met = rw met (sym (full_is now k h (heard_as now from a) stands before))
 
 pub taken_in_stands : (now : ℕ) (from : Addr) (a : notices.Announcement) (k : Kept) (h : List HeardAnnouncement) → k.moment ≤ now
     → meets k.groups (announcement_shown a) ≡ true → Stands k h → Stands (taken_in now (folded a.node) (node_of from a now) k) (heard k.groups now from a h)
-taken_in_stands now from a k h before met stands = by (is_full (folded a.node) (living now k.nodes)) refl
+taken_in_stands now from a k h before met stands = by (is_full now (folded a.node) k.nodes) refl
   where
-    by : (b : Bool) → is_full (folded a.node) (living now k.nodes) ≡ b → Stands (taken_in now (folded a.node) (node_of from a now) k) (heard k.groups now from a h)
+    by : (b : Bool) → is_full now (folded a.node) k.nodes ≡ b → Stands (taken_in now (folded a.node) (node_of from a now) k) (heard k.groups now from a h)
     by true e = full_stands now from a k h before met e (refused_is now a from k h before stands met ∙ e) stands
     by false e = kept_stands now from a k h before met e (refused_is now a from k h before stands met ∙ e) stands
 
 -- the answer where the groups are met
 pub answer_is : (now : ℕ) (from : Addr) (a : notices.Announcement) (k : Kept) (h : List HeardAnnouncement) → k.moment ≤ now
-    → meets k.groups (announcement_shown a) ≡ true → Stands k h → answer_met (folded a.node) (living now k.nodes) ≡ answer_to k.groups now a h
+    → meets k.groups (announcement_shown a) ≡ true → Stands k h → answer_met now (folded a.node) k.nodes ≡ answer_to k.groups now a h
 answer_is now from a k h before met stands = rw (refused_is now a from k h before stands met, met) refl
 
 pub unless_map : {A P Q : Type 0} (r : Result A DirFault) → (P → Q) → UnlessMemory r P → UnlessMemory r Q
 unless_map (Ok x) f p = f p
 unless_map (Err Full) f p = f p
 unless_map (Err Memory) f p = tt
-
-pub living_shorter : (now : ℕ) (nodes : Nodes) → length (living now nodes) ≤ length nodes
-living_shorter now nodes = filter_shorter (λ e. nat_lt now e.1.until) nodes
-
-pub others_shorter : (name : List ℕ) (nodes : Nodes) → length (others name nodes) ≤ length nodes
-others_shorter name nodes = filter_shorter (λ e. not (bytes_eq e.0 name)) nodes
-
--- where 256 others are among 256, there was none of this name
-pub full_kept : (name : List ℕ) (node : Node) (nodes rest : Nodes) → rest ≡ others name nodes → length nodes ≤ 256 → 256 ≤ length rest → rest ≡ with_node name node nodes
-full_kept name node nodes rest is most many =
-    let long : length rest ≡ length (others name nodes) = ap length is in
-    let full : nat_le 256 (length (others name nodes)) ≡ true = grind (arith, nat_tests) in
-    rw full (is ∙ filter_whole (λ e. not (bytes_eq e.0 name)) nodes (omega (arith, most, many, long)))
-
--- else the node goes to the end
-pub new_kept : (name : List ℕ) (node : Node) (nodes rest : Nodes) → rest ≡ others name nodes → length rest < 256 → insert_entry bytes_eq rest name node ≡ with_node name node nodes
-new_kept name node nodes rest is few =
-    let long : length rest ≡ length (others name nodes) = ap length is in
-    let room : nat_le 256 (length (others name nodes)) ≡ false = grind (arith, nat_tests) in
-    rw room (ap (λ es. insert_entry bytes_eq es name node) is ∙ insert_other name node nodes)
-
--- 256 are kept at most
-pub with_node_most : (name : List ℕ) (node : Node) (nodes : Nodes) → length nodes ≤ 256 → length (with_node name node nodes) ≤ 256
-with_node_most name node nodes most = by (nat_le 256 (length (others name nodes))) refl
-  where
-    by : (b : Bool) → nat_le 256 (length (others name nodes)) ≡ b → length (with_node name node nodes) ≤ 256
-    by true e = rw e most
-    by false e =
-        let one = length-append (others name nodes) ((name, node) ∷ []) in
-        let few : length (others name nodes) < 256 = grind (arith, nat_tests) in
-        rw e (omega (arith, one, few))

@@ -8,19 +8,23 @@ use Rattle.lat_dir.specs.Stands.{Kept}
 
 -- nothing of this name is kept
 abbrev pub turned_away : ℕ → List ℕ → Kept → Kept
-turned_away now name k = record { groups = k.groups; nodes = others name (living now k.nodes); moment = now }
+turned_away now name k = record { groups = k.groups; nodes = others name k.nodes; moment = now }
 
--- 256 nodes of other names
-abbrev pub is_full : List ℕ → Nodes → Bool
-is_full name nodes = nat_le 256 (length (others name nodes))
+-- where 256 are kept, those that live are left
+abbrev pub trimmed : ℕ → Nodes → Nodes
+trimmed now nodes = if nat_le 256 (length nodes) then living now nodes else nodes
+
+-- 256 nodes of other names live
+abbrev pub is_full : ℕ → List ℕ → Nodes → Bool
+is_full now name nodes = nat_le 256 (length (trimmed now (others name nodes)))
 
 -- the answer to an announcement whose groups are met
-abbrev pub answer_met : List ℕ → Nodes → Result Bool DirFault
-answer_met name nodes = if is_full name nodes then Err Full else Ok true
+abbrev pub answer_met : ℕ → List ℕ → Nodes → Result Bool DirFault
+answer_met now name nodes = if is_full now name nodes then Err Full else Ok true
 
 -- the node goes behind those of other names, where there is room
-abbrev pub with_node : List ℕ → Node → Nodes → Nodes
-with_node name node nodes = if is_full name nodes then nodes else others name nodes ++ (name, node) ∷ []
+abbrev pub with_node : ℕ → List ℕ → Node → Nodes → Nodes
+with_node now name node nodes = if is_full now name nodes then living now nodes else trimmed now (others name nodes) ++ (name, node) ∷ []
 
 abbrev pub taken_in : ℕ → List ℕ → Node → Kept → Kept
-taken_in now name node k = record { groups = k.groups; nodes = with_node name node (living now k.nodes); moment = now }
+taken_in now name node k = record { groups = k.groups; nodes = with_node now name node k.nodes; moment = now }

@@ -1,23 +1,19 @@
 //! The directory of services.
 
-ghost use Rattle.std.specs.Prelude.{◌≡◌, ◌≤◌, ◌<◌, List, [], length, Ok, Err, None, option_map, reverse, map, fold, IfOk, IfSome};
-ghost use Rattle.indexmap.specs.IndexMap.{spare};
+ghost use Rattle.std.specs.Prelude.{◌≡◌, ◌≤◌, ◌<◌, List, [], Err, option_map, IfOk, IfSome};
 ghost use Rattle.lat_machines.specs.server.Directory.{HeardAnnouncement, best};
-ghost use Rattle.lat_dir.specs.Words.{living, others, better_in, best_shown};
+ghost use Rattle.lat_dir.specs.Words.{best_shown};
 ghost use Rattle.lat_dir.specs.Stands.{Stands, heard, answer_to, at_moment, UnlessMemory};
-ghost use Rattle.lat_dir.specs.Steps.{turned_away, answer_met, with_node, taken_in};
+ghost use Rattle.lat_dir.specs.Steps.{turned_away, answer_met, taken_in};
 
 use crate::best::Best;
 use crate::groups::are_met;
 use crate::node::Node;
-use indexmap::IndexMap;
+use crate::nodes::Nodes;
 use lat_base::{Addr, Memory, Name};
 use lat_notices::Announcement;
 use std::alloc::{AllocError, AllocFailed, Global};
 use std::marker::Model;
-
-/// So many nodes are live at most.
-const NODES: usize = 256;
 
 /// Why an announcement isn't kept.
 #[derive(Clone, Copy, Debug, PartialEq, Eq)]
@@ -61,65 +57,21 @@ impl<T: Drop> From<AllocFailed<T>> for DirFault {
     }
 }
 
-fn forget_expired(nodes: &mut IndexMap<Name, Node>, now: u64)
-    ensures kept { nodes.new.entries ≡ living now nodes.old.entries }
-    ensures room { spare nodes.old ≤ spare nodes.new }
-{
-    nodes.retain(|_, node| node.lives(now));
-}
-
-fn forget(nodes: &mut IndexMap<Name, Node>, name: &Name)
-    ensures kept { nodes.new.entries ≡ others name.now nodes.old.entries }
-    ensures room { spare nodes.old ≤ spare nodes.new }
-{
-    nodes.retain(|other, _| other != name);
-}
-
-// Puts the node behind those of other names, of which there may be 255. The answer is that of `hear`.
-fn keep(nodes: &mut IndexMap<Name, Node>, name: Name, node: Node) -> Result<bool, DirFault>
-    requires room { 0 < spare nodes.old }
-    requires most { length nodes.old.entries ≤ 256 }
-    ensures answer { result ≡ answer_met name nodes.old.entries }
-    ensures kept { nodes.new.entries ≡ with_node name node nodes.old.entries }
-{
-    forget(nodes, &name);
-    // So many are left only where none of this name was there.
-    if nodes.len() >= NODES {
-        return Err(DirFault::Full);
-    }
-    nodes.insert(name, node)?;
-    Ok(true)
-}
-
-// The best node, looked at from the last heard to the first; any order would choose the same.
-fn chosen(nodes: &IndexMap<Name, Node>, service: &Name, now: u64) -> Option<Best>
-    ensures { result ≡ fold (better_in service.now now) None (reverse (map (λ e. e.1) nodes.now.entries)) }
-{
-    nodes
-        .values()
-        .rev()
-        .fold(None, |found, node| node.better(found, service, now))
-}
-
 /// The nodes that a server knows of, each with its last announcement. At most 256 are live.
 #[derive(Drop)]
 pub struct Directory {
     groups: [u8; 32],
-    // Each under its name in upper case, in the order in which they were last heard.
-    nodes: IndexMap<Name, Node>,
+    nodes: Nodes,
     // The last moment that it was told.
     moment: u64,
 }
 
 impl Model for Directory {
-    ghost use Rattle.std.specs.Prelude.{◌≤◌, length};
     ghost use Rattle.lat_dir.specs.Stands.{Kept};
 
     ghost Value = { Kept };
 
-    ghost view = { λ a. record { groups = a.groups; nodes = a.nodes.entries; moment = a.moment } };
-
-    ghost invariant = { λ a. length a.nodes.entries ≤ 256 };
+    ghost view = { λ a. record { groups = a.groups; nodes = a.nodes; moment = a.moment } };
 }
 
 impl Directory {
@@ -130,7 +82,7 @@ impl Directory {
     {
         Ok(Directory {
             groups: *groups,
-            nodes: IndexMap::with_capacity(alloc, NODES)?,
+            nodes: Nodes::make(alloc)?,
             moment: 0,
         })
     }
@@ -141,7 +93,7 @@ impl Directory {
         ensures stands { (h : List HeardAnnouncement) → Stands self.old h → Stands self.new h }
         ensures kept { self.new ≡ at_moment now self.old }
     {
-        forget_expired(&mut self.nodes, now);
+        self.nodes.expire(now);
         self.moment = now;
     }
 
@@ -149,21 +101,24 @@ impl Directory {
     fn turn_away(&mut self, name: &Name, now: u64)
         ensures { self.new ≡ turned_away now name.now self.old }
     {
-        forget_expired(&mut self.nodes, now);
-        forget(&mut self.nodes, name);
+        self.nodes.forget(name);
         self.moment = now;
     }
 
     // Keeps what was last heard of the node, and answers as `hear` does. Takes memory first.
     fn take_in(&mut self, name: Name, node: Node, now: u64) -> Result<bool, DirFault>
-        ensures answer { UnlessMemory result (result ≡ answer_met name (living now self.old.nodes)) }
+        ensures answer { UnlessMemory result (result ≡ answer_met now name self.old.nodes) }
         ensures kept { UnlessMemory result (self.new ≡ taken_in now name node self.old) }
+        ensures full { result ≡ Err DirFault.Full → self.new ≡ at_moment now self.old }
         ensures memory { result ≡ Err DirFault.Memory → self.new ≡ self.old }
     {
-        self.nodes.reserve(1)?;
-        forget_expired(&mut self.nodes, now);
+        let is_kept = self.nodes.put(name, node, now)?;
         self.moment = now;
-        keep(&mut self.nodes, name, node)
+        if is_kept {
+            Ok(true)
+        } else {
+            Err(DirFault::Full)
+        }
     }
 
     /// Hears an announcement from an address. Where its groups are met, it is kept as the last one of its node, a node being
@@ -204,6 +159,6 @@ impl Directory {
         ensures best { (h : List HeardAnnouncement) → Stands self.now h → option_map best_shown result ≡ best self.now.groups service.now now h }
         ensures above { IfSome result (λ b. 0 < b.rating) }
     {
-        chosen(&self.nodes, &service.folded(), now)
+        self.nodes.best(&service.folded(), now)
     }
 }

@@ -7,6 +7,7 @@ mod best;
 mod directory;
 mod groups;
 mod node;
+mod nodes;
 mod offers;
 
 pub use best::Best;

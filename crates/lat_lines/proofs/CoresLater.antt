@@ -64,7 +64,7 @@ none_later c d l h = ap lives (l.dead 0 (omega arith) h) ∙ h
 
 -- One circuit does something
 
-updated_at : (P : CircuitEntry → Type 0) (f : ℕ → CircuitEntry) (x y : ℕ) (e : CircuitEntry) → (y ≡ x → P e) → P (f y) → P (updated f x e y)
+pub updated_at : (P : CircuitEntry → Type 0) (f : ℕ → CircuitEntry) (x y : ℕ) (e : CircuitEntry) → (y ≡ x → P e) → P (f y) → P (updated f x e y)
 updated_at P f x y e here there = cond_both (nat_eq y x) e (f y) P (λ h. here (eqb-true y x h)) (λ h. there)
 
 -- what the circuit was that became f: one of c that lives, or none yet

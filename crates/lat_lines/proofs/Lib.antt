@@ -10,6 +10,7 @@ pub mod Standing
 pub mod CoresLater
 pub mod Covered
 pub mod Acting
+pub mod resting
 pub mod Calling
 pub mod Says
 pub mod Seating

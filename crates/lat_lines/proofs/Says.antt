@@ -13,13 +13,15 @@ use Rattle.lat_circuits.specs.Kept as circuits
 use Rattle.lat_circuits.specs.Stands as stands
 use Rattle.lat_lines.specs.declared.seat.Seat as own
 use Rattle.lat_lines.specs.Kept.{Kept, side_of}
+use Rattle.lat_lines.specs.Calm.{CoreCalm}
 use Rattle.lat_lines.specs.Stands.{Stands, freed_key, freed_from, freed_between}
 use Rattle.lat_lines.specs.Answers.{SaidTo, Says, answer_shown, seat_or}
 use Rattle.lat_lines.proofs.OnLines.{HasSeat, Found, found, is_seat_of}
 use Rattle.lat_lines.proofs.HeldSeats.{IsHeld, held_seat, circuit_is, id_is}
 use Rattle.lat_lines.proofs.Standing.{stands_as}
+use Rattle.lat_lines.proofs.resting.Rested.{rested}
 use Rattle.lat_lines.proofs.CoresLater.{calling_later}
-use Rattle.lat_lines.proofs.Acting.{Settles, Acted, same_held, ok_of, acted}
+use Rattle.lat_lines.proofs.Acting.{Settles, SettlesUnless, Acted, same_held, ok_of, acted, acted_unless}
 use Rattle.lat_lines.proofs.Calling.{Agrees}
 
 -- the session of a line, or none
@@ -97,14 +99,27 @@ pub acted_calling : (k m : Kept) (q : circuits.Kept) (x : ℕ) (call : Call) (c 
 acted_calling k m q x call c st ids h settles same =
     acted k q m c (stands.calling (side_of k) x call c) st (same_held k.circuits q ids) h (calling_later (side_of k) x call c (ok_of k c st)) settles same
 
+pub settled_calling : (k m : Kept) (q : circuits.Kept) (x : ℕ) (call : Call) (calm : Bool) (c : Core) → Stands k c → circuits.ids q ≡ circuits.ids k.circuits
+    → stands.Stands q (stands.calling (side_of k) x call c) → SettlesUnless (record k { circuits = q }) m calm → m.circuits ≡ q
+    → (calm ≡ true → CoreCalm c (stands.calling (side_of k) x call c))
+    → Acted c (stands.calling (side_of k) x call c) m
+settled_calling k m q x call calm c st ids h settles same calms =
+    acted_unless k q m calm c (stands.calling (side_of k) x call c) st (same_held k.circuits q ids) h (calling_later (side_of k) x call c (ok_of k c st)) settles same calms
+
+-- what it does to lines that know all of their sessions then
+pub calm_calling : (k m : Kept) (q : circuits.Kept) (x : ℕ) (call : Call) (c : Core) → Stands k c
+    → stands.Stands q (stands.calling (side_of k) x call c) → CoreCalm c (stands.calling (side_of k) x call c) → m ≡ record k { circuits = q; freed = [] }
+    → Acted c (stands.calling (side_of k) x call c) m
+calm_calling k m q x call c st h calm same =
+    rested k q m c (stands.calling (side_of k) x call c) st h (calling_later (side_of k) x call c (ok_of k c st)) calm same
+
 -- A call X of the circuits on the kept session agrees with the machines' call f on the line's one
-pub says_called : (k m : Kept) (q : circuits.Kept) (line : ℕ) (s : own.Seat) (f : Core → Seat → Said) (x : Call) (a : base.Answer)
-    → IsSeat k line s → circuits.ids q ≡ circuits.ids k.circuits
-    → ((c : Core) → stands.Stands k.circuits c → stands.Stands q (stands.calling (side_of k) s.session.circuit x c))
-    → Settles (record k { circuits = q }) m → m.circuits ≡ q
+pub says_called : (k m : Kept) (line : ℕ) (s : own.Seat) (f : Core → Seat → Said) (x : Call) (a : base.Answer)
+    → IsSeat k line s
+    → ((c : Core) → Stands k c → Acted c (stands.calling (side_of k) s.session.circuit x c) m)
     → ((c : Core) (t : Seat) → Stands k c → IsHeld k.lines c t → s.session.circuit ≡ t.circuit → s.session.session ≡ t.id → Agrees (stands.calling (side_of k) s.session.circuit x c) (answer_shown a) (f c t))
     → Says (λ c. on_line k.lines c line (f c)) k m a
-says_called k m q line s f x a is ids did settles same agrees c st =
+says_called k m line s f x a is did agrees c st =
     let has : HasSeat c line s = found k c line st (Some s) is.seat in
     let t : Seat = seat_at c line in
     let d : Core = stands.calling (side_of k) s.session.circuit x c in
@@ -113,7 +128,7 @@ says_called k m q line s f x a is ids did settles same agrees c st =
     ap (λ b. cond b (cond (holds c line) (f c t) (says c Closed)) (says c NoLine)) is.exists
     ∙ ap (λ b. cond b (f c t) (says c Closed)) has.holds in
     let core : (on_line k.lines c line (f c)).core ≡ d = ap (λ z. z.core) on ∙ g.core in
-    let done = acted_calling k m q s.session.circuit x c st ids (did c st.circuits) settles same in
+    let done = did c st in
     record {
       state = subst (Stands m) (sym core) done.state;
       answered = g.answer ∙ sym (ap (λ z. z.answer) on);

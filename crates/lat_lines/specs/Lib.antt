@@ -3,6 +3,7 @@ pub mod Kept
 pub mod Stands
 pub mod Looks
 pub mod Cores
+pub mod Calm
 pub mod Answers
 pub mod Opens
 pub mod Shown

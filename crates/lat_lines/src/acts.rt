@@ -1,17 +1,20 @@
 //! What lines and circuits do at a time event and at a circuit message.
 
-ghost use Rattle.std.specs.Prelude.{◌≡◌, ◌≤◌, ◌+◌, ℕ, true, length};
+ghost use Rattle.std.specs.Prelude.{◌≡◌, ◌≤◌, ◌+◌, ◌&&◌, ℕ, true, not, is_none, length, nat_eq};
+ghost use Rattle.std.specs.List.{list_any};
 ghost use Rattle.lat_frames.specs.Written.{IsWritable};
 ghost use Rattle.lat_machines.specs.values.Addresses.{address};
 ghost use Rattle.lat_machines.specs.cores.Cores.{Core, passes_time};
 ghost use Rattle.lat_circuit.specs.Frames.{message_shown};
+ghost use Rattle.lat_circuit.specs.Kept.{Kept};
 ghost use Rattle.lat_circuits.specs.Kept.{IsClear, has_id};
 ghost use Rattle.lat_circuits.specs.Hears.{heard_core, hearing_shown};
+ghost use Rattle.lat_lines.specs.Calm.{takes_nothing};
 ghost use Rattle.lat_lines.specs.Kept.{side_of, SameLines};
 ghost use Rattle.lat_lines.specs.Stands.{Stands, Did};
 
 use crate::lines::Lines;
-use lat_base::{Addr, OutBox};
+use lat_base::{Addr, Heard, OutBox};
 use lat_circuits::Hearing;
 use lat_frames::Message;
 
@@ -25,8 +28,10 @@ impl Lines {
         ensures moment { self.new.circuits.moment ≡ self.old.circuits.moment }
         ensures most { length out.new ≤ length out.old + 128 }
     {
+        let before = out.len();
         self.circuits.time(out);
-        self.settle();
+        let is_calm = self.is_calm(before, out);
+        self.settle_unless(is_calm);
     }
 
     /// Hears a circuit message from a station, at the core's moment. No circuit that has ended may be held. See
@@ -42,8 +47,34 @@ impl Lines {
         ensures held { (x : ℕ) → has_id x self.old.circuits ≡ true → has_id x self.new.circuits ≡ true }
         ensures most { length out.new ≤ length out.old + 1 }
     {
+        let before = out.len();
         let hearing = self.circuits.heard(from, m, out);
-        self.settle();
+        let is_calm = is_quiet(&hearing, before, out);
+        self.settle_unless(is_calm);
         hearing
     }
+
+    // Whether a time left each session as its line knows it: none formed a slot, and no circuit ended.
+    fn is_calm(&self, before: usize, out: &OutBox) -> bool
+        ensures { result ≡ (nat_eq (length out.now) before && not (list_any (λ (q : Kept). not (is_none q.ended)) self.now.circuits.held)) }
+    {
+        out.len() == before && !self.circuits.has_ended()
+    }
+}
+
+// Whether a message left each session as its line knows it: no slot was heard or formed, and no circuit ended.
+fn is_quiet(hearing: &Hearing, before: usize, out: &OutBox) -> bool
+    ensures { result ≡ (nat_eq (length out.now) before && takes_nothing (hearing_shown hearing.now)) }
+{
+    out.len() == before && takes_nothing(*hearing)
+}
+
+// Whether a circuit that heard it took no slot, and goes on.
+fn takes_nothing(hearing: Hearing) -> bool
+    ensures { result ≡ takes_nothing (hearing_shown hearing) }
+{
+    matches!(
+        hearing,
+        Hearing::Circuit(Heard::Again | Heard::AckOnly | Heard::Foreign)
+    )
 }

@@ -5,6 +5,7 @@ ghost use Rattle.std.specs.Prelude.{◌≡◌, [], length, IfOk, OnErr};
 ghost use Rattle.lat_base.specs.Answers.{PutFits, TookFits};
 ghost use Rattle.lat_base.specs.declared.event.Event.TheVariants as events;
 ghost use Rattle.lat_machines.specs.cores.LineCalls.{put_on, set_on, attend_on, take_on, close_on, on_line};
+ghost use Rattle.lat_session.specs.States.{is_free};
 ghost use Rattle.lat_circuits.specs.Kept.{IsClear};
 ghost use Rattle.lat_lines.specs.Kept.{side_of, SameLines};
 ghost use Rattle.lat_lines.specs.Answers.{Says, ready, seat_or, fault_answer, put_answer, done_answer, took_answer};
@@ -12,7 +13,7 @@ ghost use Rattle.lat_lines.specs.Answers.{Says, ready, seat_or, fault_answer, pu
 use crate::getters::seat_of;
 use crate::lines::Lines;
 use crate::seat::Seat;
-use lat_base::{Answer, Item, Items, Memory};
+use lat_base::{Answer, Item, Items, Memory, SessionState};
 use lat_circuits::SessionFault;
 use std::alloc::Global;
 
@@ -33,7 +34,7 @@ impl Lines {
             Ok(seat) => {
                 let session = seat.session;
                 let answer = self.circuits.put(session.circuit, session.session, bytes);
-                self.settle();
+                self.rest();
                 put_told(answer)
             }
             Err(answer) => self.refused(answer),
@@ -53,7 +54,7 @@ impl Lines {
             Ok(seat) => {
                 let session = seat.session;
                 let answer = self.circuits.set(session.circuit, session.session, setting);
-                self.settle();
+                self.rest();
                 done_told(answer)
             }
             Err(answer) => self.refused(answer),
@@ -73,7 +74,7 @@ impl Lines {
             Ok(seat) => {
                 let session = seat.session;
                 let answer = self.circuits.attend(session.circuit, session.session, flag);
-                self.settle();
+                self.rest();
                 done_told(answer)
             }
             Err(answer) => self.refused(answer),
@@ -93,7 +94,8 @@ impl Lines {
             Ok(seat) => {
                 let session = seat.session;
                 let answer = self.circuits.close(session.circuit, session.session);
-                self.settle();
+                let is_over = is_free(self.circuits.state(session.circuit, session.session));
+                self.settle_unless(!is_over);
                 done_told(answer)
             }
             Err(answer) => self.refused(answer),
@@ -122,7 +124,8 @@ impl Lines {
                 let answer = self
                     .circuits
                     .take(session.circuit, session.session, items.as_mut_slice());
-                self.settle();
+                let is_over = is_free(self.circuits.state(session.circuit, session.session));
+                self.settle_unless(!is_over);
                 Ok(took_told(answer, items))
             }
             Err(answer) => Ok(self.refused(answer)),
@@ -144,9 +147,15 @@ impl Lines {
         ensures answer { result ≡ answer }
         ensures kept { self.new ≡ record self.old { freed = [] } }
     {
-        self.freed.clear();
+        self.rest();
         answer
     }
+}
+
+fn is_free(state: SessionState) -> bool
+    ensures { result ≡ is_free state }
+{
+    matches!(state, SessionState::Free)
 }
 
 // So many places for items.

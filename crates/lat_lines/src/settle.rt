@@ -1,12 +1,14 @@
 //! What lines learn of their sessions after each act of the circuits.
 
-ghost use Rattle.std.specs.Prelude.{◌≡◌, ◌≤◌, ◌<◌, ◌+◌, [], ◌∷◌, map, length, filter, is_none, vec_len, vec_capacity};
+ghost use Rattle.std.specs.Prelude.{◌≡◌, ◌≤◌, ◌<◌, ◌+◌, true, false, [], ◌∷◌, map, length, filter, is_none, vec_len, vec_capacity};
 ghost use Rattle.std.specs.List.{AllZip};
 ghost use Rattle.lat_model.specs.Lists.{Each};
+ghost use Rattle.lat_model.specs.ends.End.{lives};
 ghost use Rattle.lat_machines.specs.cores.Cores.{Core};
 ghost use Rattle.lat_circuits.specs.Stands as circuits;
 ghost use Rattle.lat_lines.specs.Kept.{SameLines, IsLine};
 ghost use Rattle.lat_lines.specs.Stands.{Seated, freed_between, session_shown};
+ghost use Rattle.lat_lines.specs.Calm.{CoreCalm};
 ghost use Rattle.lat_lines.specs.Cores.{CoreLater, Covers};
 ghost use Rattle.lat_lines.specs.Looks.{Looks, session_closed, session_seen, last_after, finished_after, freed_after};
 ghost use Rattle.lat_circuits.specs.Told.{telling};
@@ -43,6 +45,33 @@ impl Lines {
         freed.clear();
         note_all(seats.as_slice(), last.as_mut_slice(), finished, freed);
         keep_open(seats);
+    }
+
+    /// No session has become free, and lines know all of theirs.
+    pub(crate) fn rest(&mut self)
+        ensures { self.new ≡ record self.old { freed = [] } }
+    {
+        self.freed.clear();
+    }
+
+    /// Settles, unless lines know all of their sessions.
+    pub(crate) fn settle_unless(&mut self, is_calm: bool)
+        ensures state { (c d : Core) →
+            Seated self.old c →
+            Covers self.old →
+            circuits.Stands self.old.circuits d →
+            CoreLater c d →
+            lives (c.circuits.circuit_at 0).end ≡ false →
+            (is_calm ≡ true → CoreCalm c d) →
+            Seated self.new d × (map key_in self.new.freed ≡ freed_between c d) }
+        ensures same { SameLines self.old self.new }
+        ensures circuits { self.new.circuits ≡ self.old.circuits }
+    {
+        if is_calm {
+            self.rest();
+        } else {
+            self.settle();
+        }
     }
 }
 

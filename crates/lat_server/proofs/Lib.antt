@@ -3,6 +3,7 @@ pub mod EventSeats
 pub mod Everyone
 pub mod Following
 pub mod Granting
+pub mod Idle
 pub mod GrantLemmas
 pub mod Hearing
 pub mod KeptLemmas

@@ -1,9 +1,10 @@
 //! Granting requests, and finishing them.
 
-ghost use Rattle.std.specs.Prelude.{◌≡◌, ◌≤◌, ◌+◌, length, map, false, true, List, Some, find, option_map, nat_eq};
+ghost use Rattle.std.specs.Prelude.{◌≡◌, ◌≤◌, ◌+◌, ◌||◌, is_none, length, map, false, true, List, Some, find, option_map, nat_eq};
 ghost use Rattle.lat_base.specs.declared.outbox.OutFrame.{OutFrame};
 ghost use Rattle.lat_machines.specs.cores.Lines.{holds};
 ghost use Rattle.lat_machines.specs.server.Queue.{QueueEvent, Request, next_request};
+ghost use Rattle.lat_machines.specs.server.Records.{record_at};
 ghost use Rattle.lat_machines.specs.server.Server.{Passing, can_open, fitting, grants_by, granting, grant_line};
 ghost use Rattle.lat_queue.specs.Histories as queue;
 ghost use Rattle.lat_queue.specs.Histories.{key_in, address_in};
@@ -48,10 +49,27 @@ impl ServerCore {
         ensures rest { AtRest self.new }
         ensures same { SameConfig self.old self.new }
     {
+        if self.grants_none() {
+            return;
+        }
         let count = self.lines.count();
         for line in 1..count + 1 {
             self.grant_line(line, out);
         }
+    }
+
+    // No line can grant: none offers a service, or no request has a record.
+    fn grants_none(&self) -> bool
+        ensures { (q : List QueueEvent) → queue.Stands self.now.queue q → result ≡ (nat_eq (length self.now.offers) 0 || is_none (record_at 0 q)) }
+    {
+        self.offers.as_slice().is_empty() || self.has_no_record()
+    }
+
+    // No request has a record.
+    fn has_no_record(&self) -> bool
+        ensures { (q : List QueueEvent) → queue.Stands self.now.queue q → result ≡ is_none (record_at 0 q) }
+    {
+        self.queue.record_at(0).is_none()
     }
 
     // The service that a line offers.

@@ -44,5 +44,5 @@ returns-clause-answer c h stands =
     ∙ ap (λ mask. is_empty mask || share_group mask c.self.inside.groups) (sym c.as_slice.ensures)
     ∙ sym c.are_met.ensures
     ∙ c.if-not-are_met.false in
-    let taken = ap (λ name. answer_met name (living c.args.now k.nodes)) c.folded-name.ensures in
+    let taken = ap (λ name. answer_met c.args.now name k.nodes) c.folded-name.ensures in
     unless_map c.take_in.result (λ is. is ∙ taken ∙ answer_is c.args.now c.args.from a k h c.requires met stands) c.take_in.ensures.answer

@@ -6,7 +6,8 @@ use Rattle.lat_lines.specs.Kept.{Kept, side_of}
 use Rattle.lat_lines.specs.Answers.{Says, answer_shown, seat_or, done_answer}
 use Rattle.lat_lines.specs.Shown.{shown}
 use Rattle.lat_lines.proofs.Calling.{attending, attend_agrees, agrees_at}
-use Rattle.lat_lines.proofs.Says.{says_called, refused, is_seat}
+use Rattle.lat_lines.proofs.Says.{calm_calling, says_called, refused, is_seat}
+use Rattle.lat_lines.proofs.resting.Calls.{calling_calm, attend_looks}
 use Rattle.lat_lines.proofs.lines.Lines.attend.Goals as goal
 
 pub returns-in-Ok-clause-says : goal.returns-in-Ok-clause-says
@@ -14,8 +15,12 @@ returns-in-Ok-clause-says c =
     let k = shown c.self.inside in
     let s = c.in-Ok.seat in
     let is = is_seat k c.args.line s (ap (λ z. seat_or z c.args.line) c.self.view_is ∙ sym c.seat_on.ensures ∙ c.in-Ok.is) in
-    subst (λ (z : Kept). Says (λ d. on_line z.lines d c.args.line (λ t. attend_on (side_of z) d t c.args.flag)) z c.settle.new.self c.done_told.result) c.self.view_is
-    (says_called k c.settle.new.self c.attend-answer.new.self c.args.line s (λ d t. attend_on (side_of k) d t c.args.flag) (Attend s.session.session c.args.flag) c.done_told.result is c.attend-answer.ensures.same.ids c.attend-answer.ensures.state c.settle.ensures.state c.settle.ensures.circuits (λ d t st h p q.
+    subst (λ (z : Kept). Says (λ d. on_line z.lines d c.args.line (λ t. attend_on (side_of z) d t c.args.flag)) z c.rest.new.self c.done_told.result) c.self.view_is
+    (says_called k c.rest.new.self c.args.line s (λ d t. attend_on (side_of k) d t c.args.flag) (Attend s.session.session c.args.flag) c.done_told.result is
+    (λ d st. calm_calling k c.rest.new.self c.attend-answer.new.self s.session.circuit (Attend s.session.session c.args.flag) d st (c.attend-answer.ensures.state d st.circuits)
+    (calling_calm (side_of k) s.session.circuit (Attend s.session.session c.args.flag) d (λ l. attend_looks (d.circuits.circuit_at s.session.circuit).end.half.sessions s.session.session c.args.flag))
+    c.rest.ensures)
+    (λ d t st h p q.
     agrees_at (λ x i. calling (side_of k) x (Attend i c.args.flag) d) (λ x i. answer_shown (done_answer (attending d x i))) s.session.circuit s.session.session t (answer_shown c.done_told.result) (attend_on (side_of k) d t c.args.flag) p q
     (ap answer_shown (c.done_told.ensures ∙ ap done_answer (c.attend-answer.ensures.answer d st.circuits)))
     (attend_agrees (side_of k) d k.lines t c.args.flag h)))

@@ -6,7 +6,8 @@ use Rattle.lat_lines.specs.Kept.{Kept, side_of}
 use Rattle.lat_lines.specs.Answers.{Says, answer_shown, seat_or, done_answer}
 use Rattle.lat_lines.specs.Shown.{shown}
 use Rattle.lat_lines.proofs.Calling.{setting_at, set_agrees, agrees_at}
-use Rattle.lat_lines.proofs.Says.{says_called, refused, is_seat}
+use Rattle.lat_lines.proofs.Says.{calm_calling, says_called, refused, is_seat}
+use Rattle.lat_lines.proofs.resting.Calls.{calling_calm, set_looks}
 use Rattle.lat_lines.proofs.lines.Lines.set.Goals as goal
 
 pub returns-in-Ok-clause-says : goal.returns-in-Ok-clause-says
@@ -14,8 +15,12 @@ returns-in-Ok-clause-says c =
     let k = shown c.self.inside in
     let s = c.in-Ok.seat in
     let is = is_seat k c.args.line s (ap (λ z. seat_or z c.args.line) c.self.view_is ∙ sym c.seat_on.ensures ∙ c.in-Ok.is) in
-    subst (λ (z : Kept). Says (λ d. on_line z.lines d c.args.line (λ t. set_on (side_of z) d t c.args.setting)) z c.settle.new.self c.done_told.result) c.self.view_is
-    (says_called k c.settle.new.self c.set-answer.new.self c.args.line s (λ d t. set_on (side_of k) d t c.args.setting) (Set s.session.session c.args.setting) c.done_told.result is c.set-answer.ensures.same.ids c.set-answer.ensures.state c.settle.ensures.state c.settle.ensures.circuits (λ d t st h p q.
+    subst (λ (z : Kept). Says (λ d. on_line z.lines d c.args.line (λ t. set_on (side_of z) d t c.args.setting)) z c.rest.new.self c.done_told.result) c.self.view_is
+    (says_called k c.rest.new.self c.args.line s (λ d t. set_on (side_of k) d t c.args.setting) (Set s.session.session c.args.setting) c.done_told.result is
+    (λ d st. calm_calling k c.rest.new.self c.set-answer.new.self s.session.circuit (Set s.session.session c.args.setting) d st (c.set-answer.ensures.state d st.circuits)
+    (calling_calm (side_of k) s.session.circuit (Set s.session.session c.args.setting) d (λ l. set_looks (d.circuits.circuit_at s.session.circuit).end.half.sessions s.session.session c.args.setting))
+    c.rest.ensures)
+    (λ d t st h p q.
     agrees_at (λ x i. calling (side_of k) x (Set i c.args.setting) d) (λ x i. answer_shown (done_answer (setting_at d x i))) s.session.circuit s.session.session t (answer_shown c.done_told.result) (set_on (side_of k) d t c.args.setting) p q
     (ap answer_shown (c.done_told.ensures ∙ ap done_answer (c.set-answer.ensures.answer d st.circuits)))
     (set_agrees (side_of k) d k.lines t c.args.setting h)))

@@ -2,13 +2,16 @@ use Rattle.std.proofs.Common.{◌≡◌, [], length, min, sym, ap, ap₂, subst,
 use Rattle.lat_model.specs.sessions.Calls.{Take}
 use Rattle.lat_machines.specs.cores.LineCalls.{take_on, on_line}
 use Rattle.lat_circuits.specs.Stands.{calling}
+use Rattle.std.proofs.lemmas.Bool.{not-true}
+use Rattle.lat_session.specs.States.{is_free}
 use Rattle.lat_lines.specs.Kept.{Kept, side_of}
 use Rattle.lat_lines.specs.Answers.{Says, answer_shown, seat_or, took_answer}
 use Rattle.lat_lines.specs.Shown.{shown}
 use Rattle.lat_lines.proofs.Standing.{refilled}
 use Rattle.lat_lines.proofs.Telling.{takes_at}
 use Rattle.lat_lines.proofs.Calling.{taking, giving, take_agrees, agrees_at}
-use Rattle.lat_lines.proofs.Says.{says_called, refused, is_seat}
+use Rattle.lat_lines.proofs.Says.{settled_calling, says_called, refused, is_seat}
+use Rattle.lat_lines.proofs.resting.Calls.{take_calm}
 use Rattle.lat_lines.proofs.lines.Lines.take.Goals as goal
 
 pub returns-in_ok-items-in-Ok-clause-says : goal.returns-in_ok-items-in-Ok-clause-says
@@ -20,8 +23,12 @@ returns-in_ok-items-in-Ok-clause-says c =
     let long : length given ≡ min c.waiting.result c.args.n = search rules in
     let out = c.take-answer.new.out in
     let whole = refilled c.in_ok-items-in-Ok.items.len out c.in_ok-items-in-Ok.items.items (c.take-answer.ensures.places ∙ c.as_mut_slice.ensures.len) (sym c.in_ok-items-in-Ok.items.ok.0) in
-    subst (λ (z : Kept). Says (λ d. on_line z.lines d c.args.line (λ t. take_on (side_of z) d t c.args.n)) z c.settle.new.self c.took_told.result) c.self.view_is
-    (says_called k c.settle.new.self c.take-answer.new.self c.args.line s (λ d t. take_on (side_of k) d t c.args.n) (Take s.session.session (length given)) c.took_told.result is c.take-answer.ensures.same.ids c.take-answer.ensures.state c.settle.ensures.state c.settle.ensures.circuits (λ d t st h p q.
+    subst (λ (z : Kept). Says (λ d. on_line z.lines d c.args.line (λ t. take_on (side_of z) d t c.args.n)) z c.settle_unless.new.self c.took_told.result) c.self.view_is
+    (says_called k c.settle_unless.new.self c.args.line s (λ d t. take_on (side_of k) d t c.args.n) (Take s.session.session (length given)) c.took_told.result is
+    (λ d st. settled_calling k c.settle_unless.new.self c.take-answer.new.self s.session.circuit (Take s.session.session (length given)) _ d st c.take-answer.ensures.same.ids (c.take-answer.ensures.state d st.circuits)
+    c.settle_unless.ensures.state c.settle_unless.ensures.circuits (λ t. take_calm (side_of k) s.session.circuit s.session.session (length given) d
+    (sym (ap is_free (c.state.ensures.model (calling (side_of k) s.session.circuit (Take s.session.session (length given)) d) (c.take-answer.ensures.state d st.circuits))) ∙ sym c.is_free-is_over.ensures ∙ not-true _ t)))
+    (λ d t st h p q.
     agrees_at (λ x i. calling (side_of k) x (Take i (length given)) d) (λ x i. answer_shown (took_answer (taking d x i (length given)) (giving d x i given))) s.session.circuit s.session.session t (answer_shown c.took_told.result) (take_on (side_of k) d t c.args.n) p q
     (ap answer_shown (c.took_told.ensures ∙ ap₂ took_answer (c.take-answer.ensures.answer d st.circuits) (whole ∙ c.take-answer.ensures.items d st.circuits)))
     (take_agrees (side_of k) d k.lines t c.args.n given h (long ∙ ap (λ w. min w c.args.n) (c.waiting.ensures.model d st.circuits ∙ ap₂ (takes_at d) p q)))))

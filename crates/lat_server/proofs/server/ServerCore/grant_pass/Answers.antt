@@ -1,9 +1,10 @@
-use Rattle.std.proofs.Common.{◌≡◌, ◌≤◌, ◌-◌, ℕ, arith, sym, ap, subst, ◌∙◌}
+use Rattle.std.proofs.Common.{◌≡◌, ◌≤◌, ◌-◌, ℕ, arith, refl, sym, ap, subst, ◌∙◌}
 use Rattle.lat_model.specs.Lists.{upwards}
 use Rattle.lat_machines.specs.server.Server.{ServerConfig, Passing, grant_line, grant_lines}
 use Rattle.lat_server.specs.Kept.{Kept, config_of}
 use Rattle.lat_server.specs.Events.{HasPassed}
 use Rattle.lat_server.proofs.Granting.{lines_next}
+use Rattle.lat_server.proofs.Idle.{grants_nothing}
 use Rattle.lat_server.proofs.server.ServerCore.grant_pass.Goals as goal
 
 pub loop-line-preserved : goal.loop-line-preserved
@@ -27,3 +28,9 @@ returns-clause-passes c = λ p start h.
     let count : c.count-count.result ≡ config.lines = c.count-count.ensures.value ∙ ap (λ (z : Kept). z.lines.lines) c.self.view_is in
     let all : c.loop-line.line - 1 ≡ config.lines = (let e : c.loop-line.line - 1 ≡ c.count-count.result = omega arith in e) ∙ count in
     subst (λ n. HasPassed (grant_lines config (upwards 0 n) p) c.loop-line.self start c.loop-line.out) all (c.loop-line.invariant.passes p start h)
+
+pub returns-then-grants_none-clause-passes : goal.returns-then-grants_none-clause-passes
+returns-then-grants_none-clause-passes c = λ p start h.
+    let k : Kept = c.args.self.now in
+    let none = sym (c.grants_none.ensures p.state.queue h.state.queue) ∙ c.if-grants_none.true in
+    subst (λ (z : Passing). HasPassed z k start c.args.out.now) (sym (grants_nothing k.offers (config_of k) p (upwards 0 (config_of k).lines) refl none)) h
