@@ -1,7 +1,7 @@
 -- The shares of all seats, given to the seats, and given back.
-use Rattle.std.proofs.Common.{◌≡◌, ◌≤◌, ◌<◌, ◌^◌, ℕ, zero, suc, ◌+◌, ◌-◌, List, [], ◌∷◌, ◌++◌, length, length-append, map, take, drop, refl, sym, ap, ap₂, subst₂, ◌∙◌, arith, append_assoc, append-nil, min}
+use Rattle.std.proofs.Common.{◌≡◌, ◌≤◌, ◌<◌, ℕ, zero, suc, ◌+◌, ◌-◌, List, [], ◌∷◌, ◌++◌, length, length-append, map, take, drop, refl, sym, ap, ap₂, subst₂, ◌∙◌, arith, append_assoc, append-nil}
 use Rattle.std.specs.Prelude.{slice_index_or, reverse, sum_by, remove}
-use Rattle.std.proofs.lemmas.List.{take_at, drop_at, length-map, map-append, reverse-append, reverse-reverse}
+use Rattle.std.proofs.lemmas.List.{take_at, drop_at, length-map, map-append, reverse-append}
 use Rattle.std.proofs.lemmas.List.Sums.{sum_by-cons, sum_by_push}
 use Rattle.lat_outside.specs.Causes.{Rose}
 use Rattle.lat_history.specs.CellView.{SeatView}

@@ -1,11 +1,10 @@
 -- What a daemon's core is opened from.
-use Rattle.std.specs.Prelude.{ℕ, List, [], true, replicate}
+use Rattle.std.specs.Prelude.{List, [], true, replicate}
 use Rattle.lat_machines.specs.values.Addresses.{address}
 use Rattle.lat_machines.specs.values.Names.{Name}
 use Rattle.lat_machines.specs.values.Timing.{Timing}
 use Rattle.lat_machines.specs.server.Server.{ServerConfig}
 use Rattle.lat_machines.specs.node.Node.{NodeConfig}
-use Rattle.lat_circuit.specs.declared.config.Timing.{Timing as OwnTiming}
 use Rattle.lat_words.specs.declared.config.Config.{Config}
 use Rattle.lat_switch.specs.declared.config.SwitchConfig.{SwitchConfig}
 

@@ -1,5 +1,5 @@
 -- What the seats of a daemon have, and what their workers leave of them.
-use Rattle.std.specs.Prelude.{◌≡◌, ℕ, ◌<◌, List, [], ◌∷◌, ◌++◌, length, map, sum_by, true}
+use Rattle.std.specs.Prelude.{◌≡◌, ℕ, ◌<◌, List, [], ◌∷◌, length, map, sum_by, true}
 use Rattle.lat_outside.specs.Causes.{Rose}
 use Rattle.lat_history.specs.CellView.{SeatView}
 use Rattle.lat_history.specs.Seats.{all_seats}

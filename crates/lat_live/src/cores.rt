@@ -1,7 +1,6 @@
 //! The cores that words tell of, as they are opened.
 
 ghost use Rattle.std.specs.Prelude.{◌≡◌, ◌≤◌, ◌∷◌, [], IfOk};
-ghost use Rattle.lat_words.specs.Configs.{Within};
 ghost use Rattle.lat_server.specs.Kept as server;
 ghost use Rattle.lat_server.specs.Stands as servers;
 ghost use Rattle.lat_node.specs.Config.{config_shown, IsConfig};
@@ -16,8 +15,7 @@ ghost use Rattle.lat_tariff.specs.Tariffs.{names, AreKnown};
 ghost use Rattle.lat_live.specs.Openings.{server_config, switch_config, node_config};
 
 use lat_base::{Bytes, Memory, Name};
-use lat_hook::RatingRule;
-use lat_node::{NodeConfig, NodeCore};
+use lat_node::{NodeConfig, NodeCore, RatingRule};
 use lat_queue::Services16;
 use lat_server::{Offers, ServerConfig, ServerCore, Timing};
 use lat_switch::{SwitchConfig, SwitchCore};

@@ -12,7 +12,7 @@ use crate::ran::Served;
 use crate::roles::serve_in_role;
 use lat_base::Memory;
 use lat_cell::Blanks;
-use lat_hook::RatingRule;
+use lat_node::RatingRule;
 use lat_outside::{Clock, Gate, LineEnd, Opener, Sink, Tx, write_all};
 use lat_tariff::{SteadyRule, Tariff};
 use lat_words::config_of;
@@ -79,7 +79,8 @@ pub fn serve<
     ensures sink { result.status ≡ 5 → RoseIn S.faults out.old out.new }
     ensures silent { result.status ≡ 4 → S.told out.new ≡ S.told out.old }
     ensures memory { result.status ≡ 9 → S.told out.new ≡ S.told out.old }
-    ensures right { AreRight (map string_bytes words.now) → IsOwn result.status ⊎ (RoseIn O.faults opener.old opener.new ⊎ RoseIn S.faults out.old out.new) }
+    ensures right { AreRight (map string_bytes words.now) →
+        IsOwn result.status ⊎ (RoseIn O.faults opener.old opener.new ⊎ RoseIn S.faults out.old out.new) }
     ensures not { result.ran ≡ ran.Not → IsNotRun (map string_bytes words.now) result.status }
     ensures empty { result.ran ≡ ran.Not → (result.shares ≡ []) × (result.ends ≡ []) × (result.lines ≡ []) }
     ensures role { IfSome (role_of result.ran) (λ role. option_map (λ c. c.role) (config_of (map string_bytes words.now)) ≡ Some role) }

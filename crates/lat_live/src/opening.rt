@@ -1,6 +1,6 @@
 //! What is opened.
 
-ghost use Rattle.std.specs.Prelude.{◌≡◌, ◌+◌, ◌<◌, ◌≤◌, Err, IfOk, vec_len, vec_capacity};
+ghost use Rattle.std.specs.Prelude.{◌≡◌, ◌+◌, ◌<◌, ◌≤◌, Err, IfOk, vec_len};
 ghost use Rattle.lat_outside.specs.Causes.{Rose};
 
 use lat_base::Memory;

@@ -12,7 +12,7 @@ use crate::cores::{ANNOUNCE_SECONDS, node_core, server_core, switch_core, tariff
 use crate::ran::Served;
 use crate::serving::{Plan, serve_core};
 use lat_cell::Blanks;
-use lat_hook::RatingRule;
+use lat_node::RatingRule;
 use lat_outside::{Clock, Gate, Opener, Sink};
 use lat_tariff::{SteadyRule, Tariff};
 use lat_words::{Config, Role};

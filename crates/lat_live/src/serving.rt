@@ -160,8 +160,10 @@ pub fn serve_core<
     requires names { (blanks.events.name ≡ E.name) × (blanks.bytes.name ≡ B.name) × (blanks.full.name ≡ F.name) }
     requires parts { (blanks.events.parts ≡ E.parts) × (blanks.bytes.parts ≡ B.parts) × (blanks.full.parts ≡ F.parts) }
     requires many { (E.parts ≡ 66) × (B.parts ≡ 66) × (F.parts ≡ 66) }
-    ensures ended { IfSome (told_in result.ran) (λ t. IsPrinted S.told S.faults out.old out.new t result.given.shares.items result.given.ends.items result.status) }
-    ensures back { IfSome (told_in result.ran) (λ t. GivenBack O.L.faults plan.now.lines result.given.shares.items result.given.ends.items result.given.lines.items) }
+    ensures ended { IfSome (told_in result.ran) (λ t.
+        IsPrinted S.told S.faults out.old out.new t result.given.shares.items result.given.ends.items result.status) }
+    ensures back { IfSome (told_in result.ran) (λ t.
+        GivenBack O.L.faults plan.now.lines result.given.shares.items result.given.ends.items result.given.lines.items) }
     ensures own { IsOwn result.status ⊎ ((result.status ≡ 4) ⊎ (result.status ≡ 5)) }
     ensures opener { result.status ≡ 4 → RoseIn O.faults opener.old opener.new }
     ensures sink { result.status ≡ 5 → RoseIn S.faults out.old out.new }

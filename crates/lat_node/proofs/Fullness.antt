@@ -1,7 +1,7 @@
 -- Each rating that the rule may give tells whether all lines are held.
 use Rattle.std.proofs.Common.{◌≡◌, ℕ, ◌≤◌, ◌<◌, ◌^◌, ◌↔◌, List, [], ◌∷◌}
 use Rattle.lat_model.specs.Lists.{Each}
-use Rattle.lat_hook.specs.Rules.{TellsFullness}
+use Rattle.lat_node.specs.Rules.{TellsFullness}
 use Rattle.lat_machines.specs.cores.Lines.{used}
 use Rattle.lat_node.specs.Laws.{RatingsTellFullness}
 

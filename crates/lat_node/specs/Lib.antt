@@ -7,3 +7,4 @@ pub mod Answering
 pub mod Hearing
 pub mod Laws
 pub mod Announced
+pub mod Rules

@@ -17,9 +17,9 @@ ghost use Rattle.lat_node.specs.Events.{announces, Rated, ratings_for, IsPlain};
 ghost use Rattle.lat_node.specs.Kept.{config_of};
 ghost use Rattle.lat_node.specs.Stands.{Stands};
 
+use crate::hook::RatingRule;
 use crate::node::NodeCore;
 use lat_base::{Addr, Answer, Bytes, EVERYONE, Memory, Name, OutBox};
-use lat_hook::RatingRule;
 use lat_notices::{Announcement, Notice, Service, Services, Solicit};
 use lat_payload::{notice_frame, response_frame};
 use std::alloc::Global;

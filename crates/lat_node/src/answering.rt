@@ -11,8 +11,8 @@ ghost use Rattle.lat_node.specs.Answering.{verdict_shown, judged_by, Asks, IsOfR
 ghost use Rattle.lat_node.specs.Kept.{config_of, SameConfig};
 ghost use Rattle.lat_node.specs.Stands.{Stands};
 
+use crate::hook::RatingRule;
 use crate::node::NodeCore;
-use lat_hook::RatingRule;
 use lat_lines::Asked;
 
 /// The reason of a reject where the service isn't offered.

@@ -18,11 +18,11 @@ ghost use Rattle.lat_node.specs.Hearing.{named_by, AskedThen};
 ghost use Rattle.lat_node.specs.Kept.{config_of, AtRest, SameConfig};
 ghost use Rattle.lat_node.specs.Stands.{Stands};
 
+use crate::hook::RatingRule;
 use crate::node::NodeCore;
 use lat_base::{Addr, Answer, EVERYONE, Memory, OutBox};
 use lat_fields::LayoutFault;
 use lat_frames::Message;
-use lat_hook::RatingRule;
 use lat_lines::Hearing;
 use lat_notices::Notice;
 use lat_payload::{Value, read_value};

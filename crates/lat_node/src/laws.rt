@@ -3,8 +3,8 @@
 ghost use Rattle.lat_machines.specs.world.Home.{NodeStaysHome};
 ghost use Rattle.lat_node.specs.Laws.{RatingsTellFullness};
 
+use crate::hook::RatingRule;
 use crate::node::NodeCore;
-use lat_hook::RatingRule;
 
 /// A heard frame leaves each living circuit whose peer has another address as it was.
 pub fn heard_stays_home()

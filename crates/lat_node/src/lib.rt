@@ -5,12 +5,13 @@ mod announce;
 mod answering;
 mod config;
 mod hear;
+mod hook;
 pub mod laws;
 mod node;
 mod requests;
 mod step;
 
 pub use config::NodeConfig;
-pub use lat_hook::{RateHook, RatingRule};
+pub use hook::{RateHook, RatingRule};
 pub use lat_lines::Timing;
 pub use node::NodeCore;

@@ -16,10 +16,10 @@ ghost use Rattle.lat_node.specs.Kept.{config_of, AtRest};
 ghost use Rattle.lat_node.specs.Stands.{Stands, opening, IsMachine};
 
 use crate::config::NodeConfig;
+use crate::hook::RatingRule;
 use crate::requests::Request;
 use indexmap::IndexMap;
 use lat_base::{Addr, Bytes, LineBook, Memory, Name};
-use lat_hook::RatingRule;
 use lat_lines::Lines;
 use lat_queue::Services16;
 use lat_seq::Span;

@@ -14,10 +14,10 @@ ghost use Rattle.lat_node.specs.Events.{Does, IsPlain};
 ghost use Rattle.lat_node.specs.Kept.{config_of, SameConfig};
 ghost use Rattle.lat_node.specs.Stands.{Stands, was_made, request_shown, request_in};
 
+use crate::hook::RatingRule;
 use crate::node::NodeCore;
 use indexmap::IndexMap;
 use lat_base::{Addr, Answer, Memory, Name, OutBox};
-use lat_hook::RatingRule;
 use lat_notices::Action;
 use lat_payload::command_frame;
 use std::alloc::Global;

@@ -11,9 +11,9 @@ ghost use Rattle.lat_node.specs.Events.{Does, Steps, IsLocal, IsAct};
 ghost use Rattle.lat_node.specs.Kept.{AtRest, SameConfig};
 ghost use Rattle.lat_node.specs.Stands.{Stands, Machine, IsMachine, opening, next, answered, Frames};
 
+use crate::hook::RatingRule;
 use crate::node::NodeCore;
 use lat_base::{Answer, Core, Event, Memory, OutBox, SessionState};
-use lat_hook::RatingRule;
 use std::alloc::Global;
 
 impl<H: RatingRule> Core for NodeCore<H> {

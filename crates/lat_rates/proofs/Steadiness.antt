@@ -1,7 +1,7 @@
 -- The rules of the script are steady.
 use Rattle.std.proofs.Common.{◌≡◌, ℕ, ◌≤◌, ◌↔◌, cond, nat_lt, Bool, true, false, refl, ap, ◌∙◌, arith}
 use Rattle.std.proofs.lemmas.Bool.Decides.{nat_tests}
-use Rattle.lat_hook.specs.Rules.{TellsFullness}
+use Rattle.lat_node.specs.Rules.{TellsFullness}
 use Rattle.lat_tariff.specs.Rules.{IsSteady, IsKnown}
 use Rattle.lat_rates.specs.Ratings.{by_room, flat}
 

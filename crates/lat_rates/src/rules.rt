@@ -52,7 +52,7 @@ impl SteadyRule for Flat {
 pub struct Unseen;
 
 impl RatingRule for Unseen {
-    ghost use Rattle.lat_hook.specs.Rules.{TellsFullness};
+    ghost use Rattle.lat_node.specs.Rules.{TellsFullness};
     ghost use Rattle.lat_rates.specs.Ratings.{flat};
 
     ghost may = { λ rule. flat 255 };

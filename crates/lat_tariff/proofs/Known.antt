@@ -1,5 +1,5 @@
 -- What is known of a value is known of it in a box.
-use Rattle.std.proofs.Common.{◌≡◌, refl, sym, subst}
+use Rattle.std.proofs.Common.{refl, sym, subst}
 use denote.Param.Object.{Made, read_made}
 use denote.Param.Table.{Table, Entry}
 

@@ -1,18 +1,16 @@
 -- Ratings by the rules' own answers.
-use Rattle.std.proofs.Common.{◌≡◌, ℕ, suc, ◌+◌, ◌≤◌, ◌<◌, ◌^◌, ◌↔◌, refl, sym, ap, subst, ◌∙◌, List, [], ◌∷◌, ◌++◌, map, take, length, Option, Some, None}
+use Rattle.std.proofs.Common.{◌≡◌, ℕ, ◌+◌, refl, sym, ap, subst, ◌∙◌, List, [], ◌∷◌, ◌++◌, map}
 use Rattle.std.specs.List.{AllZip, AllByRecursion}
-use Rattle.lat_hook.specs.Rules.{TellsFullness}
-use Rattle.lat_model.specs.Lists.{Each}
+use Rattle.lat_node.specs.Rules.{TellsFullness}
 use Rattle.lat_notices.specs.declared.services.Service.{Service}
 use Rattle.lat_notices.specs.Services.{IsService}
-use Rattle.lat_machines.specs.values.Names.{Name}
 use Rattle.lat_machines.specs.node.Node.{rated}
 use Rattle.lat_dir.specs.Stands.{service_shown}
 use Rattle.lat_node.specs.Announced.{ratings}
 use Rattle.lat_node.proofs.AnnounceLemmas.{services_more, all_more}
 use Rattle.lat_tariff.specs.declared.tariff.Rule.{Rule}
 use Rattle.lat_tariff.specs.Rules.{IsSteady}
-use Rattle.lat_tariff.specs.Tariffs.{names, AreKnown, AreOwn}
+use Rattle.lat_tariff.specs.Tariffs.{names, AreOwn}
 use Rattle.lat_tariff.specs.Laws.{OwnRatingsTellFullness, MoreHeldRatesNoHigher}
 
 -- one more

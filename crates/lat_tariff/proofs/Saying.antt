@@ -10,8 +10,8 @@ use Rattle.lat_base.specs.declared.outbox.OutFrame.{OutFrame}
 use Rattle.lat_machines.specs.cores.Cores.{at_moment}
 use Rattle.lat_machines.specs.cores.Lines.{used}
 use Rattle.lat_machines.specs.values.Addresses.{address, everyone}
-use Rattle.lat_machines.specs.values.Answers.{Answer, Ignored, Solicited}
-use Rattle.lat_machines.specs.values.Events.{Event, Hears, Announces}
+use Rattle.lat_machines.specs.values.Answers.{Ignored}
+use Rattle.lat_machines.specs.values.Events.{Event, Hears}
 use Rattle.lat_machines.specs.values.Frames as machines
 use Rattle.lat_machines.specs.values.Frames.{OfNotice, Whole}
 use Rattle.lat_machines.specs.values.Names.{Name, same}
@@ -29,8 +29,8 @@ use Rattle.lat_node.specs.Stands as stands
 use Rattle.lat_tariff.specs.declared.tariff.Rule.{Rule}
 use Rattle.lat_tariff.specs.declared.said.Said.{Said}
 use Rattle.lat_tariff.specs.declared.said.Said.TheVariants as says
-use Rattle.lat_tariff.specs.Kept.{Kept, Machine, IsMachine, Frames, asked, asked_by, rule_of, with_first}
-use Rattle.lat_tariff.specs.Said.{IsSilent, Rated, Says, SaysAt, SaysTo, AnnouncedBy, in_place}
+use Rattle.lat_tariff.specs.Kept.{Kept, Machine, IsMachine, Frames, asked, rule_of, with_first}
+use Rattle.lat_tariff.specs.Said.{IsSilent, Says, SaysAt, SaysTo, AnnouncedBy, in_place}
 use Rattle.lat_tariff.specs.Tariffs.{names, AreOwn}
 use Rattle.lat_tariff.proofs.Silence.{silent_solicit}
 

@@ -1,5 +1,5 @@
 -- Events at which no rating goes out.
-use Rattle.std.proofs.Common.{◌≡◌, ℕ, refl, sym, ap, subst, ◌∙◌, Bool, true, false, cond, List, [], Option, Some, None, nat_eq}
+use Rattle.std.proofs.Common.{◌≡◌, ℕ, refl, sym, subst, Bool, true, false, cond, List, [], Option, None, nat_eq}
 use Rattle.std.specs.List.{find}
 use Rattle.lat_base.specs.declared.event.Event as base
 use Rattle.lat_base.specs.declared.event.Event.TheVariants as events
@@ -7,11 +7,11 @@ use Rattle.lat_machines.specs.cores.Cores.{at_moment}
 use Rattle.lat_machines.specs.cores.Hearing.{StartFact, Repeats, Makes, Refuses, start_fact}
 use Rattle.lat_machines.specs.values.Addresses.{everyone}
 use Rattle.lat_machines.specs.values.Answers.{Answer, Ignored}
-use Rattle.lat_machines.specs.values.Events.{Numbers, Event, Hears, Time, Connects, Puts, Sets, Takes, Attends, Closes, Requests, Withdraws, Announces}
+use Rattle.lat_machines.specs.values.Events.{Event, Hears, Time, Connects, Puts, Sets, Takes, Attends, Closes, Requests, Withdraws, Announces}
 use Rattle.lat_machines.specs.values.Frames.{Value, OfCircuit, OfNotice, Reading, Whole, Malformed}
 use Rattle.lat_machines.specs.values.Messages.{Message, RunMessage, WideMessage, StartMessage, StopMessage}
 use Rattle.lat_machines.specs.values.Names.{Name, same}
-use Rattle.lat_machines.specs.values.Notices.{Notice, Solicit, AnnouncementNotice, CommandNotice, StatusNotice, SolicitNotice, ResponseNotice}
+use Rattle.lat_machines.specs.values.Notices.{Solicit, AnnouncementNotice, CommandNotice, StatusNotice, SolicitNotice, ResponseNotice}
 use Rattle.lat_machines.specs.node.Node.{NodeConfig, Node, NodeStep, with_core, tells, start_answer, solicited, hears_message, hears_value, node_step}
 use Rattle.lat_lines.specs.Events.{event_shown}
 use Rattle.lat_node.proofs.FrameLemmas.{IsQuiet, quiet}

@@ -1,6 +1,6 @@
 -- What is known of a steady rule of rating.
 use Rattle.std.specs.Prelude.{ℕ, ◌<◌, ◌≤◌, ◌^◌}
-use Rattle.lat_hook.specs.Rules.{TellsFullness}
+use Rattle.lat_node.specs.Rules.{TellsFullness}
 
 -- no answer rises as lines fill, of at most 65,535
 abbrev pub IsSteady : (ℕ → ℕ → ℕ → Type 0) → Type 0

@@ -8,7 +8,7 @@ use Rattle.lat_machines.specs.node.Node.{Node, NodeConfig, announcement, node_st
 use Rattle.lat_machines.specs.values.Addresses.{everyone}
 use Rattle.lat_machines.specs.values.Answers.{Answer}
 use Rattle.lat_machines.specs.values.Events as machine
-use Rattle.lat_machines.specs.values.Frames.{plain, OfNotice, Reading, Whole, Malformed, OfCircuit}
+use Rattle.lat_machines.specs.values.Frames.{plain, OfNotice, Reading, Whole}
 use Rattle.lat_machines.specs.values.Notices.{SolicitNotice}
 use Rattle.lat_payload.specs.Frames.{Adds, GoesOutAs}
 use Rattle.lat_payload.specs.Shown.{notice_shown, solicit_shown}

@@ -4,7 +4,7 @@ ghost use Rattle.lat_tariff.specs.Laws.{OwnRatingsTellFullness, MoreHeldRatesNoH
 
 use crate::node::TariffCore;
 use crate::steady::SteadyRule;
-use lat_hook::RatingRule;
+use lat_node::RatingRule;
 
 /// Each rating of an announcement or a response is 0 exactly where all lines were held when it was made, whatever the rules.
 pub fn own_ratings_tell_fullness<R: SteadyRule>()

@@ -9,8 +9,7 @@ ghost use Rattle.lat_tariff.specs.Tariffs.{names, AreKnown};
 use crate::steady::SteadyRule;
 use crate::tariff::Tariff;
 use lat_base::{Bytes, Memory, Name};
-use lat_hook::RatingRule;
-use lat_node::{NodeConfig, NodeCore};
+use lat_node::{NodeConfig, NodeCore, RatingRule};
 use std::alloc::Global;
 use std::marker::Model;
 

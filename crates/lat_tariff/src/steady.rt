@@ -1,7 +1,7 @@
 //! Steady rules of rating: a closure that is one, and a box of whichever.
 
 ghost use Rattle.std.specs.Prelude.{◌≡◌, ◌≤◌, ℕ};
-ghost use Rattle.lat_hook.specs.Rules.{TellsFullness};
+ghost use Rattle.lat_node.specs.Rules.{TellsFullness};
 ghost use Rattle.lat_tariff.specs.Rules.{IsSteady, SteadyFact};
 
 /// A rule of rating that is steady: from the number of lines used and the number of all lines, both 0 to 65,535, to a rating

@@ -7,7 +7,7 @@ use crate::node::TariffCore;
 use crate::said::Said;
 use crate::steady::SteadyRule;
 use lat_base::{Answer, Core, Event, Memory, OutBox, SessionState};
-use lat_hook::RatingRule;
+use lat_node::RatingRule;
 use std::alloc::Global;
 
 impl<H: RatingRule, R: SteadyRule> Core for TariffCore<H, R> {

@@ -1,5 +1,5 @@
 -- What is known of a tariff of two rules.
-use Rattle.std.proofs.Common.{rules, ◌≡◌, ◌-◌, ◌*◌, ℕ, List, [], ◌∷◌, ◌++◌, min, nat_lt, sym, subst}
+use Rattle.std.proofs.Common.{rules, ◌≡◌, ◌-◌, ◌*◌, List, [], ◌∷◌, ◌++◌, min, nat_lt, sym, subst}
 use Rattle.std.specs.Prelude.{if◌then◌else◌}
 use Rattle.lat_tariff.specs.Rules.{IsKnown}
 use Rattle.lat_tariff.specs.Tariffs.{AreKnown}

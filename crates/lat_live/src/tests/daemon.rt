@@ -7,7 +7,7 @@ ghost use Rattle.lat_live.specs.Ledgers.{AreBlanks};
 use super::rule::printing;
 use crate::serve;
 use lat_cell::Blanks;
-use lat_hook::{RateHook, RatingRule};
+use lat_node::{RateHook, RatingRule};
 use lat_outside::{Clock, FreeGate, MemSink, Opener};
 use lat_tariff::{SteadyRule, Tariff};
 use std::alloc::{AllocError, Global};

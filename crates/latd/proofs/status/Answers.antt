@@ -1,4 +1,4 @@
-use Rattle.std.proofs.Common.{◌≡◌, [], ◌∷◌, ◌++◌, ap, ◌∙◌}
+use Rattle.std.proofs.Common.{[], ◌∷◌, ◌++◌, ap, ◌∙◌}
 use Rattle.lat_tariff.specs.Rules.{IsKnown}
 use Rattle.lat_tariff.proofs.Known.{in_box}
 use Rattle.latd.proofs.Boxes.{twenty_known, nine_known, both_known}

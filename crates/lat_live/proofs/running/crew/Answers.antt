@@ -1,4 +1,4 @@
-use Rattle.std.proofs.Common.{◌≡◌, ◌<◌, length, sym, ◌∙◌, subst₂}
+use Rattle.std.proofs.Common.{sym, ◌∙◌, subst₂}
 use Rattle.std.proofs.lemmas.List.{with_items_is}
 use Rattle.lat_live.specs.Seating.{IsWorked, EachPair}
 use Rattle.lat_live.proofs.Seating.{each_pair}

@@ -1,4 +1,3 @@
-use Rattle.std.proofs.Common.{◌≡◌}
 use Rattle.lat_live.specs.Seating.{done_of, line_of}
 use Rattle.lat_live.proofs.Seating.{all_back, counted_back, many_back}
 use Rattle.lat_live.proofs.serving.serve_core.Goals as goal

@@ -1,4 +1,4 @@
-use Rattle.std.proofs.Common.{◌≤◌, sym, ap, ◌∙◌, subst, length, List, ℕ}
+use Rattle.std.proofs.Common.{◌≤◌, sym, ◌∙◌, subst, length, List, ℕ}
 use Rattle.lat_notices.specs.declared.notice.Notice.{Notice}
 use Rattle.lat_notices.specs.declared.notice.Notice.TheVariants as variants
 use Rattle.lat_node.proofs.AnnounceLemmas.{announcement_writable}

@@ -1,4 +1,4 @@
-use Rattle.std.proofs.Common.{◌≡◌, sym, ap, ◌∙◌, subst}
+use Rattle.std.proofs.Common.{sym, ap, ◌∙◌, subst}
 use Rattle.lat_node.specs.Stands as stands
 use Rattle.lat_tariff.specs.Kept.{Kept}
 use Rattle.lat_tariff.proofs.Saying.{stepped}

@@ -1,7 +1,6 @@
 use Rattle.std.proofs.Common.{◌≡◌, ◌+◌, sym, ap, ◌∙◌, take, length, List, [], ◌∷◌, ◌++◌, length-append, arith}
 use Rattle.std.proofs.lemmas.List.{take_more}
 use Rattle.lat_machines.specs.values.Names.{Name}
-use Rattle.lat_tariff.specs.Tariffs.{names}
 use Rattle.lat_tariff.proofs.Own.{names_more}
 use Rattle.lat_tariff.proofs.tariff.Tariff.names.Goals as goal
 

@@ -1,4 +1,3 @@
-use Rattle.std.proofs.Common.{◌≡◌}
 use Rattle.lat_live.proofs.running.fn.crew.for_each_mut.Goals as goal
 
 pub returns : goal.returns

@@ -1,7 +1,7 @@
 //! Rules of rating, and the closure that is one.
 
 ghost use Rattle.std.specs.Prelude.{◌≡◌, ◌≤◌, ℕ};
-ghost use Rattle.lat_hook.specs.Rules.{TellsFullness, HookFact};
+ghost use Rattle.lat_node.specs.Rules.{TellsFullness, HookFact};
 
 /// A node's rule of rating: from the number of lines used and the number of all lines, both 0 to 65,535, to a rating of 0 to
 /// 255. It answers 0 exactly where all are used. That is known of the rule, and tested nowhere at run time.
@@ -40,7 +40,7 @@ impl<F: Fn(u16, u16) -> u8> RateHook<F> {
 }
 
 impl<F: Fn(u16, u16) -> u8 + Drop> RatingRule for RateHook<F> {
-    ghost use Rattle.lat_hook.specs.Rules.{HookFact};
+    ghost use Rattle.lat_node.specs.Rules.{HookFact};
 
     ghost may = { λ hook. F.post hook.rule };
 
