@@ -13,7 +13,7 @@ use Rattle.lat_captures.specs.Seen.{Seen, Both, own, Texts, own_texts}
 use Rattle.lat_captures.specs.Belonging.{Owned}
 use Rattle.lat_captures.specs.Legal.{NumberFits, AcknowledgementFits, IdsRule, SlotsRule, WindowRule, CreditRule}
 use Rattle.lat_captures.specs.Audit as audits
-use Rattle.lat_captures.specs.Audit.{same_bytes, same_slots, find_from, ids_test, number_found, slots_test, acknowledgement_found, window_test, credit_test, Tested, Passes, Fails, run_test}
+use Rattle.lat_captures.specs.Audit.{same_bytes, same_slots, find_from, number_found, slots_test, acknowledgement_found, window_test, credit_test, Tested, Passes, Fails, run_test}
 use Rattle.lat_captures.proofs.Tests.{bytes_true, bytes_same, slots_same, number_sound, ack_sound, decides_window}
 use Rattle.lat_checker.specs.declared.head.Title.{Title}
 use Rattle.lat_checker.specs.declared.head.RunHead.{RunHead}

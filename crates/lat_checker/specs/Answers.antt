@@ -1,17 +1,20 @@
 -- What the checker answers to a RUN.
-use Rattle.std.specs.Prelude.{◌≡◌, ℕ, ◌≤◌, Bool, List, length, map, Option, Some, None}
+use Rattle.std.specs.Prelude.{◌≡◌, ℕ, ◌≤◌, Bool, List, length, map, Option, Some, None, Result, IfOk}
+use Rattle.lat_base.specs.declared.memory.Memory.{Memory}
 use Rattle.lat_model.specs.Lists.{Each}
 use Rattle.lat_model.specs.sessions.Slots.{Slot, credits_of}
 use Rattle.lat_machines.specs.values.Messages.{Head}
+use Rattle.lat_machines.specs.values.Frames.{Reading}
 use Rattle.lat_captures.specs.Entries.{Entry}
 use Rattle.lat_captures.specs.Seen.{Both, Texts, after, texts_after}
 use Rattle.lat_captures.specs.Audit.{Passes, Fails, run_test, frame_of}
 use Rattle.lat_checker.specs.declared.slot.SlotFacts.{SlotFacts}
 use Rattle.lat_checker.specs.declared.head.Title.{Title}
+use Rattle.lat_checker.specs.declared.head.RunHead.{RunHead}
 use Rattle.lat_checker.specs.declared.rule.Rule.{Rule}
 use Rattle.lat_checker.specs.declared.checker.Checker.{Checker}
 use Rattle.lat_checker.specs.Facts.{facts_of}
-use Rattle.lat_checker.specs.Rules.{title_shown, rule_shown}
+use Rattle.lat_checker.specs.Rules.{title_shown, head_shown, rule_shown}
 use Rattle.lat_checker.specs.Stands.{Stands}
 
 -- the RUNs that the checker has taken, and the title of its capture
@@ -39,3 +42,11 @@ pub record TakesRun (tell : List ℕ → List Slot) (t : Title) (b : Both) (x : 
 abbrev pub AnswersRun : (List ℕ → List Slot) → Title → Both → Texts → Entry → Bool → Head → List Slot → Checker → Option Rule → Type 0
 AnswersRun tell t b x e wide h slots d None = TakesRun tell t b x e wide h slots d
 AnswersRun tell t b x e wide h slots d (Some rule) = run_test (title_shown t) b x e wide h slots ≡ Fails (rule_shown rule)
+
+-- whatever was seen that a checker stands for, it answers a RUN of the master or of the slave like this
+abbrev pub AnswersRunBy : Bool → Checker → RunHead → List SlotFacts → List ℕ → Checker → Result (Option Rule) Memory → Type 0
+AnswersRunBy by_master c head facts text d result =
+    (tell : List ℕ → List Slot) (ask : Bool) (b : Both) (x : Texts) (xs : List Slot) (r : Reading)
+    → Stands tell c b x
+    → IsRun tell xs facts text
+    → IfOk result (λ broken. AnswersRun tell (title_of c) b x (record { by_master = by_master; reading = r; text = text }) head.wide (head_shown ask head) xs d broken)

@@ -1,7 +1,23 @@
 //! What is kept of sessions in place of all their slots.
 
 ghost use Rattle.std.specs.Prelude.{◌≡◌, Some, None, option_map, if◌then◌else◌, IfOk};
-ghost use Rattle.lat_checker.specs.Sums.{no_sums, credited, taken_account, opening, pays, sums_of, slave_takes, master_takes, slave_forms, master_forms, slave_takes_all, master_takes_all, slave_hears, master_hears, next_place, slave_forms_all, master_forms_all};
+ghost use Rattle.lat_checker.specs.Sums.{
+  no_sums,
+  credited,
+  opening,
+  pays,
+  sums_of,
+  slave_takes,
+  master_takes,
+  slave_forms,
+  master_forms,
+  slave_takes_all,
+  master_takes_all,
+  slave_hears,
+  master_hears,
+  slave_forms_all,
+  master_forms_all,
+};
 
 use crate::recent::SentMessage;
 use crate::slot::{KeptSlot, SlotFacts};

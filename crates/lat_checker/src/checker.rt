@@ -131,13 +131,11 @@ impl Checker {
 }
 
 impl Checker {
-    ghost use Rattle.std.specs.Prelude.{◌+◌, ◌^◌, ◌<◌, ℕ, Bool, true, false, List, None, IfOk};
+    ghost use Rattle.std.specs.Prelude.{◌+◌, ◌^◌, ◌<◌, ℕ, true, false, List, None, IfOk};
     ghost use Rattle.lat_model.specs.sessions.Slots.{Slot};
-    ghost use Rattle.lat_machines.specs.values.Frames.{Reading};
-    ghost use Rattle.lat_captures.specs.Seen.{Both, Texts, nothing, no_texts};
-    ghost use Rattle.lat_checker.specs.Rules.{head_shown};
+    ghost use Rattle.lat_captures.specs.Seen.{nothing, no_texts};
     ghost use Rattle.lat_checker.specs.Stands.{Stands};
-    ghost use Rattle.lat_checker.specs.Answers.{runs_of, title_of, IsRun, AnswersRun};
+    ghost use Rattle.lat_checker.specs.Answers.{runs_of, title_of, AnswersRunBy};
 
     /// A checker of a capture with this title, before its first RUN. Takes no memory.
     pub fn new(alloc: Global, title: Title) -> Checker
@@ -178,7 +176,7 @@ impl Checker {
         text: &[u8],
     ) -> Result<Option<Rule>, Memory>
         requires { runs_of self.old + 3 < 2 ^ 64 }
-        ensures answer { (tell : List ℕ → List Slot) (ask : Bool) (b : Both) (x : Texts) (xs : List Slot) (r : Reading) → Stands tell self.old b x → IsRun tell xs slots.now text.now → IfOk result (λ broken. AnswersRun tell (title_of self.old) b x (record { by_master = true; reading = r; text = text.now }) head.now.wide (head_shown ask head.now) xs self.new broken) }
+        ensures answer { AnswersRunBy true self.old head.now slots.now text.now self.new result }
         ensures runs { IfOk result (λ broken. broken ≡ None → runs_of self.new ≡ runs_of self.old + 1) }
         ensures title { IfOk result (λ broken. broken ≡ None → title_of self.new ≡ title_of self.old) }
     {
@@ -216,7 +214,7 @@ impl Checker {
         text: &[u8],
     ) -> Result<Option<Rule>, Memory>
         requires { runs_of self.old + 3 < 2 ^ 64 }
-        ensures answer { (tell : List ℕ → List Slot) (ask : Bool) (b : Both) (x : Texts) (xs : List Slot) (r : Reading) → Stands tell self.old b x → IsRun tell xs slots.now text.now → IfOk result (λ broken. AnswersRun tell (title_of self.old) b x (record { by_master = false; reading = r; text = text.now }) head.now.wide (head_shown ask head.now) xs self.new broken) }
+        ensures answer { AnswersRunBy false self.old head.now slots.now text.now self.new result }
         ensures runs { IfOk result (λ broken. broken ≡ None → runs_of self.new ≡ runs_of self.old + 1) }
         ensures title { IfOk result (λ broken. broken ≡ None → title_of self.new ≡ title_of self.old) }
     {
@@ -258,7 +256,7 @@ impl Checker {
         text: &[u8],
     ) -> Result<Option<Rule>, Memory>
         requires { runs_of self.old + 3 < 2 ^ 64 }
-        ensures answer { (tell : List ℕ → List Slot) (ask : Bool) (b : Both) (x : Texts) (xs : List Slot) (r : Reading) → Stands tell self.old b x → IsRun tell xs slots.now text.now → IfOk result (λ broken. AnswersRun tell (title_of self.old) b x (record { by_master = by_master; reading = r; text = text.now }) head.now.wide (head_shown ask head.now) xs self.new broken) }
+        ensures answer { AnswersRunBy by_master self.old head.now slots.now text.now self.new result }
         ensures runs { IfOk result (λ broken. broken ≡ None → runs_of self.new ≡ runs_of self.old + 1) }
         ensures title { IfOk result (λ broken. broken ≡ None → title_of self.new ≡ title_of self.old) }
     {

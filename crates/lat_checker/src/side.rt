@@ -1,6 +1,6 @@
 //! What is kept of one end, and the tests of a RUN that look at no session.
 
-ghost use Rattle.std.specs.Prelude.{◌≡◌, ◌+◌, ◌^◌, ◌<◌, ◌≤◌, ◌&&◌, nat_le, length};
+ghost use Rattle.std.specs.Prelude.{◌≡◌, ◌+◌, ◌^◌, ◌<◌, ◌&&◌, nat_le};
 ghost use Rattle.lat_captures.specs.Audit.{find_from};
 ghost use Rattle.lat_checker.specs.Tests.{bears, number_told, ack_told, repeats, tests_kept};
 

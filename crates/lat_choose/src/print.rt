@@ -57,7 +57,9 @@ fn best_onto(
     service: &Name,
 ) -> Result<(), AllocError>
     requires { directory.now.moment ≤ at }
-    ensures { (h : List HeardAnnouncement) → Stands directory.now h → OnOk result (string_bytes text.new ≡ string_bytes text.old ++ choice_line (best directory.now.groups service.now at h)) }
+    ensures { (h : List HeardAnnouncement) →
+        Stands directory.now h →
+        OnOk result (string_bytes text.new ≡ string_bytes text.old ++ choice_line (best directory.now.groups service.now at h)) }
 {
     choice_onto(alloc, text, directory.best(service, at))
 }
@@ -73,8 +75,12 @@ fn hear_onto(
     found: Result<Announcement, Bad>,
 ) -> Result<(), Memory>
     requires { directory.old.moment ≤ at }
-    ensures text { (h : List HeardAnnouncement) → Stands directory.old h → OnOk result (string_bytes text.new ≡ string_bytes text.old ++ hear_printed directory.old.groups number at found h) }
-    ensures stands { (h : List HeardAnnouncement) → Stands directory.old h → OnOk result (Stands directory.new (with_heard directory.old.groups at from found h)) }
+    ensures text { (h : List HeardAnnouncement) →
+        Stands directory.old h →
+        OnOk result (string_bytes text.new ≡ string_bytes text.old ++ hear_printed directory.old.groups number at found h) }
+    ensures stands { (h : List HeardAnnouncement) →
+        Stands directory.old h →
+        OnOk result (Stands directory.new (with_heard directory.old.groups at from found h)) }
     ensures groups { directory.new.groups ≡ directory.old.groups }
     ensures moment { directory.new.moment ≤ at }
 {
@@ -98,8 +104,12 @@ pub fn entry_onto(
     entry: Entry,
 ) -> Result<(), Memory>
     requires { directory.old.moment ≤ moment entry }
-    ensures text { (h : List HeardAnnouncement) → Stands directory.old h → OnOk result (string_bytes text.new ≡ string_bytes text.old ++ entry_printed directory.old.groups number h entry) }
-    ensures stands { (h : List HeardAnnouncement) → Stands directory.old h → OnOk result (Stands directory.new (heard_after directory.old.groups h entry)) }
+    ensures text { (h : List HeardAnnouncement) →
+        Stands directory.old h →
+        OnOk result (string_bytes text.new ≡ string_bytes text.old ++ entry_printed directory.old.groups number h entry) }
+    ensures stands { (h : List HeardAnnouncement) →
+        Stands directory.old h →
+        OnOk result (Stands directory.new (heard_after directory.old.groups h entry)) }
     ensures groups { directory.new.groups ≡ directory.old.groups }
     ensures moment { directory.new.moment ≤ moment entry }
 {

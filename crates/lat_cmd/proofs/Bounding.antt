@@ -1,13 +1,13 @@
 -- No command asks for more rounds than are run.
 use Rattle.std.proofs.Common.{◌≡◌, ℕ, ◌<◌, ◌≤◌, ◌^◌, ◌-◌, ◌⊎◌, inl, inr, Bool, true, false, leb, ◌&&◌, List, [], ◌∷◌, Option, Some, None, refl, sym}
-use Rattle.std.proofs.Common.{subst, arith, ◌∙◌}
+use Rattle.std.proofs.Common.{subst, ◌∙◌}
 use Rattle.std.specs.Prelude.{IfSome, option_map, option_and_then, codes, if◌then◌else◌}
 use Rattle.std.specs.Str.{bytes_eq}
 use Rattle.std.proofs.lemmas.Bool.Decides.{leb_tells}
 use Rattle.std.proofs.lemmas.Bool.{true≢false}
 use Rattle.lat_text.specs.Numbers.{if_within, number_of, number_within}
 use Rattle.lat_cmd.specs.declared.command.Command.{Command}
-use Rattle.lat_cmd.specs.declared.command.Command.TheVariants.{Show, Choose, Replay, Capture, Settle, Audit, Gen, Bench}
+use Rattle.lat_cmd.specs.declared.command.Command.TheVariants.{Capture, Settle, Gen, Bench}
 use Rattle.lat_cmd.specs.Commands.{command_of, plain_of, numbered_of, IsBounded}
 
 if_bounded : (b : Bool) (x y : Option Command) → IfSome x IsBounded → IfSome y IsBounded → IfSome (if b then x else y) IsBounded

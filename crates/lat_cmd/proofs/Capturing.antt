@@ -1,7 +1,7 @@
 -- What is captured behind a schedule.
-use Rattle.std.proofs.Common.{◌≡◌, ◌≢◌, ◌⊎◌, inl, inr, ℕ, ◌≤◌, Bool, true, false, ◌&&◌, List, length, Option, Some, None, Result, Ok, Err, refl, sym}
+use Rattle.std.proofs.Common.{◌≡◌, ◌≢◌, inl, inr, ℕ, List, Option, Some, None, Result, Ok, Err, refl, sym}
 use Rattle.std.proofs.Common.{ap, ◌∙◌, subst}
-use Rattle.std.specs.Prelude.{IfOk, is_some, nat_eq, codes}
+use Rattle.std.specs.Prelude.{IfOk, is_some, nat_eq}
 use Rattle.std.proofs.lemmas.Bool.{true≢false}
 use Rattle.lat_base.specs.declared.memory.Memory.{Memory}
 use Rattle.lat_machines.specs.world.Machines.{Setups, Machines}
@@ -15,10 +15,9 @@ use Rattle.lat_cmd.specs.declared.command.Command.TheVariants as commands
 use Rattle.lat_cmd.specs.declared.course.Course.{Course}
 use Rattle.lat_cmd.specs.declared.course.Course.TheVariants as courses
 use Rattle.lat_cmd.specs.declared.outcome.Outcome.{Outcome}
-use Rattle.lat_cmd.specs.Answers.{Answer, Tale, plain, told_behind, captured, HandsBack}
+use Rattle.lat_cmd.specs.Answers.{Answer, plain, told_behind, captured, HandsBack}
 use Rattle.lat_cmd.specs.Courses.{Runs}
 use Rattle.lat_cmd.specs.Laws.{IsLegalText, CaptureIsLegal}
-use Rattle.lat_cmd.specs.Outcomes.{IsOutcome}
 use Rattle.lat_cmd.proofs.Coming.{fits, same_some}
 use Rattle.lat_cmd.proofs.Ending.{within_limit}
 

@@ -1,5 +1,5 @@
 -- What a command comes to has one of its statuses, and a world exactly where it makes one and is done.
-use Rattle.std.proofs.Common.{◌≡◌, ℕ, ◌⊎◌, inl, inr, Bool, true, false, ◌&&◌, List, length, Option, Some, None, Result, Ok, Err, refl, sym, ap, ◌∙◌, subst}
+use Rattle.std.proofs.Common.{◌≡◌, ℕ, inl, inr, Bool, true, false, ◌&&◌, List, length, Option, Some, None, Result, Ok, Err, refl, sym, ap, ◌∙◌, subst}
 use Rattle.std.specs.Prelude.{IfOk, is_some, nat_eq, nat_lt, if◌then◌else◌}
 use Rattle.lat_machines.specs.world.Machines.{Setups}
 use Rattle.lat_base.specs.declared.memory.Memory.{Memory}
@@ -12,7 +12,6 @@ use Rattle.lat_schedule.specs.ScheduleText as schedules
 use Rattle.lat_schedule.specs.declared.schedule.Schedule.{Schedule}
 use Rattle.lat_schedule.specs.declared.schedule.ScheduleFault.{ScheduleFault}
 use Rattle.lat_text.specs.Lines.{lines_of}
-use Rattle.lat_wire.specs.declared.fault.EventFault.{EventFault}
 use Rattle.lat_wire.specs.declared.fault.EventFault.TheVariants as faults
 use Rattle.lat_replay.specs.Kept.{Kept}
 use Rattle.lat_replay.specs.Setups.{setups_shown}

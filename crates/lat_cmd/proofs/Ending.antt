@@ -1,17 +1,16 @@
 -- How a run ends.
-use Rattle.std.proofs.Common.{◌≡◌, ◌≢◌, ℕ, ◌<◌, ◌≤◌, ◌⊎◌, inl, inr, Bool, true, false, ltb, ◌&&◌, List, length, Option, Some, None, Result, Ok, Err}
+use Rattle.std.proofs.Common.{◌≡◌, ◌≢◌, ℕ, ◌<◌, ◌≤◌, ◌⊎◌, inl, inr, Bool, true, false, ltb, ◌&&◌, List, length, Option, Some, None}
 use Rattle.std.proofs.Common.{refl, sym, ap, ◌∙◌, subst, arith}
-use Rattle.std.specs.Prelude.{IfSome, is_some, nat_eq, codes}
+use Rattle.std.specs.Prelude.{IfSome, codes}
 use Rattle.std.proofs.lemmas.Bool.Decides.{nat_tests}
 use Rattle.lat_replay.specs.Kept.{Kept}
 use Rattle.lat_cmd.specs.declared.command.Command.{Command}
 use Rattle.lat_cmd.specs.declared.command.Command.TheVariants.{Show, Choose, Replay, Capture, Settle, Audit, Gen, Bench}
-use Rattle.lat_cmd.specs.declared.outcome.Outcome.{Outcome}
 use Rattle.lat_cmd.specs.declared.top.RunEnd.{RunEnd}
-use Rattle.lat_cmd.specs.Answers.{Answer, plain, answer_of, answer_to, capture_of, settle_of, input_of, HandsBack}
-use Rattle.lat_cmd.specs.Commands.{reads, makes_world, ComesTo, IsStatusOf}
+use Rattle.lat_cmd.specs.Answers.{Answer, plain, answer_of, answer_to, capture_of, input_of}
+use Rattle.lat_cmd.specs.Commands.{makes_world, IsStatusOf}
 use Rattle.lat_cmd.specs.Laws.{SettleTakesAll, IsLawful, ObeysLaw}
-use Rattle.lat_cmd.specs.Outcomes.{IsOutcome, IsEarly, Tells, Answers, WorldWhereDone}
+use Rattle.lat_cmd.specs.Outcomes.{IsEarly, Tells, Answers, WorldWhereDone}
 
 -- an input past the limit
 past_limit : (c : Command) (input : List ℕ) → 16777216 < length input → answer_of c input ≡ plain (6, codes "limit bytes\n")

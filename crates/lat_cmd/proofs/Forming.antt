@@ -1,5 +1,5 @@
 -- A status, a text and perhaps a world make an outcome.
-use Rattle.std.proofs.Common.{◌≡◌, ◌≢◌, ℕ, ◌++◌, [], List, Option, Some, None, Result, Ok, Err, refl, sym, ap, ◌∙◌, subst}
+use Rattle.std.proofs.Common.{◌≡◌, ℕ, ◌++◌, [], List, Option, Some, None, Result, Ok, Err, refl, sym, ap, ◌∙◌, subst}
 use Rattle.std.specs.Prelude.{IfOk, string_bytes}
 use Rattle.lat_base.specs.declared.memory.Memory.{Memory}
 use Rattle.lat_machines.specs.world.Machines.{Setups, Machines}
@@ -14,7 +14,7 @@ use Rattle.lat_replay.specs.Stands.{Stands}
 use Rattle.lat_replay.specs.Played.{State, StandsAt}
 use Rattle.lat_cmd.specs.declared.command.Command.{Command}
 use Rattle.lat_cmd.specs.declared.outcome.Outcome.{Outcome}
-use Rattle.lat_cmd.specs.Answers.{Answer, plain, with_world, reported, captured, gen_of, bench_of, answer_to, HandsBack}
+use Rattle.lat_cmd.specs.Answers.{plain, with_world, reported, captured, gen_of, bench_of, answer_to, HandsBack}
 use Rattle.lat_cmd.specs.Laws.{IsLawful}
 use Rattle.lat_cmd.specs.Outcomes.{IsOutcome}
 

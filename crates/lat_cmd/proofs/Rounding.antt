@@ -1,7 +1,6 @@
 -- Rounds behind a schedule.
-use Rattle.std.proofs.Common.{◌≡◌, ◌≢◌, ◌⊎◌, inl, inr, ℕ, ◌<◌, ◌≤◌, ◌^◌, List, [], Option, Some, None, Result, Ok, Err, refl, sym, ap, ◌∙◌, subst, arith}
+use Rattle.std.proofs.Common.{◌≡◌, ◌≢◌, inl, inr, ℕ, ◌<◌, ◌≤◌, ◌^◌, List, [], Option, Some, None, Result, Ok, Err, refl, sym, ap, ◌∙◌, subst, arith}
 use Rattle.std.specs.Prelude.{IfOk, string_bytes}
-use Rattle.lat_base.specs.declared.memory.Memory.{Memory}
 use Rattle.lat_machines.specs.world.Machines.{Setups}
 use Rattle.lat_machines.specs.world.Reports.{report}
 use Rattle.lat_rounds.specs.Lossless.{Lossless}

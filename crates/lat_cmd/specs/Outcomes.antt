@@ -1,5 +1,5 @@
 -- What a command comes to, and how its run ends.
-use Rattle.std.specs.Prelude.{◌≡◌, ◌⊎◌, ℕ, Bool, true, ◌&&◌, List, take, Option, None, is_some, nat_eq, string_bytes}
+use Rattle.std.specs.Prelude.{◌≡◌, ◌⊎◌, ℕ, ◌&&◌, List, take, Option, None, is_some, nat_eq, string_bytes}
 use Rattle.std.specs.Io.KnownBytes.{Appends}
 use Rattle.lat_replay.specs.Kept.{Kept}
 use Rattle.lat_cmd.specs.declared.command.Command.{Command}

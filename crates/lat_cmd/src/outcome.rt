@@ -1,6 +1,6 @@
 //! What a command comes to.
 
-ghost use Rattle.std.specs.Prelude.{◌≡◌, None, string_bytes};
+ghost use Rattle.std.specs.Prelude.{◌≡◌, None};
 
 use lat_node::RatingRule;
 use lat_replay::World;

@@ -2,7 +2,7 @@
 
 ghost use Rattle.std.specs.Prelude.{◌≡◌, IfOk};
 ghost use Rattle.lat_schedule.specs.Setups.{IsSetup};
-ghost use Rattle.lat_gen.specs.Front.{front_text, end_text, setup};
+ghost use Rattle.lat_gen.specs.Front.{setup};
 
 use lat_base::Memory;
 use lat_schedule::{Setup, read_schedule};

@@ -1,6 +1,6 @@
 //! The generator of a schedule, and its draws.
 
-ghost use Rattle.std.specs.Prelude.{◌≡◌, ◌<◌, ◌≤◌, ◌^◌, IfOk, length};
+ghost use Rattle.std.specs.Prelude.{◌≡◌, ◌<◌, ◌≤◌, IfOk, length};
 ghost use Rattle.lat_gen.specs.Draws.{next, below, line, bytes};
 
 use lat_base::{Bytes, Memory};

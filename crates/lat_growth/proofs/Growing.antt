@@ -1,5 +1,5 @@
 -- One event more of a generated schedule.
-use Rattle.std.proofs.Common.{◌≡◌, ℕ, suc, Bool, true, false, List, [], ◌++◌, ◌+◌, add-one, length, Option, Some, None, Result, Ok, Err, sym, ap, ◌∙◌, refl, subst}
+use Rattle.std.proofs.Common.{◌≡◌, ℕ, suc, Bool, true, false, List, ◌++◌, ◌+◌, add-one, length, Option, Some, None, Result, Ok, Err, sym, ap, ◌∙◌, refl, subst}
 use Rattle.lat_base.specs.declared.event.Event.TheVariants.{Announce}
 use Rattle.lat_machines.specs.world.Machines.{Setups, open_machines}
 use Rattle.lat_machines.specs.world.Reports.{report}
@@ -16,8 +16,7 @@ use Rattle.lat_wire.specs.declared.fault.EventFault.{EventFault}
 use Rattle.lat_wire.specs.declared.fault.EventFault.TheVariants.{FramesFull, Backward, OwnAddress, NoFrame, Old, Memory}
 use Rattle.lat_wire.specs.Refusals.{RefusedAs}
 use Rattle.lat_replay.specs.Kept.{setups_of, moment_of}
-use Rattle.lat_replay.specs.Played.{State, next, refusal, StandsAt}
-use Rattle.lat_gen.specs.declared.generator.Generator.{Generator}
+use Rattle.lat_replay.specs.Played.{next, refusal, StandsAt}
 use Rattle.lat_growth.specs.declared.growth.Growth.{Growth}
 use Rattle.lat_gen.specs.Draws.{Drawn}
 use Rattle.lat_gen.specs.Front.{setup, vax, front_text, end_text}

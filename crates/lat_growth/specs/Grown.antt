@@ -1,5 +1,5 @@
 -- A generated schedule: what it comes to turn by turn, its text, and what is told of it in one line.
-use Rattle.std.specs.Prelude.{◌≡◌, ℕ, zero, suc, false, List, [], ◌∷◌, ◌++◌, length, codes, decimal, Option, Some, None}
+use Rattle.std.specs.Prelude.{ℕ, zero, suc, false, List, [], ◌∷◌, ◌++◌, length, codes, decimal, Option, Some, None}
 use Rattle.lat_base.specs.declared.event.Event.TheVariants.{Announce}
 use Rattle.lat_machines.specs.world.Machines.{Setups}
 use Rattle.lat_machines.specs.world.Reports.{report}

@@ -1,5 +1,5 @@
 -- The events of a schedule can be played.
-use Rattle.std.proofs.Common.{◌≡◌, refl, List, [], ◌∷◌, Bool, true, false}
+use Rattle.std.proofs.Common.{refl, List, [], ◌∷◌, Bool}
 use Rattle.lat_base.specs.declared.addr.Addr.{Addr}
 use Rattle.lat_base.specs.declared.event.Event as base
 use Rattle.lat_base.specs.declared.event.Event.TheVariants as events

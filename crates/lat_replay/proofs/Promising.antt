@@ -1,15 +1,15 @@
 -- What holds of every world that a world stands for.
-use Rattle.std.proofs.Common.{◌≡◌, ℕ, sym, ap, ◌∙◌, refl, subst, Bool, true, false, List, [], ◌∷◌, ◌++◌, None}
+use Rattle.std.proofs.Common.{◌≡◌, ℕ, sym, ap, ◌∙◌, refl, subst, true, false, None}
 use Rattle.std.proofs.lemmas.List.{append-nil}
 use Rattle.lat_machines.specs.values.Frames.{Malformed}
 use Rattle.lat_machines.specs.values.Events.{Event, Hears}
 use Rattle.lat_machines.specs.values.Answers.{Bad}
-use Rattle.lat_machines.specs.server.Server.{Server, ServerStep, open_server, server_step}
+use Rattle.lat_machines.specs.server.Server.{ServerStep, server_step}
 use Rattle.lat_machines.specs.server.Server as servers
 use Rattle.lat_machines.specs.node.Node.{NodeStep, node_step}
 use Rattle.lat_machines.specs.node.Node as nodes
-use Rattle.lat_machines.specs.world.Histories.{server_run, HasHistories}
-use Rattle.lat_machines.specs.world.Machines.{Setups, Machines, run, open_machines, server_did, node_did}
+use Rattle.lat_machines.specs.world.Histories.{HasHistories}
+use Rattle.lat_machines.specs.world.Machines.{Machines, run, server_did, node_did}
 use Rattle.lat_machines.specs.world.Refusals.{server_moved, node_moved}
 use Rattle.lat_machines.specs.world.Safe.{StreamsInOrder, SlotsCredited, Safe}
 use Rattle.lat_machines.proofs.frames.Refused.{server_no_layout, node_no_layout}

@@ -7,8 +7,8 @@ use Rattle.lat_base.specs.declared.outbox.OutFrame.{OutFrame}
 use Rattle.lat_machines.specs.values.Answers as machines
 use Rattle.lat_machines.specs.values.Events.{Event, is_heard}
 use Rattle.lat_machines.specs.values.Frames.{Reading}
-use Rattle.lat_machines.specs.world.Machines.{Setups, Posted, Machines, Move, Does, HearsFrame, HearsForeign, core_of, is_for_other, is_own, heard_as, happens, run, open_machines}
-use Rattle.lat_machines.specs.world.Safe.{Fit, answer_by}
+use Rattle.lat_machines.specs.world.Machines.{Setups, Posted, Machines, Move, Does, HearsFrame, HearsForeign, core_of, is_for_other, is_own, heard_as, happens, run}
+use Rattle.lat_machines.specs.world.Safe.{answer_by}
 use Rattle.lat_tales.specs.Books.{lines_at}
 use Rattle.lat_tales.specs.Items.{line_of, put_by, taken_by}
 use Rattle.lat_tales.specs.Rows.{KeptRows, Keeps}
@@ -21,7 +21,7 @@ use Rattle.lat_wire.specs.declared.fault.EventFault.{EventFault}
 use Rattle.lat_wire.specs.declared.fault.EventFault.TheVariants.{OwnAddress}
 use Rattle.lat_wire.specs.Kept as wires
 use Rattle.lat_wire.specs.Rates.{rates}
-use Rattle.lat_wire.specs.Refusals.{RefusedAs, first_of, full, own_address, inject_refusal}
+use Rattle.lat_wire.specs.Refusals.{RefusedAs, first_of, full, inject_refusal}
 use Rattle.lat_wire.specs.Stands as wire_stands
 use Rattle.lat_wire.specs.Told.{answered, answered_to, ShowsPost}
 use Rattle.lat_follow.specs.Moves.{IsReached, end_told, hearer, items_added}

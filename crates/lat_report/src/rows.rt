@@ -3,7 +3,21 @@
 ghost use Rattle.std.specs.Prelude.{◌≡◌, ◌++◌, OnOk, codes, option_map, string_bytes};
 ghost use Rattle.std.specs.List.{flat_map};
 ghost use Rattle.lat_queue.specs.Histories.{key_in, kept_in};
-ghost use Rattle.lat_report.specs.ReportText.{frames_text, item_text, items_text, direction_text, end_text, node_line_text, session_head, session_line, row_text, key_text, kept_word, request_text, grant_text};
+ghost use Rattle.lat_report.specs.ReportText.{
+  frames_text,
+  item_text,
+  items_text,
+  direction_text,
+  end_text,
+  node_line_text,
+  session_head,
+  session_line,
+  row_text,
+  key_text,
+  kept_word,
+  request_text,
+  grant_text,
+};
 ghost use Rattle.lat_report.specs.Rows.{items_in, direction_in, row_in, record_in};
 ghost use Rattle.lat_lines.specs.Answers.{item_in};
 ghost use Rattle.lat_lines.specs.Stands.{end_shown};

@@ -2,7 +2,28 @@
 
 ghost use Rattle.std.specs.Prelude.{◌≡◌, ◌≤◌, Bool, true, false, IsTrue, IfOk, IfSome, length};
 ghost use Rattle.lat_text.specs.Reads.{Reads};
-ghost use Rattle.lat_schedule.specs.EventLines.{line_of, id_of, setting_of, flag_of, end_of, connect_of, put_of, set_of, take_of, attend_of, close_of, time_of, cancel_of, request_of, told_of, local_of, deliver_of, inject_of, worded_of, event_of};
+ghost use Rattle.lat_schedule.specs.EventLines.{
+  line_of,
+  id_of,
+  setting_of,
+  flag_of,
+  end_of,
+  connect_of,
+  put_of,
+  set_of,
+  take_of,
+  attend_of,
+  close_of,
+  time_of,
+  cancel_of,
+  request_of,
+  told_of,
+  local_of,
+  deliver_of,
+  inject_of,
+  worded_of,
+  event_of,
+};
 ghost use Rattle.lat_schedule.specs.Verbs.{may_say};
 ghost use Rattle.lat_base.specs.declared.addr.Addr.{Addr};
 ghost use Rattle.lat_schedule.specs.Events.{IsTold, IsEvent};

@@ -9,7 +9,22 @@ ghost use Rattle.lat_machines.specs.values.Addresses.{address, everyone};
 ghost use Rattle.lat_machines.specs.values.Names.{same};
 ghost use Rattle.lat_server.specs.declared.config.Offer.{Offer};
 ghost use Rattle.lat_text.specs.Reads.{Reads};
-ghost use Rattle.lat_schedule.specs.SetupLines.{version_of, station_of, server_of, node_of, numbers_of, timing_of, span_of, circuit_of, narrow_of, wide_of, server_groups_of, node_groups_of, service_of, offer_of};
+ghost use Rattle.lat_schedule.specs.SetupLines.{
+  version_of,
+  station_of,
+  server_of,
+  node_of,
+  numbers_of,
+  timing_of,
+  span_of,
+  circuit_of,
+  narrow_of,
+  wide_of,
+  server_groups_of,
+  node_groups_of,
+  service_of,
+  offer_of,
+};
 ghost use Rattle.lat_schedule.specs.Setups.{IsServerLine, IsNodeLine, AreNumbers, IsCircuitLine};
 
 use crate::numbers::{byte_within, short_up_to};

@@ -1,5 +1,5 @@
 -- Events told one after another.
-use Rattle.std.proofs.Common.{◌≡◌, sym, ap, ◌∙◌, refl, subst, List, [], ◌∷◌, ◌++◌, None, append_assoc, Result, Ok, Err}
+use Rattle.std.proofs.Common.{◌≡◌, sym, ap, ◌∙◌, refl, subst, List, [], ◌∷◌, ◌++◌, append_assoc, Result, Ok, Err}
 use Rattle.std.proofs.lemmas.List.{append-nil}
 use Rattle.std.specs.Prelude.{OnOk, OnErr}
 use Rattle.lat_machines.specs.world.Machines.{Setups, Machines, happens}

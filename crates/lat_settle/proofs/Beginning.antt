@@ -1,24 +1,22 @@
 -- A schedule that loses nothing leads to a state at which rounds may begin.
-use Rattle.std.proofs.Common.{◌≡◌, ℕ, suc, ◌+◌, ◌*◌, ◌<◌, ◌≤◌, ◌^◌, sym, ap, ◌∙◌, refl, subst, arith, Bool, true, false, not, cond, List, [], ◌∷◌, length, map, Option, Some, None, nat_lt, slice_get, lit<}
+use Rattle.std.proofs.Common.{◌≡◌, ℕ, ◌+◌, ◌*◌, ◌<◌, ◌≤◌, ◌^◌, sym, ap, ◌∙◌, refl, subst, arith, Bool, true, false, not, cond, List, [], ◌∷◌, length, map, Option, Some, None, nat_lt, slice_get, lit<}
 use Rattle.std.proofs.lemmas.Bool.{le-leb, lt-ltb}
 use Rattle.lat_base.specs.declared.addr.Addr.{Addr}
-use Rattle.lat_base.specs.declared.event.Event as base
 use Rattle.lat_base.specs.declared.event.Event.TheVariants as events
 use Rattle.lat_machines.specs.values.Addresses.{address}
-use Rattle.lat_machines.specs.values.Events.{Event, Hears, Time}
+use Rattle.lat_machines.specs.values.Events.{Hears, Time}
 use Rattle.lat_machines.specs.server.Server as machine
-use Rattle.lat_machines.specs.world.Machines.{Setups, Posted, Machines, Move, Does, HearsFrame, tell, is_for_other, is_own, heard_as, counted, marked_delivered, comes, happens, run, open_machines}
+use Rattle.lat_machines.specs.world.Machines.{Setups, Posted, Machines, Move, HearsFrame, tell, is_for_other, is_own, heard_as, counted, marked_delivered, comes, happens, run}
 use Rattle.lat_machines.specs.world.Safe.{Fit}
 use Rattle.lat_model.specs.Lists.{Each}
-use Rattle.lat_replay.specs.Moves.{move_of, moment_behind, refusal_of}
-use Rattle.lat_replay.specs.Played.{State, open_state, next, refusal, Through, played}
+use Rattle.lat_replay.specs.Moves.{move_of, moment_behind}
+use Rattle.lat_replay.specs.Played.{State, open_state, next, refusal}
 use Rattle.lat_replay.specs.Setups.{setups_shown}
-use Rattle.lat_rounds.specs.Lossless.{Lossless}
-use Rattle.lat_rounds.specs.Settles.{Usual, ShortMove, Begins}
-use Rattle.lat_rounds.proofs.ready.Moments.{BothUntil, at_most, tell_until}
+use Rattle.lat_rounds.specs.Settles.{Usual, ShortMove}
+use Rattle.lat_rounds.proofs.ready.Moments.{BothUntil, tell_until}
 use Rattle.lat_payload.specs.Reads.{reading_of}
 use Rattle.lat_lines.specs.Events.{event_shown}
-use Rattle.lat_schedule.specs.Events.{IsTold, IsEvent}
+use Rattle.lat_schedule.specs.Events.{IsEvent}
 use Rattle.lat_schedule.specs.Setups.{IsSetup}
 use Rattle.lat_schedule.specs.declared.event.WorldEvent.{WorldEvent}
 use Rattle.lat_schedule.specs.declared.event.WorldEvent.TheVariants.{Local, Deliver, Inject}
@@ -26,14 +24,12 @@ use Rattle.lat_schedule.specs.declared.setup.Setup.{Setup}
 use Rattle.lat_server.specs.Config.{offer_shown}
 use Rattle.lat_server.specs.declared.config.Offer.{Offer}
 use Rattle.lat_base.specs.Names.{IsName}
-use Rattle.lat_wire.specs.declared.fault.EventFault.{EventFault}
 use Rattle.lat_wire.specs.declared.fault.EventFault.TheVariants.{FramesFull, Backward}
 use Rattle.lat_wire.specs.Rates.{rates}
 use Rattle.lat_wire.specs.Refusals.{first_of, full}
 use Rattle.lat_settle.specs.Events.{behind}
 use Rattle.lat_settle.specs.Told.{NoneRefused}
-use Rattle.lat_settle.specs.Rounds.{rounds_moment}
-use Rattle.lat_settle.specs.Laws.{BeginsAt, SchedulesBegin, SchedulesLeaveRoom}
+use Rattle.lat_settle.specs.Laws.{SchedulesBegin, SchedulesLeaveRoom}
 use Rattle.lat_settle.proofs.Passing.{passed}
 use Rattle.lat_settle.proofs.Running.{times_more}
 

@@ -1,12 +1,12 @@
 -- The events of rounds lead where the laws of rounds say.
-use Rattle.std.proofs.Common.{◌≡◌, ℕ, zero, suc, ◌+◌, ◌*◌, ◌<◌, ◌≤◌, sym, ap, ◌∙◌, refl, subst, arith, Bool, true, false, cond, List, [], ◌∷◌, ◌++◌, length, Option, Some, None, nat_lt, slice_get}
+use Rattle.std.proofs.Common.{◌≡◌, ℕ, zero, suc, ◌+◌, ◌*◌, ◌<◌, ◌≤◌, sym, ap, ◌∙◌, refl, subst, arith, Bool, true, false, cond, List, [], ◌∷◌, length, Option, Some, None, nat_lt, slice_get}
 use Rattle.std.proofs.lemmas.Bool.{lt-ltb, ltb-true}
 use Rattle.lat_machines.specs.values.Events.{Takes}
 use Rattle.lat_machines.specs.cores.Lines.{holds}
-use Rattle.lat_machines.specs.world.Machines.{Setups, Machines, core_of, tell, happens}
+use Rattle.lat_machines.specs.world.Machines.{Setups, Machines, core_of, tell}
 use Rattle.lat_model.specs.Lists.{upwards}
-use Rattle.lat_replay.specs.Played.{State, next, refusal, Played, Through, Refused, played}
-use Rattle.lat_rounds.specs.Rounds.{undelivered, deliver_one, deliveries, time_both, take_lines, take_line, delivered_by, round, rounds, next_moment, Whole}
+use Rattle.lat_replay.specs.Played.{State, next, Played, Through, Refused, played}
+use Rattle.lat_rounds.specs.Rounds.{undelivered, deliver_one, deliveries, time_both, take_lines, delivered_by, round, rounds, next_moment, Whole}
 use Rattle.lat_schedule.specs.declared.event.WorldEvent.{WorldEvent}
 use Rattle.lat_schedule.specs.declared.event.WorldEvent.TheVariants.{Deliver}
 use Rattle.lat_wire.specs.declared.fault.EventFault.{EventFault}

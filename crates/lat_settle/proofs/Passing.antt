@@ -1,7 +1,7 @@
 -- What is played of events that are told one after another.
-use Rattle.std.proofs.Common.{◌≡◌, ℕ, zero, suc, ◌+◌, ◌<◌, sym, ap, ◌∙◌, refl, subst, arith, List, [], ◌∷◌, ◌++◌, length, take, Option, Some, None, length-append}
+use Rattle.std.proofs.Common.{◌≡◌, ℕ, suc, ◌+◌, ◌<◌, ap, ◌∙◌, refl, arith, List, [], ◌∷◌, ◌++◌, length, take, Option, Some, None, length-append}
 use Rattle.lat_machines.specs.world.Machines.{Setups}
-use Rattle.lat_replay.specs.Played.{State, next, refusal, Played, Through, Refused, unless, played_from, played}
+use Rattle.lat_replay.specs.Played.{State, next, refusal, Through, Refused, unless, played_from}
 use Rattle.lat_schedule.specs.declared.event.WorldEvent.{WorldEvent}
 use Rattle.lat_wire.specs.declared.fault.EventFault.{EventFault}
 use Rattle.lat_settle.specs.Events.{behind}

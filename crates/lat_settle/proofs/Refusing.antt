@@ -6,7 +6,7 @@ use Rattle.lat_machines.specs.values.Timing.{half_range}
 use Rattle.lat_machines.specs.values.Messages.{Head}
 use Rattle.lat_machines.specs.cores.Hearing.{names}
 use Rattle.lat_machines.specs.cores.Lines.{holds}
-use Rattle.lat_machines.specs.world.Machines.{Setups, Posted, Machines, own_of, core_of, is_for_other}
+use Rattle.lat_machines.specs.world.Machines.{Setups, Posted, Machines, own_of, core_of}
 use Rattle.lat_machines.specs.world.Reports.{report}
 use Rattle.lat_machines.specs.world.Tally.{formed_in, shown_in}
 use Rattle.lat_machines.specs.world.Young.{head_of, YoungOf, IsYoung}
@@ -20,7 +20,7 @@ use Rattle.lat_rounds.proofs.ready.Moments.{BothUntil, round_until}
 use Rattle.lat_rounds.proofs.settle.All.{all_settle}
 use Rattle.lat_rounds.specs.Lossless.{Lossless}
 use Rattle.lat_rounds.specs.Rounds.{undelivered, deliver_one, time_both, round, rounds, next_moment, YoungNext, YoungDeliveries}
-use Rattle.lat_rounds.specs.Settles.{Begins, Enough, Settled}
+use Rattle.lat_rounds.specs.Settles.{Enough, Settled}
 use Rattle.lat_schedule.specs.declared.event.WorldEvent.{WorldEvent}
 use Rattle.lat_schedule.specs.declared.event.WorldEvent.TheVariants.{Deliver}
 use Rattle.lat_wire.specs.declared.fault.EventFault.{EventFault}
@@ -28,7 +28,7 @@ use Rattle.lat_wire.specs.declared.fault.EventFault.TheVariants.{FramesFull, Bac
 use Rattle.lat_wire.specs.Rates.{rates}
 use Rattle.lat_wire.specs.Refusals.{first_of, full, no_frame, old, old_so, old_frame, old_run}
 use Rattle.lat_settle.specs.Events.{behind, followed, tell_time, time_events, delivers, deliver_events, take_on, take_events, round_events}
-use Rattle.lat_settle.specs.Rounds.{in_round, settled_behind, settled, StopsIn}
+use Rattle.lat_settle.specs.Rounds.{in_round, settled_behind, StopsIn}
 use Rattle.lat_settle.specs.Laws.{BeginsAt, EnoughSettle, Settles, IsFullOrMemory, Led}
 use Rattle.lat_settle.proofs.Leading.{times_lead, times_moment, told_at, heard_at, took_at, RoundLeads, round_leads, led_of}
 use Rattle.lat_settle.proofs.Passing.{passed}

@@ -1,5 +1,5 @@
 -- Rounds run one after another.
-use Rattle.std.proofs.Common.{◌≡◌, ℕ, zero, suc, ◌+◌, ◌*◌, ◌<◌, ◌≤◌, sym, ap, ◌∙◌, refl, subst, arith, take, length, ◌++◌, ◌∷◌, Some}
+use Rattle.std.proofs.Common.{◌≡◌, ℕ, zero, suc, ◌+◌, ◌*◌, ◌<◌, ◌≤◌, sym, ap, ◌∙◌, refl, subst, arith, take, length, ◌∷◌, Some}
 use Rattle.lat_machines.specs.world.Machines.{Setups}
 use Rattle.lat_replay.specs.Kept.{Kept}
 use Rattle.lat_replay.specs.Played.{State, refusal, Played, Through, Refused, played, StandsAt}

@@ -1,5 +1,5 @@
 -- The turns of the loops of a round.
-use Rattle.std.proofs.Common.{◌≡◌, ℕ, zero, suc, ◌+◌, ◌*◌, ◌<◌, ◌≤◌, sym, ap, ◌∙◌, refl, subst, arith, Bool, true, false, cond, List, [], ◌∷◌, ◌++◌, Option, Some, None, Result, Ok, Err}
+use Rattle.std.proofs.Common.{◌≡◌, ℕ, zero, suc, ◌+◌, ◌*◌, ◌<◌, ◌≤◌, sym, ap, ◌∙◌, refl, subst, arith, Bool, true, false, cond, List, [], ◌∷◌, ◌++◌, Option, Some, None, Result}
 use Rattle.lat_machines.specs.cores.Lines.{holds}
 use Rattle.lat_machines.specs.world.Machines.{Setups, Machines, core_of}
 use Rattle.lat_model.specs.Lists.{upwards}

@@ -1,5 +1,5 @@
 -- The texts of the requests, and of a whole report.
-use Rattle.std.proofs.Common.{◌≡◌, ℕ, zero, suc, ◌≤◌, arith, refl, sym, ap, ap₂, ◌∙◌, List, [], ◌∷◌, ◌++◌, length, map, take, Option, Some, None}
+use Rattle.std.proofs.Common.{◌≡◌, ℕ, zero, suc, ◌≤◌, arith, refl, sym, ap, ◌∙◌, List, [], ◌∷◌, ◌++◌, length, map, take, Option, Some, None}
 use Rattle.std.specs.Prelude.{codes, slice_get, option_map}
 use Rattle.std.specs.List.{flat_map}
 use Rattle.std.proofs.lemmas.Option.{slice_get-map}
@@ -23,7 +23,6 @@ use Rattle.lat_wire.specs.Stands.{Stands}
 use Rattle.lat_wire.specs.declared.notes.Note.{Note}
 use Rattle.lat_summary.specs.Notes.{note_line}
 use Rattle.lat_summary.specs.Requests.{request_row, request_rows}
-use Rattle.lat_summary.specs.Standing.{RowAt}
 use Rattle.lat_summary.proofs.Noted.{notes_same}
 use Rattle.lat_summary.proofs.Reported.{told_report}
 use Rattle.lat_summary.proofs.Rows.{Beside, beside}

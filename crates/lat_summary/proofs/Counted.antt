@@ -5,10 +5,9 @@ use Rattle.lat_base.specs.declared.item.Item as base
 use Rattle.lat_model.specs.sessions.Slots.{Item}
 use Rattle.lat_machines.specs.world.Machines.{Machines}
 use Rattle.lat_tales.specs.Rows.{KeptRow, KeptRows}
-use Rattle.lat_tales.specs.Told.{told_row, told_from}
-use Rattle.lat_roster.specs.Shown.{item_shown, told_total}
+use Rattle.lat_tales.specs.Told.{told_from}
+use Rattle.lat_roster.specs.Shown.{item_shown}
 use Rattle.lat_roster.specs.declared.row.Row.{Row}
-use Rattle.lat_roster.specs.Rows.{ShowsRow}
 use Rattle.lat_roster.specs.Roster.{ShowsRows}
 use Rattle.lat_summary.specs.Counts.{put_of, taken_of, put_in_row, taken_in_row}
 

@@ -1,5 +1,5 @@
 -- The figures of the newest session of a line, by its book.
-use Rattle.std.proofs.Common.{◌≡◌, ◌≢◌, ℕ, ◌≤◌, ◌<◌, refl, sym, ap, ap₂, ◌∙◌, subst, arith, Bool, true, false, cond, ◌&&◌, Option, Some, None, nat_eq, nat_lt, nat_le, eqb-true, ltb-true, lt-ltb}
+use Rattle.std.proofs.Common.{◌≡◌, ◌≢◌, ℕ, refl, sym, ap, ap₂, ◌∙◌, arith, Bool, true, false, cond, ◌&&◌, Option, Some, None, nat_eq, nat_lt, nat_le, eqb-true, ltb-true, lt-ltb}
 use Rattle.std.specs.Prelude.{option_map}
 use Rattle.std.proofs.lemmas.Bool.{and_parts, true≢false, leb-true, le-leb}
 use Rattle.lat_base.specs.declared.book.LineSession as base
@@ -7,13 +7,13 @@ use Rattle.lat_base.specs.declared.book.LineBook as base_book
 use Rattle.lat_base.specs.declared.state.SessionEnd as base_end
 use Rattle.lat_base.specs.declared.state.SessionEnd.TheVariants as ends
 use Rattle.lat_model.specs.Lists.{Each}
-use Rattle.lat_machines.specs.cores.Cores.{Seat, no_seat, Core}
+use Rattle.lat_machines.specs.cores.Cores.{no_seat, Core}
 use Rattle.lat_machines.specs.cores.Books.{SessionEnd, LineSession, line_session, LineBook, book}
 use Rattle.lat_machines.specs.cores.Lines.{line_exists, last_on, seat_at}
 use Rattle.lat_lines.specs.Kept.{IsLine}
 use Rattle.lat_lines.specs.Stands as lines
 use Rattle.lat_lines.specs.Stands.{session_shown, session_told, book_shown, book_told}
-use Rattle.lat_tales.specs.Books.{newest_of, newest_told}
+use Rattle.lat_tales.specs.Books.{newest_told}
 use Rattle.lat_tales.specs.Rows.{figures_of, newest_place}
 use Rattle.lat_tales.specs.Rows as rows
 use Rattle.lat_tales.proofs.rows.Books.{book_newest}

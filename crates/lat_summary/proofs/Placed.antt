@@ -1,5 +1,5 @@
 -- The places of the grants.
-use Rattle.std.proofs.Common.{◌≡◌, ◌≢◌, ℕ, zero, suc, ◌+◌, ◌-◌, ◌<◌, ◌≤◌, ◌⊎◌, inl, inr, refl, sym, ap, ap₂, ◌∙◌, subst, arith, Bool, true, false, nat_eq, eqb-true, List, [], ◌∷◌, ◌++◌, length, Option, Some, None, slice_set}
+use Rattle.std.proofs.Common.{◌≡◌, ◌≢◌, ℕ, zero, suc, ◌+◌, ◌-◌, ◌<◌, ◌⊎◌, inl, inr, refl, sym, ap, ap₂, ◌∙◌, subst, arith, Bool, true, false, nat_eq, eqb-true, List, [], ◌∷◌, ◌++◌, length, Option, Some, None, slice_set}
 use Rattle.std.specs.Prelude.{slice_get, Result, Ok, Err, OnOk}
 use Rattle.std.specs.List.{flat_map}
 use Rattle.std.proofs.lemmas.Bool.{eqb-false}
@@ -12,7 +12,7 @@ use Rattle.lat_queue.specs.Histories.{key_in, record_in}
 use Rattle.lat_queue.specs.declared.key.Key.{Key}
 use Rattle.lat_queue.specs.declared.record.Record.{Record}
 use Rattle.lat_summary.specs.Places.{Holds, SameKeys, IsPut, Places}
-use Rattle.lat_summary.proofs.Granted.{In, at_in, in_at, Granted, granted_at, grant_is}
+use Rattle.lat_summary.proofs.Granted.{at_in, in_at, Granted, granted_at, grant_is}
 
 -- one empty place more
 

@@ -1,5 +1,5 @@
 -- The rows that are kept of the world of a wire are those of its report.
-use Rattle.std.proofs.Common.{◌≡◌, ℕ, sym, ap, ap₂, ◌∙◌, subst, List, ◌++◌, length}
+use Rattle.std.proofs.Common.{◌≡◌, ℕ, sym, ap, ap₂, ◌∙◌, subst, List, length}
 use Rattle.std.specs.List.{sum_by}
 use Rattle.lat_machines.specs.world.Machines.{Machines}
 use Rattle.lat_machines.specs.world.Reports.{Report, report}

@@ -1,9 +1,8 @@
 -- Rows, the sessions that they are of, and the figures that are told of them.
-use Rattle.std.proofs.Common.{◌≡◌, ◌≢◌, ℕ, zero, suc, ◌+◌, ◌<◌, refl, sym, ap, ap₂, ◌∙◌, subst, arith, Bool, true, false, cond, List, [], ◌∷◌, ◌++◌, length, take, Option, Some, None, nat_eq, eqb-true, eq-eqb}
-use Rattle.std.specs.Prelude.{slice_get, option_map}
-use Rattle.std.proofs.lemmas.Bool.{eqb-false}
+use Rattle.std.proofs.Common.{◌≡◌, ◌≢◌, ℕ, zero, suc, ◌+◌, refl, sym, ap, ◌∙◌, subst, arith, Bool, true, false, cond, List, [], ◌∷◌, ◌++◌, length, take, Some, nat_eq, eqb-true, eq-eqb}
+use Rattle.std.specs.Prelude.{slice_get}
 use Rattle.lat_model.specs.Lists.{Each}
-use Rattle.lat_machines.specs.cores.Cores.{Seat, no_seat, Core}
+use Rattle.lat_machines.specs.cores.Cores.{Seat}
 use Rattle.lat_machines.specs.cores.Lines.{seat_at}
 use Rattle.lat_machines.specs.world.Machines.{Setups, Machines}
 use Rattle.lat_machines.specs.world.Reports.{is_partner, partner, partner_in, Row}

@@ -1,5 +1,5 @@
 -- The session that is told of a row.
-use Rattle.std.proofs.Common.{◌≡◌, ℕ, refl, sym, ap, ap₂, ◌∙◌, cond, List, ◌++◌, map, Option, Some, None, nat_eq}
+use Rattle.std.proofs.Common.{◌≡◌, ℕ, ap, ap₂, ◌∙◌, cond, List, ◌++◌, map, Option, Some, None, nat_eq}
 use Rattle.lat_base.specs.declared.item.Item as base
 use Rattle.lat_model.specs.sessions.Slots.{Item}
 use Rattle.lat_machines.specs.world.Machines.{Machines}

@@ -1,7 +1,7 @@
 -- What is told of the requests and of the grants.
-use Rattle.std.specs.Prelude.{◌≡◌, ℕ, suc, ◌<◌, ◌⊎◌, List, [], map, Option, Some, None, slice_get}
+use Rattle.std.specs.Prelude.{ℕ, List, [], map, Option, Some, None}
 use Rattle.lat_machines.specs.server.Queue.{QueueEvent, Request, records}
-use Rattle.lat_machines.specs.server.Records.{kept_now, grants_of, grant_of}
+use Rattle.lat_machines.specs.server.Records.{kept_now}
 use Rattle.lat_machines.specs.world.Reports.{RecordRow}
 use Rattle.lat_queue.specs.Histories.{key_in}
 use Rattle.lat_queue.specs.declared.key.Key.{Key}

@@ -1,6 +1,6 @@
 //! Bytes that are put on a line.
 
-ghost use Rattle.std.specs.Prelude.{◌≡◌, ◌≤◌, [], length, take, IfOk, OnErr};
+ghost use Rattle.std.specs.Prelude.{◌≡◌, [], length, take, IfOk, OnErr};
 ghost use Rattle.lat_base.specs.Answers.{PutFits, TookFits};
 ghost use Rattle.lat_base.specs.declared.event.Event.TheVariants as events;
 ghost use Rattle.lat_lines.specs.Kept.{IsLine};

@@ -63,7 +63,10 @@ impl Tap {
 
     // Whether a frame is a RUN of the server to the node with this source, or one of the node back with both ids.
     fn captures(&self, slave: u16, by_server: bool, frame: &OutFrame) -> bool
-        ensures value { (u : Setups) (x : Posted) → IsTap u self.now → IsSeenAs by_server frame.now x → result ≡ is_captured u self.now.circuit slave x }
+        ensures value { (u : Setups) (x : Posted) →
+            IsTap u self.now →
+            IsSeenAs by_server frame.now x →
+            result ≡ is_captured u self.now.circuit slave x }
         ensures bytes { IsBytes frame.now.payload }
     {
         let Some(run) = run_of(frame.payload.bytes()) else {

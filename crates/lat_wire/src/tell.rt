@@ -1,6 +1,28 @@
 //! The parts of an event.
 
-ghost use Rattle.std.specs.Prelude.{◌≡◌, ◌+◌, ◌-◌, ◌<◌, ◌≤◌, ◌^◌, ℕ, Bool, false, true, not, [], ◌∷◌, length, map, option_map, vec_len, vec_capacity, IfOk, OnOk, OnErr};
+ghost use Rattle.std.specs.Prelude.{
+  ◌≡◌,
+  ◌+◌,
+  ◌-◌,
+  ◌<◌,
+  ◌≤◌,
+  ◌^◌,
+  ℕ,
+  Bool,
+  false,
+  true,
+  not,
+  [],
+  ◌∷◌,
+  length,
+  map,
+  option_map,
+  vec_len,
+  vec_capacity,
+  IfOk,
+  OnOk,
+  OnErr,
+};
 ghost use Rattle.lat_base.specs.Answers.{PutFits};
 ghost use Rattle.lat_base.specs.declared.event.Event.TheVariants as events;
 ghost use Rattle.lat_machines.specs.values.Addresses.{address};

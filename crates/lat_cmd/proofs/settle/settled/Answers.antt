@@ -1,4 +1,4 @@
-use Rattle.std.proofs.Common.{refl, sym, subst, string_bytes, Option, None}
+use Rattle.std.proofs.Common.{refl, sym, subst, string_bytes}
 use Rattle.lat_replay.specs.Kept.{setups_of}
 use Rattle.lat_cmd.specs.Answers.{settled}
 use Rattle.lat_cmd.specs.Outcomes.{IsOutcome}

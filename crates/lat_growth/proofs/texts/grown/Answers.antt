@@ -1,4 +1,4 @@
-use Rattle.std.proofs.Common.{◌≡◌, ◌∙◌, arith}
+use Rattle.std.proofs.Common.{◌∙◌, arith}
 use Rattle.lat_growth.specs.Grown.{begun, turns}
 use Rattle.lat_growth.proofs.Growing.{shown, turn_more, no_turn, grown_so}
 use Rattle.lat_growth.proofs.texts.grown.Goals as goal

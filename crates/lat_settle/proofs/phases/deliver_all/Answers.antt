@@ -1,8 +1,6 @@
-use Rattle.std.proofs.Common.{◌≡◌, ◌+◌, ◌∷◌, [], ◌∙◌, ap, refl, subst, add-one, Some, None, Option, Ok, Err}
+use Rattle.std.proofs.Common.{◌+◌, ◌∷◌, [], ◌∙◌, ap, refl, add-one, Some, None, Ok, Err}
 use Rattle.std.proofs.lemmas.Result.{err_from_is_err_and}
-use Rattle.lat_machines.specs.world.Machines.{Setups}
-use Rattle.lat_replay.specs.Kept.{Kept, setups_of}
-use Rattle.lat_replay.specs.Played.{State, StandsAt}
+use Rattle.lat_replay.specs.Kept.{setups_of}
 use Rattle.lat_schedule.specs.declared.event.WorldEvent.TheVariants.{Deliver}
 use Rattle.lat_settle.specs.Events.{deliver_events}
 use Rattle.lat_settle.proofs.Along.{stops_so}

@@ -1,4 +1,4 @@
-use Rattle.std.proofs.Common.{◌≡◌, ◌∙◌, ap, Ok, Err, true, false}
+use Rattle.std.proofs.Common.{◌∙◌, ap, Ok, Err, true, false}
 use Rattle.std.proofs.lemmas.Result.{err_from_is_err_and}
 use Rattle.lat_replay.specs.Kept.{setups_of}
 use Rattle.lat_settle.specs.Events.{deliver_events, round_events}

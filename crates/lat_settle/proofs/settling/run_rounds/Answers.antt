@@ -1,4 +1,4 @@
-use Rattle.std.proofs.Common.{◌≡◌, ◌∙◌, ◌+◌, ◌^◌, refl, subst, sym, arith, add-one, Ok, Err}
+use Rattle.std.proofs.Common.{◌∙◌, ◌+◌, ◌^◌, refl, subst, sym, arith, add-one, Ok, Err}
 use Rattle.lat_replay.specs.Kept.{moment_of, setups_of}
 use Rattle.lat_replay.specs.Played.{State, StandsAt}
 use Rattle.lat_settle.specs.Events.{round_events}

@@ -1,4 +1,4 @@
-use Rattle.std.proofs.Common.{◌≡◌, ◌∙◌, ◌++◌, ap}
+use Rattle.std.proofs.Common.{◌∙◌, ◌++◌, ap}
 use Rattle.std.specs.Prelude.{string_bytes}
 use Rattle.lat_machines.specs.world.Reports.{report}
 use Rattle.lat_replay.specs.Kept.{setups_of}

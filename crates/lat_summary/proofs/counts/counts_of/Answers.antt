@@ -1,5 +1,4 @@
 use Rattle.std.proofs.Common.{sym, subst}
-use Rattle.lat_tales.specs.Rows.{KeptRows}
 use Rattle.lat_roster.specs.Roster.{ShowsRows}
 use Rattle.lat_summary.proofs.Reported.{counted}
 use Rattle.lat_summary.proofs.counts.counts_of.Goals as goal

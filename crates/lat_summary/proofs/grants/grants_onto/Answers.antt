@@ -1,4 +1,4 @@
-use Rattle.std.proofs.Common.{sym, ap, ◌∙◌, ◌++◌, string_bytes}
+use Rattle.std.proofs.Common.{ap, ◌∙◌, ◌++◌, string_bytes}
 use Rattle.std.specs.List.{flat_map}
 use Rattle.lat_summary.specs.Requests.{place_text}
 use Rattle.lat_summary.proofs.grants.grants_onto.Goals as goal

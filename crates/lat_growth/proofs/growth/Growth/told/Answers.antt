@@ -1,4 +1,4 @@
-use Rattle.std.proofs.Common.{◌≡◌, Ok, Err, ap, refl, add-one}
+use Rattle.std.proofs.Common.{Ok, Err, ap, refl, add-one}
 use Rattle.lat_growth.specs.Grown.{setups}
 use Rattle.lat_replay.proofs.Playing.{refused_so, goes_on, stays_so}
 use Rattle.lat_growth.specs.Growths.{Shows}

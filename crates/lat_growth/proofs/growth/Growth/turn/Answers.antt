@@ -1,4 +1,4 @@
-use Rattle.std.proofs.Common.{◌≡◌, ap, ◌∙◌, refl}
+use Rattle.std.proofs.Common.{ap, ◌∙◌, refl}
 use Rattle.lat_gen.specs.Turns.{turn}
 use Rattle.lat_growth.specs.Growths.{Shows}
 use Rattle.lat_growth.proofs.Growing.{turned_so, on_ok}

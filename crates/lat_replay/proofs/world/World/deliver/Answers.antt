@@ -1,11 +1,8 @@
 use Rattle.std.proofs.Common.{◌≡◌, ◌∙◌, subst, ap, not}
-use Rattle.lat_machines.specs.values.Addresses.{address}
-use Rattle.lat_machines.specs.world.Machines.{Setups, Machines, Move, Does, HearsFrame, HearsForeign, happens}
-use Rattle.lat_payload.specs.Reads.{reading_of}
-use Rattle.lat_lines.specs.Events.{event_shown}
+use Rattle.lat_machines.specs.world.Machines.{Machines, HearsFrame, happens}
 use Rattle.lat_wire.specs.Rates.{rates}
 use Rattle.lat_replay.specs.Kept.{Kept, setups_of, moment_of}
-use Rattle.lat_replay.specs.Stands.{Stands, Holds}
+use Rattle.lat_replay.specs.Stands.{Stands}
 use Rattle.lat_replay.proofs.Stepping.{frame_stands, unheard_stands, holds_on}
 use Rattle.std.proofs.Common.{refl, Err, None}
 use Rattle.std.proofs.lemmas.Result.{err_from_is_err_and}

@@ -1,7 +1,6 @@
-use Rattle.std.proofs.Common.{◌≡◌, ◌∙◌, ◌+◌, Some, Err, Ok, Result, ap, length, refl, slice_get, subst, sym, suc, take, add-one}
+use Rattle.std.proofs.Common.{◌∙◌, Err, Ok, ap, length, refl, subst, sym, take, add-one}
 use Rattle.std.proofs.lemmas.Option.{slice_get_read}
-use Rattle.lat_replay.specs.Kept.{Kept, setups_of}
-use Rattle.lat_replay.specs.Played.{State, StandsAt}
+use Rattle.lat_replay.specs.Kept.{setups_of}
 use Rattle.lat_replay.proofs.Playing.{Reaches, goes_on, reaches_all, reaches_more, refused_so, stays_so, stops_at}
 use Rattle.lat_replay.proofs.world.World.play.Goals as goal
 
