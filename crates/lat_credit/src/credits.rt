@@ -78,7 +78,10 @@ impl Credits {
         ensures answer { (a : Account) → Keeps self.old a → is_ok result ≡ nat_lt a.heard a.given }
         ensures account { (a : Account) → Keeps self.old a → OnOk result (Keeps self.new (heard_slot a keep)) }
         ensures err { OnErr result (self.new ≡ self.old) }
-        ensures after { OnOk result (self.new ≡ record self.old { outstanding = self.old.outstanding - 1; held = cond keep (suc self.old.held) self.old.held }) }
+        ensures after { OnOk result (self.new ≡ record self.old {
+          outstanding = self.old.outstanding - 1;
+          held = cond keep (suc self.old.held) self.old.held;
+        }) }
     {
         if self.outstanding == 0 {
             return Err(NoCredit);

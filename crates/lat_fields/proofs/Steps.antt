@@ -1,10 +1,10 @@
 -- What is known where a chain of fields was read.
-use Rattle.std.proofs.Common.{◌≡◌, ℕ, zero, suc, ◌+◌, ◌<◌, Bool, true, false, ◌&&◌, ◌||◌, cond, List, [], ◌∷◌, ◌++◌, length, drop, take, get_or, eqb, Result, Ok, Err, refl, arith}
+use Rattle.std.proofs.Common.{◌≡◌, ℕ, zero, suc, ◌+◌, ◌<◌, Bool, true, false, ◌&&◌, ◌||◌, cond, List, [], ◌∷◌, ◌++◌, length, drop, take, get_or, eqb, Option, Some, None, Result, Ok, Err, refl, arith}
 use Rattle.std.proofs.lemmas.List.{get_or-drop}
 use Rattle.std.proofs.lemmas.Bool.Decides.{nat_tests}
 use Rattle.lat_base.specs.declared.field.Bad.{Bad}
 use Rattle.lat_base.specs.declared.field.Field.{Field}
-use Rattle.lat_fields.specs.Reading.{◌>>=◌, bad, wanted}
+use Rattle.lat_fields.specs.Reading.{◌>>=◌, bad, wanted, known}
 
 -- each is a byte
 abbrev pub IsBytes : List ℕ → Type 0
@@ -25,6 +25,10 @@ chosen false x y e h = absurd (let no : Err e ≡ Ok y = h in cc)
 pub wanted_ok : (b : Bool) (f : Field) (at u : ℕ) → wanted b f at ≡ Ok u → b ≡ true
 wanted_ok true f at u h = refl
 wanted_ok false f at u h = absurd (let no : bad f at ≡ Ok u = h in cc)
+
+pub known_ok : {A : Type 0} (found : Option A) (f : Field) (at : ℕ) (x : A) → known found f at ≡ Ok x → found ≡ Some x
+known_ok (Some y) f at x h = cc
+known_ok None f at x h = absurd (let no : bad f at ≡ Ok x = h in cc)
 
 pub both : (a b : Bool) → (a && b) ≡ true → (a ≡ true) × (b ≡ true)
 both true b h = (refl, h)

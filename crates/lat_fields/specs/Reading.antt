@@ -1,6 +1,6 @@
 -- Reading fields from left to right. What is read is the value with the place behind it and the bytes from there on,
 -- or the first bad field with its place.
-use Rattle.std.specs.Prelude.{◌≡◌, ℕ, ◌+◌, ◌*◌, Bool, true, false, List, [], ◌∷◌, length, take, drop, Result, Ok, Err, nat_lt, if◌then◌else◌, is_ok}
+use Rattle.std.specs.Prelude.{◌≡◌, ℕ, ◌+◌, ◌*◌, Bool, true, false, List, [], ◌∷◌, length, take, drop, Result, Ok, Err, Option, Some, None, nat_lt, if◌then◌else◌, is_ok}
 use Rattle.lat_base.specs.Names.{name_read}
 use Rattle.lat_base.specs.declared.field.Field.{Field}
 use Rattle.lat_base.specs.declared.field.Bad.{Bad}
@@ -31,6 +31,11 @@ fault field at = faults.Bad (record { field = field; at = at })
 -- the field is bad unless its condition holds
 abbrev pub wanted : Bool → Field → ℕ → Result ℕ Bad
 wanted holds field at = if holds then Ok 0 else bad field at
+
+-- what the field stands for, which is bad where that is nothing
+abbrev pub known : {A : Type 0} → Option A → Field → ℕ → Result A Bad
+known (Some x) field at = Ok x
+known None field at = bad field at
 
 -- one byte; `at` is the place that is told where it is missing
 abbrev pub byte_at : Field → ℕ → ℕ → List ℕ → Result (ℕ × ℕ × List ℕ) Bad

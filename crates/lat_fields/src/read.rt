@@ -2,7 +2,7 @@
 //! the place that is named where the field is bad.
 
 ghost use Rattle.std.specs.Prelude.{◌≡◌, ◌+◌, ◌*◌, ◌^◌, ◌<◌, ◌≤◌, length, take, drop, IfOk};
-ghost use Rattle.lat_fields.specs.Reading.{Gives, fault, wanted, byte_at, number_at, counted_at, name_at};
+ghost use Rattle.lat_fields.specs.Reading.{Gives, fault, known, wanted, byte_at, number_at, counted_at, name_at};
 
 use crate::fault::LayoutFault;
 use lat_base::{Bad, Field, Name};
@@ -26,6 +26,17 @@ pub fn wanted(holds: bool, field: Field, at: usize) -> Result<u8, LayoutFault>
         return Err(bad(field, at));
     }
     Ok(0)
+}
+
+/// What the field stands for. It names the field bad, at its place, where that is nothing.
+pub fn known<A>(found: Option<A>, field: Field, at: usize) -> Result<A, LayoutFault>
+    requires { at < 2 ^ 16 }
+    ensures { Gives (λ x. x) result (known found field at) }
+{
+    match found {
+        Some(meaning) => Ok(meaning),
+        None => Err(bad(field, at)),
+    }
 }
 
 /// One byte.

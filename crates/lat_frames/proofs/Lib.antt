@@ -1,3 +1,4 @@
+pub mod TypeNumbers
 pub mod FirstByte
 pub mod SlotsLoop
 pub mod EachSlot

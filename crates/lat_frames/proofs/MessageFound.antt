@@ -1,5 +1,5 @@
 -- What is read as a message is a text of it.
-use Rattle.std.proofs.Common.{◌≡◌, ℕ, suc, ◌+◌, ◌/◌, ◌<◌, Bool, true, false, ◌⊎◌, inl, inr, eqb, ltb, List, [], ◌∷◌, ◌++◌, length, Result, Ok, refl, sym, ◌∙◌, subst, arith}
+use Rattle.std.proofs.Common.{◌≡◌, ℕ, suc, ◌+◌, ◌/◌, ◌<◌, Bool, true, false, ltb, List, [], ◌∷◌, ◌++◌, length, Result, Ok, refl, sym, ◌∙◌, subst, arith}
 use Rattle.std.proofs.lemmas.Bool.Decides.{nat_tests}
 use Rattle.lat_base.specs.declared.field.Bad.{Bad}
 use Rattle.lat_base.specs.declared.field.Field.TheVariants.{Sequence, Acknowledgement, Reason, Text}
@@ -9,16 +9,20 @@ use Rattle.lat_fields.specs.Payloads.{PayloadText}
 use Rattle.lat_fields.proofs.Steps.{IsBytes, bind_ok}
 use Rattle.lat_fields.proofs.Payloads.{payload_found}
 use Rattle.lat_slots.specs.declared.slot.Slot.{Slot}
+use Rattle.lat_frames.specs.declared.kind.MessageKind.{MessageKind}
+use Rattle.lat_frames.specs.declared.kind.MessageKind.TheVariants as kinds
 use Rattle.lat_frames.specs.declared.message.Head.{Head}
 use Rattle.lat_frames.specs.declared.message.WideHead.{WideHead}
 use Rattle.lat_frames.specs.declared.message.StartInfo.{StartInfo}
 use Rattle.lat_frames.specs.declared.message.Message.{Message}
 use Rattle.lat_frames.specs.declared.message.Message.TheVariants.{Run, Wide, Start, Stop}
 use Rattle.lat_frames.specs.declared.read_head.Circuits.{Circuits}
+use Rattle.lat_frames.specs.Kinds.{bits_of, kind_of}
 use Rattle.lat_frames.specs.Heads.{head_text, is_master, asks, run_head, wide_head}
 use Rattle.lat_frames.specs.Conditions.{DestinationFits, InfoFits}
 use Rattle.lat_frames.specs.MessageText.{SlotsText, MessageText, info_text}
-use Rattle.lat_frames.specs.Reading.{is_kind, destination_fits, source_fits, circuits_at, slots_at, info_at, run_at, wide_at, start_at, stop_at, tail_at, message_at, message_read}
+use Rattle.lat_frames.specs.Reading.{destination_fits, source_fits, circuits_at, slots_at, info_at, run_at, wide_at, start_at, stop_at, tail_at, message_at, message_read}
+use Rattle.lat_frames.proofs.TypeNumbers.{kind_bits}
 use Rattle.lat_frames.proofs.FirstByte.{first_is}
 use Rattle.lat_frames.proofs.Steps.{same_ok, byte_then, number_then, counted_then}
 use Rattle.lat_frames.proofs.HeadFound.{circuits_found, slots_found}
@@ -64,18 +68,18 @@ abbrev run_seq : ℕ → Circuits → Read → ReadMessage
 run_seq first c seq = byte_at Acknowledgement seq.1 seq.1 seq.2 >>= run_ack first c seq
 
 run_is : (first : ℕ) (c : Circuits) (seq ack : ℕ) (slots : List Slot) (body : List ℕ) (next : ℕ) (rest : List ℕ) (x : Message × ℕ × List ℕ)
-    → first / 4 ≡ 0 → 0 < c.to → 0 < c.from → c.slots < 256 → SlotsText slots body → length slots ≡ c.slots
+    → first / 4 ≡ bits_of kinds.Run → 0 < c.to → 0 < c.from → c.slots < 256 → SlotsText slots body → length slots ≡ c.slots
     → (Run (head_of first c seq ack) slots, next, rest) ≡ x → FoundMessage first (front c (seq ∷ ack ∷ body ++ rest)) x
 run_is first c seq ack slots body next rest x k to from small texts count e =
     let P : (Message × ℕ × List ℕ) → Type 0 = FoundMessage first (front c (seq ∷ ack ∷ body ++ rest)) in
-    let made = first_is 0 first k in
+    let made = first_is kinds.Run first k in
     subst P e (record {
       text = run_head (head_of first c seq ack) (length slots) ++ body;
       is = (λ i. made i ∷ sym count i ∷ number c.to ++ (number c.from ++ seq ∷ ack ∷ body ++ rest));
       of = record { destination = to; source = from; count = omega (arith, count, small); body = body; texts = texts; is = refl };
     })
 
-run_found : (first : ℕ) (c : Circuits) (place : ℕ) (bytes : List ℕ) (x : Message × ℕ × List ℕ) → first / 4 ≡ 0 → 0 < c.to → 0 < c.from → c.slots < 256 → IsBytes bytes → run_at first c place bytes ≡ Ok x → FoundMessage first (front c bytes) x
+run_found : (first : ℕ) (c : Circuits) (place : ℕ) (bytes : List ℕ) (x : Message × ℕ × List ℕ) → first / 4 ≡ bits_of kinds.Run → 0 < c.to → 0 < c.from → c.slots < 256 → IsBytes bytes → run_at first c place bytes ≡ Ok x → FoundMessage first (front c bytes) x
 unfolding run_at
 run_found first c place bytes x k to from small all h =
     let P : List ℕ → Type 0 = λ bs. FoundMessage first (front c bs) x in
@@ -95,18 +99,18 @@ abbrev wide_seq : ℕ → Circuits → Read → ReadMessage
 wide_seq first c seq = number_at Acknowledgement seq.1 seq.2 >>= wide_ack first c seq
 
 wide_is : (first : ℕ) (c : Circuits) (seq ack : ℕ) (slots : List Slot) (body : List ℕ) (next : ℕ) (rest : List ℕ) (x : Message × ℕ × List ℕ)
-    → first / 4 ≡ 4 → 0 < c.to → 0 < c.from → c.slots < 256 → SlotsText slots body → length slots ≡ c.slots
+    → first / 4 ≡ bits_of kinds.WideRun → 0 < c.to → 0 < c.from → c.slots < 256 → SlotsText slots body → length slots ≡ c.slots
     → (Wide (wide_head_of first c seq ack) slots, next, rest) ≡ x → FoundMessage first (front c (number seq ++ (number ack ++ (body ++ rest)))) x
 wide_is first c seq ack slots body next rest x k to from small texts count e =
     let P : (Message × ℕ × List ℕ) → Type 0 = FoundMessage first (front c (number seq ++ (number ack ++ (body ++ rest)))) in
-    let made = first_is 4 first k in
+    let made = first_is kinds.WideRun first k in
     subst P e (record {
       text = wide_head (wide_head_of first c seq ack) (length slots) ++ body;
       is = (λ i. made i ∷ sym count i ∷ number c.to ++ (number c.from ++ (number seq ++ (number ack ++ (body ++ rest)))));
       of = record { destination = to; source = from; count = omega (arith, count, small); body = body; texts = texts; is = refl };
     })
 
-wide_found : (first : ℕ) (c : Circuits) (place : ℕ) (bytes : List ℕ) (x : Message × ℕ × List ℕ) → first / 4 ≡ 4 → 0 < c.to → 0 < c.from → c.slots < 256 → IsBytes bytes → wide_at first c place bytes ≡ Ok x → FoundMessage first (front c bytes) x
+wide_found : (first : ℕ) (c : Circuits) (place : ℕ) (bytes : List ℕ) (x : Message × ℕ × List ℕ) → first / 4 ≡ bits_of kinds.WideRun → 0 < c.to → 0 < c.from → c.slots < 256 → IsBytes bytes → wide_at first c place bytes ≡ Ok x → FoundMessage first (front c bytes) x
 unfolding wide_at
 wide_found first c place bytes x k to from small all h =
     let P : List ℕ → Type 0 = λ bs. FoundMessage first (front c bs) x in
@@ -126,18 +130,18 @@ abbrev start_seq : ℕ → ℕ → Circuits → Read → ReadMessage
 start_seq most first c seq = byte_at Acknowledgement seq.1 seq.1 seq.2 >>= start_ack most first c
 
 start_is : (first : ℕ) (c : Circuits) (seq ack : ℕ) (info : StartInfo) (bytes : List ℕ) (next : ℕ) (rest : List ℕ) (x : Message × ℕ × List ℕ)
-    → first / 4 ≡ 1 → DestinationFits (is_master first) c.to → 0 < c.from → InfoFits (is_master first) info → bytes ≡ info_text info ++ rest
+    → first / 4 ≡ bits_of kinds.Start → DestinationFits (is_master first) c.to → 0 < c.from → InfoFits (is_master first) info → bytes ≡ info_text info ++ rest
     → (Start (is_master first) (asks first) c.to c.from info, next, rest) ≡ x → FoundMessage first (front c (seq ∷ ack ∷ bytes)) x
 start_is first c seq ack info bytes next rest x k to from fits is e =
     let P : (Message × ℕ × List ℕ) → Type 0 = FoundMessage first (front c (seq ∷ ack ∷ bytes)) in
-    let made = first_is 1 first k in
+    let made = first_is kinds.Start first k in
     subst P e (record {
-      text = head_text 1 (is_master first) (asks first) c.slots c.to c.from (seq ∷ ack ∷ []) ++ info_text info;
+      text = head_text kinds.Start (is_master first) (asks first) c.slots c.to c.from (seq ∷ ack ∷ []) ++ info_text info;
       is = (λ i. made i ∷ front c (seq ∷ ack ∷ is i));
       of = record { destination = to; source = from; fits = fits; slots = c.slots; seq = seq; ack = ack; is = refl };
     })
 
-start_found : (most first : ℕ) (c : Circuits) (place : ℕ) (bytes : List ℕ) (x : Message × ℕ × List ℕ) → first / 4 ≡ 1 → DestinationFits (is_master first) c.to → 0 < c.from → IsBytes bytes → start_at most first c place bytes ≡ Ok x → FoundMessage first (front c bytes) x
+start_found : (most first : ℕ) (c : Circuits) (place : ℕ) (bytes : List ℕ) (x : Message × ℕ × List ℕ) → first / 4 ≡ bits_of kinds.Start → DestinationFits (is_master first) c.to → 0 < c.from → IsBytes bytes → start_at most first c place bytes ≡ Ok x → FoundMessage first (front c bytes) x
 unfolding start_at
 start_found most first c place bytes x k to from all h =
     let P : List ℕ → Type 0 = λ bs. FoundMessage first (front c bs) x in
@@ -160,18 +164,18 @@ stop_ack first c ack = byte_at Reason ack.1 ack.1 ack.2 >>= stop_reason first c
 abbrev stop_seq : ℕ → Circuits → Read → ReadMessage
 stop_seq first c seq = byte_at Acknowledgement seq.1 seq.1 seq.2 >>= stop_ack first c
 
-stop_is : (first : ℕ) (c : Circuits) (seq ack reason : ℕ) (text : List ℕ) (next : ℕ) (rest : List ℕ) (x : Message × ℕ × List ℕ) → first / 4 ≡ 2 → 0 < c.to → length text < 256
+stop_is : (first : ℕ) (c : Circuits) (seq ack reason : ℕ) (text : List ℕ) (next : ℕ) (rest : List ℕ) (x : Message × ℕ × List ℕ) → first / 4 ≡ bits_of kinds.Stop → 0 < c.to → length text < 256
     → (Stop (is_master first) (asks first) c.to c.from reason text, next, rest) ≡ x → FoundMessage first (front c (seq ∷ ack ∷ reason ∷ counted text ++ rest)) x
 stop_is first c seq ack reason text next rest x k to short e =
     let P : (Message × ℕ × List ℕ) → Type 0 = FoundMessage first (front c (seq ∷ ack ∷ reason ∷ counted text ++ rest)) in
-    let made = first_is 2 first k in
+    let made = first_is kinds.Stop first k in
     subst P e (record {
-      text = head_text 2 (is_master first) (asks first) c.slots c.to c.from (seq ∷ ack ∷ []) ++ reason ∷ counted text;
+      text = head_text kinds.Stop (is_master first) (asks first) c.slots c.to c.from (seq ∷ ack ∷ []) ++ reason ∷ counted text;
       is = (λ i. made i ∷ front c (seq ∷ ack ∷ reason ∷ counted text ++ rest));
       of = record { destination = to; short = short; slots = c.slots; seq = seq; ack = ack; is = refl };
     })
 
-stop_found : (first : ℕ) (c : Circuits) (place : ℕ) (bytes : List ℕ) (x : Message × ℕ × List ℕ) → first / 4 ≡ 2 → 0 < c.to → IsBytes bytes → stop_at first c place bytes ≡ Ok x → FoundMessage first (front c bytes) x
+stop_found : (first : ℕ) (c : Circuits) (place : ℕ) (bytes : List ℕ) (x : Message × ℕ × List ℕ) → first / 4 ≡ bits_of kinds.Stop → 0 < c.to → IsBytes bytes → stop_at first c place bytes ≡ Ok x → FoundMessage first (front c bytes) x
 unfolding stop_at
 stop_found first c place bytes x k to all h =
     let P : List ℕ → Type 0 = λ bs. FoundMessage first (front c bs) x in
@@ -182,57 +186,34 @@ stop_found first c place bytes x k to all h =
     stop_is first c seq ack reason text p4 r4 x k to short (same_ok (Stop (is_master first) (asks first) c.to c.from reason text, p4, r4) x h4)))))
 
 -- what the tests of the circuits say
-start_to : (first : ℕ) (master : Bool) (to : ℕ) → first / 4 ≡ 1 → is_master first ≡ master → destination_fits first to ≡ true → DestinationFits master to
-start_to first true to k m h =
-    let t : eqb to 0 ≡ true = rw (k, m) at h in
-    grind (arith, nat_tests)
-start_to first false to k m h =
-    let t : ltb 0 to ≡ true = rw (k, m) at h in
-    grind (arith, nat_tests)
+start_to : (master : Bool) (to : ℕ) → destination_fits kinds.Start master to ≡ true → DestinationFits master to
+start_to true to h = grind (arith, nat_tests)
+start_to false to h = grind (arith, nat_tests)
 
-other_to : (first kind to : ℕ) → first / 4 ≡ kind → eqb kind 1 ≡ false → destination_fits first to ≡ true → 0 < to
-other_to first kind to k other h =
-    let t : ltb 0 to ≡ true = rw (k, other) at h in
-    grind (arith, nat_tests)
+above : (n : ℕ) → ltb 0 n ≡ true → 0 < n
+above n h = grind (arith, nat_tests)
 
-other_from : (first kind from : ℕ) → first / 4 ≡ kind → eqb kind 2 ≡ false → source_fits first from ≡ true → 0 < from
-other_from first kind from k other h =
-    let t : ltb 0 from ≡ true = rw (k, other) at h in
-    grind (arith, nat_tests)
+tail_found : (kind : MessageKind) (most first : ℕ) (c : Circuits) (place : ℕ) (bytes : List ℕ) (x : Message × ℕ × List ℕ) → first / 4 ≡ bits_of kind
+    → destination_fits kind (is_master first) c.to ≡ true → source_fits kind c.from ≡ true → c.slots < 256 → IsBytes bytes → tail_at kind most first c place bytes ≡ Ok x → FoundMessage first (front c bytes) x
+tail_found kinds.Run most first c place bytes x k d s small all h = run_found first c place bytes x k (above c.to d) (above c.from s) small all h
+tail_found kinds.Start most first c place bytes x k d s small all h = start_found most first c place bytes x k (start_to (is_master first) c.to d) (above c.from s) all h
+tail_found kinds.Stop most first c place bytes x k d s small all h = stop_found first c place bytes x k (above c.to d) all h
+tail_found kinds.WideRun most first c place bytes x k d s small all h = wide_found first c place bytes x k (above c.to d) (above c.from s) small all h
 
-tail_found : (most first : ℕ) (c : Circuits) (place : ℕ) (bytes : List ℕ) (x : Message × ℕ × List ℕ) → (first / 4 ≡ 0 ⊎ (first / 4 ≡ 1 ⊎ (first / 4 ≡ 2 ⊎ (first / 4 ≡ 4))))
-    → destination_fits first c.to ≡ true → source_fits first c.from ≡ true → c.slots < 256 → IsBytes bytes → tail_at most first c place bytes ≡ Ok x → FoundMessage first (front c bytes) x
-unfolding tail_at
-tail_found most first c place bytes x (inl k) d s small all h =
-    let r : run_at first c place bytes ≡ Ok x = rw k at h in
-    run_found first c place bytes x k (other_to first 0 c.to k refl d) (other_from first 0 c.from k refl s) small all r
-tail_found most first c place bytes x (inr (inl k)) d s small all h =
-    let r : start_at most first c place bytes ≡ Ok x = rw k at h in
-    start_found most first c place bytes x k (start_to first (is_master first) c.to k refl d) (other_from first 1 c.from k refl s) all r
-tail_found most first c place bytes x (inr (inr (inl k))) d s small all h =
-    let r : stop_at first c place bytes ≡ Ok x = rw k at h in
-    stop_found first c place bytes x k (other_to first 2 c.to k refl d) all r
-tail_found most first c place bytes x (inr (inr (inr k))) d s small all h =
-    let r : wide_at first c place bytes ≡ Ok x = rw k at h in
-    wide_found first c place bytes x k (other_to first 4 c.to k refl d) (other_from first 4 c.from k refl s) small all r
-
-which_kind : (k : ℕ) → is_kind k ≡ true → k ≡ 0 ⊎ (k ≡ 1 ⊎ (k ≡ 2 ⊎ (k ≡ 4)))
-which_kind k h = grind (arith, nat_tests)
-
-message_found : (first : ℕ) (bytes : List ℕ) (x : Message × ℕ × List ℕ) → IsBytes bytes → is_kind (first / 4) ≡ true → message_at first bytes ≡ Ok x → FoundMessage first bytes x
+message_found : (kind : MessageKind) (first : ℕ) (bytes : List ℕ) (x : Message × ℕ × List ℕ) → IsBytes bytes → first / 4 ≡ bits_of kind → message_at kind first bytes ≡ Ok x → FoundMessage first bytes x
 unfolding message_at
-message_found first bytes x all kind h =
-    let after : (Circuits × ℕ × List ℕ) → ReadMessage = λ c. tail_at (length bytes + 2) first c.0 c.1 c.2 in
-    let c = bind_ok (circuits_at first 1 bytes) after x h in
-    let f = circuits_found first 1 bytes c.0 all c.1 in
+message_found kind first bytes x all k h =
+    let after : (Circuits × ℕ × List ℕ) → ReadMessage = λ c. tail_at kind (length bytes + 2) first c.0 c.1 c.2 in
+    let c = bind_ok (circuits_at kind (is_master first) 1 bytes) after x h in
+    let f = circuits_found kind (is_master first) 1 bytes c.0 all c.1 in
     let P : List ℕ → Type 0 = λ bs. FoundMessage first bs x in
-    subst P (sym f.is) (tail_found (length bytes + 2) first c.0.0 c.0.1 c.0.2 x (which_kind (first / 4) kind) f.destination f.source f.slots f.others c.2)
+    subst P (sym f.is) (tail_found kind (length bytes + 2) first c.0.0 c.0.1 c.0.2 x k f.destination f.source f.slots f.others c.2)
 
 -- what is read as a message is a payload of it
 pub payload_is : (payload : List ℕ) (m : Message) → IsBytes payload → message_read payload ≡ Ok m → PayloadText MessageText m payload
 unfolding message_read
 payload_is payload m all h =
-    let f = payload_found is_kind message_at payload m h in
+    let f = payload_found kind_of message_at payload m h in
     let bytes : IsBytes (f.first ∷ f.tail) = subst IsBytes f.is all in
-    let g = message_found f.first f.tail (m, f.place, f.rest) (λ i. bytes (suc i)) f.kind f.read in
+    let g = message_found f.kind f.first f.tail (m, f.place, f.rest) (λ i. bytes (suc i)) (kind_bits (f.first / 4) f.kind f.kind_is) f.read in
     record { text = g.text; rest = f.rest; is = f.is ∙ g.is; of = g.of; size = f.size; trailing = f.trailing }

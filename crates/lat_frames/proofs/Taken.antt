@@ -7,6 +7,7 @@ use Rattle.lat_fields.specs.Params.{params_text}
 use Rattle.lat_fields.proofs.Taken.{number_taken, counted_taken, name_taken, params_taken}
 use Rattle.lat_slots.specs.declared.slot.Slot.{Slot}
 use Rattle.lat_slots.proofs.SlotTaken.{slot_taken}
+use Rattle.lat_frames.specs.declared.kind.MessageKind.{MessageKind}
 use Rattle.lat_frames.specs.declared.message.StartInfo.{StartInfo}
 use Rattle.lat_frames.specs.declared.read_head.Circuits.{Circuits}
 use Rattle.lat_frames.specs.declared.read_start.Limits.{Limits}
@@ -30,10 +31,10 @@ slots_taken (s ∷ ss) b place rest h =
 abbrev pub circuits : ℕ → ℕ → ℕ → Circuits
 circuits slots to from = record { slots = slots; to = to; from = from }
 
-pub circuits_taken : (first place slots to from : ℕ) (rest : List ℕ) → destination_fits first to ≡ true → source_fits first from ≡ true
-    → circuits_at first place (slots ∷ number to ++ (number from ++ rest)) ≡ Ok (circuits slots to from, place + 1 + 1 + 1 + 1 + 1, rest)
+pub circuits_taken : (kind : MessageKind) (master : Bool) (place slots to from : ℕ) (rest : List ℕ) → destination_fits kind master to ≡ true → source_fits kind from ≡ true
+    → circuits_at kind master place (slots ∷ number to ++ (number from ++ rest)) ≡ Ok (circuits slots to from, place + 1 + 1 + 1 + 1 + 1, rest)
 unfolding circuits_at
-circuits_taken first place slots to from rest d s =
+circuits_taken kind master place slots to from rest d s =
     rw (number_taken DestinationCircuit (place + 1) to (number from ++ rest), d, number_taken SourceCircuit (place + 1 + 1 + 1) from rest, s) refl
 
 timer_is : (master : Bool) (timer keepalive : ℕ) → TimesFit master timer keepalive → timer_fits master timer ≡ true

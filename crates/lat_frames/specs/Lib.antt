@@ -1,3 +1,5 @@
+pub mod Kinds
+pub mod Reasons
 pub mod Heads
 pub mod Conditions
 pub mod MessageText

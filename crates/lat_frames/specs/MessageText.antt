@@ -4,6 +4,7 @@ use Rattle.lat_fields.specs.Texts.{number, counted}
 use Rattle.lat_fields.specs.Params.{params_text}
 use Rattle.lat_slots.specs.declared.slot.Slot.{Slot}
 use Rattle.lat_slots.specs.Layout.{SlotText}
+use Rattle.lat_frames.specs.declared.kind.MessageKind.TheVariants as kinds
 use Rattle.lat_frames.specs.declared.message.Head.{Head}
 use Rattle.lat_frames.specs.declared.message.WideHead.{WideHead}
 use Rattle.lat_frames.specs.declared.message.StartInfo.{StartInfo}
@@ -57,7 +58,7 @@ pub record StartText (master ask : Bool) (to from : ℕ) (info : StartInfo) (b :
   pub slots : ℕ
   pub seq : ℕ
   pub ack : ℕ
-  pub is : b ≡ head_text 1 master ask slots to from (seq ∷ ack ∷ []) ++ info_text info
+  pub is : b ≡ head_text kinds.Start master ask slots to from (seq ∷ ack ∷ []) ++ info_text info
 
 -- the number of slots and the two message numbers aren't kept
 pub record StopText (master ask : Bool) (to from reason : ℕ) (text : List ℕ) (b : List ℕ) : Type 0 where
@@ -66,7 +67,7 @@ pub record StopText (master ask : Bool) (to from reason : ℕ) (text : List ℕ)
   pub slots : ℕ
   pub seq : ℕ
   pub ack : ℕ
-  pub is : b ≡ head_text 2 master ask slots to from (seq ∷ ack ∷ []) ++ reason ∷ counted text
+  pub is : b ≡ head_text kinds.Stop master ask slots to from (seq ∷ ack ∷ []) ++ reason ∷ counted text
 
 -- b is a text of the message
 abbrev pub MessageText : Message → List ℕ → Type 0

@@ -1,5 +1,5 @@
 -- Reading circuit messages from left to right, in the order of their layouts.
-use Rattle.std.specs.Prelude.{ℕ, zero, suc, ◌+◌, ◌/◌, Bool, true, ◌&&◌, ◌||◌, ◌==◌, nat_lt, nat_le, if◌then◌else◌, List, [], ◌∷◌, length, Result, Ok}
+use Rattle.std.specs.Prelude.{ℕ, zero, suc, ◌+◌, Bool, true, ◌&&◌, ◌==◌, nat_lt, nat_le, if◌then◌else◌, List, [], ◌∷◌, length, Result, Ok}
 use Rattle.lat_base.specs.declared.field.Field.TheVariants.{SlotCount, DestinationCircuit, SourceCircuit, Sequence, Acknowledgement, FrameSize, Version, Eco, Sessions, Extra, Timer, KeepAlive, Facility, ProductType, ProductVersion, SlaveName, MasterName, Location, Reason, Text}
 use Rattle.lat_base.specs.declared.field.Bad.{Bad}
 use Rattle.lat_fields.specs.Reading.{◌>>=◌, wanted, byte_at, number_at, counted_at, name_at}
@@ -7,33 +7,34 @@ use Rattle.lat_fields.specs.ParamsReading.{params_at}
 use Rattle.lat_fields.specs.Payloads.{payload_at}
 use Rattle.lat_slots.specs.declared.slot.Slot.{Slot}
 use Rattle.lat_slots.specs.Reading.{slot_at}
+use Rattle.lat_frames.specs.declared.kind.MessageKind.{MessageKind}
+use Rattle.lat_frames.specs.declared.kind.MessageKind.TheVariants as kinds
 use Rattle.lat_frames.specs.declared.message.Message.{Message}
 use Rattle.lat_frames.specs.declared.message.Message.TheVariants.{Run, Wide, Start, Stop}
 use Rattle.lat_frames.specs.declared.message.StartInfo.{StartInfo}
 use Rattle.lat_frames.specs.declared.read_head.Circuits.{Circuits}
 use Rattle.lat_frames.specs.declared.read_start.Limits.{Limits}
 use Rattle.lat_frames.specs.Heads.{is_master, asks}
-
--- the types of circuit messages: RUN, START, STOP and wide RUN
-abbrev pub is_kind : ℕ → Bool
-is_kind kind = kind == 0 || kind == 1 || kind == 2 || kind == 4
+use Rattle.lat_frames.specs.Kinds.{kind_of}
 
 -- in a START of the master 0, else not 0
-abbrev pub destination_fits : ℕ → ℕ → Bool
-destination_fits first to = if first / 4 == 1 && is_master first then to == 0 else nat_lt 0 to
+abbrev pub destination_fits : MessageKind → Bool → ℕ → Bool
+destination_fits kinds.Start master to = if master then to == 0 else nat_lt 0 to
+destination_fits kind master to = nat_lt 0 to
 
 -- any in a STOP, else not 0
-abbrev pub source_fits : ℕ → ℕ → Bool
-source_fits first from = first / 4 == 2 || nat_lt 0 from
+abbrev pub source_fits : MessageKind → ℕ → Bool
+source_fits kinds.Stop from = true
+source_fits kind from = nat_lt 0 from
 
 -- the number of slots and the two circuits, which stand behind the first byte
-unfoldable pub circuits_at : ℕ → ℕ → List ℕ → Result (Circuits × ℕ × List ℕ) Bad
-circuits_at first place bytes = do
+unfoldable pub circuits_at : MessageKind → Bool → ℕ → List ℕ → Result (Circuits × ℕ × List ℕ) Bad
+circuits_at kind master place bytes = do
   slots ← byte_at SlotCount place place bytes
   to ← number_at DestinationCircuit slots.1 slots.2
-  a ← wanted (destination_fits first to.0) DestinationCircuit slots.1
+  a ← wanted (destination_fits kind master to.0) DestinationCircuit slots.1
   from ← number_at SourceCircuit to.1 to.2
-  b ← wanted (source_fits first from.0) SourceCircuit to.1
+  b ← wanted (source_fits kind from.0) SourceCircuit to.1
   Ok (record { slots = slots.0; to = to.0; from = from.0 }, from.1, from.2)
 
 abbrev pub timer_fits : Bool → ℕ → Bool
@@ -129,19 +130,18 @@ wide_at first circuits place bytes = do
   Ok (Wide (record { master = is_master first; ask = asks first; to = circuits.to; from = circuits.from; seq = seq.0; ack = ack.0 }) slots.0, slots.1, slots.2)
 
 -- what stands behind the two circuits, by the type
-unfoldable pub tail_at : ℕ → ℕ → Circuits → ℕ → List ℕ → Result (Message × ℕ × List ℕ) Bad
-tail_at most first circuits place bytes =
-    if first / 4 == 0 then run_at first circuits place bytes
-    else if first / 4 == 1 then start_at most first circuits place bytes
-    else if first / 4 == 2 then stop_at first circuits place bytes
-    else wide_at first circuits place bytes
+abbrev pub tail_at : MessageKind → ℕ → ℕ → Circuits → ℕ → List ℕ → Result (Message × ℕ × List ℕ) Bad
+tail_at kinds.Run most first circuits place bytes = run_at first circuits place bytes
+tail_at kinds.Start most first circuits place bytes = start_at most first circuits place bytes
+tail_at kinds.Stop most first circuits place bytes = stop_at first circuits place bytes
+tail_at kinds.WideRun most first circuits place bytes = wide_at first circuits place bytes
 
 -- what stands behind the first byte; there are never more parameters than bytes
-unfoldable pub message_at : ℕ → List ℕ → Result (Message × ℕ × List ℕ) Bad
-message_at first bytes = do
-  circuits ← circuits_at first 1 bytes
-  tail_at (length bytes + 2) first circuits.0 circuits.1 circuits.2
+unfoldable pub message_at : MessageKind → ℕ → List ℕ → Result (Message × ℕ × List ℕ) Bad
+message_at kind first bytes = do
+  circuits ← circuits_at kind (is_master first) 1 bytes
+  tail_at kind (length bytes + 2) first circuits.0 circuits.1 circuits.2
 
 -- the message that the payload is, or the first bad field
 unfoldable pub message_read : List ℕ → Result Message Bad
-message_read payload = payload_at is_kind message_at payload
+message_read payload = payload_at kind_of message_at payload

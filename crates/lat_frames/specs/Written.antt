@@ -5,6 +5,7 @@ use Rattle.lat_fields.specs.Texts.{counted}
 use Rattle.lat_slots.specs.declared.slot.Slot.{Slot}
 use Rattle.lat_slots.specs.Layout.{slot_text}
 use Rattle.lat_slots.specs.Layout.{IsWritable as SlotIsWritable}
+use Rattle.lat_frames.specs.declared.kind.MessageKind.TheVariants as kinds
 use Rattle.lat_frames.specs.declared.message.Message.{Message}
 use Rattle.lat_frames.specs.declared.message.Message.TheVariants.{Run, Wide, Start, Stop}
 use Rattle.lat_frames.specs.Heads.{head_text, run_head, wide_head}
@@ -17,8 +18,8 @@ slots_text slots = flat_map slot_text slots
 abbrev pub message_text : Message → List ℕ
 message_text (Run head slots) = run_head head (length slots) ++ slots_text slots
 message_text (Wide head slots) = wide_head head (length slots) ++ slots_text slots
-message_text (Start master ask to from info) = head_text 1 master ask 0 to from (0 ∷ 0 ∷ []) ++ info_text info
-message_text (Stop master ask to from reason text) = head_text 2 master ask 0 to from (0 ∷ 0 ∷ []) ++ reason ∷ counted text
+message_text (Start master ask to from info) = head_text kinds.Start master ask 0 to from (0 ∷ 0 ∷ []) ++ info_text info
+message_text (Stop master ask to from reason text) = head_text kinds.Stop master ask 0 to from (0 ∷ 0 ∷ []) ++ reason ∷ counted text
 
 -- the conditions of the fields
 abbrev pub Fits : Message → Type 0

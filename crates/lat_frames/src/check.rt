@@ -35,7 +35,9 @@ fn slots_fit(slots: &[Slot], most: usize) -> bool
 // Whether a RUN with a head of so many bytes can be written.
 fn run_ok(to: u16, from: u16, slots: &Slots, head: usize) -> bool
     requires { head ≤ 1500 }
-    ensures { IsTrue result ↔ ((0 < to) × (0 < from) × (length slots.now < 256) × AllByRecursion SlotIsWritable slots.now × (length (slots_text slots.now) ≤ 1500 - head)) }
+    ensures { IsTrue result ↔ (
+        (0 < to) × (0 < from) × (length slots.now < 256) × AllByRecursion SlotIsWritable slots.now
+        × (length (slots_text slots.now) ≤ 1500 - head)) }
 {
     let slots = slots.as_slice();
     to > 0 && from > 0 && slots.len() < 256 && slots_fit(slots, PAYLOAD_BYTES - head)

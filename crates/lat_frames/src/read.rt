@@ -1,48 +1,54 @@
 //! Reading a payload as a circuit message.
 
-ghost use Rattle.std.specs.Prelude.{◌≡◌, ◌+◌, ◌/◌, ◌<◌, ◌≤◌, length, drop, Ok, IfOk, IsTrue};
+ghost use Rattle.std.specs.Prelude.{◌+◌, ◌<◌, ◌≤◌, length, drop, Ok, IfOk};
 ghost use Rattle.lat_fields.specs.Reading.{Gives};
-ghost use Rattle.lat_fields.specs.Payloads.{PayloadText, payload_at};
+ghost use Rattle.lat_fields.specs.Payloads.{PayloadText};
 ghost use Rattle.lat_frames.specs.declared.message.Message.{Message};
 ghost use Rattle.lat_frames.specs.MessageText.{MessageText};
-ghost use Rattle.lat_frames.specs.Reading.{is_kind, tail_at, message_at, message_read};
+ghost use Rattle.lat_frames.specs.Reading.{tail_at, message_at, message_read};
 
+use crate::kind::MessageKind;
 use crate::message::Message;
-use crate::read_head::{Circuits, RUN, START, STOP, circuits_of, is_kind};
+use crate::read_head::{Circuits, circuits_of, is_master};
 use crate::read_run::{run_of, wide_of};
 use crate::read_start::{start_of, stop_of};
 use lat_base::{Field, PAYLOAD_BYTES};
-use lat_fields::{LEAST_PAYLOAD, LayoutFault, byte_of, wanted};
+use lat_fields::{LEAST_PAYLOAD, LayoutFault, byte_of, known, wanted};
 use std::alloc::Global;
 
-#[tactic(auto, unfolding(crate::specs::Reading::tail_at))]
 fn tail_of(
     alloc: Global,
+    kind: MessageKind,
     first: u8,
     circuits: Circuits,
     payload: &[u8],
     place: usize,
 ) -> Result<(Message, usize), LayoutFault>
     requires { (place ≤ length payload.now) × (length payload.now ≤ 1500) }
-    ensures gives { Gives (λ x. (x.0, x.1, drop x.1 payload.now)) result (tail_at (length payload.now + 1) first circuits place (drop place payload.now)) }
+    ensures gives { Gives (λ x. (x.0, x.1, drop x.1 payload.now)) result (tail_at kind (length payload.now + 1) first circuits place (drop place payload.now)) }
     ensures within { IfOk result (λ x. x.1 ≤ length payload.now) }
 {
-    match first / 4 {
-        RUN => run_of(alloc, first, circuits, payload, place),
-        START => start_of(alloc, first, circuits, payload, place),
-        STOP => stop_of(alloc, first, circuits, payload, place),
-        _ => wide_of(alloc, first, circuits, payload, place),
+    match kind {
+        MessageKind::Run => run_of(alloc, first, circuits, payload, place),
+        MessageKind::Start => start_of(alloc, first, circuits, payload, place),
+        MessageKind::Stop => stop_of(alloc, first, circuits, payload, place),
+        MessageKind::WideRun => wide_of(alloc, first, circuits, payload, place),
     }
 }
 
 #[tactic(auto, unfolding(crate::specs::Reading::message_at))]
-fn layout_of(alloc: Global, first: u8, payload: &[u8]) -> Result<(Message, usize), LayoutFault>
+fn layout_of(
+    alloc: Global,
+    kind: MessageKind,
+    first: u8,
+    payload: &[u8],
+) -> Result<(Message, usize), LayoutFault>
     requires { (0 < length payload.now) × (length payload.now ≤ 1500) }
-    ensures gives { Gives (λ x. (x.0, x.1, drop x.1 payload.now)) result (message_at first (drop 1 payload.now)) }
+    ensures gives { Gives (λ x. (x.0, x.1, drop x.1 payload.now)) result (message_at kind first (drop 1 payload.now)) }
     ensures within { IfOk result (λ x. x.1 ≤ length payload.now) }
 {
-    let (circuits, place) = circuits_of(first, payload, 1)?;
-    tail_of(alloc, first, circuits, payload, place)
+    let (circuits, place) = circuits_of(kind, is_master(first), payload, 1)?;
+    tail_of(alloc, kind, first, circuits, payload, place)
 }
 
 #[tactic(auto, unfolding(crate::specs::Reading::message_read))]
@@ -51,8 +57,8 @@ fn message_of(alloc: Global, payload: &[u8]) -> Result<Message, LayoutFault>
 {
     wanted(payload.len() <= PAYLOAD_BYTES, Field::Size, PAYLOAD_BYTES)?;
     let (first, _) = byte_of(Field::Kind, 0, payload, 0)?;
-    wanted(is_kind(first / 4), Field::Kind, 0)?;
-    let (message, end) = layout_of(alloc, first, payload)?;
+    let kind = known(MessageKind::from_bits(first / 4), Field::Kind, 0)?;
+    let (message, end) = layout_of(alloc, kind, first, payload)?;
     let ends = end == payload.len() || payload.len() <= LEAST_PAYLOAD;
     wanted(ends, Field::Trailing, end)?;
     Ok(message)

@@ -1,21 +1,13 @@
 //! Reading what all circuit messages begin with.
 
-ghost use Rattle.std.specs.Prelude.{◌≡◌, ◌+◌, ◌<◌, ◌≤◌, length, drop, IfOk};
+ghost use Rattle.std.specs.Prelude.{◌≡◌, ◌<◌, ◌≤◌, length, drop, IfOk};
 ghost use Rattle.lat_fields.specs.Reading.{Gives};
 ghost use Rattle.lat_frames.specs.Heads.{is_master, asks};
-ghost use Rattle.lat_frames.specs.Reading.{is_kind, destination_fits, source_fits, circuits_at};
+ghost use Rattle.lat_frames.specs.Reading.{destination_fits, source_fits, circuits_at};
 
+use crate::kind::MessageKind;
 use lat_base::Field;
 use lat_fields::{LayoutFault, byte_of, number_of, wanted};
-
-/// The type of each circuit message, which is a fourth of its first byte.
-pub const RUN: u8 = 0;
-
-pub const START: u8 = 1;
-
-pub const STOP: u8 = 2;
-
-pub const WIDE_RUN: u8 = 4;
 
 /// The number of slots and the two circuits that a message names.
 #[derive(Clone, Copy)]
@@ -23,13 +15,6 @@ pub struct Circuits {
     pub slots: u8,
     pub to: u16,
     pub from: u16,
-}
-
-/// Whether it is the type of a circuit message.
-pub fn is_kind(kind: u8) -> bool
-    ensures { result ≡ is_kind kind }
-{
-    matches!(kind, RUN | START | STOP | WIDE_RUN)
 }
 
 /// Bit 1 of the first byte.
@@ -46,38 +31,39 @@ pub fn asks(first: u8) -> bool
     first % 2 == 1
 }
 
-fn destination_fits(first: u8, to: u16) -> bool
-    ensures { result ≡ destination_fits first to }
+fn destination_fits(kind: MessageKind, master: bool, to: u16) -> bool
+    ensures { result ≡ destination_fits kind master to }
 {
-    if first / 4 == START && is_master(first) {
+    if matches!(kind, MessageKind::Start) && master {
         to == 0
     } else {
         to > 0
     }
 }
 
-fn source_fits(first: u8, from: u16) -> bool
-    ensures { result ≡ source_fits first from }
+fn source_fits(kind: MessageKind, from: u16) -> bool
+    ensures { result ≡ source_fits kind from }
 {
-    first / 4 == STOP || from > 0
+    matches!(kind, MessageKind::Stop) || from > 0
 }
 
 /// The number of slots and the two circuits, which stand behind the first byte.
 #[tactic(auto, unfolding(crate::specs::Reading::circuits_at))]
 pub fn circuits_of(
-    first: u8,
+    kind: MessageKind,
+    master: bool,
     payload: &[u8],
     place: usize,
 ) -> Result<(Circuits, usize), LayoutFault>
     requires { (place ≤ length payload.now) × (length payload.now ≤ 1500) }
-    ensures gives { Gives (λ x. (x.0, x.1, drop x.1 payload.now)) result (circuits_at first place (drop place payload.now)) }
+    ensures gives { Gives (λ x. (x.0, x.1, drop x.1 payload.now)) result (circuits_at kind master place (drop place payload.now)) }
     ensures within { IfOk result (λ x. x.1 ≤ length payload.now) }
 {
     let (slots, to_place) = byte_of(Field::SlotCount, place, payload, place)?;
     let (to, from_place) = number_of(Field::DestinationCircuit, payload, to_place)?;
-    let fits = destination_fits(first, to);
+    let fits = destination_fits(kind, master, to);
     wanted(fits, Field::DestinationCircuit, to_place)?;
     let (from, behind) = number_of(Field::SourceCircuit, payload, from_place)?;
-    wanted(source_fits(first, from), Field::SourceCircuit, from_place)?;
+    wanted(source_fits(kind, from), Field::SourceCircuit, from_place)?;
     Ok((Circuits { slots, to, from }, behind))
 }

@@ -9,8 +9,8 @@ ghost use Rattle.lat_frames.specs.Heads.{bit, first_byte, head_text, run_head, w
 ghost use Rattle.lat_frames.specs.MessageText.{info_text, names_text, numbers_text};
 ghost use Rattle.lat_frames.specs.Written.{IsWritable, message_text, slots_text};
 
+use crate::kind::MessageKind;
 use crate::message::{Head, Message, StartInfo, WideHead};
-use crate::read_head::{RUN, START, STOP, WIDE_RUN};
 use crate::read_start::VERSION;
 use lat_base::Payload;
 use lat_fields::{write_counted, write_number, write_padding, write_params};
@@ -23,16 +23,15 @@ fn bit(set: bool) -> u8
     if set { 1 } else { 0 }
 }
 
-fn first_byte(kind: u8, master: bool, ask: bool) -> u8
-    requires { kind < 16 }
+fn first_byte(kind: MessageKind, master: bool, ask: bool) -> u8
     ensures { result ≡ first_byte kind master ask }
 {
-    kind * 4 + bit(master) * 2 + bit(ask)
+    kind.bits() * 4 + bit(master) * 2 + bit(ask)
 }
 
 // The head up to its message numbers.
 fn write_circuits(
-    kind: u8,
+    kind: MessageKind,
     master: bool,
     ask: bool,
     slots: u8,
@@ -40,8 +39,7 @@ fn write_circuits(
     from: u16,
     out: &mut Payload,
 )
-    requires kind { kind < 16 }
-    requires room { length out.old + 6 ≤ 1500 }
+    requires { length out.old + 6 ≤ 1500 }
     ensures { out.new ≡ out.old ++ head_text kind master ask slots to from [] }
 {
     out.push(first_byte(kind, master, ask));
@@ -55,7 +53,15 @@ pub fn write_run_head(head: &Head, slots: u8, out: &mut Payload)
     requires { length out.old + 8 ≤ 1500 }
     ensures { out.new ≡ out.old ++ run_head head.now slots }
 {
-    write_circuits(RUN, head.master, head.ask, slots, head.to, head.from, out);
+    write_circuits(
+        MessageKind::Run,
+        head.master,
+        head.ask,
+        slots,
+        head.to,
+        head.from,
+        out,
+    );
     out.push(head.seq);
     out.push(head.ack);
 }
@@ -66,7 +72,7 @@ pub fn write_wide_head(head: &WideHead, slots: u8, out: &mut Payload)
     ensures { out.new ≡ out.old ++ wide_head head.now slots }
 {
     write_circuits(
-        WIDE_RUN,
+        MessageKind::WideRun,
         head.master,
         head.ask,
         slots,
@@ -78,11 +84,17 @@ pub fn write_wide_head(head: &WideHead, slots: u8, out: &mut Payload)
     write_number(out, head.ack);
 }
 
-/// Adds the head of a START or a STOP, of type 1 or 2, eight bytes, at the end. Its number of slots and its message numbers are
-/// 0. They must fit into the payload.
-pub fn write_plain_head(kind: u8, master: bool, ask: bool, to: u16, from: u16, out: &mut Payload)
-    requires kind { kind < 16 }
-    requires room { length out.old + 8 ≤ 1500 }
+/// Adds the head of a START or a STOP, eight bytes, at the end. Its number of slots and its message numbers are 0. They must
+/// fit into the payload.
+pub fn write_plain_head(
+    kind: MessageKind,
+    master: bool,
+    ask: bool,
+    to: u16,
+    from: u16,
+    out: &mut Payload,
+)
+    requires { length out.old + 8 ≤ 1500 }
     ensures { out.new ≡ out.old ++ head_text kind master ask 0 to from (0 ∷ 0 ∷ []) }
 {
     write_circuits(kind, master, ask, 0, to, from, out);
@@ -164,7 +176,7 @@ fn write_text(m: &Message, out: &mut Payload)
             from,
             info,
         } => {
-            write_plain_head(START, *master, *ask, *to, *from, out);
+            write_plain_head(MessageKind::Start, *master, *ask, *to, *from, out);
             write_info(info, out);
         }
         Message::Stop {
@@ -175,7 +187,7 @@ fn write_text(m: &Message, out: &mut Payload)
             reason,
             text,
         } => {
-            write_plain_head(STOP, *master, *ask, *to, *from, out);
+            write_plain_head(MessageKind::Stop, *master, *ask, *to, *from, out);
             out.push(*reason);
             write_counted(out, text.as_slice());
         }

@@ -1,5 +1,5 @@
 -- From the reader to the texts, and back.
-use Rattle.std.proofs.Common.{◌≡◌, ℕ, suc, ◌+◌, ◌-◌, ◌*◌, ◌/◌, ◌%◌, ◌<◌, ◌≤◌, ◌⊎◌, inl, inr, Bool, true, false, List, [], ◌∷◌, ◌++◌, length, replicate, leb, Result, Ok, Err, refl, sym, ap, ◌∙◌, subst, arith, length-append}
+use Rattle.std.proofs.Common.{◌≡◌, ℕ, suc, ◌+◌, ◌-◌, ◌*◌, ◌/◌, ◌%◌, ◌<◌, ◌≤◌, ◌⊎◌, inl, inr, Bool, true, false, List, [], ◌∷◌, ◌++◌, length, replicate, leb, Some, Result, Ok, Err, refl, sym, ap, ◌∙◌, subst, arith, length-append}
 use Rattle.std.specs.Prelude.{IfOk}
 use Rattle.std.proofs.lemmas.Bool.Decides.{nat_tests}
 use Rattle.std.proofs.lemmas.List.{length-replicate}
@@ -10,52 +10,48 @@ use Rattle.lat_fields.specs.Reading.{Gives, bad}
 use Rattle.lat_fields.specs.Payloads.{PayloadText, padded}
 use Rattle.lat_fields.proofs.Steps.{IsBytes}
 use Rattle.lat_fields.proofs.Payloads.{payload_taken, payload_trailing, payload_found}
+use Rattle.lat_notices.specs.declared.kind.NoticeKind.{NoticeKind}
 use Rattle.lat_notices.specs.declared.notice.Notice.{Notice}
-use Rattle.lat_notices.specs.declared.notice.Notice.TheVariants as notices
-use Rattle.lat_notices.specs.Texts.{fields_text, kind_of, NoticeText, notice_text, IsWritable}
-use Rattle.lat_notices.specs.Reading.{is_notice, fields_at, notice_read}
+use Rattle.lat_notices.specs.Kinds.{bits_of, kind_of}
+use Rattle.lat_notices.specs.Texts.{fields_text, type_of, NoticeText, notice_text, IsWritable}
+use Rattle.lat_notices.specs.Reading.{fields_at, notice_read}
 use Rattle.lat_notices.specs.Laws.{IsOneNotice, IsNoNotice}
+use Rattle.lat_notices.proofs.TypeNumbers.{kind_back, kind_bits}
 use Rattle.lat_notices.proofs.Taken.{fields_taken}
 use Rattle.lat_notices.proofs.Found.{fields_found}
 use Rattle.lat_notices.proofs.Writable.{written, text_len}
 
-abbrev layout : ℕ → List ℕ → Result (Notice × ℕ × List ℕ) Bad
-layout first bytes = fields_at (first / 4) bytes
-
-kind_known : (n : Notice) → is_notice (kind_of n) ≡ true
-kind_known (notices.Announcement a) = refl
-kind_known (notices.Command c) = refl
-kind_known (notices.Status s) = refl
-kind_known (notices.Solicit s) = refl
-kind_known (notices.Response r) = refl
+abbrev layout : NoticeKind → ℕ → List ℕ → Result (Notice × ℕ × List ℕ) Bad
+layout kind first bytes = fields_at kind bytes
 
 -- how a text's first byte and the rest of the payload are read
 record Begins (n : Notice) (text rest : List ℕ) : Type 0 where
   first : ℕ
   is : text ++ rest ≡ first ∷ (fields_text n ++ rest)
-  known : is_notice (first / 4) ≡ true
-  read : layout first (fields_text n ++ rest) ≡ Ok (n, length text, rest)
+  known : kind_of (first / 4) ≡ Some (type_of n)
+  read : layout (type_of n) first (fields_text n ++ rest) ≡ Ok (n, length text, rest)
 
 begins : (n : Notice) (text rest : List ℕ) → NoticeText n text → Begins n text rest
 begins n text rest t =
-    let kind : (kind_of n * 4 + t.low) / 4 ≡ kind_of n = let b = t.low_bits in omega arith in
+    let bits = bits_of (type_of n) in
+    let kind : (bits * 4 + t.low) / 4 ≡ bits = let b = t.low_bits in omega arith in
     let len : 1 + length (fields_text n) ≡ length text = omega (arith, ap length t.is) in
     record {
-      first = kind_of n * 4 + t.low;
+      first = bits * 4 + t.low;
       is = ap (λ bs. bs ++ rest) t.is;
-      known = ap is_notice kind ∙ kind_known n;
-      read = ap (λ (k : ℕ). fields_at k (fields_text n ++ rest)) kind ∙ fields_taken n rest t.fits ∙ ap (λ (m : ℕ). Ok (n, m, rest)) len;
+      known = ap kind_of kind ∙ kind_back (type_of n);
+      read = fields_taken n rest t.fits ∙ ap (λ (m : ℕ). Ok (n, m, rest)) len;
     }
 
 pub text_taken : (n : Notice) (text rest : List ℕ) → NoticeText n text → length (text ++ rest) ≤ 1500 → (rest ≡ []) ⊎ (length (text ++ rest) ≤ 46) → notice_read (text ++ rest) ≡ Ok n
 text_taken n text rest t size trailing =
     let b = begins n text rest t in
-    payload_taken is_notice layout n b.first (length text) (fields_text n ++ rest) rest (text ++ rest) b.is b.known b.read size trailing
+    payload_taken kind_of layout n (type_of n) b.first (length text) (fields_text n ++ rest) rest (text ++ rest) b.is b.known b.read size trailing
 
 pub text_refused : (n : Notice) (text rest : List ℕ) → NoticeText n text → 0 < length rest → 46 < length (text ++ rest) → length (text ++ rest) ≤ 1500 → notice_read (text ++ rest) ≡ bad Trailing (length text)
 text_refused n text rest t some long size =
     let b = begins n text rest t in
-    payload_trailing is_notice layout n b.first (length text) (fields_text n ++ rest) rest (text ++ rest) b.is b.known b.read size some long
+    payload_trailing kind_of layout n (type_of n) b.first (length text) (fields_text n ++ rest) rest (text ++ rest) b.is b.known b.read size some long
 
 -- a payload that is a text of a notice is read as it
 pub payload_read : (n : Notice) (payload : List ℕ) → PayloadText NoticeText n payload → notice_read payload ≡ Ok n
@@ -67,12 +63,12 @@ payload_read n payload p =
 -- a payload that is read as a notice is a text of it
 pub payload_is : (payload : List ℕ) (n : Notice) → IsBytes payload → notice_read payload ≡ Ok n → PayloadText NoticeText n payload
 payload_is payload n all h =
-    let f = payload_found is_notice layout payload n h in
+    let f = payload_found kind_of layout payload n h in
     let shifted : IsBytes (f.first ∷ f.tail) = let P : List ℕ → Type 0 = IsBytes in subst P f.is all in
-    let g = fields_found (f.first / 4) f.tail (n, f.place, f.rest) (λ i. shifted (suc i)) f.kind f.read in
-    let byte : f.first ≡ kind_of n * 4 + f.first % 4 = omega (arith, g.kind_is) in
+    let g = fields_found f.kind f.tail (n, f.place, f.rest) (λ i. shifted (suc i)) f.read in
+    let byte : f.first ≡ bits_of (type_of n) * 4 + f.first % 4 = omega (arith, kind_bits (f.first / 4) f.kind f.kind_is, ap bits_of g.kind_is) in
     record {
-      text = (kind_of n * 4 + f.first % 4) ∷ fields_text n;
+      text = (bits_of (type_of n) * 4 + f.first % 4) ∷ fields_text n;
       rest = f.rest;
       is = f.is ∙ (λ i. byte i ∷ g.is i);
       of = record { fits = g.fits; low = f.first % 4; low_bits = omega arith; is = refl };

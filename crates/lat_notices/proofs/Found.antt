@@ -1,5 +1,5 @@
 -- What is read as a notice is a text of it.
-use Rattle.std.proofs.Common.{◌≡◌, ℕ, ◌<◌, ◌⊎◌, inl, inr, true, List, ◌∷◌, ◌++◌, length, Result, Ok, refl, sym, ap, ◌∙◌, subst, arith, append_assoc}
+use Rattle.std.proofs.Common.{◌≡◌, ℕ, ◌<◌, true, List, ◌∷◌, ◌++◌, length, Result, Ok, refl, sym, ap, ◌∙◌, subst, arith, append_assoc}
 use Rattle.std.specs.List.{flat_map}
 use Rattle.std.proofs.lemmas.Bool.Decides.{nat_tests}
 use Rattle.lat_base.specs.declared.field.Bad.{Bad}
@@ -8,16 +8,18 @@ use Rattle.lat_fields.specs.Reading.{◌>>=◌, byte_at, number_at, counted_at, 
 use Rattle.lat_fields.specs.Texts.{counted, number}
 use Rattle.lat_fields.proofs.Steps.{IsBytes, bind_ok}
 use Rattle.lat_fields.proofs.Found.{byte_found, number_found, counted_found, name_found}
+use Rattle.lat_notices.specs.declared.kind.NoticeKind.{NoticeKind}
+use Rattle.lat_notices.specs.declared.kind.NoticeKind.TheVariants as kinds
 use Rattle.lat_notices.specs.declared.notice.Action.{Action}
 use Rattle.lat_notices.specs.declared.notice.Outcome.{Outcome}
 use Rattle.lat_notices.specs.declared.notice.Notice.{Notice}
 use Rattle.lat_notices.specs.declared.services.Service.{Service}
 use Rattle.lat_notices.specs.Outcomes.{action_number, outcome_number, outcome_place}
 use Rattle.lat_notices.specs.Services.{service_text}
-use Rattle.lat_notices.specs.Texts.{Fits, fields_text, kind_of}
+use Rattle.lat_notices.specs.Texts.{Fits, fields_text, type_of}
 use Rattle.lat_notices.specs.Fields.{is_version, is_timer, byte_for, groups_at, action_at, outcome_at}
 use Rattle.lat_notices.specs.ServicesReading.{services_at}
-use Rattle.lat_notices.specs.Reading.{announcement, command, status, solicit, response, announcement_at, command_at, status_at, solicit_at, response_at, is_notice, fields_at}
+use Rattle.lat_notices.specs.Reading.{announcement, command, status, solicit, response, announcement_at, command_at, status_at, solicit_at, response_at, fields_at}
 use Rattle.lat_notices.proofs.FieldsFound.{right_byte_found, groups_found, action_found, outcome_found, services_found}
 
 -- the notice and the bytes behind its fields, with the place between them
@@ -30,8 +32,8 @@ Text = List ℕ × ℕ × List ℕ
 abbrev Number : Type 0
 Number = ℕ × ℕ × List ℕ
 
-pub record FoundFields (kind : ℕ) (bytes : List ℕ) (x : Notice × ℕ × List ℕ) : Type 0 where
-  pub kind_is : kind_of x.0 ≡ kind
+pub record FoundFields (kind : NoticeKind) (bytes : List ℕ) (x : Notice × ℕ × List ℕ) : Type 0 where
+  pub kind_is : type_of x.0 ≡ kind
   pub is : bytes ≡ fields_text x.0 ++ x.2
   pub fits : Fits x.0
 
@@ -39,7 +41,7 @@ abbrev gives : Notice → ℕ → List ℕ → Result Read Bad
 gives n place rest = Ok (n, place, rest)
 
 -- the value that a chain gives is the one that was read
-finish : (k : ℕ) (bytes : List ℕ) (n : Notice) (place : ℕ) (rest : List ℕ) (x : Read) → kind_of n ≡ k → bytes ≡ fields_text n ++ rest → Fits n → gives n place rest ≡ Ok x → FoundFields k bytes x
+finish : (k : NoticeKind) (bytes : List ℕ) (n : Notice) (place : ℕ) (rest : List ℕ) (x : Read) → type_of n ≡ k → bytes ≡ fields_text n ++ rest → Fits n → gives n place rest ≡ Ok x → FoundFields k bytes x
 finish k bytes n place rest x kind is fits same =
     let e : (n, place, rest) ≡ x = cc in
     let P : Read → Type 0 = FoundFields k bytes in
@@ -94,7 +96,7 @@ announcement_joined bytes t v i g n d c s is1 is2 five is3 is4 is5 is6 is7 all i
 below : {a b m : ℕ} → a ≡ b → b < m → a < m
 below e lt = omega arith
 
-announcement_found : (bytes : List ℕ) (x : Read) → IsBytes bytes → announcement_at bytes ≡ Ok x → FoundFields 10 bytes x
+announcement_found : (bytes : List ℕ) (x : Read) → IsBytes bytes → announcement_at bytes ≡ Ok x → FoundFields kinds.Announcement bytes x
 unfolding announcement_at
 announcement_found bytes x all h =
     let t = bind_ok (byte_for is_timer fields.Timer 1 bytes) announced_timer x h in
@@ -113,7 +115,7 @@ announcement_found bytes x all h =
     let c_text = byte_found fields.ServiceCount d.0.1 d.0.1 d.0.2 c.0 d_text.others c.1 in
     let s = bind_ok (services_at c.0.0 c.0.1 c.0.2) (announced t.0.0 i.0.0 g.0.0 n.0.0 d.0.0) x c.2 in
     let s_text = services_found c.0.0 c.0.1 c.0.2 s.0 c_text.others s.1 in
-    finish 10 bytes (announcement t.0.0 i.0.0 g.0.0 n.0.0 d.0.0 s.0.0) s.0.1 s.0.2 x refl
+    finish kinds.Announcement bytes (announcement t.0.0 i.0.0 g.0.0 n.0.0 d.0.0 s.0.0) s.0.1 s.0.2 x refl
     (announcement_joined bytes t.0 v.0 i.0 g.0 n.0 d.0 c.0 s.0 t_text.0.is v_text.0.is (five v.0.0 v_text.1) i_text.is g_text.0.is n_text.0.is d_text.is c_text.is s_text.all s_text.is)
     (record {
       timer = timer_some t.0.0 t_text.1;
@@ -154,7 +156,7 @@ command_joined bytes v i r a n s is1 five is2 is3 is4 is5 is6 =
     let regroup : 5 ∷ number i.0 ++ (number r.0 ++ (action_number a.0 ∷ (counted n.0 ++ (counted s.0 ++ s.2)))) ≡ fields_text (command i.0 r.0 a.0 n.0 s.0) ++ s.2 = simp append_assoc in
     whole ∙ regroup
 
-command_found : (bytes : List ℕ) (x : Read) → IsBytes bytes → command_at bytes ≡ Ok x → FoundFields 12 bytes x
+command_found : (bytes : List ℕ) (x : Read) → IsBytes bytes → command_at bytes ≡ Ok x → FoundFields kinds.Command bytes x
 unfolding command_at
 command_found bytes x all h =
     let v = bind_ok (byte_for is_version fields.Version 1 bytes) commanded_version x h in
@@ -169,7 +171,7 @@ command_found bytes x all h =
     let n_text = name_found fields.NodeName a.0.1 a.0.2 n.0 a_text.others n.1 in
     let s = bind_ok (name_at fields.Service n.0.1 n.0.2) (commanded i.0.0 r.0.0 a.0.0 n.0.0) x n.2 in
     let s_text = name_found fields.Service n.0.1 n.0.2 s.0 n_text.0.others s.1 in
-    finish 12 bytes (command i.0.0 r.0.0 a.0.0 n.0.0 s.0.0) s.0.1 s.0.2 x refl
+    finish kinds.Command bytes (command i.0.0 r.0.0 a.0.0 n.0.0 s.0.0) s.0.1 s.0.2 x refl
     (command_joined bytes v.0 i.0 r.0 a.0 n.0 s.0 v_text.0.is (five v.0.0 v_text.1) i_text.is r_text.is a_text.is n_text.0.is s_text.0.is)
     (record { node = n_text.1; service = s_text.1 })
     s.2
@@ -197,7 +199,7 @@ status_joined bytes v i r o n is1 five is2 is3 is4 is5 =
     let placed : r.2 ≡ outcome_number o.0 ∷ number (outcome_place o.0) ++ (counted n.0 ++ n.2) = is4 ∙ ap (λ bs. outcome_number o.0 ∷ number (outcome_place o.0) ++ bs) is5 in
     is1 ∙ (λ j. five j ∷ is2 j) ∙ ap (λ bs. 5 ∷ number i.0 ++ bs) (is3 ∙ ap (λ bs. number r.0 ++ bs) placed)
 
-status_found : (bytes : List ℕ) (x : Read) → IsBytes bytes → status_at bytes ≡ Ok x → FoundFields 13 bytes x
+status_found : (bytes : List ℕ) (x : Read) → IsBytes bytes → status_at bytes ≡ Ok x → FoundFields kinds.Status bytes x
 unfolding status_at
 status_found bytes x all h =
     let v = bind_ok (byte_for is_version fields.Version 1 bytes) told_version x h in
@@ -210,7 +212,7 @@ status_found bytes x all h =
     let o_text = outcome_found r.0.1 r.0.2 o.0 r_text.others o.1 in
     let n = bind_ok (name_at fields.NodeName o.0.1 o.0.2) (told i.0.0 r.0.0 o.0.0) x o.2 in
     let n_text = name_found fields.NodeName o.0.1 o.0.2 n.0 o_text.others n.1 in
-    finish 13 bytes (status i.0.0 r.0.0 o.0.0 n.0.0) n.0.1 n.0.2 x refl
+    finish kinds.Status bytes (status i.0.0 r.0.0 o.0.0 n.0.0) n.0.1 n.0.2 x refl
     (status_joined bytes v.0 i.0 r.0 o.0 n.0 v_text.0.is (five v.0.0 v_text.1) i_text.is r_text.is o_text.is n_text.0.is)
     (record { outcome = o_text.fits; node = n_text.1 })
     n.2
@@ -236,7 +238,7 @@ solicit_joined bytes v i n s is1 five is2 is3 is4 =
     let regroup : 5 ∷ number i.0 ++ (counted n.0 ++ (counted s.0 ++ s.2)) ≡ fields_text (solicit i.0 n.0 s.0) ++ s.2 = simp append_assoc in
     whole ∙ regroup
 
-solicit_found : (bytes : List ℕ) (x : Read) → IsBytes bytes → solicit_at bytes ≡ Ok x → FoundFields 14 bytes x
+solicit_found : (bytes : List ℕ) (x : Read) → IsBytes bytes → solicit_at bytes ≡ Ok x → FoundFields kinds.Solicit bytes x
 unfolding solicit_at
 solicit_found bytes x all h =
     let v = bind_ok (byte_for is_version fields.Version 1 bytes) asked_version x h in
@@ -247,7 +249,7 @@ solicit_found bytes x all h =
     let n_text = name_found fields.NodeName i.0.1 i.0.2 n.0 i_text.others n.1 in
     let s = bind_ok (name_at fields.Service n.0.1 n.0.2) (asked i.0.0 n.0.0) x n.2 in
     let s_text = name_found fields.Service n.0.1 n.0.2 s.0 n_text.0.others s.1 in
-    finish 14 bytes (solicit i.0.0 n.0.0 s.0.0) s.0.1 s.0.2 x refl
+    finish kinds.Solicit bytes (solicit i.0.0 n.0.0 s.0.0) s.0.1 s.0.2 x refl
     (solicit_joined bytes v.0 i.0 n.0 s.0 v_text.0.is (five v.0.0 v_text.1) i_text.is n_text.0.is s_text.0.is)
     (record { asker = n_text.1; service = s_text.1 })
     s.2
@@ -281,7 +283,7 @@ response_joined bytes v i n s r t is1 five is2 is3 is4 is5 is6 =
     let regroup : 5 ∷ number i.0 ++ (counted n.0 ++ (counted s.0 ++ (r.0 ∷ t.0 ∷ t.2))) ≡ fields_text (response i.0 n.0 s.0 r.0 t.0) ++ t.2 = simp append_assoc in
     whole ∙ regroup
 
-response_found : (bytes : List ℕ) (x : Read) → IsBytes bytes → response_at bytes ≡ Ok x → FoundFields 15 bytes x
+response_found : (bytes : List ℕ) (x : Read) → IsBytes bytes → response_at bytes ≡ Ok x → FoundFields kinds.Response bytes x
 unfolding response_at
 response_found bytes x all h =
     let v = bind_ok (byte_for is_version fields.Version 1 bytes) answered_version x h in
@@ -296,32 +298,15 @@ response_found bytes x all h =
     let r_text = byte_found fields.Rating s.0.1 s.0.1 s.0.2 r.0 s_text.0.others r.1 in
     let t = bind_ok (byte_for is_timer fields.Timer r.0.1 r.0.2) (answered i.0.0 n.0.0 s.0.0 r.0.0) x r.2 in
     let t_text = right_byte_found is_timer fields.Timer r.0.1 r.0.2 t.0 r_text.others t.1 in
-    finish 15 bytes (response i.0.0 n.0.0 s.0.0 r.0.0 t.0.0) t.0.1 t.0.2 x refl
+    finish kinds.Response bytes (response i.0.0 n.0.0 s.0.0 r.0.0 t.0.0) t.0.1 t.0.2 x refl
     (response_joined bytes v.0 i.0 n.0 s.0 r.0 t.0 v_text.0.is (five v.0.0 v_text.1) i_text.is n_text.0.is s_text.0.is r_text.is t_text.0.is)
     (record { node = n_text.1; service = s_text.1; timer = timer_some t.0.0 t_text.1 })
     t.2
 
-which_kind : (k : ℕ) → is_notice k ≡ true → k ≡ 10 ⊎ (k ≡ 12 ⊎ (k ≡ 13 ⊎ (k ≡ 14 ⊎ k ≡ 15)))
-which_kind k h = grind (arith, nat_tests)
-
-fields_cases : (k : ℕ) (bytes : List ℕ) (x : Read) → IsBytes bytes → k ≡ 10 ⊎ (k ≡ 12 ⊎ (k ≡ 13 ⊎ (k ≡ 14 ⊎ k ≡ 15))) → fields_at k bytes ≡ Ok x → FoundFields k bytes x
-fields_cases k bytes x all which h =
-    let H : ℕ → Type 0 = λ j. fields_at j bytes ≡ Ok x in
-    let P : ℕ → Type 0 = λ j. FoundFields j bytes x in
-    elim which as (λ _. FoundFields k bytes x) [
-      | inl e ↦ subst P (sym e) (announcement_found bytes x all (subst H e h))
-      | inr w ↦ elim w as (λ _. FoundFields k bytes x) [
-        | inl e ↦ subst P (sym e) (command_found bytes x all (subst H e h))
-        | inr w ↦ elim w as (λ _. FoundFields k bytes x) [
-          | inl e ↦ subst P (sym e) (status_found bytes x all (subst H e h))
-          | inr w ↦ elim w as (λ _. FoundFields k bytes x) [
-            | inl e ↦ subst P (sym e) (solicit_found bytes x all (subst H e h))
-            | inr e ↦ subst P (sym e) (response_found bytes x all (subst H e h))
-          ]
-        ]
-      ]
-    ]
-
 -- the fields that are read are those of the notice
-pub fields_found : (k : ℕ) (bytes : List ℕ) (x : Notice × ℕ × List ℕ) → IsBytes bytes → is_notice k ≡ true → fields_at k bytes ≡ Ok x → FoundFields k bytes x
-fields_found k bytes x all known h = fields_cases k bytes x all (which_kind k known) h
+pub fields_found : (k : NoticeKind) (bytes : List ℕ) (x : Notice × ℕ × List ℕ) → IsBytes bytes → fields_at k bytes ≡ Ok x → FoundFields k bytes x
+fields_found kinds.Announcement bytes x all h = announcement_found bytes x all h
+fields_found kinds.Command bytes x all h = command_found bytes x all h
+fields_found kinds.Status bytes x all h = status_found bytes x all h
+fields_found kinds.Solicit bytes x all h = solicit_found bytes x all h
+fields_found kinds.Response bytes x all h = response_found bytes x all h

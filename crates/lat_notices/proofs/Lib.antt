@@ -1,3 +1,4 @@
+pub mod TypeNumbers
 pub mod ServicesLoop
 pub mod Room
 pub mod FieldsTaken

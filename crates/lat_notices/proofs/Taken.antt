@@ -14,7 +14,7 @@ use Rattle.lat_notices.specs.declared.notice.Notice.{Notice}
 use Rattle.lat_notices.specs.declared.notice.Notice.TheVariants as notices
 use Rattle.lat_notices.specs.Outcomes.{action_number, outcome_number, outcome_place}
 use Rattle.lat_notices.specs.Services.{service_text}
-use Rattle.lat_notices.specs.Texts.{IsAnnouncement, IsCommand, IsStatus, IsSolicit, IsResponse, Fits, announcement_text, command_text, status_text, solicit_text, response_text, fields_text, kind_of}
+use Rattle.lat_notices.specs.Texts.{IsAnnouncement, IsCommand, IsStatus, IsSolicit, IsResponse, Fits, announcement_text, command_text, status_text, solicit_text, response_text, fields_text, type_of}
 use Rattle.lat_notices.specs.Fields.{is_version, is_timer}
 use Rattle.lat_notices.specs.Reading.{announcement_at, command_at, status_at, solicit_at, response_at, fields_at}
 use Rattle.lat_notices.proofs.FieldsTaken.{byte_taken, groups_taken, action_taken, outcome_taken, services_taken}
@@ -117,7 +117,7 @@ response_taken r rest h =
     ) (ap (λ (n : ℕ). Ok (notices.Response r, n, rest)) places)
 
 -- the fields of a notice are read as it
-pub fields_taken : (n : Notice) (rest : List ℕ) → Fits n → fields_at (kind_of n) (fields_text n ++ rest) ≡ Ok (n, 1 + length (fields_text n), rest)
+pub fields_taken : (n : Notice) (rest : List ℕ) → Fits n → fields_at (type_of n) (fields_text n ++ rest) ≡ Ok (n, 1 + length (fields_text n), rest)
 fields_taken (notices.Announcement a) rest h = announcement_taken a rest h
 fields_taken (notices.Command c) rest h = command_taken c rest h
 fields_taken (notices.Status s) rest h = status_taken s rest h

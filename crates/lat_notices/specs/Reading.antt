@@ -1,11 +1,14 @@
 -- Reading notices: the fields behind the first byte, from place 1 on, in the order of their layouts.
-use Rattle.std.specs.Prelude.{ℕ, ◌/◌, Bool, ◌||◌, List, Result, Ok, ◌==◌, if◌then◌else◌}
+use Rattle.std.specs.Prelude.{ℕ, List, Result, Ok}
 use Rattle.lat_base.specs.declared.field.Bad.{Bad}
 use Rattle.lat_base.specs.declared.field.Field.TheVariants as fields
 use Rattle.lat_fields.specs.Reading.{◌>>=◌, byte_at, number_at, counted_at, name_at}
 use Rattle.lat_fields.specs.Payloads.{payload_at}
+use Rattle.lat_notices.specs.declared.kind.NoticeKind.{NoticeKind}
+use Rattle.lat_notices.specs.declared.kind.NoticeKind.TheVariants as kinds
 use Rattle.lat_notices.specs.declared.notice.Notice.{Notice}
 use Rattle.lat_notices.specs.declared.notice.Notice.TheVariants as notices
+use Rattle.lat_notices.specs.Kinds.{kind_of}
 use Rattle.lat_notices.specs.Fields.{is_version, is_timer, byte_for, groups_at, action_at, outcome_at}
 use Rattle.lat_notices.specs.ServicesReading.{services_at}
 use Rattle.lat_notices.specs.declared.services.Service.{Service}
@@ -78,19 +81,14 @@ response_at bytes = do
   timer ← byte_for is_timer fields.Timer rating.1 rating.2
   Ok (response id.0 node.0 service.0 rating.0 timer.0, timer.1, timer.2)
 
--- the types of notices
-abbrev pub is_notice : ℕ → Bool
-is_notice kind = kind == 10 || kind == 12 || kind == 13 || kind == 14 || kind == 15
-
 -- the fields that a type has
-abbrev pub fields_at : ℕ → List ℕ → Result (Notice × ℕ × List ℕ) Bad
-fields_at kind bytes =
-    if kind == 10 then announcement_at bytes
-    else if kind == 12 then command_at bytes
-    else if kind == 13 then status_at bytes
-    else if kind == 14 then solicit_at bytes
-    else response_at bytes
+abbrev pub fields_at : NoticeKind → List ℕ → Result (Notice × ℕ × List ℕ) Bad
+fields_at kinds.Announcement bytes = announcement_at bytes
+fields_at kinds.Command bytes = command_at bytes
+fields_at kinds.Status bytes = status_at bytes
+fields_at kinds.Solicit bytes = solicit_at bytes
+fields_at kinds.Response bytes = response_at bytes
 
 -- the notice that a payload is, or its first bad field
 abbrev pub notice_read : List ℕ → Result Notice Bad
-notice_read payload = payload_at is_notice (λ first bytes. fields_at (first / 4) bytes) payload
+notice_read payload = payload_at kind_of (λ kind first bytes. fields_at kind bytes) payload

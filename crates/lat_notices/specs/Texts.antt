@@ -3,6 +3,8 @@ use Rattle.std.specs.Prelude.{◌≡◌, ℕ, ◌+◌, ◌*◌, ◌<◌, ◌≤�
 use Rattle.std.specs.List.{flat_map, AllByRecursion}
 use Rattle.lat_base.specs.Names.{IsName}
 use Rattle.lat_fields.specs.Texts.{counted, number}
+use Rattle.lat_notices.specs.declared.kind.NoticeKind.{NoticeKind}
+use Rattle.lat_notices.specs.declared.kind.NoticeKind.TheVariants as kinds
 use Rattle.lat_notices.specs.declared.notice.Announcement.{Announcement}
 use Rattle.lat_notices.specs.declared.notice.Command.{Command}
 use Rattle.lat_notices.specs.declared.notice.Status.{Status}
@@ -10,6 +12,7 @@ use Rattle.lat_notices.specs.declared.notice.Solicit.{Solicit}
 use Rattle.lat_notices.specs.declared.notice.Response.{Response}
 use Rattle.lat_notices.specs.declared.notice.Notice.{Notice}
 use Rattle.lat_notices.specs.declared.notice.Notice.TheVariants as notices
+use Rattle.lat_notices.specs.Kinds.{bits_of}
 use Rattle.lat_notices.specs.Outcomes.{action_number, outcome_number, outcome_place, IsOutcome}
 use Rattle.lat_notices.specs.Services.{IsService, service_text}
 
@@ -70,24 +73,23 @@ fields_text (notices.Status s) = status_text s
 fields_text (notices.Solicit s) = solicit_text s
 fields_text (notices.Response r) = response_text r
 
--- the type that stands in the six high bits of the first byte
-abbrev pub kind_of : Notice → ℕ
-kind_of (notices.Announcement a) = 10
-kind_of (notices.Command c) = 12
-kind_of (notices.Status s) = 13
-kind_of (notices.Solicit s) = 14
-kind_of (notices.Response r) = 15
+abbrev pub type_of : Notice → NoticeKind
+type_of (notices.Announcement a) = kinds.Announcement
+type_of (notices.Command c) = kinds.Command
+type_of (notices.Status s) = kinds.Status
+type_of (notices.Solicit s) = kinds.Solicit
+type_of (notices.Response r) = kinds.Response
 
 -- b is a text of the notice; the two low bits of its first byte may be anything
 pub record NoticeText (n : Notice) (b : List ℕ) : Type 0 where
   pub fits : Fits n
   pub low : ℕ
   pub low_bits : low < 4
-  pub is : b ≡ (kind_of n * 4 + low) ∷ fields_text n
+  pub is : b ≡ (bits_of (type_of n) * 4 + low) ∷ fields_text n
 
 -- the text that is written has 0 there
 abbrev pub notice_text : Notice → List ℕ
-notice_text n = (kind_of n * 4) ∷ fields_text n
+notice_text n = (bits_of (type_of n) * 4) ∷ fields_text n
 
 -- there is a text of the notice that a payload has room for
 pub record IsWritable (n : Notice) : Type 0 where

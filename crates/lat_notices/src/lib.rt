@@ -3,6 +3,7 @@
 #![tactic(auto)]
 
 mod fields;
+mod kind;
 pub mod laws;
 mod measure;
 mod notice;
@@ -12,6 +13,7 @@ mod services;
 mod write;
 mod write_services;
 
+pub use kind::NoticeKind;
 pub use lat_fields::LayoutFault as FrameFault;
 pub use measure::notice_ok;
 pub use notice::{Action, Announcement, Command, Notice, Outcome, Response, Solicit, Status};

@@ -1,18 +1,21 @@
 //! Reading notices.
 
-ghost use Rattle.std.specs.Prelude.{◌≡◌, ◌≤◌, ◌==◌, ◌||◌, nat_le, length, drop, Ok, IfOk, IsTrue};
+ghost use Rattle.std.specs.Prelude.{◌≡◌, ◌≤◌, ◌==◌, ◌||◌, nat_le, length, drop, Ok, IfOk};
 ghost use Rattle.lat_fields.specs.Payloads.{PayloadText};
 ghost use Rattle.lat_fields.specs.Reading.{Gives};
-ghost use Rattle.lat_notices.specs.Reading.{announcement_at, command_at, status_at, solicit_at, response_at, is_notice, fields_at, notice_read};
+ghost use Rattle.lat_notices.specs.Reading.{announcement_at, command_at, status_at, solicit_at, response_at, fields_at, notice_read};
 ghost use Rattle.lat_notices.specs.Texts.{NoticeText};
 ghost use Rattle.lat_notices.specs.declared.notice.Notice.{Notice};
 
 use crate::FrameFault;
 use crate::fields::{action_of, groups_of, outcome_of, timer_of, version_of};
+use crate::kind::NoticeKind;
 use crate::notice::{Announcement, Command, Notice, Response, Solicit, Status};
 use crate::read_services::services_of;
 use lat_base::{Bytes, Field, PAYLOAD_BYTES};
-use lat_fields::{LEAST_PAYLOAD, LayoutFault, byte_of, counted_of, name_of, number_of, wanted};
+use lat_fields::{
+    LEAST_PAYLOAD, LayoutFault, byte_of, counted_of, known, name_of, number_of, wanted,
+};
 use std::alloc::Global;
 
 // Each of these reads the fields of a type, from place 1 on, and gives the place behind them.
@@ -118,25 +121,18 @@ fn response_of(bytes: &[u8]) -> Result<(Notice, usize), LayoutFault>
     Ok((notice, behind))
 }
 
-fn is_notice(kind: u8) -> bool
-    ensures { result ≡ is_notice kind }
-{
-    matches!(kind, 10 | 12 | 13 | 14 | 15)
-}
-
 // The fields of the notice of this type, and the place behind them.
-fn fields_of(alloc: Global, kind: u8, bytes: &[u8]) -> Result<(Notice, usize), LayoutFault>
-    requires room { (1 ≤ length bytes.now) × (length bytes.now ≤ 1500) }
-    requires kind { IsTrue (is_notice kind) }
+fn fields_of(alloc: Global, kind: NoticeKind, bytes: &[u8]) -> Result<(Notice, usize), LayoutFault>
+    requires { (1 ≤ length bytes.now) × (length bytes.now ≤ 1500) }
     ensures gives { Gives (λ x. (x.0, x.1, drop x.1 bytes.now)) result (fields_at kind (drop 1 bytes.now)) }
     ensures within { IfOk result (λ x. x.1 ≤ length bytes.now) }
 {
     match kind {
-        10 => announcement_of(alloc, bytes),
-        12 => command_of(bytes),
-        13 => status_of(bytes),
-        14 => solicit_of(bytes),
-        _ => response_of(bytes),
+        NoticeKind::Announcement => announcement_of(alloc, bytes),
+        NoticeKind::Command => command_of(bytes),
+        NoticeKind::Status => status_of(bytes),
+        NoticeKind::Solicit => solicit_of(bytes),
+        NoticeKind::Response => response_of(bytes),
     }
 }
 
@@ -154,8 +150,7 @@ fn notice_of(alloc: Global, payload: &[u8]) -> Result<Notice, LayoutFault>
 {
     wanted(payload.len() <= PAYLOAD_BYTES, Field::Size, PAYLOAD_BYTES)?;
     let (first, _) = byte_of(Field::Kind, 0, payload, 0)?;
-    let kind = first / 4;
-    wanted(is_notice(kind), Field::Kind, 0)?;
+    let kind = known(NoticeKind::from_bits(first / 4), Field::Kind, 0)?;
     let (notice, end) = fields_of(alloc, kind, payload)?;
     wanted(ends_right(end, payload), Field::Trailing, end)?;
     Ok(notice)

@@ -2,9 +2,10 @@
 
 ghost use Rattle.std.specs.Prelude.{◌≡◌, ◌+◌, ◌≤◌, ◌++◌, [], length};
 ghost use Rattle.lat_fields.specs.Payloads.{padded};
-ghost use Rattle.lat_notices.specs.Texts.{IsAnnouncement, IsCommand, IsStatus, IsSolicit, IsResponse, Fits, announcement_text, command_text, status_text, solicit_text, response_text, fields_text, kind_of, notice_text, IsWritable};
+ghost use Rattle.lat_notices.specs.Texts.{IsAnnouncement, IsCommand, IsStatus, IsSolicit, IsResponse, Fits, announcement_text, command_text, status_text, solicit_text, response_text, fields_text, notice_text, type_of, IsWritable};
 
 use crate::fields::VERSION;
+use crate::kind::NoticeKind;
 use crate::notice::{Announcement, Command, Notice, Response, Solicit, Status};
 use crate::write_services::write_services;
 use lat_base::Payload;
@@ -75,15 +76,15 @@ fn write_response(out: &mut Payload, r: &Response)
     out.push(r.timer);
 }
 
-fn kind_of(n: &Notice) -> u8
-    ensures { result ≡ kind_of n.now }
+fn kind(n: &Notice) -> NoticeKind
+    ensures { result ≡ type_of n.now }
 {
     match n {
-        Notice::Announcement(_) => 10,
-        Notice::Command(_) => 12,
-        Notice::Status(_) => 13,
-        Notice::Solicit(_) => 14,
-        Notice::Response(_) => 15,
+        Notice::Announcement(_) => NoticeKind::Announcement,
+        Notice::Command(_) => NoticeKind::Command,
+        Notice::Status(_) => NoticeKind::Status,
+        Notice::Solicit(_) => NoticeKind::Solicit,
+        Notice::Response(_) => NoticeKind::Response,
     }
 }
 
@@ -109,7 +110,7 @@ pub fn write_notice(n: &Notice, out: &mut Payload)
     requires empty { out.old ≡ [] }
     ensures { out.new ≡ padded (notice_text n.now) }
 {
-    out.push(kind_of(n) * 4);
+    out.push(kind(n).bits() * 4);
     write_fields(out, n);
     write_padding(out);
 }

@@ -1,3 +1,4 @@
+pub mod TypeNumbers
 pub mod Places
 pub mod SlotTaken
 pub mod StartFound

@@ -1,37 +1,42 @@
 -- What is read as a slot is a text of it.
-use Rattle.std.proofs.Common.{◌≡◌, ℕ, ◌+◌, ◌-◌, ◌*◌, ◌/◌, ◌%◌, ◌<◌, ◌≤◌, true, ◌&&◌, ◌||◌, eqb, ltb, leb, List, [], ◌∷◌, ◌++◌, length, take, drop, get_or, Result, Ok, sym, ap, ◌∙◌, subst, arith, append_assoc, length-append}
+use Rattle.std.proofs.Common.{◌≡◌, ℕ, ◌+◌, ◌-◌, ◌*◌, ◌/◌, ◌%◌, ◌<◌, ◌≤◌, true, ◌&&◌, ltb, leb, List, [], ◌∷◌, ◌++◌, length, take, drop, get_or, Result, Ok, sym, ap, ◌∙◌, subst, arith, append_assoc, length-append}
 use Rattle.std.proofs.lemmas.List.{take-append-drop, length-take-le, length-drop, drop-drop}
 use Rattle.std.proofs.lemmas.Bool.Decides.{nat_tests}
 use Rattle.lat_base.specs.declared.field.Bad.{Bad}
 use Rattle.lat_base.specs.declared.field.Field.TheVariants.{SlotType, DestinationSlot, SourceSlot, ByteCount, SlotPad}
-use Rattle.lat_fields.specs.Reading.{◌>>=◌, bad, wanted}
-use Rattle.lat_fields.proofs.Steps.{IsBytes, bind_ok, wanted_ok, both, behind, in_front}
+use Rattle.lat_fields.specs.Reading.{◌>>=◌, bad, wanted, known}
+use Rattle.lat_fields.proofs.Steps.{IsBytes, bind_ok, wanted_ok, known_ok, both, behind, in_front}
 use Rattle.lat_slots.specs.declared.head.SlotHead.{SlotHead}
+use Rattle.lat_slots.specs.declared.kind.SlotKind.{SlotKind}
 use Rattle.lat_slots.specs.declared.slot.Slot.{Slot}
-use Rattle.lat_slots.specs.Reading.{headed, is_type, count_fits, body_at, head_at, slot_at}
+use Rattle.lat_slots.specs.Kinds.{bits_of, kind_of}
+use Rattle.lat_slots.specs.Reading.{headed, destination_fits, source_fits, count_fits, body_at, head_at, slot_at}
 use Rattle.lat_slots.specs.Layout.{body_of, SlotText}
+use Rattle.lat_slots.proofs.TypeNumbers.{kind_bits}
 use Rattle.lat_slots.proofs.BodyFound.{body_found}
 
 record FoundHead (bytes : List ℕ) (h : SlotHead) : Type 0 where
   tail : List ℕ
-  is : bytes ≡ h.to ∷ h.from ∷ h.count ∷ (h.kind * 16 + h.low) ∷ tail
+  is : bytes ≡ h.to ∷ h.from ∷ h.count ∷ (bits_of h.kind * 16 + h.low) ∷ tail
   nibble : h.low < 16
-  known : is_type h.kind ≡ true
-  to_ok : (eqb h.kind 9 || ltb 0 h.to) ≡ true
-  from_ok : (eqb h.kind 12 || eqb h.kind 13 || ltb 0 h.from) ≡ true
+  to_ok : destination_fits h.kind h.to ≡ true
+  from_ok : source_fits h.kind h.from ≡ true
   counts : count_fits h.kind h.count ≡ true
   whole : h.count ≤ length tail
 
 -- what follows each field of the head
-abbrev after_source : ℕ → ℕ → ℕ → ℕ → ℕ → List ℕ → ℕ → Result SlotHead Bad
-after_source place a b n w tail u =
-    wanted (count_fits (w / 16) n && leb (4 + n) (length (a ∷ b ∷ n ∷ w ∷ tail))) ByteCount (place + 2) >>= (λ x. Ok (headed (w / 16) (w % 16) a b n))
+abbrev after_source : ℕ → ℕ → ℕ → ℕ → ℕ → List ℕ → SlotKind → ℕ → Result SlotHead Bad
+after_source place a b n w tail k u =
+    wanted (count_fits k n && leb (4 + n) (length (a ∷ b ∷ n ∷ w ∷ tail))) ByteCount (place + 2) >>= (λ x. Ok (headed k (w % 16) a b n))
 
-abbrev after_to : ℕ → ℕ → ℕ → ℕ → ℕ → List ℕ → ℕ → Result SlotHead Bad
-after_to place a b n w tail u = wanted (eqb (w / 16) 12 || eqb (w / 16) 13 || ltb 0 b) SourceSlot (place + 1) >>= after_source place a b n w tail
+abbrev after_to : ℕ → ℕ → ℕ → ℕ → ℕ → List ℕ → SlotKind → ℕ → Result SlotHead Bad
+after_to place a b n w tail k u = wanted (source_fits k b) SourceSlot (place + 1) >>= after_source place a b n w tail k
 
-abbrev after_type : ℕ → ℕ → ℕ → ℕ → ℕ → List ℕ → ℕ → Result SlotHead Bad
-after_type place a b n w tail u = wanted (eqb (w / 16) 9 || ltb 0 a) DestinationSlot place >>= after_to place a b n w tail
+abbrev after_type : ℕ → ℕ → ℕ → ℕ → ℕ → List ℕ → SlotKind → Result SlotHead Bad
+after_type place a b n w tail k = wanted (destination_fits k a) DestinationSlot place >>= after_to place a b n w tail k
+
+abbrev after_room : ℕ → ℕ → ℕ → ℕ → ℕ → List ℕ → ℕ → Result SlotHead Bad
+after_room place a b n w tail u = known (kind_of (w / 16)) SlotType (place + 3) >>= after_type place a b n w tail
 
 head_found : (place : ℕ) (bytes : List ℕ) (h : SlotHead) → head_at place bytes ≡ Ok h → FoundHead bytes h
 unfolding head_at
@@ -40,22 +45,23 @@ head_found place (a ∷ []) h e = absurd (let no : bad SlotType (place + 3) ≡ 
 head_found place (a ∷ b ∷ []) h e = absurd (let no : bad SlotType (place + 3) ≡ Ok h = e in cc)
 head_found place (a ∷ b ∷ n ∷ []) h e = absurd (let no : bad SlotType (place + 3) ≡ Ok h = e in cc)
 head_found place (a ∷ b ∷ n ∷ w ∷ tail) h e =
-    let one = bind_ok (wanted (ltb 3 (length (a ∷ b ∷ n ∷ w ∷ tail)) && is_type (w / 16)) SlotType (place + 3)) (after_type place a b n w tail) h e in
-    let known = both (ltb 3 (length (a ∷ b ∷ n ∷ w ∷ tail))) (is_type (w / 16)) (wanted_ok (ltb 3 (length (a ∷ b ∷ n ∷ w ∷ tail)) && is_type (w / 16)) SlotType (place + 3) one.0 one.1) in
-    let two = bind_ok (wanted (eqb (w / 16) 9 || ltb 0 a) DestinationSlot place) (after_to place a b n w tail) h one.2 in
-    let three = bind_ok (wanted (eqb (w / 16) 12 || eqb (w / 16) 13 || ltb 0 b) SourceSlot (place + 1)) (after_source place a b n w tail) h two.2 in
-    let four = bind_ok (wanted (count_fits (w / 16) n && leb (4 + n) (length (a ∷ b ∷ n ∷ w ∷ tail))) ByteCount (place + 2)) (λ x. Ok (headed (w / 16) (w % 16) a b n)) h three.2 in
-    let fits = both (count_fits (w / 16) n) (leb (4 + n) (length (a ∷ b ∷ n ∷ w ∷ tail))) (wanted_ok (count_fits (w / 16) n && leb (4 + n) (length (a ∷ b ∷ n ∷ w ∷ tail))) ByteCount (place + 2) four.0 four.1) in
-    let same : headed (w / 16) (w % 16) a b n ≡ h = let q = four.2 in cc in
-    let byte : w ≡ w / 16 * 16 + w % 16 = omega arith in
+    let room = bind_ok (wanted (ltb 3 (length (a ∷ b ∷ n ∷ w ∷ tail))) SlotType (place + 3)) (after_room place a b n w tail) h e in
+    let one = bind_ok (known (kind_of (w / 16)) SlotType (place + 3)) (after_type place a b n w tail) h room.2 in
+    let k = one.0 in
+    let high : bits_of k ≡ w / 16 = kind_bits (w / 16) k (known_ok (kind_of (w / 16)) SlotType (place + 3) k one.1) in
+    let two = bind_ok (wanted (destination_fits k a) DestinationSlot place) (after_to place a b n w tail k) h one.2 in
+    let three = bind_ok (wanted (source_fits k b) SourceSlot (place + 1)) (after_source place a b n w tail k) h two.2 in
+    let four = bind_ok (wanted (count_fits k n && leb (4 + n) (length (a ∷ b ∷ n ∷ w ∷ tail))) ByteCount (place + 2)) (λ x. Ok (headed k (w % 16) a b n)) h three.2 in
+    let fits = both (count_fits k n) (leb (4 + n) (length (a ∷ b ∷ n ∷ w ∷ tail))) (wanted_ok (count_fits k n && leb (4 + n) (length (a ∷ b ∷ n ∷ w ∷ tail))) ByteCount (place + 2) four.0 four.1) in
+    let same : headed k (w % 16) a b n ≡ h = let q = four.2 in cc in
+    let byte : w ≡ bits_of k * 16 + w % 16 = omega (arith, high) in
     let P : SlotHead → Type 0 = FoundHead (a ∷ b ∷ n ∷ w ∷ tail) in
     subst P same (record {
       tail = tail;
       is = (λ i. a ∷ b ∷ n ∷ byte i ∷ tail);
       nibble = omega arith;
-      known = known.1;
-      to_ok = wanted_ok (eqb (w / 16) 9 || ltb 0 a) DestinationSlot place two.0 two.1;
-      from_ok = wanted_ok (eqb (w / 16) 12 || eqb (w / 16) 13 || ltb 0 b) SourceSlot (place + 1) three.0 three.1;
+      to_ok = wanted_ok (destination_fits k a) DestinationSlot place two.0 two.1;
+      from_ok = wanted_ok (source_fits k b) SourceSlot (place + 1) three.0 three.1;
       counts = fits.0;
       whole = let t = fits.1 in grind (arith, nat_tests);
     })
@@ -103,13 +109,13 @@ slot_found place bytes x all e =
     let len_d : length d ≡ length bytes - 4 = length-drop 4 bytes in
     let len : length (take n d) ≡ n = length-take-le n d (omega arith) in
     let counts : count_fits h.kind (length (take n d)) ≡ true = rw len f.counts in
-    let found = body_found (place + 4 + n + 1) h.kind h.low h.to h.from n (place + 4) (take n d) two.0 (in_front n d (behind 4 bytes all)) f.known f.to_ok f.from_ok counts two.1 in
+    let found = body_found h.kind (place + 4 + n + 1) h.low h.to h.from n (place + 4) (take n d) two.0 (in_front n d (behind 4 bytes all)) f.to_ok f.from_ok counts two.1 in
     let pad = take (n % 2) (drop n d) in
     let len_rest : length (drop n d) ≡ length d - n = length-drop n d in
     let len_pad : length pad ≡ n % 2 = length-take-le (n % 2) (drop n d) (omega arith) in
     let len_body : length (body_of two.0) ≡ n = ap length (sym found.is) ∙ len in
     let byte : n < 256 = omega (arith, all 2, ap (λ bs. get_or bs 2 0) f.is) in
-    let w = h.kind * 16 + h.low in
+    let w = bits_of h.kind * 16 + h.low in
     let text = h.to ∷ h.from ∷ n ∷ w ∷ take n d ++ pad in
     let tail : f.tail ≡ d = sym (ap (drop 4) f.is) in
     let same : (two.0, place + 4 + n + n % 2, drop end bytes) ≡ x = let q = three.2 in cc in
@@ -125,7 +131,7 @@ slot_found place bytes x all e =
         nibble = f.nibble;
         pad = pad;
         pad_len = len_pad ∙ ap (λ k. k % 2) (sym len_body);
-        is = (λ i. sym found.to_is i ∷ sym found.from_is i ∷ sym len_body i ∷ (sym found.type_is i * 16 + h.low) ∷ found.is i ++ pad);
+        is = (λ i. sym found.to_is i ∷ sym found.from_is i ∷ sym len_body i ∷ (bits_of (sym found.type_is i) * 16 + h.low) ∷ found.is i ++ pad);
       };
       next = omega (arith, length-append (take n d) pad, len, len_pad);
       others = behind end bytes all;

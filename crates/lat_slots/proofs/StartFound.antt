@@ -11,6 +11,7 @@ use Rattle.lat_fields.specs.Params.{params_text}
 use Rattle.lat_fields.proofs.Steps.{IsBytes, bind_ok, wanted_ok, no_bytes}
 use Rattle.lat_fields.proofs.Found.{counted_found, name_found, params_found}
 use Rattle.lat_slots.specs.declared.head.SlotHead.{SlotHead}
+use Rattle.lat_slots.specs.declared.kind.SlotKind.TheVariants as kinds
 use Rattle.lat_slots.specs.declared.slot.Slot.{Slot}
 use Rattle.lat_slots.specs.declared.slot.Slot.TheVariants.{Start}
 use Rattle.lat_slots.specs.Reading.{start_at}
@@ -40,7 +41,7 @@ after_service most h attention size service =
 abbrev after_size : ℕ → SlotHead → ℕ → ℕ → ℕ → List ℕ → ℕ → Result Slot Bad
 after_size most h attention size place bytes v = name_at Service (place + 1 + 1 + 1) bytes >>= after_service most h attention size
 
-pub start_found : (most : ℕ) (h : SlotHead) (place : ℕ) (bytes : List ℕ) (s : Slot) → IsBytes bytes → h.kind ≡ 9 → 0 < h.from → start_at most h place bytes ≡ Ok s → FoundBody h bytes s
+pub start_found : (most : ℕ) (h : SlotHead) (place : ℕ) (bytes : List ℕ) (s : Slot) → IsBytes bytes → h.kind ≡ kinds.Start → 0 < h.from → start_at most h place bytes ≡ Ok s → FoundBody h bytes s
 unfolding start_at
 start_found most h place [] s all kind source read = absurd (let no : bad ServiceClass place ≡ Ok s = read in cc)
 start_found most h place (class ∷ []) s all kind source read =

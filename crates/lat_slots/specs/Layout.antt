@@ -4,17 +4,19 @@ use Rattle.std.specs.List.{AllByRecursion}
 use Rattle.lat_base.specs.Names.{IsName}
 use Rattle.lat_fields.specs.Params.{IsEntry, params_text}
 use Rattle.lat_fields.specs.Texts.{counted}
+use Rattle.lat_slots.specs.declared.kind.SlotKind.{SlotKind}
+use Rattle.lat_slots.specs.declared.kind.SlotKind.TheVariants as kinds
 use Rattle.lat_slots.specs.declared.slot.Slot.{Slot}
 use Rattle.lat_slots.specs.declared.slot.Slot.TheVariants.{Start, DataA, DataB, Attention, Reject, Stop}
+use Rattle.lat_slots.specs.Kinds.{bits_of}
 
--- the number that stands for the slot's type in the high half of the fourth byte
-abbrev pub type_of : Slot → ℕ
-type_of (DataA to from credits bytes) = 0
-type_of (Start to from credits attention size service subject params) = 9
-type_of (DataB to from credits flag chars) = 10
-type_of (Attention to from flag) = 11
-type_of (Reject to from reason) = 12
-type_of (Stop to from reason) = 13
+abbrev pub type_of : Slot → SlotKind
+type_of (DataA to from credits bytes) = kinds.DataA
+type_of (Start to from credits attention size service subject params) = kinds.Start
+type_of (DataB to from credits flag chars) = kinds.DataB
+type_of (Attention to from flag) = kinds.Attention
+type_of (Reject to from reason) = kinds.Reject
+type_of (Stop to from reason) = kinds.Stop
 
 abbrev pub to_of : Slot → ℕ
 to_of (DataA to from credits bytes) = to
@@ -80,7 +82,7 @@ pub record SlotText (s : Slot) (b : List ℕ) : Type 0 where
   pub nibble : low < 16
   pub pad : List ℕ
   pub pad_len : length pad ≡ length (body_of s) % 2
-  pub is : b ≡ to_of s ∷ from_of s ∷ length (body_of s) ∷ (type_of s * 16 + low) ∷ body_of s ++ pad
+  pub is : b ≡ to_of s ∷ from_of s ∷ length (body_of s) ∷ (bits_of (type_of s) * 16 + low) ∷ body_of s ++ pad
 
 -- what can be written
 pub record IsWritable (s : Slot) : Type 0 where
@@ -91,7 +93,7 @@ pub record IsWritable (s : Slot) : Type 0 where
 -- the text that is written: 0 stands where nothing is kept
 abbrev pub slot_text : Slot → List ℕ
 slot_text s =
-    to_of s ∷ from_of s ∷ length (body_of s) ∷ (type_of s * 16 + low_of s) ∷ body_of s ++ replicate (length (body_of s) % 2) 0
+    to_of s ∷ from_of s ∷ length (body_of s) ∷ (bits_of (type_of s) * 16 + low_of s) ∷ body_of s ++ replicate (length (body_of s) % 2) 0
 
 -- A text of the slot stands at the front of the bytes, whose first is at the place, and ends before `next`.
 pub record StandsAt (place : ℕ) (bytes : List ℕ) (s : Slot) (next : ℕ) : Type 0 where

@@ -1,36 +1,51 @@
 -- Reading a slot: its fields in the order of their tests, with the first one that is bad.
-use Rattle.std.specs.Prelude.{ℕ, ◌+◌, ◌/◌, ◌%◌, Bool, true, ◌&&◌, ◌||◌, List, length, take, drop, Result, Ok, nat_lt, nat_le, ◌==◌, if◌then◌else◌, slice_index}
+use Rattle.std.specs.Prelude.{ℕ, ◌+◌, ◌/◌, ◌%◌, Bool, true, ◌&&◌, List, length, take, drop, Result, Ok, nat_lt, nat_le, ◌==◌, slice_index}
 use Rattle.lat_base.specs.declared.field.Field.TheVariants.{SlotType, DestinationSlot, SourceSlot, ByteCount, ServiceClass, AttentionSize, DataSize, Service, Subject, SlotEnd, SlotPad}
 use Rattle.lat_base.specs.declared.field.Bad.{Bad}
-use Rattle.lat_fields.specs.Reading.{◌>>=◌, wanted, byte_at, counted_at, name_at}
+use Rattle.lat_fields.specs.Reading.{◌>>=◌, wanted, known, byte_at, counted_at, name_at}
 use Rattle.lat_fields.specs.ParamsReading.{params_at}
 use Rattle.lat_slots.specs.declared.head.SlotHead.{SlotHead}
+use Rattle.lat_slots.specs.declared.kind.SlotKind.{SlotKind}
+use Rattle.lat_slots.specs.declared.kind.SlotKind.TheVariants as kinds
 use Rattle.lat_slots.specs.declared.slot.Slot.{Slot}
 use Rattle.lat_slots.specs.declared.slot.Slot.TheVariants as slots
+use Rattle.lat_slots.specs.Kinds.{kind_of}
 
--- the types of slots: data 0, start 9, a setting 10, attention 11, reject 12 and stop 13
-abbrev pub is_type : ℕ → Bool
-is_type t = t == 0 || t == 9 || t == 10 || t == 11 || t == 12 || t == 13
+-- a start that asks for a session knows no id at the other end
+abbrev pub destination_fits : SlotKind → ℕ → Bool
+destination_fits kinds.Start to = true
+destination_fits kind to = nat_lt 0 to
+
+-- who refuses or ends a session may have no id of its own
+abbrev pub source_fits : SlotKind → ℕ → Bool
+source_fits kinds.Reject from = true
+source_fits kinds.Stop from = true
+source_fits kind from = nat_lt 0 from
 
 -- how many bytes the body of such a slot may have
-abbrev pub count_fits : ℕ → ℕ → Bool
-count_fits t n = if t == 10 then n == 5 else if t == 11 then n == 1 else if t == 12 || t == 13 then n == 0 else true
+abbrev pub count_fits : SlotKind → ℕ → Bool
+count_fits kinds.DataA n = true
+count_fits kinds.Start n = true
+count_fits kinds.DataB n = n == 5
+count_fits kinds.Attention n = n == 1
+count_fits kinds.Reject n = n == 0
+count_fits kinds.Stop n = n == 0
 
-abbrev pub headed : ℕ → ℕ → ℕ → ℕ → ℕ → SlotHead
-headed t low to from n = record { kind = t; low = low; to = to; from = from; count = n }
+abbrev pub headed : SlotKind → ℕ → ℕ → ℕ → ℕ → SlotHead
+headed kind low to from n = record { kind = kind; low = low; to = to; from = from; count = n }
 
 -- The type is tested first, then the ids, then the number of bytes, which must be there.
 unfoldable pub head_at : ℕ → List ℕ → Result SlotHead Bad
 head_at place bytes =
-    let t = slice_index bytes 3 / 16 in
     let to = slice_index bytes 0 in
     let from = slice_index bytes 1 in
     let n = slice_index bytes 2 in do
-      u ← wanted (nat_lt 3 (length bytes) && is_type t) SlotType (place + 3)
-      v ← wanted (t == 9 || nat_lt 0 to) DestinationSlot place
-      w ← wanted (t == 12 || t == 13 || nat_lt 0 from) SourceSlot (place + 1)
-      x ← wanted (count_fits t n && nat_le (4 + n) (length bytes)) ByteCount (place + 2)
-      Ok (headed t (slice_index bytes 3 % 16) to from n)
+      u ← wanted (nat_lt 3 (length bytes)) SlotType (place + 3)
+      kind ← known (kind_of (slice_index bytes 3 / 16)) SlotType (place + 3)
+      v ← wanted (destination_fits kind to) DestinationSlot place
+      w ← wanted (source_fits kind from) SourceSlot (place + 1)
+      x ← wanted (count_fits kind n && nat_le (4 + n) (length bytes)) ByteCount (place + 2)
+      Ok (headed kind (slice_index bytes 3 % 16) to from n)
 
 -- the body of a start, with at most so many parameters; it ends behind them
 unfoldable pub start_at : ℕ → SlotHead → ℕ → List ℕ → Result Slot Bad
@@ -46,15 +61,17 @@ start_at most h place body = do
   w ← wanted (length params.2 == 0) SlotEnd params.1
   Ok (slots.Start h.to h.from h.low attention.0 size.0 service.0 subject.0 params.0)
 
--- the slot of a head with this body, whose first byte is at the place
+-- the slot of this type, of a head with this body, whose first byte is at the place
+abbrev pub body_as : SlotKind → ℕ → SlotHead → ℕ → List ℕ → Result Slot Bad
+body_as kinds.DataA most h place body = Ok (slots.DataA h.to h.from h.low body)
+body_as kinds.Start most h place body = start_at most h place body
+body_as kinds.DataB most h place body = Ok (slots.DataB h.to h.from h.low (slice_index body 0) (drop 1 body))
+body_as kinds.Attention most h place body = Ok (slots.Attention h.to h.from (slice_index body 0))
+body_as kinds.Reject most h place body = Ok (slots.Reject h.to h.from h.low)
+body_as kinds.Stop most h place body = Ok (slots.Stop h.to h.from h.low)
+
 unfoldable pub body_at : ℕ → SlotHead → ℕ → List ℕ → Result Slot Bad
-body_at most h place body =
-    if h.kind == 0 then Ok (slots.DataA h.to h.from h.low body)
-    else if h.kind == 9 then start_at most h place body
-    else if h.kind == 10 then Ok (slots.DataB h.to h.from h.low (slice_index body 0) (drop 1 body))
-    else if h.kind == 11 then Ok (slots.Attention h.to h.from (slice_index body 0))
-    else if h.kind == 12 then Ok (slots.Reject h.to h.from h.low)
-    else Ok (slots.Stop h.to h.from h.low)
+body_at most h place body = body_as h.kind most h place body
 
 -- The slot that stands at the front of the bytes, whose first is at the place; the place behind it with its pad; and
 -- the bytes from there on.

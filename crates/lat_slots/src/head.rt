@@ -1,50 +1,46 @@
 //! The head of a slot.
 
 ghost use Rattle.std.specs.Prelude.{◌≡◌};
-ghost use Rattle.lat_slots.specs.Reading.{is_type, count_fits};
+ghost use Rattle.lat_slots.specs.Reading.{count_fits, destination_fits, source_fits};
 
-/// The number of a data slot.
-pub const DATA_A: u8 = 0;
-/// The number of a start.
-pub const START: u8 = 9;
-/// The number of a setting.
-pub const DATA_B: u8 = 10;
-/// The number of an attention.
-pub const ATTENTION: u8 = 11;
-/// The number of a reject.
-pub const REJECT: u8 = 12;
-/// The number of a stop.
-pub const STOP: u8 = 13;
+use crate::kind::SlotKind;
 
 /// The service class of every start.
 pub const SERVICE_CLASS: u8 = 1;
 
-/// The first four bytes of a slot: the number of its type, the low half of the byte that has it, the ids at the end that
-/// hears it and at the one that sends it, and how many bytes its body has.
+/// The first four bytes of a slot: its type, the low half of the byte that has it, the ids at the end that hears it and
+/// at the one that sends it, and how many bytes its body has.
 #[derive(Clone, Copy)]
 pub struct SlotHead {
-    pub kind: u8,
+    pub kind: SlotKind,
     pub low: u8,
     pub to: u8,
     pub from: u8,
     pub count: u8,
 }
 
-/// Whether the number is that of a type.
-pub fn is_type(kind: u8) -> bool
-    ensures { result ≡ is_type kind }
+/// Whether a slot of this type may name this id at the end that hears it.
+pub fn destination_fits(kind: SlotKind, to: u8) -> bool
+    ensures { result ≡ destination_fits kind to }
 {
-    matches!(kind, DATA_A | START | DATA_B | ATTENTION | REJECT | STOP)
+    matches!(kind, SlotKind::Start) || to > 0
+}
+
+/// Whether a slot of this type may name this id at the end that sends it.
+pub fn source_fits(kind: SlotKind, from: u8) -> bool
+    ensures { result ≡ source_fits kind from }
+{
+    matches!(kind, SlotKind::Reject | SlotKind::Stop) || from > 0
 }
 
 /// Whether the body of a slot of this type may have so many bytes.
-pub fn count_fits(kind: u8, count: u8) -> bool
+pub fn count_fits(kind: SlotKind, count: u8) -> bool
     ensures { result ≡ count_fits kind count }
 {
     match kind {
-        DATA_B => count == 5,
-        ATTENTION => count == 1,
-        REJECT | STOP => count == 0,
-        _ => true,
+        SlotKind::DataA | SlotKind::Start => true,
+        SlotKind::DataB => count == 5,
+        SlotKind::Attention => count == 1,
+        SlotKind::Reject | SlotKind::Stop => count == 0,
     }
 }

@@ -2,13 +2,17 @@
 #![tactic(auto)]
 
 mod head;
+mod kind;
 pub mod laws;
 mod read;
+mod reason;
 mod slot;
 mod write;
 
-pub use head::{ATTENTION, DATA_A, DATA_B, REJECT, SERVICE_CLASS, START, STOP};
+pub use head::SERVICE_CLASS;
+pub use kind::SlotKind;
 pub use lat_fields::{LayoutFault as SlotFault, Param, Params};
 pub use read::read_slot;
+pub use reason::{RejectReason, StopReason};
 pub use slot::Slot;
 pub use write::{slot_len, slot_ok, write_slot};

@@ -2,17 +2,16 @@
 
 ghost use Rattle.std.specs.Prelude.{◌≡◌, ◌+◌, ◌<◌, ◌≤◌, ℕ, length, take, drop, Ok, IfOk, IsTrue, slice_index};
 ghost use Rattle.lat_fields.specs.Reading.{Gives};
-ghost use Rattle.lat_slots.specs.Reading.{is_type, head_at, start_at, body_at, slot_at};
+ghost use Rattle.lat_slots.specs.Reading.{count_fits, head_at, start_at, body_at, slot_at};
 ghost use Rattle.lat_slots.specs.Layout.{StandsAt};
 ghost use Rattle.lat_slots.specs.declared.slot.Slot.{Slot};
 ghost use Rattle.lat_slots.specs.declared.slot.Slot.TheVariants as slots;
 
-use crate::head::{
-    ATTENTION, DATA_A, DATA_B, REJECT, SERVICE_CLASS, START, STOP, SlotHead, count_fits, is_type,
-};
+use crate::head::{SERVICE_CLASS, SlotHead, count_fits, destination_fits, source_fits};
+use crate::kind::SlotKind;
 use crate::slot::Slot;
 use lat_base::{Bytes, Field};
-use lat_fields::{LayoutFault, byte_of, counted_of, name_of, params_of, wanted};
+use lat_fields::{LayoutFault, byte_of, counted_of, known, name_of, params_of, wanted};
 use std::alloc::Global;
 
 // The head of the slot that stands at the place. The byte with its type is tested before the others.
@@ -20,19 +19,15 @@ use std::alloc::Global;
 fn head_of(payload: &[u8], at: usize) -> Result<SlotHead, LayoutFault>
     requires { (at ≤ length payload.now) × (length payload.now ≤ 1500) }
     ensures gives { Gives (λ h. h) result (head_at at (drop at payload.now)) }
-    ensures kind { IfOk result (λ h. IsTrue (is_type h.kind)) }
-    ensures setting { IfOk result (λ h. h.kind ≡ 10 → h.count ≡ 5) }
-    ensures attention { IfOk result (λ h. h.kind ≡ 11 → h.count ≡ 1) }
+    ensures count { IfOk result (λ h. IsTrue (count_fits h.kind h.count)) }
     ensures within { IfOk result (λ h. at + 4 + h.count ≤ length payload.now) }
 {
     let rest = &payload[at..];
-    let known = rest.len() > 3 && is_type(rest[3] / 16);
-    wanted(known, Field::SlotType, at + 3)?;
-    let kind = rest[3] / 16;
+    wanted(rest.len() > 3, Field::SlotType, at + 3)?;
+    let kind = known(SlotKind::from_bits(rest[3] / 16), Field::SlotType, at + 3)?;
     let (to, from, count) = (rest[0], rest[1], rest[2]);
-    wanted(kind == START || to > 0, Field::DestinationSlot, at)?;
-    let no_source = kind == REJECT || kind == STOP;
-    wanted(no_source || from > 0, Field::SourceSlot, at + 1)?;
+    wanted(destination_fits(kind, to), Field::DestinationSlot, at)?;
+    wanted(source_fits(kind, from), Field::SourceSlot, at + 1)?;
     let whole = count_fits(kind, count) && 4 + count as usize <= rest.len();
     wanted(whole, Field::ByteCount, at + 2)?;
     Ok(SlotHead {
@@ -92,9 +87,8 @@ fn setting_of(head: SlotHead, body: &[u8]) -> Slot
 #[tactic(auto, unfolding(crate::specs::Reading::body_at))]
 fn body_of(alloc: Global, head: SlotHead, bytes: &[u8], place: usize) -> Result<Slot, LayoutFault>
     requires room { (place ≤ length bytes.now) × (length bytes.now ≤ 1500) }
-    requires kind { IsTrue (is_type head.kind) }
-    requires setting { head.kind ≡ 10 → length bytes.now ≡ place + 5 }
-    requires attention { head.kind ≡ 11 → length bytes.now ≡ place + 1 }
+    requires count { IsTrue (count_fits head.kind head.count) }
+    requires whole { length bytes.now ≡ place + head.count }
     ensures { Gives (λ s. s) result (body_at (length bytes.now + 1) head place (drop place bytes.now)) }
 {
     let SlotHead {
@@ -105,25 +99,25 @@ fn body_of(alloc: Global, head: SlotHead, bytes: &[u8], place: usize) -> Result<
         ..
     } = head;
     match kind {
-        DATA_A => Ok(Slot::DataA {
+        SlotKind::DataA => Ok(Slot::DataA {
             to,
             from,
             credits: low,
             bytes: Bytes::copy(alloc, &bytes[place..])?,
         }),
-        START => start_of(alloc, head, bytes, place),
-        DATA_B => Ok(setting_of(head, &bytes[place..])),
-        ATTENTION => Ok(Slot::Attention {
+        SlotKind::Start => start_of(alloc, head, bytes, place),
+        SlotKind::DataB => Ok(setting_of(head, &bytes[place..])),
+        SlotKind::Attention => Ok(Slot::Attention {
             to,
             from,
             flag: bytes[place],
         }),
-        REJECT => Ok(Slot::Reject {
+        SlotKind::Reject => Ok(Slot::Reject {
             to,
             from,
             reason: low,
         }),
-        _ => Ok(Slot::Stop {
+        SlotKind::Stop => Ok(Slot::Stop {
             to,
             from,
             reason: low,
@@ -139,9 +133,7 @@ fn behind_head(
     head: SlotHead,
 ) -> Result<Slot, LayoutFault>
     requires room { (at + 4 + head.count ≤ length payload.now) × (length payload.now ≤ 1500) }
-    requires kind { IsTrue (is_type head.kind) }
-    requires setting { head.kind ≡ 10 → head.count ≡ 5 }
-    requires attention { head.kind ≡ 11 → head.count ≡ 1 }
+    requires count { IsTrue (count_fits head.kind head.count) }
     ensures { Gives (λ s. s) result (body_at (at + 4 + head.count + 1) head (at + 4) (take head.count (drop 4 (drop at payload.now)))) }
 {
     let bytes = &payload[..at + 4 + head.count as usize];

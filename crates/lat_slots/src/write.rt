@@ -6,22 +6,22 @@ ghost use Rattle.lat_base.specs.Names.{IsName};
 ghost use Rattle.lat_fields.specs.Params.{IsEntry};
 ghost use Rattle.lat_slots.specs.Layout.{Fits, SlotText, IsWritable, body_of, from_of, low_of, slot_text, to_of, type_of};
 
-use crate::head::{ATTENTION, DATA_A, DATA_B, REJECT, SERVICE_CLASS, START, STOP};
+use crate::head::SERVICE_CLASS;
+use crate::kind::SlotKind;
 use crate::slot::Slot;
 use lat_base::{Name, Payload};
 use lat_fields::{Params, params_len, params_ok, write_counted, write_params};
 
-// The number of its type.
-fn kind(slot: &Slot) -> u8
+fn kind(slot: &Slot) -> SlotKind
     ensures { result ≡ type_of slot.now }
 {
     match slot {
-        Slot::Start { .. } => START,
-        Slot::DataA { .. } => DATA_A,
-        Slot::DataB { .. } => DATA_B,
-        Slot::Attention { .. } => ATTENTION,
-        Slot::Reject { .. } => REJECT,
-        Slot::Stop { .. } => STOP,
+        Slot::Start { .. } => SlotKind::Start,
+        Slot::DataA { .. } => SlotKind::DataA,
+        Slot::DataB { .. } => SlotKind::DataB,
+        Slot::Attention { .. } => SlotKind::Attention,
+        Slot::Reject { .. } => SlotKind::Reject,
+        Slot::Stop { .. } => SlotKind::Stop,
     }
 }
 
@@ -205,7 +205,7 @@ pub fn write_slot(slot: &Slot, out: &mut Payload)
     out.push(destination(slot));
     out.push(source(slot));
     out.push(len as u8);
-    out.push(kind(slot) * 16 + low(slot));
+    out.push(kind(slot).bits() * 16 + low(slot));
     write_body(slot, out);
     if len % 2 == 1 {
         out.push(0);
