@@ -93,7 +93,7 @@ pub fn print_end<C: Core, T: Tx, K: Sink, E: Ledger, B: Ledger, F: Ledger>(
     out: &mut K,
 ) -> u8
     requires { length ends.now ≤ 64 }
-    ensures { Ended (K.told out.old) (K.told out.new) (K.faults out.old) (K.faults out.new) cell.now.history cell.now.full shares.now ends.now result }
+    ensures { Ended (K.written out.old) (K.written out.new) (K.faults out.old) (K.faults out.new) cell.now.history cell.now.full shares.now ends.now result }
 {
     let (made, status) = match cell.audit(shares) {
         Err(fault) => (fault_text(alloc, fault), 7),

@@ -69,7 +69,7 @@ impl<'a> MemSink<'a> {
     /// A sink without a byte, which takes at most `most` bytes a call. The calls in `failing`, counted from 1, fail, and
     /// so does each call where `most` is 0. Its count of faults begins at 0.
     pub fn new(alloc: Global, most: usize, failing: &'a [u64]) -> MemSink<'a>
-        ensures told { ⟦<MemSink<'a> as Sink>⟧.told result ≡ Some [] }
+        ensures told { ⟦<MemSink<'a> as Sink>⟧.written result ≡ Some [] }
         ensures faults { ⟦<MemSink<'a> as Sink>⟧.faults result ≡ 0 }
         ensures calls { (result.most ≡ most) × (result.failing.now ≡ failing.entry.now) × (result.calls ≡ 0) }
     {
@@ -84,14 +84,14 @@ impl<'a> MemSink<'a> {
 
     /// The bytes taken so far.
     pub fn bytes(&self) -> &[u8]
-        ensures { ⟦<MemSink<'a> as Sink>⟧.told self.now ≡ Some result.now }
+        ensures { ⟦<MemSink<'a> as Sink>⟧.written self.now ≡ Some result.now }
     {
         self.bytes.as_slice()
     }
 }
 
 impl Sink for MemSink<'_> {
-    ghost told = { λ s. Some s.bytes.items };
+    ghost written = { λ s. Some s.bytes.items };
 
     ghost faults = { λ s. s.faults };
 

@@ -65,8 +65,8 @@ pub fn read_all<S: Source>(alloc: Global, src: &mut S, limit: usize) -> Result<V
 
 /// Writes all of a text, offering all that is left of it at each write. After `Failed` a prefix of it was written.
 pub fn write_all<K: Sink>(out: &mut K, text: &[u8]) -> Result<(), Failed>
-    ensures written { OnOk result (Appends (K.told out.old) (K.told out.new) text.now) }
-    ensures part { OnErr result ((n : ℕ) × Appends (K.told out.old) (K.told out.new) (take n text.now)) }
+    ensures written { OnOk result (Appends (K.written out.old) (K.written out.new) text.now) }
+    ensures part { OnErr result ((n : ℕ) × Appends (K.written out.old) (K.written out.new) (take n text.now)) }
     ensures fault { OnErr result (Rose (K.faults out.old) (K.faults out.new)) }
     ensures later { K.faults out.old ≤ K.faults out.new }
 {

@@ -30,7 +30,7 @@ fn text_of<P: Fn(Global, &str) -> Result<String, Memory>>(
 fn written<K: Sink>(out: &mut K, status: u8, text: &str) -> u8
     requires { status ≢ 5 }
     ensures fault { result ≡ 5 → Rose (K.faults out.old) (K.faults out.new) }
-    ensures written { result ≢ 5 → (result ≡ status) × Appends (K.told out.old) (K.told out.new) text.now }
+    ensures written { result ≢ 5 → (result ≡ status) × Appends (K.written out.old) (K.written out.new) text.now }
 {
     match write_all(out, text.as_bytes()) {
         Ok(()) => status,
@@ -56,7 +56,7 @@ pub fn run<S: Source, K: Sink, P: Fn(Global, &str) -> Result<String, Memory>>(
     ensures read { result ≡ 4 → Rose (S.faults src.old) (S.faults src.new) }
     ensures write { result ≡ 5 → Rose (K.faults out.old) (K.faults out.new) }
     ensures limit { result ≡ 6 → IfSome (S.left src.old) (λ xs. 16777216 < length xs) }
-    ensures told { result ≡ 6 → Appends (K.told out.old) (K.told out.new) (codes "limit bytes\n") }
+    ensures told { result ≡ 6 → Appends (K.written out.old) (K.written out.new) (codes "limit bytes\n") }
     ensures unwritten { IsEarly result → out.new ≡ out.old }
 {
     let input = match read_all(alloc, src, INPUT_BYTES) {

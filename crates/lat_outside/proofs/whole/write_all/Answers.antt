@@ -5,7 +5,7 @@ use Rattle.lat_outside.proofs.whole.write_all.Goals as goal
 
 pub loop-at-preserved : goal.loop-at-preserved
 loop-at-preserved g c =
-    let told = g.K.Sink.told in
+    let written = g.K.Sink.written in
     let text = c.args.text.now in
     let at = c.loop-at.at in
     let n = c.in_ok-n.n in
@@ -13,7 +13,7 @@ loop-at-preserved g c =
     let rest = c.split_at.ensures.back in
     record {
       within = omega (arith, e.bound, c.split_at.ensures.back_len);
-      told = appends_more (told c.args.out.now) (told c.loop-at.out) (told c.write.new.self) (take at text) (take n c.split_at.result.1.now) (take (at + n) text) c.loop-at.invariant.told e.bytes
+      written = appends_more (written c.args.out.now) (written c.loop-at.out) (written c.write.new.self) (take at text) (take n c.split_at.result.1.now) (take (at + n) text) c.loop-at.invariant.written e.bytes
           (ap (λ r. take at text ++ take n r) rest ∙ sym (take-add at n text));
       later = omega (arith, c.loop-at.invariant.later, e.cause.later);
     }
