@@ -12,20 +12,23 @@ use Rattle.lat_frames.specs.declared.message.Message.{Message}
 use Rattle.lat_frames.specs.declared.message.Message.TheVariants as frames
 use Rattle.lat_frames.specs.MessageText.{MessageText, SlotsText}
 use Rattle.lat_frames.specs.Written.{IsWritable, message_text}
-use Rattle.lat_frames.specs.Reading.{is_kind, message_read}
+use Rattle.lat_frames.specs.Kinds.{is_kind}
+use Rattle.lat_frames.specs.Reading.{message_read}
 use Rattle.lat_frames.proofs.MessageTaken.{payload_read}
 use Rattle.lat_frames.proofs.MessageFound.{payload_is}
 use Rattle.lat_frames.proofs.Outcomes.{written_payload}
 use Rattle.lat_notices.specs.declared.notice.Notice.{Notice}
-use Rattle.lat_notices.specs.Reading.{is_notice, notice_read}
+use Rattle.lat_notices.specs.Kinds.{is_notice}
+use Rattle.lat_notices.specs.Reading.{notice_read}
 use Rattle.lat_model.specs.sessions.Slots as sessions
 use Rattle.lat_machines.specs.values.Messages as model
 use Rattle.lat_machines.specs.values.Frames.{Value, OfCircuit, OfNotice, Whole}
 use Rattle.lat_stream.specs.Wire.{told, formed_as}
 use Rattle.lat_link.specs.Payloads.{head_of, wide_head_of, slots_as_text}
 use Rattle.lat_circuit.specs.Frames.{head_shown, wide_head_shown, message_shown}
-use Rattle.lat_payload.specs.declared.value.Value.TheVariants as values
-use Rattle.lat_payload.specs.Reads.{reading_of, read_as, unknown}
+use Rattle.lat_value.specs.declared.value.Value.TheVariants as values
+use Rattle.lat_value.specs.Reading.{read_as, unknown, value_read}
+use Rattle.lat_payload.specs.Reads.{reading_of, read_shown}
 use Rattle.lat_payload.specs.Frames.{payload_of}
 use Rattle.lat_captures.specs.Captured.{RunHead, run_head_of}
 use Rattle.lat_audit.specs.Shown.{slots_read}
@@ -38,12 +41,12 @@ record ReadsMessage (payload : List ℕ) (m : model.Message) : Type 0 where
   pub shown : message_shown message ≡ m
 
 message_in : (payload : List ℕ) (m : model.Message) → reading_of payload ≡ Whole (OfCircuit m) → ReadsMessage payload m
-unfolding reading_of
+unfolding reading_of value_read
 message_in [] m is = cc
 message_in (first ∷ rest) m is = by (is_kind (first / 4)) (is_notice (first / 4)) (message_read (first ∷ rest)) (notice_read (first ∷ rest)) refl is
   where
     by : (kind notice : Bool) (r : Result Message Bad) (n : Result Notice Bad) → message_read (first ∷ rest) ≡ r
-        → (if kind then read_as values.Circuit r else if notice then read_as values.Notice n else unknown) ≡ Whole (OfCircuit m) → ReadsMessage (first ∷ rest) m
+        → read_shown (if kind then read_as values.Circuit r else if notice then read_as values.Notice n else unknown) ≡ Whole (OfCircuit m) → ReadsMessage (first ∷ rest) m
     by true notice (Ok found) n e is = record { message = found; read = e; shown = cc }
     by true notice (Err bad) n e is = cc
     by false true r (Ok found) e is = cc

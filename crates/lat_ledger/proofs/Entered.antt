@@ -7,7 +7,7 @@ use Rattle.lat_model.specs.Lists.{Each}
 use Rattle.lat_machines.specs.values.Frames.{FrameMark, OfRun, Plain, OutFrame}
 use Rattle.lat_machines.specs.world.Machines.{Setups, Posted, post_all}
 use Rattle.lat_machines.specs.world.Tally.{new_messages, is_run, Tallied, TalliedBy}
-use Rattle.lat_payload.specs.Frames.{seen, expected}
+use Rattle.lat_payload.specs.Frames.{frame_view, expected}
 use Rattle.lat_posts.specs.declared.post.Post.{Post}
 use Rattle.lat_posts.specs.declared.tallies.Tally.{Tally}
 use Rattle.lat_posts.specs.Ways.{Log}
@@ -116,12 +116,12 @@ book_same u k sent more done counts others e c h = record {
   tallies = λ b. subst (Tells (tallies_of k b)) (c b) (h.tallies b);
 }
 
-no_frames : (frames : List base.OutFrame) (fs : List OutFrame) → length frames ≡ 0 → map seen frames ≡ map expected fs → fs ≡ []
+no_frames : (frames : List base.OutFrame) (fs : List OutFrame) → length frames ≡ 0 → map frame_view frames ≡ map expected fs → fs ≡ []
 no_frames [] [] n e = refl
 no_frames [] (f ∷ fs) n e = let z : ⊥ = cc in absurd z
 no_frames (x ∷ frames) fs n e = absurd (omega (arith, n))
 
-pub no_more : (u : Setups) (k : Book) (sent : List Posted) (done : List ℕ) (counts : Bool → Counts) (by : Bool) (frames : List base.OutFrame) (fs : List OutFrame) → length frames ≡ 0 → map seen frames ≡ map expected fs → IsBook u k sent done counts → IsBook u k (sent ++ post_all by fs) done (with_side by (behind_all fs (counts by)) counts)
+pub no_more : (u : Setups) (k : Book) (sent : List Posted) (done : List ℕ) (counts : Bool → Counts) (by : Bool) (frames : List base.OutFrame) (fs : List OutFrame) → length frames ≡ 0 → map frame_view frames ≡ map expected fs → IsBook u k sent done counts → IsBook u k (sent ++ post_all by fs) done (with_side by (behind_all fs (counts by)) counts)
 no_more u k sent done counts by frames fs n e b =
     subst (λ z. IsBook u k (sent ++ post_all by z) done (with_side by (behind_all z (counts by)) counts)) (sym (no_frames frames fs n e))
     (book_same u k sent (sent ++ post_all by []) done counts (with_side by (counts by) counts) (nothing by) (side_none by counts) b)
@@ -129,10 +129,10 @@ no_more u k sent done counts by frames fs n e b =
     nothing : (b : Bool) → sent ≡ sent ++ post_all b []
     nothing b = sym (append-nil sent)
 
-pub one_more : (u : Setups) (k new : Book) (sent : List Posted) (done : List ℕ) (counts : Bool → Counts) (by : Bool) (frames : List base.OutFrame) (first : base.OutFrame) (rest : List base.OutFrame) (fs : List OutFrame) → frames ≡ first ∷ rest → map seen frames ≡ map expected fs → Each IsReadable fs → Tallied (counts by).formed (counts by).taken fs → ((f : OutFrame) → seen first ≡ expected f → IsReadable f → TalliedBy f.mark ((counts by).formed f.circuit) ((counts by).taken f.circuit) f → IsBook u k (sent ++ record { by_server = by; frame = f } ∷ []) done (with_side by (behind f (counts by)) counts)) → ((more : List Posted) (others : Bool → Counts) (gs : List OutFrame) → map seen rest ≡ map expected gs → Each IsReadable gs → Tallied (others by).formed (others by).taken gs → IsBook u k more done others → IsBook u new (more ++ post_all by gs) done (with_side by (behind_all gs (others by)) others)) → IsBook u new (sent ++ post_all by fs) done (with_side by (behind_all fs (counts by)) counts)
-one_more u k new sent done counts by frames first rest [] e m r t enter later = let z : ⊥ = (let q : map seen (first ∷ rest) ≡ [] = ap (map seen) (sym e) ∙ m in cc) in absurd z
+pub one_more : (u : Setups) (k new : Book) (sent : List Posted) (done : List ℕ) (counts : Bool → Counts) (by : Bool) (frames : List base.OutFrame) (first : base.OutFrame) (rest : List base.OutFrame) (fs : List OutFrame) → frames ≡ first ∷ rest → map frame_view frames ≡ map expected fs → Each IsReadable fs → Tallied (counts by).formed (counts by).taken fs → ((f : OutFrame) → frame_view first ≡ expected f → IsReadable f → TalliedBy f.mark ((counts by).formed f.circuit) ((counts by).taken f.circuit) f → IsBook u k (sent ++ record { by_server = by; frame = f } ∷ []) done (with_side by (behind f (counts by)) counts)) → ((more : List Posted) (others : Bool → Counts) (gs : List OutFrame) → map frame_view rest ≡ map expected gs → Each IsReadable gs → Tallied (others by).formed (others by).taken gs → IsBook u k more done others → IsBook u new (more ++ post_all by gs) done (with_side by (behind_all gs (others by)) others)) → IsBook u new (sent ++ post_all by fs) done (with_side by (behind_all fs (counts by)) counts)
+one_more u k new sent done counts by frames first rest [] e m r t enter later = let z : ⊥ = (let q : map frame_view (first ∷ rest) ≡ [] = ap (map frame_view) (sym e) ∙ m in cc) in absurd z
 one_more u k new sent done counts by frames first rest (f ∷ fs) e m r t enter later =
-    let heads : map seen (first ∷ rest) ≡ map expected (f ∷ fs) = ap (map seen) (sym e) ∙ m in
+    let heads : map frame_view (first ∷ rest) ≡ map expected (f ∷ fs) = ap (map frame_view) (sym e) ∙ m in
     let others : Bool → Counts = with_side by (behind f (counts by)) counts in
     let same : others by ≡ behind f (counts by) = side_is by (behind f (counts by)) counts in
     let told : Tallied (others by).formed (others by).taken fs = subst (λ n. Tallied n.formed n.taken fs) (sym same) t.1 in
@@ -141,8 +141,8 @@ one_more u k new sent done counts by frames first rest (f ∷ fs) e m r t enter 
     (λ b. side_again by (behind_all fs (others by)) (behind f (counts by)) counts b ∙ ap (λ n. with_side by (behind_all fs n) counts b) same)
     (later (sent ++ record { by_server = by; frame = f } ∷ []) others fs (tail_same heads) r.1 told (enter f (head_same heads) r.0 t.0))
   where
-    head_same : map seen (first ∷ rest) ≡ map expected (f ∷ fs) → seen first ≡ expected f
+    head_same : map frame_view (first ∷ rest) ≡ map expected (f ∷ fs) → frame_view first ≡ expected f
     head_same h = cc
 
-    tail_same : map seen (first ∷ rest) ≡ map expected (f ∷ fs) → map seen rest ≡ map expected fs
+    tail_same : map frame_view (first ∷ rest) ≡ map expected (f ∷ fs) → map frame_view rest ≡ map expected fs
     tail_same h = cc

@@ -5,7 +5,7 @@ use Rattle.lat_machines.specs.cores.Cores.{Core}
 use Rattle.lat_machines.specs.world.Machines.{Setups, Posted, Machines, core_of}
 use Rattle.lat_machines.specs.world.Tally.{formed_in, taken_in, shown_in, new_messages, number_of, is_run}
 use Rattle.lat_payload.specs.Reads.{reading_of}
-use Rattle.lat_payload.specs.Frames.{seen, expected, payload_of}
+use Rattle.lat_payload.specs.Frames.{frame_view, expected, payload_of}
 use Rattle.lat_posts.specs.declared.post.Post.{Post}
 use Rattle.lat_posts.specs.declared.tallies.Tally.{Tally}
 use Rattle.lat_posts.specs.Ways.{Log}
@@ -40,7 +40,7 @@ pub record Numbered (s : Post) (f : OutFrame) : Type 0 where
 -- a frame is kept as one of the machines; of a RUN its two numbers too
 pub record IsPost (s : Post) (p : Posted) : Type 0 where
   pub by_server : s.by_server ≡ p.by_server
-  pub same : seen s.frame ≡ expected p.frame
+  pub same : frame_view s.frame ≡ expected p.frame
   pub readable : IsReadable p.frame
   pub numbered : is_run p.frame.mark ≡ true → Numbered s p.frame
 

@@ -5,16 +5,14 @@ ghost use Rattle.lat_machines.specs.values.Frames.{Value, Whole};
 ghost use Rattle.lat_payload.specs.Reads.{reading_of};
 ghost use Rattle.lat_ledger.specs.Headings.{heading_in, heading_of};
 
+use lat_frames::MessageKind;
+
 /// The circuits that a RUN names: the one at the end that hears it, and the one at the end that sent it.
 #[derive(Clone, Copy)]
 pub struct Heading {
     pub to: u16,
     pub from: u16,
 }
-
-const RUN: u8 = 0;
-
-const WIDE_RUN: u8 = 4;
 
 // A number of two bytes, low byte first.
 fn number_at(payload: &[u8], place: usize) -> u16
@@ -31,12 +29,12 @@ fn heading_at(payload: &[u8]) -> Option<Heading>
     if payload.len() < 6 {
         return None;
     }
-    match payload[0] / 4 {
-        RUN | WIDE_RUN => Some(Heading {
+    match MessageKind::from_bits(payload[0] / 4) {
+        Some(MessageKind::Run | MessageKind::WideRun) => Some(Heading {
             to: number_at(payload, 2),
             from: number_at(payload, 4),
         }),
-        _ => None,
+        Some(MessageKind::Start | MessageKind::Stop) | None => None,
     }
 }
 

@@ -6,10 +6,11 @@ ghost use Rattle.lat_machines.specs.values.Frames as machines;
 ghost use Rattle.lat_machines.specs.world.Machines.{Setups, Posted, own_of, post_all};
 ghost use Rattle.lat_machines.specs.world.Tally.{Tallied, TalliedBy};
 ghost use Rattle.lat_model.specs.Lists.{Each};
-ghost use Rattle.lat_payload.specs.Frames.{seen, expected, mark_of};
+ghost use Rattle.lat_payload.specs.Frames.{frame_view, expected, mark_of};
 ghost use Rattle.lat_posts.specs.Tallies.{nothing, tally_at};
 ghost use Rattle.lat_posts.specs.Ways.{CameAtMost};
-ghost use Rattle.lat_ledger.specs.Books.{Counts, IsBook, IsPost, IsReadable, behind, behind_all, no_counts, number_told, tallies_of, tally_told, took_one, with_side};
+ghost use Rattle.lat_ledger.specs.Books.{Counts, IsBook, IsPost, IsReadable, no_counts, with_side};
+ghost use Rattle.lat_ledger.specs.Books.{behind, behind_all, number_told, tallies_of, tally_told, took_one};
 
 use crate::stations::is_for;
 use lat_base::{Addr, Mark, Memory, OutFrame};
@@ -81,7 +82,7 @@ fn tally_behind(mark: Mark, tally: Tally) -> Tally
 fn post_of(frame: &OutFrame, by_server: bool, tally: Tally) -> Post
     requires { tally.formed < 2 ^ 32 }
     ensures { (f : machines.OutFrame) →
-        seen frame.now ≡ expected f →
+        frame_view frame.now ≡ expected f →
         IsReadable f →
         TalliedBy f.mark tally.formed tally.taken f →
         IsPost result (record { by_server = by_server; frame = f }) }
@@ -124,7 +125,9 @@ impl Ledger {
     }
 
     fn set(&mut self, server: bool, circuit: u16, tally: Tally)
-        ensures side { (x : ℕ) → tally_at (tallies_of self.new.book server) x ≡ cond (nat_eq x circuit) tally (tally_at (tallies_of self.old.book server) x) }
+        ensures side { (x : ℕ) →
+            tally_at (tallies_of self.new.book server) x
+            ≡ cond (nat_eq x circuit) tally (tally_at (tallies_of self.old.book server) x) }
         ensures other { tallies_of self.new.book (not server) ≡ tallies_of self.old.book (not server) }
         ensures log { self.new.book.log ≡ self.old.book.log }
         ensures room { self.new.room ≡ self.old.room }
@@ -139,7 +142,11 @@ impl Ledger {
     /// Counts a message that a circuit of the server or of the node took.
     pub fn take(&mut self, server: bool, circuit: u16)
         requires { (tally_at (tallies_of self.old.book server) circuit).taken < 2 ^ 64 - 1 }
-        ensures side { (x : ℕ) → tally_at (tallies_of self.new.book server) x ≡ cond (nat_eq x circuit) (took_one (tally_at (tallies_of self.old.book server) circuit)) (tally_at (tallies_of self.old.book server) x) }
+        ensures side { (x : ℕ) →
+            tally_at (tallies_of self.new.book server) x
+            ≡ cond (nat_eq x circuit)
+            (took_one (tally_at (tallies_of self.old.book server) circuit))
+            (tally_at (tallies_of self.old.book server) x) }
         ensures other { tallies_of self.new.book (not server) ≡ tallies_of self.old.book (not server) }
         ensures log { self.new.book.log ≡ self.old.book.log }
         ensures room { self.new.room ≡ self.old.room }
@@ -168,14 +175,17 @@ impl Ledger {
         requires formed { (x : ℕ) → (tally_at (tallies_of self.old.book by_server) x).formed ≤ length self.old.book.log.posts }
         ensures book { (u : Setups) (sent : List Posted) (done : List ℕ) (counts : Bool → Counts) (fs : List machines.OutFrame) →
             own_of u (not by_server) ≡ address other.now.0 →
-            map seen frames.now ≡ map expected fs →
+            map frame_view frames.now ≡ map expected fs →
             Each IsReadable fs →
             Tallied (counts by_server).formed (counts by_server).taken fs →
             IsBook u self.old.book sent done counts →
-            IsBook u self.new.book (sent ++ post_all by_server fs) done (with_side by_server (behind_all fs (counts by_server)) counts) }
+            IsBook u self.new.book (sent ++ post_all by_server fs) done
+            (with_side by_server (behind_all fs (counts by_server)) counts) }
         ensures count { length self.new.book.log.posts ≡ length self.old.book.log.posts + length frames.now }
         ensures formed { (x : ℕ) → (tally_at (tallies_of self.new.book by_server) x).formed ≤ length self.new.book.log.posts }
-        ensures taken { (x : ℕ) → (tally_at (tallies_of self.new.book by_server) x).taken ≡ (tally_at (tallies_of self.old.book by_server) x).taken }
+        ensures taken { (x : ℕ) →
+            (tally_at (tallies_of self.new.book by_server) x).taken
+            ≡ (tally_at (tallies_of self.old.book by_server) x).taken }
         ensures other { tallies_of self.new.book (not by_server) ≡ tallies_of self.old.book (not by_server) }
         ensures came { (n : ℕ) → CameAtMost n self.old.book.log.ways → CameAtMost n self.new.book.log.ways }
     {
@@ -191,14 +201,17 @@ impl Ledger {
         requires formed { (x : ℕ) → (tally_at (tallies_of self.old.book by_server) x).formed ≤ length self.old.book.log.posts }
         ensures book { (u : Setups) (sent : List Posted) (done : List ℕ) (counts : Bool → Counts) (f : machines.OutFrame) →
             own_of u (not by_server) ≡ address other.now.0 →
-            seen frame.now ≡ expected f →
+            frame_view frame.now ≡ expected f →
             IsReadable f →
             TalliedBy f.mark ((counts by_server).formed f.circuit) ((counts by_server).taken f.circuit) f →
             IsBook u self.old.book sent done counts →
-            IsBook u self.new.book (sent ++ record { by_server = by_server; frame = f } ∷ []) done (with_side by_server (behind f (counts by_server)) counts) }
+            IsBook u self.new.book (sent ++ record { by_server = by_server; frame = f } ∷ []) done
+            (with_side by_server (behind f (counts by_server)) counts) }
         ensures count { length self.new.book.log.posts ≡ length self.old.book.log.posts + 1 }
         ensures formed { (x : ℕ) → (tally_at (tallies_of self.new.book by_server) x).formed ≤ length self.new.book.log.posts }
-        ensures taken { (x : ℕ) → (tally_at (tallies_of self.new.book by_server) x).taken ≡ (tally_at (tallies_of self.old.book by_server) x).taken }
+        ensures taken { (x : ℕ) →
+            (tally_at (tallies_of self.new.book by_server) x).taken
+            ≡ (tally_at (tallies_of self.old.book by_server) x).taken }
         ensures other { tallies_of self.new.book (not by_server) ≡ tallies_of self.old.book (not by_server) }
         ensures came { (n : ℕ) → CameAtMost n self.old.book.log.ways → CameAtMost n self.new.book.log.ways }
         ensures room { self.old.room ≡ self.new.room + 1 }

@@ -8,4 +8,4 @@ mod stations;
 
 pub use heading::{Heading, heading_of};
 pub use ledger::Ledger;
-pub use stations::{is_for, is_same};
+pub use stations::is_for;

@@ -1,16 +1,10 @@
-//! Whether addresses are the same.
+//! Whom a frame is for.
 
 ghost use Rattle.std.specs.Prelude.{◌≡◌, ◌||◌, nat_eq};
 ghost use Rattle.lat_machines.specs.values.Addresses.{address, everyone};
 
 use lat_base::{Addr, EVERYONE};
-
-/// Whether two addresses are one.
-pub fn is_same(one: &[u8; 6], other: &[u8; 6]) -> bool
-    ensures { result ≡ nat_eq (address one.now) (address other.now) }
-{
-    one == other
-}
+use lat_payload::is_same;
 
 /// Whether a frame that is sent to `to` is for the end of the address `own`: it was sent to it or to everyone.
 pub fn is_for(to: &Addr, own: &Addr) -> bool

@@ -11,30 +11,30 @@ use Rattle.lat_notices.specs.Texts.{notice_text, IsWritable}
 use Rattle.lat_machines.specs.values.Addresses.{address}
 use Rattle.lat_machines.specs.values.Frames as machines
 use Rattle.lat_payload.specs.Shown.{notice_shown}
-use Rattle.lat_payload.specs.Frames.{Seen, seen, expected, IsReadable, GoesOutAs, Adds}
+use Rattle.lat_payload.specs.Frames.{FrameView, frame_view, expected, IsReadable, GoesOutAs, Emits}
 use Rattle.lat_payload.proofs.NoticesBack.{notice_back}
 use Rattle.lat_payload.proofs.Readable.{notice_readable}
 
 -- no frame
-pub adds_none : (xs : List OutFrame) → Adds [] xs xs
-adds_none xs = record { same = sym (append-nil (map seen xs)); readable = tt }
+pub adds_none : (xs : List OutFrame) → Emits [] xs xs
+adds_none xs = record { same = sym (append-nil (map frame_view xs)); readable = tt }
 
 -- frames, and then others
-pub adds_then : (fs gs : List machines.OutFrame) (xs ys zs : List OutFrame) → Adds fs xs ys → Adds gs ys zs → Adds (fs ++ gs) xs zs
+pub adds_then : (fs gs : List machines.OutFrame) (xs ys zs : List OutFrame) → Emits fs xs ys → Emits gs ys zs → Emits (fs ++ gs) xs zs
 adds_then fs gs xs ys zs one two = record {
-  same = two.same ∙ ap (λ before. before ++ map expected gs) one.same ∙ append_assoc (map seen xs) (map expected fs) (map expected gs) ∙ ap (λ more. map seen xs ++ more) (sym (map-append expected fs gs));
+  same = two.same ∙ ap (λ before. before ++ map expected gs) one.same ∙ append_assoc (map frame_view xs) (map expected fs) (map expected gs) ∙ ap (λ more. map frame_view xs ++ more) (sym (map-append expected fs gs));
   readable = each_append IsReadable fs gs one.readable two.readable;
 }
 
 -- one frame
-pub adds_one : (g : machines.OutFrame) (f : OutFrame) (xs : List OutFrame) → GoesOutAs f g → Adds (g ∷ []) xs (xs ++ f ∷ [])
+pub adds_one : (g : machines.OutFrame) (f : OutFrame) (xs : List OutFrame) → GoesOutAs f g → Emits (g ∷ []) xs (xs ++ f ∷ [])
 adds_one g f xs goes = record {
-  same = map-append seen xs (f ∷ []) ∙ ap (λ s. map seen xs ++ s ∷ []) goes.same;
+  same = map-append frame_view xs (f ∷ []) ∙ ap (λ s. map frame_view xs ++ s ∷ []) goes.same;
   readable = (goes.readable, tt);
 }
 
 -- a frame of no circuit, as it goes out
-abbrev plain_seen : Addr → List ℕ → Seen
+abbrev plain_seen : Addr → List ℕ → FrameView
 plain_seen to payload = record { to = address to.0; circuit = 0; mark = marks.Plain; payload = payload }
 
 -- a frame with a notice is that of the machines' notice

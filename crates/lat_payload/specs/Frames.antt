@@ -15,7 +15,7 @@ use Rattle.lat_payload.specs.NoticesOf.{notice_of}
 use Rattle.lat_payload.specs.Reads.{reading_of}
 
 -- a frame, whichever way it is known
-pub record Seen : Type 0 where
+pub record FrameView : Type 0 where
   pub to : ℕ
   pub circuit : ℕ
   pub mark : Mark
@@ -31,12 +31,12 @@ mark_of (machines.OfRun m) = mark_shown m
 mark_of machines.Plain = marks.Plain
 
 -- a frame of the machines, as it is to go out
-abbrev pub expected : machines.OutFrame → Seen
+abbrev pub expected : machines.OutFrame → FrameView
 expected f = record { to = f.to; circuit = f.circuit; mark = mark_of f.mark; payload = payload_of f.value }
 
 -- a frame as it goes out
-abbrev pub seen : OutFrame → Seen
-seen f = record { to = address f.to.0; circuit = f.circuit; mark = f.mark; payload = f.payload }
+abbrev pub frame_view : OutFrame → FrameView
+frame_view f = record { to = address f.to.0; circuit = f.circuit; mark = f.mark; payload = f.payload }
 
 -- what is written of its value reads as that value
 abbrev pub IsReadable : machines.OutFrame → Type 0
@@ -44,10 +44,10 @@ IsReadable f = reading_of (payload_of f.value) ≡ machines.Whole f.value
 
 -- a frame goes out as one of the machines, which is readable
 pub record GoesOutAs (f : OutFrame) (g : machines.OutFrame) : Type 0 where
-  pub same : seen f ≡ expected g
+  pub same : frame_view f ≡ expected g
   pub readable : IsReadable g
 
 -- the machines' frames have gone out behind those before, and each of them is readable
-pub record Adds (frames : List machines.OutFrame) (before after : List OutFrame) : Type 0 where
-  pub same : map seen after ≡ map seen before ++ map expected frames
+pub record Emits (frames : List machines.OutFrame) (before after : List OutFrame) : Type 0 where
+  pub same : map frame_view after ≡ map frame_view before ++ map expected frames
   pub readable : Each IsReadable frames

@@ -8,8 +8,8 @@ use Rattle.lat_queue.specs.Histories.{kept_in}
 use Rattle.lat_circuit.specs.Frames.{message_shown}
 use Rattle.lat_machines.specs.values.Notices.{Action, Ask, Cancel, Outcome, KeptAs, Unknown, Command, Status, Solicit, Response, Notice, AnnouncementNotice, CommandNotice, StatusNotice, SolicitNotice, ResponseNotice}
 use Rattle.lat_machines.specs.values.Frames.{Value, OfCircuit, OfNotice}
-use Rattle.lat_payload.specs.declared.value.Value.{Value as ReadValue}
-use Rattle.lat_payload.specs.declared.value.Value.TheVariants as values
+use Rattle.lat_value.specs.declared.value.Value.{Value as ReadValue}
+use Rattle.lat_value.specs.declared.value.Value.TheVariants as values
 
 abbrev pub action_shown : notices.Action.Action → Action
 action_shown actions.Ask = Ask

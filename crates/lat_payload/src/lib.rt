@@ -1,12 +1,12 @@
-//! Payloads: what one that is heard reads as, a circuit message or a notice or the first bad field, and the frames that
-//! notices go out in. `docs/FORMATS.md` has the types of payloads.
+//! Payloads as the machines know them: what one that is heard reads as, the frames that notices
+//! go out in, and stations by their addresses.
 #![tactic(auto)]
 
-mod kinds;
 mod read;
 mod said;
-mod value;
+mod stations;
 
+pub use lat_value::Value;
 pub use read::read_value;
 pub use said::{command_frame, notice_frame, response_frame, solicit_frame, status_frame};
-pub use value::Value;
+pub use stations::{is_everyone, is_same};

@@ -1,39 +1,15 @@
-//! Reading payloads.
+//! Payloads that are heard.
 
 ghost use Rattle.std.specs.Prelude.{IfOk};
-ghost use Rattle.lat_frames.specs.Reading.{message_read};
-ghost use Rattle.lat_notices.specs.Reading.{notice_read};
-ghost use Rattle.lat_payload.specs.declared.value.Value.TheVariants as values;
-ghost use Rattle.lat_payload.specs.Reads.{read_as, reading_of, Answers, IsPayloadOf, IsWritable};
+ghost use Rattle.lat_value.specs.Texts.{IsPayloadOf, IsWritable};
+ghost use Rattle.lat_payload.specs.Reads.{reading_of, Answers};
 
-use crate::kinds::{is_message, is_notice};
-use crate::value::Value;
-use lat_base::{Bad, Field};
 use lat_fields::LayoutFault;
-use lat_frames::read_message;
-use lat_notices::read_notice;
+use lat_value::Value;
 use std::alloc::Global;
 
-fn circuit_of(alloc: Global, payload: &[u8]) -> Result<Value, LayoutFault>
-    ensures reading { Answers result (read_as values.Circuit (message_read payload.now)) }
-    ensures found { IfOk result (λ v. IsPayloadOf v payload.now) }
-    ensures ok { IfOk result IsWritable }
-{
-    Ok(Value::Circuit(read_message(alloc, payload)?))
-}
-
-fn notice_of(alloc: Global, payload: &[u8]) -> Result<Value, LayoutFault>
-    ensures reading { Answers result (read_as values.Notice (notice_read payload.now)) }
-    ensures found { IfOk result (λ v. IsPayloadOf v payload.now) }
-    ensures ok { IfOk result IsWritable }
-{
-    Ok(Value::Notice(read_notice(alloc, payload)?))
-}
-
-/// Reads a payload, of any length, as the circuit message or the notice that it is. The type in its first byte says which
-/// reader it is for, as `docs/FORMATS.md` has it under "Types". Refused with the first bad field; a payload of no known
-/// type, also an empty one, by its `Kind` at 0. Takes memory for the lists that the value keeps.
-#[tactic(auto, unfolding(crate::specs::Reads::reading_of))]
+/// Reads a payload as `lat_value::read_value` does, and tells what the machines hear of it.
+#[tactic(auto, using(crate::proofs::Heard::answers_as_read))]
 pub fn read_value(alloc: Global, payload: &[u8]) -> Result<Value, LayoutFault>
     // The value, or the first bad field, is what the payload reads as; only memory may be wanting in place of it.
     ensures reading { Answers result (reading_of payload.now) }
@@ -42,12 +18,5 @@ pub fn read_value(alloc: Global, payload: &[u8]) -> Result<Value, LayoutFault>
     // What is read meets the conditions of its fields, and its text fits in a payload.
     ensures ok { IfOk result IsWritable }
 {
-    match payload {
-        [first, ..] if is_message(*first / 4) => circuit_of(alloc, payload),
-        [first, ..] if is_notice(*first / 4) => notice_of(alloc, payload),
-        _ => Err(LayoutFault::Bad(Bad {
-            field: Field::Kind,
-            at: 0,
-        })),
-    }
+    lat_value::read_value(alloc, payload)
 }

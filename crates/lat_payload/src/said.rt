@@ -26,7 +26,8 @@ fn named(name: &Name)
 /// whether it may be called. It takes no memory.
 pub fn notice_frame(to: Addr, notice: &Notice) -> OutFrame
     requires ok { IsWritable notice.now }
-    ensures frame { result ≡ record { to = to; payload = padded (notice_text notice.now); circuit = 0; mark = marks.Plain } }
+    ensures frame { result ≡
+        record { to = to; payload = padded (notice_text notice.now); circuit = 0; mark = marks.Plain } }
     ensures goes { GoesOutAs result (plain (address to.0) 0 (OfNotice (notice_shown notice.now))) }
 {
     let mut payload = Payload::empty();
@@ -50,7 +51,8 @@ pub fn status_frame(
     outcome: Outcome,
 ) -> OutFrame
     requires { IsTold outcome }
-    ensures { GoesOutAs result (plain (address to.0) 0 (OfNotice (StatusNotice (record { incarnation = incarnation; request = request; outcome = outcome_shown outcome; node = node.now })))) }
+    ensures { GoesOutAs result (plain (address to.0) 0 (OfNotice (StatusNotice
+        (record { incarnation = incarnation; request = request; outcome = outcome_shown outcome; node = node.now })))) }
 {
     named(node);
     let status = Status {
@@ -65,7 +67,8 @@ pub fn status_frame(
 /// A server's question to everyone, who offers the service.
 #[tactic(auto, using(crate::proofs::NoticesBack::solicit_writable))]
 pub fn solicit_frame(id: u16, asker: &Name, service: &Name) -> OutFrame
-    ensures { GoesOutAs result (plain everyone 0 (OfNotice (SolicitNotice (record { id = id; asker = asker.now; service = service.now })))) }
+    ensures { GoesOutAs result (plain everyone 0 (OfNotice (SolicitNotice
+        (record { id = id; asker = asker.now; service = service.now })))) }
 {
     named(asker);
     named(service);
@@ -87,7 +90,14 @@ pub fn command_frame(
     node: &Name,
     service: &Name,
 ) -> OutFrame
-    ensures { GoesOutAs result (plain (address to.0) 0 (OfNotice (CommandNotice (record { incarnation = incarnation; request = request; action = action_shown action; node = node.now; service = service.now })))) }
+    ensures { GoesOutAs result (plain (address to.0) 0 (OfNotice (CommandNotice
+        (record {
+          incarnation = incarnation;
+          request = request;
+          action = action_shown action;
+          node = node.now;
+          service = service.now;
+        })))) }
 {
     named(node);
     named(service);
@@ -113,7 +123,8 @@ pub fn response_frame(
     timer: u8,
 ) -> OutFrame
     requires { 0 < timer }
-    ensures { GoesOutAs result (plain (address to.0) 0 (OfNotice (ResponseNotice (record { id = id; node = node.now; service = service.now; rating = rating; timer = timer })))) }
+    ensures { GoesOutAs result (plain (address to.0) 0 (OfNotice (ResponseNotice
+        (record { id = id; node = node.now; service = service.now; rating = rating; timer = timer })))) }
 {
     named(node);
     named(service);

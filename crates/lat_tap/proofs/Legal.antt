@@ -3,7 +3,7 @@ use Rattle.std.proofs.Common.{ℕ, Bool, sym, ap, ◌∙◌, subst}
 use Rattle.hex.specs.Hex.{IsBytes}
 use Rattle.lat_base.specs.declared.outbox.OutFrame.{OutFrame}
 use Rattle.lat_machines.specs.world.Machines.{Posted, Machines}
-use Rattle.lat_payload.specs.Frames.{Seen}
+use Rattle.lat_payload.specs.Frames.{FrameView}
 use Rattle.lat_audit.specs.AuditOf.{audit_of}
 use Rattle.lat_audit.specs.Printed.{GoesOut, printed}
 use Rattle.lat_audit.specs.Laws.{AllGoOut, PrintedIsLegal}
@@ -15,7 +15,7 @@ use Rattle.lat_tap.specs.CapturedText.{AuditIsLegal}
 
 -- a frame that is seen goes out as a program sends it
 pub goes_out : (b : Bool) (f : OutFrame) (x : Posted) → IsSeenAs b f x → IsBytes f.payload → GoesOut x.frame
-goes_out b f x s bytes = record { readable = s.readable; bytes = subst IsBytes (ap (λ (z : Seen). z.payload) s.frame) bytes }
+goes_out b f x s bytes = record { readable = s.readable; bytes = subst IsBytes (ap (λ (z : FrameView). z.payload) s.frame) bytes }
 
 pub audit_is_legal : {H : Type 0} (k : Kept H) (w : Machines) (p : ℕ) → Stands k w → AllGoOut w → AuditIsLegal (setups_of k) w p
 audit_is_legal k w p s goes c is =

@@ -1,5 +1,7 @@
 -- What a RUN says of its circuit.
 use Rattle.std.specs.Prelude.{ℕ, ◌/◌, Bool, false, List, [], ◌∷◌, Option, option_map, nat_eq}
+use Rattle.lat_frames.specs.declared.kind.MessageKind.TheVariants.{WideRun}
+use Rattle.lat_frames.specs.Kinds.{bits_of}
 use Rattle.lat_machines.specs.values.Frames.{Value}
 use Rattle.lat_captures.specs.Captured.{RunHead, run_head_of}
 use Rattle.lat_tap.specs.declared.run.RunSeen.{RunSeen}
@@ -7,7 +9,7 @@ use Rattle.lat_tap.specs.declared.run.RunSeen.{RunSeen}
 -- whether a payload of the type of a RUN is wide
 abbrev pub is_wide : List ℕ → Bool
 is_wide [] = false
-is_wide (first ∷ rest) = nat_eq (first / 4) 4
+is_wide (first ∷ rest) = nat_eq (first / 4) (bits_of WideRun)
 
 abbrev pub seen_of : RunHead → RunSeen
 seen_of k = record { wide = k.wide; to = k.head.to; from = k.head.from }

@@ -3,7 +3,7 @@ use Rattle.std.specs.Prelude.{◌≡◌, ℕ, Bool, false, cond, ◌&&◌, List,
 use Rattle.lat_base.specs.declared.outbox.OutFrame.{OutFrame}
 use Rattle.lat_machines.specs.values.Addresses.{address}
 use Rattle.lat_machines.specs.world.Machines.{Setups, Posted}
-use Rattle.lat_payload.specs.Frames.{seen, expected, payload_of}
+use Rattle.lat_payload.specs.Frames.{frame_view, expected, payload_of}
 use Rattle.lat_ledger.specs.Books.{IsReadable}
 use Rattle.lat_link.specs.Payloads.{slots_as_text}
 use Rattle.lat_captures.specs.Captured.{RunHead, run_head_of, is_between, entries_of}
@@ -21,7 +21,7 @@ pub record IsTap (u : Setups) (t : Tap) : Type 0 where
 -- a frame with its sender's side is this one of the machines
 pub record IsSeenAs (by_server : Bool) (f : OutFrame) (x : Posted) : Type 0 where
   pub side : by_server ≡ x.by_server
-  pub frame : seen f ≡ expected x.frame
+  pub frame : frame_view f ≡ expected x.frame
   pub readable : IsReadable x.frame
 
 -- a RUN of the server to the node with this source

@@ -7,6 +7,7 @@ ghost use Rattle.lat_payload.specs.Frames.{payload_of};
 ghost use Rattle.lat_payload.specs.Reads.{reading_of};
 ghost use Rattle.lat_tap.specs.Runs.{is_wide, run_seen};
 
+use lat_frames::MessageKind;
 use lat_ledger::heading_of;
 
 /// What a RUN says of its circuit.
@@ -19,14 +20,12 @@ pub(crate) struct RunSeen {
     pub(crate) from: u16,
 }
 
-const WIDE_RUN: u8 = 4;
-
 // Whether a payload of the type of a RUN is wide.
 fn is_wide(payload: &[u8]) -> bool
     ensures { result ≡ is_wide payload.now }
 {
     match payload {
-        [first, ..] => *first / 4 == WIDE_RUN,
+        [first, ..] => *first / 4 == MessageKind::WideRun.bits(),
         [] => false,
     }
 }

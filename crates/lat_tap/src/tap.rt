@@ -10,7 +10,7 @@ ghost use Rattle.lat_tap.specs.Tapped.{IsTap, IsSeenAs, up_seen, is_captured, li
 use crate::run::{RunSeen, run_of};
 use lat_base::{Addr, Memory, OutFrame};
 use lat_entries::entry_onto;
-use lat_ledger::is_same;
+use lat_payload::is_same;
 use lat_wire::{RatingRule, Wire};
 use std::alloc::Global;
 

@@ -2,7 +2,7 @@ use Rattle.std.proofs.Common.{◌≡◌, ◌<◌, ◌^◌, ap, ap₂, sym, subst
 use Rattle.lat_machines.specs.values.Addresses.{address, everyone}
 use Rattle.lat_machines.specs.world.Machines.{is_for_other}
 use Rattle.lat_machines.specs.world.Tally.{TalliedBy}
-use Rattle.lat_payload.specs.Frames.{Seen, mark_of}
+use Rattle.lat_payload.specs.Frames.{FrameView, mark_of}
 use Rattle.lat_posts.specs.Tallies.{tally_at}
 use Rattle.lat_ledger.specs.Books.{IsBook, IsPost, tallies_of, tally_of, tally_told}
 use Rattle.lat_ledger.proofs.Entered.{entered_all}
@@ -10,9 +10,9 @@ use Rattle.lat_ledger.proofs.ledger.Ledger.enter.Goals as goal
 
 pub returns-clause-book : goal.returns-clause-book
 returns-clause-book c = λ u sent done counts f own same readable tallied b.
-    let circuit : c.args.frame.now.circuit ≡ f.circuit = ap (λ (z : Seen). z.circuit) same in
-    let mark : c.args.frame.now.mark ≡ mark_of f.mark = ap (λ (z : Seen). z.mark) same in
-    let to : address c.args.frame.now.to.0 ≡ f.to = ap (λ (z : Seen). z.to) same in
+    let circuit : c.args.frame.now.circuit ≡ f.circuit = ap (λ (z : FrameView). z.circuit) same in
+    let mark : c.args.frame.now.mark ≡ mark_of f.mark = ap (λ (z : FrameView). z.mark) same in
+    let to : address c.args.frame.now.to.0 ≡ f.to = ap (λ (z : FrameView). z.to) same in
     let few : f.circuit < 2 ^ 16 = omega arith in
     let told : c.tally-tally.result ≡ tally_of (counts c.args.by_server) f.circuit = c.tally-tally.ensures ∙ (ap (tally_at (tallies_of c.args.self.now.book c.args.by_server)) circuit ∙ b.tallies c.args.by_server f.circuit few) in
     let post : IsPost c.post_of-post.result (record { by_server = c.args.by_server; frame = f }) = c.post_of-post.ensures f same readable (subst (λ t. TalliedBy f.mark t.formed t.taken f) (sym told) tallied) in

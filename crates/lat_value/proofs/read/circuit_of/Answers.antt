@@ -1,6 +1,6 @@
 use Rattle.std.proofs.Common.{length, ap, arith, length-append}
 use Rattle.lat_frames.proofs.Written.{text_is_writable}
-use Rattle.lat_payload.proofs.read.circuit_of.Goals as goal
+use Rattle.lat_value.proofs.read.circuit_of.Goals as goal
 
 pub returns-clause-ok : goal.returns-clause-ok
 returns-clause-ok c =
