@@ -16,12 +16,24 @@ pub min_again : (stated r a b : ℕ) → r ≡ min stated a → a ≡ b → min 
 min_again stated r a b e f = omega (arith, e, f)
 
 -- what was and no longer is
-pub is_lost : (w i x y : Bool) → w ≡ x → i ≡ not y → (w && not i) ≡ (x && y)
-is_lost w i x y was is = ap (λ z. z && not i) was ∙ ap (λ z. x && not z) is ∙ ap (λ z. x && z) (twice y)
+
+pub is_lost : (w i x y : Bool) → w ≡ x → i ≡ not y → w ≡ true → i ≡ false → (x && y) ≡ true
+is_lost w i x y was is before after = ap (λ z. z && y) (sym was ∙ before) ∙ gone y (sym is ∙ after)
   where
-    twice : (y : Bool) → not (not y) ≡ y
-    twice true = refl
-    twice false = refl
+    gone : (y : Bool) → not y ≡ false → y ≡ true
+    gone true e = refl
+    gone false e = sym e
+
+pub was_not : (w x y : Bool) → w ≡ x → w ≡ false → (x && y) ≡ false
+was_not w x y was before = ap (λ z. z && y) (sym was ∙ before)
+
+pub still_is : (i x y : Bool) → i ≡ not y → i ≡ true → (x && y) ≡ false
+still_is i x y is after = there x y (sym is ∙ after)
+  where
+    there : (x y : Bool) → not y ≡ true → (x && y) ≡ false
+    there x true e = absurd (cc)
+    there true false e = refl
+    there false false e = refl
 
 -- the tests of `unused`, the cheap ones first
 pub cheap_first : (m r o f : Bool) → ((m && r && o) && f) ≡ (m && r && f && o)

@@ -22,8 +22,8 @@ use Rattle.lat_circuit.specs.declared.circuit.Circuit.TheInside.{Inside}
 use Rattle.lat_circuit.specs.Kept.{Kept}
 use Rattle.lat_circuit.specs.Shown.{shown}
 use Rattle.lat_circuit.specs.Frames.{AreFormed, frame_sent}
-use Rattle.lat_circuit.specs.Stands.{Stands, Did}
-use Rattle.lat_circuit.specs.Hears.{HeardStep, foreign, hears_named, hears_run, heard_shown, DidHear}
+use Rattle.lat_circuit.specs.Stands.{Stands, Simulates}
+use Rattle.lat_circuit.specs.Hears.{HeardStep, foreign, hears_named, hears_run, heard_shown, SimulatesHearing}
 use Rattle.lat_circuit.specs.Applies.{number_heard, ack_heard, Applied, apply_slots, apply_body, apply, slave_occasion, applied_step, answer_told, Applies}
 use Rattle.lat_circuit.proofs.Sends.{with_sessions}
 use Rattle.lat_circuit.proofs.HeardStarts.{hear_as, hear_true, hear_false, given, given_stands}
@@ -173,7 +173,7 @@ abbrev step_of : (e : End) (o : Option Heard) → HeardStep
 step_of e o = elim o [ None ↦ record { step = finish 2 e; answer = Broke 2 } | Some answer ↦ record { step = slave_occasion e; answer = answer } ]
 
 pub applied_ok : {E : Type 0} (f : End → Applied) (r : Result OwnHeard E) (answer : OwnHeard) (k m l : Kept) (o p : List OutFrame) → r ≡ Ok answer
-    → Applies f r k m → Did slave_occasion m l o p → DidHear (λ e. applied_step (f e)) answer k l o p
+    → Applies f r k m → Simulates slave_occasion m l o p → SimulatesHearing (λ e. applied_step (f e)) answer k l o p
 applied_ok f r answer k m l o p is a did = λ e st.
     let x = a e st in
     let y = did (f e).end x.0 in
@@ -181,7 +181,7 @@ applied_ok f r answer k m l o p is a did = λ e st.
     subst P (ap (λ z. step_of (f e).end z) (ap answer_told (sym is) ∙ x.1)) (y.0, y.1, refl, y.2)
 
 pub applied_err : {E : Type 0} (f : End → Applied) (r : Result OwnHeard E) (b : E) (k m l : Kept) (o p : List OutFrame) → r ≡ Err b
-    → Applies f r k m → Did (finish 2) m l o p → DidHear (λ e. applied_step (f e)) (answers.Broke 2) k l o p
+    → Applies f r k m → Simulates (finish 2) m l o p → SimulatesHearing (λ e. applied_step (f e)) (answers.Broke 2) k l o p
 applied_err f r b k m l o p is a did = λ e st.
     let x = a e st in
     let y = did (f e).end x.0 in
@@ -195,14 +195,14 @@ is_named own h e = nat_eq h.to own && (nat_eq h.from e.peer && e.running)
 
 pub run_foreign : (own now : ℕ) (wide : Bool) (h : Head) (slots : List model.Slot) (k : Kept) (o : List OutFrame)
     → ((e : End) → Stands k e → is_named own h e ≡ false)
-    → DidHear (hears_run own now wide h slots) answers.Foreign k k o o
+    → SimulatesHearing (hears_run own now wide h slots) answers.Foreign k k o o
 run_foreign own now wide h slots k o is =
     hear_false (is_named own h) (hears_named now wide h slots) foreign answers.Foreign k k o o is (λ e st. (st, sym (append-nil o), refl, tt))
 
 pub run_unfit : (own now : ℕ) (wide : Bool) (h : Head) (slots : List model.Slot) (a : Inside) (o : List OutFrame)
     → ((e : End) → Stands (shown a) e → is_named own h e ≡ true)
     → ((e : End) → Stands (shown (given a now)) e → fits_kind e h.master wide ≡ false)
-    → DidHear (hears_run own now wide h slots) answers.Foreign (shown a) (shown (given a now)) o o
+    → SimulatesHearing (hears_run own now wide h slots) answers.Foreign (shown a) (shown (given a now)) o o
 run_unfit own now wide h slots a o is unfit =
     hear_true (is_named own h) (hears_named now wide h slots) foreign answers.Foreign (shown a) (shown (given a now)) o o is
     (hear_false (λ e. fits_kind e h.master wide)
@@ -240,8 +240,8 @@ hearing_stands a now e st = record {
 pub run_fits : (own now : ℕ) (wide : Bool) (h : Head) (slots : List model.Slot) (r : OwnHeard) (a : Inside) (l : Kept) (o p : List OutFrame)
     → ((e : End) → Stands (shown a) e → is_named own h e ≡ true)
     → ((e : End) → Stands (shown (given a now)) e → fits_kind e h.master wide ≡ true)
-    → DidHear (λ e. applied_step (apply h slots e)) r (shown (hearing_at a now)) l o p
-    → DidHear (hears_run own now wide h slots) r (shown a) l o p
+    → SimulatesHearing (λ e. applied_step (apply h slots e)) r (shown (hearing_at a now)) l o p
+    → SimulatesHearing (hears_run own now wide h slots) r (shown a) l o p
 run_fits own now wide h slots r a l o p is fits did =
     hear_true (is_named own h) (hears_named now wide h slots) foreign r (shown a) l o p is
     (hear_true (λ e. fits_kind e h.master wide)

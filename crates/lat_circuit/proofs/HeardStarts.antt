@@ -25,19 +25,19 @@ use Rattle.lat_circuit.specs.Frames.{IsFormed, AreFormed, frame_sent, message_se
 use Rattle.lat_circuit.specs.Kept.{Kept}
 use Rattle.lat_circuit.specs.Shown.{shown}
 use Rattle.lat_circuit.specs.Stands.{Stands}
-use Rattle.lat_circuit.specs.Hears.{HeardStep, foreign, hears_start, hears_reply, hears_stop, heard_shown, DidHear}
+use Rattle.lat_circuit.specs.Hears.{HeardStep, foreign, hears_start, hears_reply, hears_stop, heard_shown, SimulatesHearing}
 
 -- a step that changes no end in another way: by another name
-pub hear_as : (f g : End → HeardStep) (r : OwnHeard) (k l : Kept) (o p : List OutFrame) → DidHear f r k l o p → ((e : End) → Stands k e → g e ≡ f e) → DidHear g r k l o p
+pub hear_as : (f g : End → HeardStep) (r : OwnHeard) (k l : Kept) (o p : List OutFrame) → SimulatesHearing f r k l o p → ((e : End) → Stands k e → g e ≡ f e) → SimulatesHearing g r k l o p
 hear_as f g r k l o p a same = λ e st.
     let P : HeardStep → Type 0 = λ s. Stands l s.step.end × (p ≡ o ++ map (frame_sent l.facts) s.step.sent) × (heard_shown r ≡ s.answer) × AreFormed l.facts s.step.sent in
     subst P (sym (same e st)) (a e st)
 
 -- the branch that was taken
-pub hear_true : (t : End → Bool) (f g : End → HeardStep) (r : OwnHeard) (k l : Kept) (o p : List OutFrame) → ((e : End) → Stands k e → t e ≡ true) → DidHear f r k l o p → DidHear (λ e. cond (t e) (f e) (g e)) r k l o p
+pub hear_true : (t : End → Bool) (f g : End → HeardStep) (r : OwnHeard) (k l : Kept) (o p : List OutFrame) → ((e : End) → Stands k e → t e ≡ true) → SimulatesHearing f r k l o p → SimulatesHearing (λ e. cond (t e) (f e) (g e)) r k l o p
 hear_true t f g r k l o p is a = hear_as f (λ e. cond (t e) (f e) (g e)) r k l o p a (λ e st. ap (λ b. cond b (f e) (g e)) (is e st))
 
-pub hear_false : (t : End → Bool) (f g : End → HeardStep) (r : OwnHeard) (k l : Kept) (o p : List OutFrame) → ((e : End) → Stands k e → t e ≡ false) → DidHear g r k l o p → DidHear (λ e. cond (t e) (f e) (g e)) r k l o p
+pub hear_false : (t : End → Bool) (f g : End → HeardStep) (r : OwnHeard) (k l : Kept) (o p : List OutFrame) → ((e : End) → Stands k e → t e ≡ false) → SimulatesHearing g r k l o p → SimulatesHearing (λ e. cond (t e) (f e) (g e)) r k l o p
 hear_false t f g r k l o p is a = hear_as g (λ e. cond (t e) (f e) (g e)) r k l o p a (λ e st. ap (λ b. cond b (f e) (g e)) (is e st))
 
 -- what a circuit that has not ended tells of its end
@@ -121,7 +121,7 @@ ended_is a now reason e st = record {
 
 pub stop_did : (a : Inside) (own to source reason now : ℕ) → a.ended ≡ None
     → ((e : End) → Stands (shown a) e → nat_eq to own && (nat_eq e.peer source || nat_eq source 0) ≡ true)
-    → DidHear (hears_stop own now to source reason) (answers.Ended reason) (shown a) (shown (ended_at a now reason)) [] []
+    → SimulatesHearing (hears_stop own now to source reason) (answers.Ended reason) (shown a) (shown (ended_at a now reason)) [] []
 stop_did a own to source reason now alive is =
     hear_true
     (λ e. nat_eq to own && (nat_eq e.peer source || nat_eq source 0))
@@ -168,7 +168,7 @@ again_is now false e alive is = rw (alive, is) refl
 
 pub again_noted : (a : Inside) (source now : ℕ) (o : List OutFrame) → a.ended ≡ None → a.heard_run ≡ true
     → ((e : End) → Stands (shown a) e → not e.master && nat_eq e.peer source ≡ true)
-    → DidHear (hears_start source now) answers.Again (shown a) (shown (noted_at a now)) o o
+    → SimulatesHearing (hears_start source now) answers.Again (shown a) (shown (noted_at a now)) o o
 again_noted a source now o alive heard is =
     hear_true
     (λ e. not e.master && nat_eq e.peer source)
@@ -186,7 +186,7 @@ pub again_replied : (a : Inside) (source now : ℕ) (s : Message) (o p : List Ou
     → s ≡ message_sent (shown a).facts ReplyStart
     → p ≡ o ++ record { to = a.config.peer; payload = padded (message_text (message_of s)); circuit = a.link.ids.from; mark = marks.Plain } ∷ []
     → ((e : End) → Stands (shown a) e → IsFormed (message_sent (shown a).facts ReplyStart))
-    → DidHear (hears_start source now) answers.Again (shown a) (shown (replied_at a now)) o p
+    → SimulatesHearing (hears_start source now) answers.Again (shown a) (shown (replied_at a now)) o p
 again_replied a source now s o p alive heard is text out fair =
     hear_true
     (λ e. not e.master && nat_eq e.peer source)
@@ -211,7 +211,7 @@ is_reply own to source e = e.master && (nat_eq to own && (not e.running || nat_e
 
 pub reply_noted : (a : Inside) (own : ℕ) (t : Timing) (to source : ℕ) (info : StartInfo) (now : ℕ) → a.ended ≡ None → a.running ≡ true
     → ((e : End) → Stands (shown a) e → is_reply own to source e ≡ true)
-    → DidHear (hears_reply own now t to source info) answers.Again (shown a) (shown (noted_at a now)) [] []
+    → SimulatesHearing (hears_reply own now t to source info) answers.Again (shown a) (shown (noted_at a now)) [] []
 reply_noted a own t to source info now alive run is =
     hear_true
     (is_reply own to source)
@@ -226,7 +226,7 @@ reply_noted a own t to source info now alive run is =
 pub reply_runs : (a : Inside) (own : ℕ) (t : Timing) (to source : ℕ) (info : StartInfo) (now : ℕ) (l : Kept) → a.ended ≡ None → a.running ≡ false
     → ((e : End) → Stands (shown a) e → is_reply own to source e ≡ true)
     → ((e : End) → Stands (shown (noted_at a now)) e → Stands l (reply_end now source (agreed_by t info) e))
-    → DidHear (hears_reply own now t to source info) answers.Running (shown a) l [] []
+    → SimulatesHearing (hears_reply own now t to source info) answers.Running (shown a) l [] []
 reply_runs a own t to source info now l alive run is did =
     hear_true
     (is_reply own to source)

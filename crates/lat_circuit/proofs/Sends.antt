@@ -19,7 +19,7 @@ use Rattle.lat_circuit.specs.declared.moments.Moments.{Moments}
 use Rattle.lat_circuit.specs.Kept.{Kept}
 use Rattle.lat_circuit.specs.Shown.{shown}
 use Rattle.lat_circuit.specs.Frames.{AreFormed, frame_sent}
-use Rattle.lat_circuit.specs.Stands.{AreMoments, Stands, Did}
+use Rattle.lat_circuit.specs.Stands.{AreMoments, Stands, Simulates}
 use Rattle.lat_circuit.specs.Steps.{form_slots}
 use Rattle.lat_circuit.proofs.Packs.{framed, pack_idle, none_empty, some_empty}
 
@@ -144,8 +144,8 @@ pub idle_did : (a : Inside) (new : Table) (count : ℕ) (l : Kept) (before after
     → ((s : Sessions) → sessions.Stands a.sessions s → sessions.Stands new (pack a.room s).after)
     → ((s : Sessions) → sessions.Stands a.sessions s → count ≡ length (pack a.room s).slots)
     → count ≡ 0
-    → Did settle (shown (record a { sessions = new })) l before after
-    → Did occasion (shown a) l before after
+    → Simulates settle (shown (record a { sessions = new })) l before after
+    → Simulates occasion (shown a) l before after
 idle_did a new count l before after wide packs counts none did = λ e st.
     let p : Packing = pack a.room e.half.sessions in
     let empty : is_empty p.slots ≡ true = none_empty p.slots (sym (counts e.half.sessions st.sessions) ∙ none) in
@@ -169,7 +169,7 @@ pub busy_did : (a : Inside) (new : Table) (count : ℕ) (l : Kept) (before after
     Stands l (form_slots (wire_of (pack a.room e.half.sessions).slots) (record e { half = record (e.half) { sessions = (pack a.room e.half.sessions).after } })).end
     × (after ≡ before ++ map (frame_sent l.facts) (form_slots (wire_of (pack a.room e.half.sessions).slots) e).sent)
     × AreFormed l.facts (form_slots (wire_of (pack a.room e.half.sessions).slots) e).sent)
-    → Did occasion (shown a) l before after
+    → Simulates occasion (shown a) l before after
 busy_did a new count l before after wide packs counts some did = λ e st.
     let p : Packing = pack a.room e.half.sessions in
     let full : is_empty p.slots ≡ false = some_empty p.slots (λ n. some (counts e.half.sessions st.sessions ∙ n)) in

@@ -1,7 +1,11 @@
 -- How a circuit begins.
 use Rattle.std.specs.Prelude.{◌≡◌, ℕ, ◌++◌, true, false, List, map, length}
 use Rattle.lat_base.specs.declared.outbox.OutFrame.{OutFrame}
+use Rattle.lat_model.specs.circuits.World.{first_end}
 use Rattle.lat_model.specs.ends.End.{Step}
+use Rattle.lat_model.specs.ends.Starting.{make_slave}
+use Rattle.lat_machines.specs.cores.Acts.{called}
+use Rattle.lat_machines.specs.cores.Cores.{setup_of}
 use Rattle.lat_machines.specs.values.Messages.{StartInfo}
 use Rattle.lat_machines.specs.values.Timing.{agreed_by}
 use Rattle.lat_circuit.specs.declared.config.CircuitConfig.{CircuitConfig}
@@ -32,3 +36,18 @@ pub record Begins (step : Step) (facts : Facts) (places now : ℕ) (k : Kept) (b
   pub side : k.sessions.master ≡ facts.master
   pub room : length k.sessions.sessions ≡ places
   pub moment : k.moments.now ≡ now
+
+-- a master was called at a moment
+abbrev pub HasCalled : CircuitConfig → (id places now : ℕ) → Kept → (before after : List OutFrame) → Type 0
+HasCalled config id places now k before after =
+    Begins (called (setup_of (timing_shown config.timing)) now) (facts_called config id) places now k before after
+
+-- the step of a slave that is made at a moment, by a START that states the master's id of the circuit
+abbrev pub slave_step : CircuitConfig → (from : ℕ) → StartInfo → (now : ℕ) → Step
+slave_step config from info now =
+    make_slave now from (agreed_by (timing_shown config.timing) info) (first_end false false (setup_of (timing_shown config.timing)))
+
+-- a slave answered that START
+abbrev pub HasAnswered : CircuitConfig → (id from : ℕ) → StartInfo → (places now : ℕ) → Kept → (before after : List OutFrame) → Type 0
+HasAnswered config id from info places now k before after =
+    Begins (slave_step config from info now) (facts_answered config id from info) places now k before after

@@ -13,8 +13,10 @@ use Rattle.lat_machines.specs.values.Timing.{Timing, agreed_by}
 use Rattle.lat_machines.specs.values.Answers.{Heard, Running, Taken, Again, AckOnly, Foreign, Broke, Ended}
 use Rattle.lat_machines.specs.cores.Hearing.{answer_of, fits_kind, numbers_at, run_frame}
 use Rattle.lat_session.specs.Table.{SameEnd}
-use Rattle.lat_circuit.specs.Kept.{Kept}
-use Rattle.lat_circuit.specs.Frames.{frame_sent, AreFormed}
+use Rattle.lat_frames.specs.declared.message.Message.{Message as ReadMessage}
+use Rattle.lat_frames.specs.declared.message.StartInfo.{StartInfo as ReadInfo}
+use Rattle.lat_circuit.specs.Kept.{Facts, Kept}
+use Rattle.lat_circuit.specs.Frames.{timing_shown, info_shown, message_shown, frame_sent, AreFormed}
 use Rattle.lat_circuit.specs.Stands.{Stands}
 
 pub record HeardStep : Type 0 where
@@ -69,6 +71,16 @@ hears own timing now (StopMessage master ask to source reason text) e = hears_st
 abbrev pub hears_noted : ℕ → Timing → ℕ → Message → End → Step
 hears_noted own timing now m e = note_empty e (hears own timing now m e).step
 
+-- what an end of these facts does at a message that was read
+abbrev pub heard_by : Facts → ℕ → ReadMessage → End → HeardStep
+heard_by k now m = hears k.id (timing_shown k.config.timing) now (message_shown m)
+
+abbrev pub noted_by : Facts → ℕ → ReadMessage → End → Step
+noted_by k now m = hears_noted k.id (timing_shown k.config.timing) now (message_shown m)
+
+abbrev pub reply_by : Facts → ℕ → (to source : ℕ) → ReadInfo → End → HeardStep
+reply_by k now to source info = hears_reply k.id now (timing_shown k.config.timing) to source (info_shown info)
+
 -- an answer, as the machines know it
 abbrev pub heard_shown : OwnHeard → Heard
 heard_shown answers.Running = Running
@@ -81,8 +93,8 @@ heard_shown (answers.Ended reason) = Ended reason
 
 -- the circuit did this step of every end that it stood for, the frames went out in order, each of them formed, and it
 -- answered so
-abbrev pub DidHear : (End → HeardStep) → OwnHeard → (old new : Kept) → (before after : List OutFrame) → Type 0
-DidHear step answer old new before after =
+abbrev pub SimulatesHearing : (End → HeardStep) → OwnHeard → (old new : Kept) → (before after : List OutFrame) → Type 0
+SimulatesHearing step answer old new before after =
     (e : End) →
     Stands old e →
     Stands new (step e).step.end

@@ -41,6 +41,6 @@ pub record Stands (k : Kept) (e : End) : Type 0 where
 
 -- The circuit did this step of every end that it stood for, and the frames went out in order, each of them formed. A frame
 -- bears what the circuit knew of its peer after the step
-abbrev pub Did : (End → Step) → (old new : Kept) → (before after : List OutFrame) → Type 0
-Did step old new before after =
+abbrev pub Simulates : (End → Step) → (old new : Kept) → (before after : List OutFrame) → Type 0
+Simulates step old new before after =
     (e : End) → Stands old e → Stands new (step e).end × (after ≡ before ++ map (frame_sent new.facts) (step e).sent) × AreFormed new.facts (step e).sent

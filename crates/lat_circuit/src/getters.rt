@@ -8,7 +8,7 @@ ghost use Rattle.lat_model.specs.ends.End.{End, lives};
 ghost use Rattle.lat_model.specs.sessions.Session.{state, peer, take_open, waits};
 ghost use Rattle.lat_model.specs.sessions.Sessions.{named, held};
 ghost use Rattle.lat_model.specs.sessions.Slots.{items, credits, costs};
-ghost use Rattle.lat_stream.specs.Kept.{told_total, state_shown};
+ghost use Rattle.lat_stream.specs.Kept.{saturated, state_shown};
 ghost use Rattle.lat_session.specs.States.{asked_of, asked_at, is_asked};
 ghost use Rattle.lat_session.specs.Table.{state_at, waiting_at};
 ghost use Rattle.lat_circuit.specs.Agrees.{span_of};
@@ -116,7 +116,9 @@ impl Circuit {
     pub fn asked_count(&self) -> u8
         ensures model { (e : End) →
             Stands self.now e →
-            result ≡ length (filter (λ id. is_asked (state_shown (state e.half.sessions.master (named e.half.sessions id)))) (upwards 0 64)) }
+            result ≡ length (filter
+            (λ id. is_asked (state_shown (state e.half.sessions.master (named e.half.sessions id))))
+            (upwards 0 64)) }
         ensures slave { (e : End) →
             Stands self.now e →
             e.half.sessions.master ≡ false →
@@ -131,7 +133,9 @@ impl Circuit {
         ensures id { IfSome result (λ a. a.id ≡ id) }
         ensures model { (e : End) →
             Stands self.now e →
-            result ≡ cond (is_asked (state_shown (state e.half.sessions.master (named e.half.sessions id)))) (Some (asked_at e.half.sessions id)) None }
+            result ≡ cond (is_asked (state_shown (state e.half.sessions.master (named e.half.sessions id))))
+            (Some (asked_at e.half.sessions id))
+            None }
         ensures slave { (e : End) →
             Stands self.now e →
             e.half.sessions.master ≡ false →
@@ -185,7 +189,11 @@ impl Circuit {
         ensures value { result ≡ cond (is_none self.now.ended) (waiting_at self.now.sessions id) 0 }
         ensures model { (e : End) →
             Stands self.now e →
-            result ≡ cond (lives e) (cond (take_open (named e.half.sessions id)) (length (items (named e.half.sessions id).came) - (named e.half.sessions id).taken) 0) 0 }
+            result ≡ cond (lives e)
+            (cond (take_open (named e.half.sessions id))
+            (length (items (named e.half.sessions id).came) - (named e.half.sessions id).taken)
+            0)
+            0 }
     {
         if self.ended.is_none() {
             self.sessions.waiting(id)
@@ -199,7 +207,7 @@ impl Circuit {
     pub fn totals(&self, id: u8) -> (u64, u64)
         ensures { (e : End) →
             Stands self.now e →
-            result ≡ (told_total (credits (named e.half.sessions id).out), told_total (costs (named e.half.sessions id).out)) }
+            result ≡ (saturated (credits (named e.half.sessions id).out), saturated (costs (named e.half.sessions id).out)) }
     {
         self.sessions.totals(id)
     }

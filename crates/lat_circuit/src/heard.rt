@@ -6,9 +6,9 @@ ghost use Rattle.lat_frames.specs.Written.{IsWritable};
 ghost use Rattle.lat_model.specs.ends.End.{End};
 ghost use Rattle.lat_model.specs.ends.Starting.{reply_end};
 ghost use Rattle.lat_machines.specs.values.Timing.{agreed_by};
-ghost use Rattle.lat_circuit.specs.Frames.{timing_shown, head_shown, wide_head_shown, info_shown, message_shown};
-ghost use Rattle.lat_circuit.specs.Hears.{hears, hears_start, hears_reply, hears_stop, hears_noted, heard_shown, DidHear, Remains};
-ghost use Rattle.lat_circuit.specs.Stands.{Stands, Did};
+ghost use Rattle.lat_circuit.specs.Frames.{timing_shown, head_shown, wide_head_shown, info_shown};
+ghost use Rattle.lat_circuit.specs.Hears.{hears_start, hears_stop, heard_by, noted_by, reply_by, heard_shown, SimulatesHearing, Remains};
+ghost use Rattle.lat_circuit.specs.Stands.{Stands, Simulates};
 
 use crate::agreed::{agree_sessions, agreed_by, span_of};
 use crate::circuit::Circuit;
@@ -25,8 +25,8 @@ impl Circuit {
         requires lives { self.old.ended ≡ None }
         requires room { length out.old + 16 ≤ 256 }
         requires moment { self.old.moments.now ≤ now }
-        ensures did { Did (hears_noted self.old.facts.id (timing_shown self.old.facts.config.timing) now (message_shown m.now)) self.old self.new out.old out.new }
-        ensures answer { (e : End) → Stands self.old e → heard_shown result ≡ (hears self.old.facts.id (timing_shown self.old.facts.config.timing) now (message_shown m.now) e).answer }
+        ensures did { Simulates (noted_by self.old.facts now m.now) self.old self.new out.old out.new }
+        ensures answer { (e : End) → Stands self.old e → heard_shown result ≡ (heard_by self.old.facts now m.now e).answer }
         ensures remains { Remains now self.old self.new }
         ensures most { length out.new ≤ length out.old + 1 }
     {
@@ -41,7 +41,7 @@ impl Circuit {
         requires lives { self.old.ended ≡ None }
         requires room { length out.old + 16 ≤ 256 }
         requires moment { self.old.moments.now ≤ now }
-        ensures did { DidHear (hears self.old.facts.id (timing_shown self.old.facts.config.timing) now (message_shown m.now)) result self.old self.new out.old out.new }
+        ensures did { SimulatesHearing (heard_by self.old.facts now m.now) result self.old self.new out.old out.new }
         ensures remains { Remains now self.old self.new }
         ensures most { length out.new ≤ length out.old + 1 }
     {
@@ -72,7 +72,7 @@ impl Circuit {
         requires lives { self.old.ended ≡ None }
         requires room { length out.old < 256 }
         requires moment { self.old.moments.now ≤ now }
-        ensures did { DidHear (hears_start from now) result self.old self.new out.old out.new }
+        ensures did { SimulatesHearing (hears_start from now) result self.old self.new out.old out.new }
         ensures remains { Remains now self.old self.new }
         ensures most { length out.new ≤ length out.old + 1 }
     {
@@ -103,7 +103,7 @@ impl Circuit {
         requires source { 0 < from }
         requires lives { self.old.ended ≡ None }
         requires moment { self.old.moments.now ≤ now }
-        ensures did { DidHear (hears_reply self.old.facts.id now (timing_shown self.old.facts.config.timing) to from (info_shown info.now)) result self.old self.new [] [] }
+        ensures did { SimulatesHearing (reply_by self.old.facts now to from info.now) result self.old self.new [] [] }
         ensures remains { Remains now self.old self.new }
     {
         if !self.is_replied(to, from) {
@@ -132,7 +132,9 @@ impl Circuit {
         requires source { 0 < from }
         requires calls { self.old.running ≡ false }
         requires heard { self.old.moments.heard_at ≡ self.old.moments.now }
-        ensures did { (e : End) → Stands self.old e → Stands self.new (reply_end self.old.moments.now from (agreed_by (timing_shown self.old.facts.config.timing) (info_shown info.now)) e) }
+        ensures did { (e : End) →
+            Stands self.old e →
+            Stands self.new (reply_end self.old.moments.now from (agreed_by (timing_shown self.old.facts.config.timing) (info_shown info.now)) e) }
         ensures remains { Remains self.old.moments.now self.old self.new }
     {
         let agreed = agreed_by(&self.config.timing, info);
@@ -153,7 +155,7 @@ impl Circuit {
     fn hear_stop(&mut self, to: u16, from: u16, reason: u8, now: u64) -> Heard
         requires lives { self.old.ended ≡ None }
         requires moment { self.old.moments.now ≤ now }
-        ensures did { DidHear (hears_stop self.old.facts.id now to from reason) result self.old self.new [] [] }
+        ensures did { SimulatesHearing (hears_stop self.old.facts.id now to from reason) result self.old self.new [] [] }
         ensures remains { Remains now self.old self.new }
     {
         if !self.is_stopped(to, from) {

@@ -16,19 +16,16 @@ ghost use Rattle.lat_session.specs.Stands.{Stands as SessionsStand};
 ghost use Rattle.lat_session.specs.Table.{SameEnd};
 ghost use Rattle.lat_circuit.specs.Applies.{number_heard, ack_heard, apply_slots, apply_body, apply, applied_step, slave_occasion, Applies, GoesOn};
 ghost use Rattle.lat_circuit.specs.Frames.{wide_head_shown};
-ghost use Rattle.lat_circuit.specs.Hears.{hears_run, DidHear, Remains};
-ghost use Rattle.lat_circuit.specs.Stands.{Stands, Did};
+ghost use Rattle.lat_circuit.specs.Hears.{hears_run, SimulatesHearing, Remains};
+ghost use Rattle.lat_circuit.specs.Stands.{Stands, Simulates};
 ghost use Rattle.lat_circuit.specs.Steps.{Keeps};
 
 use crate::circuit::Circuit;
 use lat_base::{Heard, OutBox};
-use lat_frames::WideHead;
+use lat_frames::{CircuitEnd, WideHead};
 use lat_seq::AckFact;
 use lat_session::Sessions;
 use lat_slots::Slot;
-
-/// The reason of a circuit that its peer broke.
-const BROKEN: u8 = 2;
 
 /// A RUN that breaks the circuit: it acknowledges what was never sent, or has a bad slot.
 #[derive(Clone, Copy, Debug)]
@@ -50,7 +47,7 @@ impl Circuit {
         requires moment { self.old.moments.now ≤ now }
         requires fields { wide ≡ false → (head.seq < 256) × (head.ack < 256) }
         requires slots { (length slots.now < 256) × AllByRecursion IsWritable slots.now }
-        ensures did { DidHear (hears_run self.old.facts.id now wide (wide_head_shown head) (map told slots.now)) result self.old self.new out.old out.new }
+        ensures did { SimulatesHearing (hears_run self.old.facts.id now wide (wide_head_shown head) (map told slots.now)) result self.old self.new out.old out.new }
         ensures remains { Remains now self.old self.new }
         ensures most { length out.new ≤ length out.old + 1 }
     {
@@ -90,7 +87,7 @@ impl Circuit {
         requires room { length out.old < 256 }
         requires fields { (head.now.seq < 2 * half self.old.link.sending.span) × (head.now.ack < 2 * half self.old.link.sending.span) }
         requires slots { (length slots.now < 256) × AllByRecursion IsWritable slots.now }
-        ensures did { DidHear (λ e. applied_step (apply (wide_head_shown head.now) (map told slots.now) e)) result self.old self.new out.old out.new }
+        ensures did { SimulatesHearing (λ e. applied_step (apply (wide_head_shown head.now) (map told slots.now) e)) result self.old self.new out.old out.new }
         ensures keeps { Keeps self.old self.new }
         ensures most { length out.new ≤ length out.old + 1 }
     {
@@ -100,8 +97,8 @@ impl Circuit {
                 answer
             }
             Err(Broken) => {
-                self.finish(BROKEN, out);
-                Heard::Broke(BROKEN)
+                self.finish(CircuitEnd::Broken, out);
+                Heard::Broke(CircuitEnd::Broken.bits())
             }
         }
     }
@@ -111,7 +108,7 @@ impl Circuit {
         requires lives { self.old.ended ≡ None }
         requires running { self.old.running ≡ true }
         requires room { length out.old < 256 }
-        ensures did { Did slave_occasion self.old self.new out.old out.new }
+        ensures did { Simulates slave_occasion self.old self.new out.old out.new }
         ensures keeps { Keeps self.old self.new }
         ensures most { length out.new ≤ length out.old + 1 }
     {
@@ -138,7 +135,10 @@ impl Circuit {
         requires running { self.old.running ≡ true }
         requires field { ack < 2 * half self.old.link.sending.span }
         ensures answer { (e : End) → Stands self.old e → is_err result ≡ is_unsent e.half.link (ack_heard ack e) }
-        ensures state { (e : End) → Stands self.old e → is_unsent e.half.link (ack_heard ack e) ≡ false → Stands self.new (ack_end (ack_heard ack e) e) }
+        ensures state { (e : End) →
+            Stands self.old e →
+            is_unsent e.half.link (ack_heard ack e) ≡ false →
+            Stands self.new (ack_end (ack_heard ack e) e) }
         ensures err { OnErr result (self.new ≡ self.old) }
         ensures span { self.new.link.sending.span ≡ self.old.link.sending.span }
         ensures keeps { Keeps self.old self.new }

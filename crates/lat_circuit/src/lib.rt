@@ -10,6 +10,7 @@ mod heard;
 mod heard_run;
 mod making;
 mod moments;
+mod named;
 mod room;
 mod start;
 mod steps;
@@ -18,7 +19,7 @@ mod timers;
 
 pub use circuit::Circuit;
 pub use config::{CircuitConfig, Timing};
-pub use lat_session::{Asked, SessionFault};
+pub use lat_session::{Asked, SessionCall, SessionFault};
 pub use room::CircuitRoom;
 pub use start::refusal;
 pub use time::Due;

@@ -1,15 +1,10 @@
 //! How a circuit begins, and what is left of it.
 
-ghost use Rattle.std.specs.Prelude.{◌≡◌, ◌+◌, ◌<◌, ◌≤◌, true, false, length, IfOk, OnErr};
+ghost use Rattle.std.specs.Prelude.{◌≡◌, ◌+◌, ◌<◌, ◌≤◌, true, length, IfOk, OnErr};
 ghost use Rattle.lat_frames.specs.Conditions.{InfoFits};
-ghost use Rattle.lat_model.specs.circuits.World.{first_end};
-ghost use Rattle.lat_model.specs.ends.Starting.{make_slave};
-ghost use Rattle.lat_machines.specs.cores.Acts.{called};
-ghost use Rattle.lat_machines.specs.cores.Cores.{setup_of};
-ghost use Rattle.lat_machines.specs.values.Timing.{agreed_by};
 ghost use Rattle.lat_circuit.specs.Agrees.{IsTiming};
-ghost use Rattle.lat_circuit.specs.Begins.{Begins, facts_called, facts_answered};
-ghost use Rattle.lat_circuit.specs.Frames.{timing_shown, info_shown};
+ghost use Rattle.lat_circuit.specs.Begins.{HasCalled, HasAnswered};
+ghost use Rattle.lat_circuit.specs.Frames.{info_shown};
 
 use crate::agreed::{agree_sessions, agreed_by, span_of};
 use crate::circuit::Circuit;
@@ -36,7 +31,7 @@ impl Circuit {
         requires id { 0 < id }
         requires sessions { config.now.timing.sessions ≤ room }
         requires frames { length out.old + 16 ≤ 256 }
-        ensures begins { Begins (called (setup_of (timing_shown config.now.timing)) now) (facts_called config.now id) room now result out.old out.new }
+        ensures begins { HasCalled config.now id room now result out.old out.new }
     {
         let CircuitRoom {
             mut link,
@@ -79,7 +74,8 @@ impl Circuit {
         requires timing { IsTiming config.now.timing }
         requires id { 0 < id }
         requires frames { length out.old + 16 ≤ 256 }
-        ensures begins { IfOk result (λ circuit. Begins (called (setup_of (timing_shown config.now.timing)) now) (facts_called config.now id) config.now.timing.sessions now circuit out.old out.new) }
+        ensures begins { IfOk result (λ circuit.
+            HasCalled config.now id config.now.timing.sessions now circuit out.old out.new) }
         ensures err { OnErr result (out.new ≡ out.old) }
     {
         let room = CircuitRoom::make(alloc, config.timing.sessions)?;
@@ -102,7 +98,7 @@ impl Circuit {
         requires info { InfoFits true info.now }
         requires sessions { config.now.timing.sessions ≤ room }
         requires frames { length out.old + 16 ≤ 256 }
-        ensures begins { Begins (make_slave now from (agreed_by (timing_shown config.now.timing) (info_shown info.now)) (first_end false false (setup_of (timing_shown config.now.timing)))) (facts_answered config.now id from (info_shown info.now)) room now result out.old out.new }
+        ensures begins { HasAnswered config.now id from (info_shown info.now) room now result out.old out.new }
     {
         let CircuitRoom {
             mut link,
@@ -150,7 +146,8 @@ impl Circuit {
         requires ids { (0 < id) × (0 < from) }
         requires info { InfoFits true info.now }
         requires frames { length out.old + 16 ≤ 256 }
-        ensures begins { IfOk result (λ circuit. Begins (make_slave now from (agreed_by (timing_shown config.now.timing) (info_shown info.now)) (first_end false false (setup_of (timing_shown config.now.timing)))) (facts_answered config.now id from (info_shown info.now)) config.now.timing.sessions now circuit out.old out.new) }
+        ensures begins { IfOk result (λ circuit.
+            HasAnswered config.now id from (info_shown info.now) config.now.timing.sessions now circuit out.old out.new) }
         ensures err { OnErr result (out.new ≡ out.old) }
     {
         let room = CircuitRoom::make(alloc, config.timing.sessions)?;

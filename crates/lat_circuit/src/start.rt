@@ -3,6 +3,7 @@
 ghost use Rattle.std.specs.Prelude.{◌≡◌, ◌+◌, ◌<◌, ◌≤◌, ◌++◌, [], ◌∷◌, length, map, false};
 ghost use Rattle.lat_base.specs.Names.{IsName};
 ghost use Rattle.lat_base.specs.declared.outbox.Mark.TheVariants as marks;
+ghost use Rattle.lat_base.specs.Lending.{frame_of};
 ghost use Rattle.lat_fields.specs.Params.{params_text};
 ghost use Rattle.lat_fields.specs.Payloads.{padded};
 ghost use Rattle.lat_frames.specs.Written.{message_text};
@@ -16,14 +17,8 @@ ghost use Rattle.lat_circuit.specs.Frames.{IsFormed, start_info, start_message, 
 use crate::circuit::{Circuit, lend};
 use lat_base::{Addr, Mark, Name, OutBox, OutFrame, Payload};
 use lat_fields::{write_counted, write_number, write_padding};
-use lat_frames::write_plain_head;
+use lat_frames::{CircuitEnd, MessageKind, write_plain_head};
 use lat_seq::Span;
-
-/// The type of a START; see "Circuit messages" in docs/FORMATS.md.
-const START: u8 = 1;
-
-/// The type of a STOP.
-const STOP: u8 = 2;
 
 /// The greatest frame that an end takes.
 pub(crate) const FRAME_SIZE: u16 = 1500;
@@ -39,9 +34,6 @@ pub(crate) const SPAN: u8 = 200;
 
 /// Its byte where they have two.
 pub(crate) const WIDE: u8 = 2;
-
-/// The reason of a STOP where resources are insufficient.
-const NO_RESOURCES: u8 = 7;
 
 /// A START of this program: what it states beside the size, the version and what is always 0.
 #[derive(Clone, Copy, Debug)]
@@ -72,7 +64,14 @@ impl Start {
         ensures text { out.new ≡ padded (message_text (message_of (start_message self.now))) }
         ensures names { IsName self.now.slave × IsName self.now.name }
     {
-        write_plain_head(START, self.master, false, self.to, self.from, out);
+        write_plain_head(
+            MessageKind::Start,
+            self.master,
+            false,
+            self.to,
+            self.from,
+            out,
+        );
         self.write_numbers(out);
         write_counted(out, self.slave.bytes());
         write_counted(out, self.name.bytes());
@@ -115,7 +114,7 @@ fn write_stop(master: bool, to: u16, from: u16, reason: u8, out: &mut Payload)
     requires { out.old ≡ [] }
     ensures { out.new ≡ padded (message_text (message_of (StopMessage master false to from reason []))) }
 {
-    write_plain_head(STOP, master, false, to, from, out);
+    write_plain_head(MessageKind::Stop, master, false, to, from, out);
     out.push(reason);
     write_counted(out, &[]);
     write_padding(out);
@@ -125,11 +124,17 @@ fn write_stop(master: bool, to: u16, from: u16, reason: u8, out: &mut Payload)
 /// circuit's id there, and states no id of its own.
 #[tactic(auto, using(crate::proofs::Messages::stop_formed))]
 pub fn refusal(to: Addr, circuit: u16) -> OutFrame
-    ensures value { result ≡ record { to = to; payload = padded (message_text (message_of (StopMessage false false circuit 0 7 []))); circuit = 0; mark = marks.Plain } }
+    ensures value { result ≡ frame_of to 0 marks.Plain (padded (message_text (message_of (StopMessage false false circuit 0 7 [])))) }
     ensures formed { 0 < circuit → IsFormed (StopMessage false false circuit 0 7 []) }
 {
     let mut payload = Payload::empty();
-    write_stop(false, circuit, 0, NO_RESOURCES, &mut payload);
+    write_stop(
+        false,
+        circuit,
+        0,
+        CircuitEnd::NoResources.bits(),
+        &mut payload,
+    );
     OutFrame {
         to,
         payload,
@@ -191,7 +196,10 @@ impl Circuit {
     /// Sends a START to the peer.
     pub(crate) fn push_start(&self, start: Start, out: &mut OutBox)
         requires { length out.old < 256 }
-        ensures frame { out.new ≡ out.old ++ record { to = self.now.facts.config.peer; payload = padded (message_text (message_of (start_message start))); circuit = self.now.facts.id; mark = marks.Plain } ∷ [] }
+        ensures frame { out.new
+            ≡ out.old
+            ++ frame_of self.now.facts.config.peer self.now.facts.id marks.Plain (padded (message_text (message_of (start_message start))))
+            ∷ [] }
         ensures names { IsName start.slave × IsName start.name }
     {
         start.write(lend(out, self, Mark::Plain));

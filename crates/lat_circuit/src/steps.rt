@@ -3,17 +3,19 @@
 ghost use Rattle.std.specs.Prelude.{◌≡◌, ◌+◌, ◌<◌, ◌≤◌, ◌++◌, true, false, cond, List, [], ◌∷◌, length, map};
 ghost use Rattle.lat_base.specs.declared.outbox.Mark.TheVariants.{Fresh};
 ghost use Rattle.lat_base.specs.Lending.{frame_of};
+ghost use Rattle.lat_frames.specs.Reasons.{end_bits};
 ghost use Rattle.lat_model.specs.ends.End.{End, send_bare, settle, occasion, send_again, marked, send_start, finish, all_known};
-ghost use Rattle.lat_model.specs.numbers.Link.{again_frames, formed_frame};
+ghost use Rattle.lat_model.specs.numbers.Link.{again_frames};
 ghost use Rattle.lat_model.specs.sessions.Slots.{Slot};
-ghost use Rattle.lat_link.specs.Payloads.{head_size, frame_head, slots_as_text};
-ghost use Rattle.lat_link.specs.Links.{IsMessage};
+ghost use Rattle.lat_link.specs.Payloads.{head_size};
+ghost use Rattle.lat_link.specs.Links.{IsMessage, unformed_payload};
 ghost use Rattle.lat_circuit.specs.Frames.{AreFormed, frame_sent};
-ghost use Rattle.lat_circuit.specs.Stands.{Stands, Did};
+ghost use Rattle.lat_circuit.specs.Stands.{Stands, Simulates};
 ghost use Rattle.lat_circuit.specs.Steps.{Keeps, form_slots};
 
 use crate::circuit::{Circuit, lend};
 use lat_base::{Mark, OutBox, Payload};
+use lat_frames::CircuitEnd;
 
 impl Circuit {
     /// Whether no message is unacknowledged.
@@ -27,7 +29,7 @@ impl Circuit {
     pub(crate) fn send_bare(&mut self, ask: bool, out: &mut OutBox)
         requires room { length out.old < 256 }
         requires running { self.old.running ≡ true }
-        ensures did { Did (send_bare ask) self.old self.new out.old out.new }
+        ensures did { Simulates (send_bare ask) self.old self.new out.old out.new }
         ensures keeps { Keeps self.old self.new }
         ensures most { length out.new ≤ length out.old + 1 }
     {
@@ -40,7 +42,7 @@ impl Circuit {
     pub(crate) fn settle(&mut self, out: &mut OutBox)
         requires room { length out.old < 256 }
         requires running { self.old.running ≡ true }
-        ensures did { Did settle self.old self.new out.old out.new }
+        ensures did { Simulates settle self.old self.new out.old out.new }
         ensures keeps { Keeps self.old self.new }
         ensures most { length out.new ≤ length out.old + 1 }
     {
@@ -69,7 +71,7 @@ impl Circuit {
         ensures did { (e : End) (m : List Slot) →
             Stands self.old e →
             IsMessage self.old.link.sending.span m →
-            payload.old ≡ frame_head self.old.link.ids self.old.link.sending.span false (formed_frame e.half.link m) 0 ++ slots_as_text m →
+            payload.old ≡ unformed_payload self.old.link e.half.link m →
             length m ≡ slots →
             Stands self.new (form_slots m e).end
             × (frame_of self.new.facts.config.peer self.new.facts.id Fresh payload.new ∷ [] ≡ map (frame_sent self.new.facts) (form_slots m e).sent)
@@ -87,7 +89,7 @@ impl Circuit {
     pub(crate) fn occasion(&mut self, out: &mut OutBox)
         requires room { length out.old < 256 }
         requires running { self.old.running ≡ true }
-        ensures did { Did occasion self.old self.new out.old out.new }
+        ensures did { Simulates occasion self.old self.new out.old out.new }
         ensures keeps { Keeps self.old self.new }
         ensures most { length out.new ≤ length out.old + 1 }
     {
@@ -122,7 +124,7 @@ impl Circuit {
         requires room { length out.old + 8 ≤ 256 }
         requires rounds { self.old.rounds < 8 }
         requires running { self.old.running ≡ true }
-        ensures did { Did send_again self.old self.new out.old out.new }
+        ensures did { Simulates send_again self.old self.new out.old out.new }
         ensures keeps { Keeps self.old self.new }
         ensures most { length out.new ≤ length out.old + 8 }
     {
@@ -138,7 +140,7 @@ impl Circuit {
         requires room { length out.old < 256 }
         requires rounds { self.old.rounds < 8 }
         requires calling { self.old.running ≡ false }
-        ensures did { Did send_start self.old self.new out.old out.new }
+        ensures did { Simulates send_start self.old self.new out.old out.new }
         ensures keeps { Keeps self.old self.new }
         ensures most { length out.new ≤ length out.old + 1 }
     {
@@ -149,12 +151,13 @@ impl Circuit {
     }
 
     /// The circuit ends by this end itself, for this reason. The peer is told where its id is known.
-    pub(crate) fn finish(&mut self, reason: u8, out: &mut OutBox)
+    pub(crate) fn finish(&mut self, end: CircuitEnd, out: &mut OutBox)
         requires { length out.old < 256 }
-        ensures did { Did (finish reason) self.old self.new out.old out.new }
+        ensures did { Simulates (finish (end_bits end)) self.old self.new out.old out.new }
         ensures keeps { Keeps self.old self.new }
         ensures most { length out.new ≤ length out.old + 1 }
     {
+        let reason = end.bits();
         self.ended = Some(reason);
         if self.link.ids().to != 0 {
             self.write_stop(reason, lend(out, self, Mark::Plain));

@@ -4,21 +4,16 @@ ghost use Rattle.std.specs.Prelude.{◌≡◌, ◌+◌, ◌<◌, ◌≤◌, true
 ghost use Rattle.lat_model.specs.ends.End.{End, send_again, send_start};
 ghost use Rattle.lat_model.specs.ends.Timers.{note_empty, time_step, a_round, rounds_step, alive_step, due_step, living};
 ghost use Rattle.lat_session.specs.Table.{SameEnd};
-ghost use Rattle.lat_circuit.specs.Stands.{Stands, Did};
+ghost use Rattle.lat_circuit.specs.Stands.{Stands, Simulates};
 ghost use Rattle.lat_circuit.specs.Steps.{Keeps};
 ghost use Rattle.lat_circuit.specs.Times.{act_step, form_due, due_told, due_of};
 
 use crate::circuit::Circuit;
 use lat_base::OutBox;
+use lat_frames::CircuitEnd;
 
 /// How many rounds of repeats there are without progress. In place of one more the circuit ends.
 const ROUNDS: u8 = 8;
-
-/// The reason of a circuit that ends since it carries no session.
-const NO_USE: u8 = 3;
-
-/// The reason of one that ends since the peer no longer answers.
-const NO_ANSWER: u8 = 6;
 
 /// What a circuit did at a time event.
 #[derive(Clone, Copy, Debug, PartialEq, Eq)]
@@ -38,7 +33,7 @@ impl Circuit {
         requires lives { self.old.ended ≡ None }
         requires room { length out.old + 16 ≤ 256 }
         requires moment { self.old.moments.now ≤ now }
-        ensures did { Did (λ e. note_empty e (time_step now e)) self.old self.new out.old out.new }
+        ensures did { Simulates (λ e. note_empty e (time_step now e)) self.old self.new out.old out.new }
         ensures answer { (e : End) → Stands self.old e → result ≡ due_of (note_empty e (time_step now e)) }
         ensures facts { self.new.facts ≡ self.old.facts }
         ensures moment { self.new.moments.now ≡ now }
@@ -76,15 +71,15 @@ impl Circuit {
     // What is due at the moment.
     fn act(&mut self, out: &mut OutBox)
         requires room { length out.old + 16 ≤ 256 }
-        ensures did { Did act_step self.old self.new out.old out.new }
+        ensures did { Simulates act_step self.old self.new out.old out.new }
         ensures keeps { Keeps self.old self.new }
         ensures most { length out.new ≤ length out.old + 16 }
     {
         if self.is_silent() {
-            return self.finish(NO_ANSWER, out);
+            return self.finish(CircuitEnd::NoAnswer, out);
         }
         if self.is_unused() {
-            return self.finish(NO_USE, out);
+            return self.finish(CircuitEnd::NoUse, out);
         }
         self.rounds_step(out);
         self.living_due(out);
@@ -93,7 +88,7 @@ impl Circuit {
     // The repeats of messages, or of START where no reply was heard.
     fn rounds_step(&mut self, out: &mut OutBox)
         requires { length out.old + 8 ≤ 256 }
-        ensures did { Did rounds_step self.old self.new out.old out.new }
+        ensures did { Simulates rounds_step self.old self.new out.old out.new }
         ensures keeps { Keeps self.old self.new }
         ensures most { length out.new ≤ length out.old + 8 }
     {
@@ -109,35 +104,35 @@ impl Circuit {
     fn round_again(&mut self, out: &mut OutBox)
         requires room { length out.old + 8 ≤ 256 }
         requires running { self.old.running ≡ true }
-        ensures did { Did (a_round send_again) self.old self.new out.old out.new }
+        ensures did { Simulates (a_round send_again) self.old self.new out.old out.new }
         ensures keeps { Keeps self.old self.new }
         ensures most { length out.new ≤ length out.old + 8 }
     {
         if self.rounds < ROUNDS {
             self.send_again(out);
         } else {
-            self.finish(NO_ANSWER, out);
+            self.finish(CircuitEnd::NoAnswer, out);
         }
     }
 
     fn round_start(&mut self, out: &mut OutBox)
         requires room { length out.old < 256 }
         requires calling { self.old.running ≡ false }
-        ensures did { Did (a_round send_start) self.old self.new out.old out.new }
+        ensures did { Simulates (a_round send_start) self.old self.new out.old out.new }
         ensures keeps { Keeps self.old self.new }
         ensures most { length out.new ≤ length out.old + 1 }
     {
         if self.rounds < ROUNDS {
             self.send_start(out);
         } else {
-            self.finish(NO_ANSWER, out);
+            self.finish(CircuitEnd::NoAnswer, out);
         }
     }
 
     // What the timer brings, where the circuit still lives.
     fn living_due(&mut self, out: &mut OutBox)
         requires { length out.old + 2 ≤ 256 }
-        ensures did { Did (living due_step) self.old self.new out.old out.new }
+        ensures did { Simulates (living due_step) self.old self.new out.old out.new }
         ensures keeps { Keeps self.old self.new }
         ensures most { length out.new ≤ length out.old + 2 }
     {
@@ -148,7 +143,7 @@ impl Circuit {
 
     fn due_step(&mut self, out: &mut OutBox)
         requires { length out.old + 2 ≤ 256 }
-        ensures did { Did due_step self.old self.new out.old out.new }
+        ensures did { Simulates due_step self.old self.new out.old out.new }
         ensures keeps { Keeps self.old self.new }
         ensures most { length out.new ≤ length out.old + 2 }
     {
@@ -160,7 +155,7 @@ impl Circuit {
 
     fn form_due(&mut self, out: &mut OutBox)
         requires { length out.old < 256 }
-        ensures did { Did form_due self.old self.new out.old out.new }
+        ensures did { Simulates form_due self.old self.new out.old out.new }
         ensures keeps { Keeps self.old self.new }
         ensures most { length out.new ≤ length out.old + 1 }
     {
@@ -180,7 +175,7 @@ impl Circuit {
     // Where it has sent nothing for long, it asks for an answer.
     fn alive_step(&mut self, out: &mut OutBox)
         requires { length out.old < 256 }
-        ensures did { Did alive_step self.old self.new out.old out.new }
+        ensures did { Simulates alive_step self.old self.new out.old out.new }
         ensures keeps { Keeps self.old self.new }
         ensures most { length out.new ≤ length out.old + 1 }
     {

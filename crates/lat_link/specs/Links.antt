@@ -1,15 +1,16 @@
 -- What one end keeps of its numbered messages, and the messages of the model that it stands for.
-use Rattle.std.specs.Prelude.{◌≡◌, ℕ, suc, ◌+◌, ◌*◌, ◌<◌, ◌≤◌, false, List, [], ◌∷◌, length, drop, Some}
+use Rattle.std.specs.Prelude.{◌≡◌, ℕ, suc, ◌+◌, ◌*◌, ◌<◌, ◌≤◌, Bool, false, List, [], ◌∷◌, ◌++◌, length, drop, Some}
 use Rattle.std.specs.List.{All}
 use Rattle.lat_model.specs.Lists.{Each}
-use Rattle.lat_model.specs.numbers.Link.{Link}
+use Rattle.lat_model.specs.numbers.Link.{Link, Frame, formed_frame}
+use Rattle.lat_model.specs.numbers.Near.{near}
 use Rattle.lat_model.specs.sessions.Slots.{Slot}
 use Rattle.lat_seq.specs.declared.span.Span.{Span}
 use Rattle.lat_seq.specs.Spans.{half}
 use Rattle.lat_seq.specs.Sides.{Sending, Receiving, Sends, Takes}
 use Rattle.lat_stream.specs.Wire.{IsFormed}
 use Rattle.lat_link.specs.declared.ids.Ids.{Ids}
-use Rattle.lat_link.specs.Payloads.{head_size, slots_as_text, run_payload}
+use Rattle.lat_link.specs.Payloads.{head_size, slots_as_text, frame_head, run_payload}
 
 pub record Kept : Type 0 where
   pub ids : Ids
@@ -61,3 +62,19 @@ pub record Stands (k : Kept) (l : Link (List Slot)) : Type 0 where
   pub takes : Takes k.receiving (length l.came)
   pub texts : AreTexts k.ids k.sending.span l.known (drop l.known l.sent) k.texts
   pub messages : Each (IsMessage k.sending.span) (drop l.known l.sent)
+
+-- the payload of a frame on this circuit
+abbrev pub frame_payload : Kept → Bool → Frame (List Slot) → List ℕ
+frame_payload k ask f = run_payload k.ids k.sending.span ask f
+
+-- the head of the next message, as one of no slots
+abbrev pub next_head : Kept → Link (List Slot) → List Slot → List ℕ
+next_head k l m = frame_head k.ids k.sending.span false (formed_frame l m) 0
+
+-- that head and the slots behind it: the next message before it is formed
+abbrev pub unformed_payload : Kept → Link (List Slot) → List Slot → List ℕ
+unformed_payload k l m = next_head k l m ++ slots_as_text m
+
+-- how many messages a field acknowledges
+abbrev pub acknowledged_by : Kept → Link (List Slot) → ℕ → ℕ
+acknowledged_by k l ack = near ack l.known (half k.sending.span)

@@ -1,10 +1,10 @@
 //! The frames that a link makes: a new message, a RUN without slots, and the messages that go out again.
 
-ghost use Rattle.std.specs.Prelude.{◌≡◌, ◌<◌, ◌≤◌, ◌++◌, List, [], length, false, map, slice_get, Some};
+ghost use Rattle.std.specs.Prelude.{◌≡◌, ◌<◌, ◌≤◌, List, [], length, false, map, slice_get, Some};
 ghost use Rattle.lat_model.specs.numbers.Link as model;
 ghost use Rattle.lat_model.specs.sessions.Slots.{Slot};
-ghost use Rattle.lat_link.specs.Links.{Stands, IsMessage};
-ghost use Rattle.lat_link.specs.Payloads.{head_size, slots_as_text, run_payload, frame_head};
+ghost use Rattle.lat_link.specs.Links.{Stands, IsMessage, frame_payload, next_head, unformed_payload};
+ghost use Rattle.lat_link.specs.Payloads.{head_size};
 
 use crate::head::{behind, write_head};
 use crate::link::Link;
@@ -17,7 +17,9 @@ impl Link {
     #[tactic(auto, using(crate::proofs::Numbers::field_small, crate::proofs::Numbers::field_next))]
     pub fn begin(&self, payload: &mut Payload)
         requires { payload.old ≡ [] }
-        ensures text { (l : model.Link (List Slot)) (m : List Slot) → Stands self.now l → payload.new ≡ frame_head self.now.ids self.now.sending.span false (model.formed_frame l m) 0 }
+        ensures text { (l : model.Link (List Slot)) (m : List Slot) →
+            Stands self.now l →
+            payload.new ≡ next_head self.now l m }
         ensures size { length payload.new ≡ head_size self.now.sending.span }
     {
         let span = self.span();
@@ -37,9 +39,21 @@ impl Link {
     pub fn form(&mut self, payload: &mut Payload, slots: u8)
         requires open { self.old.sending.unacknowledged < self.old.sending.window }
         requires head { head_size self.old.sending.span ≤ length payload.old }
-        ensures text { (l : model.Link (List Slot)) (m : List Slot) → Stands self.old l → payload.old ≡ frame_head self.old.ids self.old.sending.span false (model.formed_frame l m) 0 ++ slots_as_text m → length m ≡ slots → payload.new ≡ run_payload self.old.ids self.old.sending.span false (model.formed_frame l m) }
-        ensures state { (l : model.Link (List Slot)) (m : List Slot) → Stands self.old l → IsMessage self.old.sending.span m → payload.old ≡ frame_head self.old.ids self.old.sending.span false (model.formed_frame l m) 0 ++ slots_as_text m → length m ≡ slots → Stands self.new (model.form_message l m) }
-        ensures same { (self.new.ids ≡ self.old.ids) × (self.new.sending.span ≡ self.old.sending.span) × (self.new.sending.window ≡ self.old.sending.window) × (self.new.receiving ≡ self.old.receiving) }
+        ensures text { (l : model.Link (List Slot)) (m : List Slot) →
+            Stands self.old l →
+            payload.old ≡ unformed_payload self.old l m →
+            length m ≡ slots →
+            payload.new ≡ frame_payload self.old false (model.formed_frame l m) }
+        ensures state { (l : model.Link (List Slot)) (m : List Slot) →
+            Stands self.old l →
+            IsMessage self.old.sending.span m →
+            payload.old ≡ unformed_payload self.old l m →
+            length m ≡ slots →
+            Stands self.new (model.form_message l m) }
+        ensures same { (self.new.ids ≡ self.old.ids)
+            × (self.new.sending.span ≡ self.old.sending.span)
+            × (self.new.sending.window ≡ self.old.sending.window)
+            × (self.new.receiving ≡ self.old.receiving) }
     {
         set_slots(payload, slots);
         write_padding(payload);
@@ -51,7 +65,9 @@ impl Link {
     #[tactic(auto, using(crate::proofs::Numbers::field_small))]
     pub fn bare(&self, ask: bool, payload: &mut Payload)
         requires { payload.old ≡ [] }
-        ensures { (l : model.Link (List Slot)) → Stands self.now l → payload.new ≡ run_payload self.now.ids self.now.sending.span ask (model.bare_frame l) }
+        ensures { (l : model.Link (List Slot)) →
+            Stands self.now l →
+            payload.new ≡ frame_payload self.now ask (model.bare_frame l) }
     {
         let number = self.sending.newest();
         write_head(
@@ -70,7 +86,9 @@ impl Link {
     pub fn repeat(&self, place: usize, payload: &mut Payload)
         requires place { place < self.now.sending.unacknowledged }
         requires empty { payload.old ≡ [] }
-        ensures { (l : model.Link (List Slot)) → Stands self.now l → slice_get (map (run_payload self.now.ids self.now.sending.span false) (model.again_frames l)) place ≡ Some payload.new }
+        ensures { (l : model.Link (List Slot)) →
+            Stands self.now l →
+            slice_get (map (frame_payload self.now false) (model.again_frames l)) place ≡ Some payload.new }
     {
         if let Some(text) = self.texts.get(place) {
             payload.append(text.bytes());

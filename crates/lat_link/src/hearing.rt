@@ -7,7 +7,7 @@ ghost use Rattle.lat_model.specs.sessions.Slots.{Slot};
 ghost use Rattle.lat_seq.specs.declared.sending.AckFact.TheVariants.{Unsent};
 ghost use Rattle.lat_seq.specs.Spans.{half, field};
 ghost use Rattle.lat_seq.specs.Acks.{by_numbers};
-ghost use Rattle.lat_link.specs.Links.{Stands};
+ghost use Rattle.lat_link.specs.Links.{Stands, acknowledged_by};
 
 use crate::head::behind;
 use crate::link::Link;
@@ -18,10 +18,18 @@ impl Link {
     /// acknowledge are no longer kept; after `Old` and `Unsent` nothing has changed.
     pub fn acked(&mut self, ack: u16) -> AckFact
         requires { ack < 2 * half self.old.sending.span }
-        ensures answer { (l : model.Link (List Slot)) → Stands self.old l → result ≡ by_numbers (length l.sent) l.known (near ack l.known (half self.old.sending.span)) }
-        ensures state { (l : model.Link (List Slot)) → Stands self.old l → model.is_unsent l (near ack l.known (half self.old.sending.span)) ≡ false → Stands self.new (model.ack_in l (near ack l.known (half self.old.sending.span))) }
+        ensures answer { (l : model.Link (List Slot)) →
+            Stands self.old l →
+            result ≡ by_numbers (length l.sent) l.known (acknowledged_by self.old l ack) }
+        ensures state { (l : model.Link (List Slot)) →
+            Stands self.old l →
+            model.is_unsent l (acknowledged_by self.old l ack) ≡ false →
+            Stands self.new (model.ack_in l (acknowledged_by self.old l ack)) }
         ensures unsent { result ≡ Unsent → self.new ≡ self.old }
-        ensures same { (self.new.ids ≡ self.old.ids) × (self.new.sending.span ≡ self.old.sending.span) × (self.new.sending.window ≡ self.old.sending.window) × (self.new.receiving ≡ self.old.receiving) }
+        ensures same { (self.new.ids ≡ self.old.ids)
+            × (self.new.sending.span ≡ self.old.sending.span)
+            × (self.new.sending.window ≡ self.old.sending.window)
+            × (self.new.receiving ≡ self.old.receiving) }
     {
         let fact = self.sending.acked(ack);
         if let AckFact::New(_) = fact {
@@ -33,7 +41,9 @@ impl Link {
     /// Whether the number heard, a field of a frame below twice the half range, is that of the peer's next message.
     pub fn expects(&self, number: u16) -> bool
         requires { number < 2 * half self.now.sending.span }
-        ensures { (l : model.Link (List Slot)) → Stands self.now l → result ≡ model.is_next l (near number (length l.came) (half self.now.sending.span)) }
+        ensures { (l : model.Link (List Slot)) →
+            Stands self.now l →
+            result ≡ model.is_next l (near number (length l.came) (half self.now.sending.span)) }
     {
         self.receiving.expects(number)
     }
@@ -41,7 +51,9 @@ impl Link {
     /// Takes the peer's next message.
     #[tactic(auto, using(crate::proofs::Numbers::field_small, crate::proofs::Numbers::field_next))]
     pub fn take(&mut self)
-        ensures state { (l : model.Link (List Slot)) (m : List Slot) → Stands self.old l → Stands self.new (model.take_message l m) }
+        ensures state { (l : model.Link (List Slot)) (m : List Slot) →
+            Stands self.old l →
+            Stands self.new (model.take_message l m) }
         ensures same { (self.new.ids ≡ self.old.ids) × (self.new.sending ≡ self.old.sending) × (self.new.texts ≡ self.old.texts) }
     {
         let number = behind(self.span(), self.receiving.ack());

@@ -38,7 +38,9 @@ impl Model for Link {
 
     ghost view = { λ a. record { ids = a.ids; sending = a.sending; receiving = a.receiving; texts = a.texts.items } };
 
-    ghost invariant = { λ a. Holds a.window a.span (record { ids = a.ids; sending = a.sending; receiving = a.receiving; texts = a.texts.items }) × (a.texts.capacity ≡ 8) };
+    ghost invariant = { λ a.
+        Holds a.window a.span (record { ids = a.ids; sending = a.sending; receiving = a.receiving; texts = a.texts.items })
+        × (a.texts.capacity ≡ 8) };
 }
 
 impl Link {

@@ -121,10 +121,11 @@ placed_ask t e o from c size at old new st m place ceiling kept =
     pos zero h = absurd (h refl)
     pos (suc k) h = omega arith
 
-pub full_ask : (t : Table) (e : Sessions) (o : Opening) (from c size : ℕ) → Stands t e → e.master ≡ false → None ≡ cond (is_full e) None (Some (least_free e - 1)) →
-    record t { asks = t.asks ++ Rejected from 7 ∷ [] } ≡ table_of (length t.sessions) (ask_in e (asks_for from c size o.service o.request) o.service o.request)
-full_ask t e o from c size st m place =
-    ap (λ (z : Table). record z { asks = z.asks ++ Rejected from 7 ∷ [] }) st.is
+pub full_ask : (t : Table) (e : Sessions) (o : Opening) (from c size reason : ℕ) → Stands t e → e.master ≡ false → None ≡ cond (is_full e) None (Some (least_free e - 1)) → reason ≡ 7 →
+    record t { asks = t.asks ++ Rejected from reason ∷ [] } ≡ table_of (length t.sessions) (ask_in e (asks_for from c size o.service o.request) o.service o.request)
+full_ask t e o from c size reason st m place is =
+    ap (λ (z : ℕ). record t { asks = t.asks ++ Rejected from z ∷ [] }) is
+    ∙ ap (λ (z : Table). record z { asks = z.asks ++ Rejected from 7 ∷ [] }) st.is
     ∙ sym (full_table (length t.sessions) e from c size o.service o.request st.good m (none_place (is_full e) (least_free e - 1) place))
 
 -- one more ask in the list

@@ -16,6 +16,7 @@ pub mod Counts
 pub mod Reached
 pub mod Asking
 pub mod Results
+pub mod Called
 pub mod Reasons
 pub mod Begins
 pub mod HearAt

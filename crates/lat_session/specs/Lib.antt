@@ -4,3 +4,4 @@ pub mod Stands
 pub mod Places
 pub mod Packed
 pub mod Hears
+pub mod Calls

@@ -1,18 +1,21 @@
 //! The local calls. After a refusal nothing has changed, and none takes memory.
 
-ghost use Rattle.std.specs.Prelude.{◌≡◌, ◌≤◌, ◌++◌, ◌&&◌, cond, true, map, length, drop, min, nat_lt, not, filter, vec_capacity, IfOk, if◌then◌else◌};
+ghost use Rattle.std.specs.Prelude.{◌≡◌, ◌≤◌, ◌++◌, ℕ, Bool, cond, true, map, length, drop, min, nat_lt, not, filter, vec_capacity, IfOk, if◌then◌else◌};
 ghost use Rattle.lat_base.specs.declared.state.SessionState.TheVariants as states;
-ghost use Rattle.lat_model.specs.sessions.Calls.{call, put_count, take_count, took, Connect, Put, Set, Attend, Take, Close, Answer, Refuse};
-ghost use Rattle.lat_model.specs.sessions.Session.{put_open, take_open, unframed};
+ghost use Rattle.lat_model.specs.sessions.Calls.{call as called, take_count, took, Connect, Take, Answer, Refuse};
+ghost use Rattle.lat_model.specs.sessions.Session.{Session, take_open};
 ghost use Rattle.lat_model.specs.sessions.Sessions.{Sessions as States, named, held, least_free};
-ghost use Rattle.lat_stream.specs.Kept.{item_shown};
+ghost use Rattle.lat_stream.specs.Kept.{item_shown, kept_of};
+ghost use Rattle.lat_stream.specs.Sound.{Sound};
+ghost use Rattle.lat_session.specs.Calls.{call_of, answer_of, bytes_in, is_taken, after, without_bytes};
 ghost use Rattle.lat_session.specs.Stands.{Stands};
 ghost use Rattle.lat_session.specs.Table.{state_at, waiting_at, waits_as, SameEnd};
 
 use crate::ask::Ask;
+use crate::call::SessionCall;
 use crate::table::Sessions;
 use lat_base::{Item, Name};
-use lat_stream::SessionFault;
+use lat_stream::{SessionFault, Stream};
 
 impl Sessions {
     /// Asks the peer for a session with a service, which may answer a request, and gives its id: the least that is free.
@@ -22,7 +25,7 @@ impl Sessions {
         ensures answer { (e : States) →
             Stands self.old e →
             result ≡ (if nat_lt (held e) e.agreed then Ok (least_free e) else Err SessionFault.Full) }
-        ensures state { (e : States) → Stands self.old e → Stands self.new (call e (Connect service.now request)) }
+        ensures state { (e : States) → Stands self.old e → Stands self.new (called e (Connect service.now request)) }
         ensures same { SameEnd self.old self.new }
     {
         if self.held() >= self.agreed {
@@ -41,7 +44,7 @@ impl Sessions {
     /// Accepts an asked session, which is live at once.
     pub fn answer(&mut self, id: u8)
         requires { state_at self.old id ≡ states.Asked }
-        ensures state { (e : States) → Stands self.old e → Stands self.new (call e (Answer id)) }
+        ensures state { (e : States) → Stands self.old e → Stands self.new (called e (Answer id)) }
         ensures same { SameEnd self.old self.new }
     {
         if let Some(at) = self.place(id) {
@@ -55,7 +58,7 @@ impl Sessions {
     pub fn reject(&mut self, id: u8, reason: u8)
         requires asked { state_at self.old id ≡ states.Asked }
         requires reason { reason ≤ 15 }
-        ensures state { (e : States) → Stands self.old e → Stands self.new (call e (Refuse id reason)) }
+        ensures state { (e : States) → Stands self.old e → Stands self.new (called e (Refuse id reason)) }
         ensures same { SameEnd self.old self.new }
     {
         if let Some(at) = self.place(id) {
@@ -66,57 +69,18 @@ impl Sessions {
         }
     }
 
-    /// Takes the first bytes, as many as there is room for: 4,096 items wait to be framed at most. `Closed` exactly where
-    /// the session is neither calling nor live, or `close` was called.
-    pub fn put(&mut self, id: u8, bytes: &[u8]) -> Result<usize, SessionFault>
-        ensures answer { (e : States) →
-            Stands self.old e →
-            result ≡ (if put_open (named e id) then Ok (put_count (named e id) (length bytes.now))
-            else Err SessionFault.Closed) }
-        ensures state { (e : States) → Stands self.old e → Stands self.new (call e (Put id bytes.now)) }
+    /// Does a call on the session of an id, and tells how many bytes it took: 0 where it puts none. See `SessionCall` for what
+    /// each does and where it is refused.
+    pub fn call(&mut self, id: u8, call: &SessionCall) -> Result<usize, SessionFault>
+        ensures answer { (e : States) → Stands self.old e → result ≡ answer_of (named e id) call.now }
+        ensures state { (e : States) → Stands self.old e → Stands self.new (called e (call_of id call.now)) }
         ensures same { SameEnd self.old self.new }
-        ensures most { IfOk result (λ n. n ≤ length bytes.now) }
+        ensures most { IfOk result (λ n. n ≤ bytes_in call.now) }
     {
         match self.place(id) {
             Some(at) => {
                 let session = &mut self.sessions[at];
-                session.put(bytes)
-            }
-            None => Err(SessionFault::Closed),
-        }
-    }
-
-    /// Takes a setting. `Closed` where `put` is, else `Full` exactly where 4,096 items wait to be framed.
-    pub fn set(&mut self, id: u8, setting: [u8; 5]) -> Result<(), SessionFault>
-        ensures answer { (e : States) →
-            Stands self.old e →
-            result ≡ (if put_open (named e id)
-            then (if nat_lt (length (unframed (named e id))) 4096 then Ok tt else Err SessionFault.Full)
-            else Err SessionFault.Closed) }
-        ensures state { (e : States) → Stands self.old e → Stands self.new (call e (Set id setting)) }
-        ensures same { SameEnd self.old self.new }
-    {
-        match self.place(id) {
-            Some(at) => {
-                let session = &mut self.sessions[at];
-                session.set(setting)
-            }
-            None => Err(SessionFault::Closed),
-        }
-    }
-
-    /// Takes an attention, which goes out before all items, in place of one that still waits. `Closed` where `put` is.
-    pub fn attend(&mut self, id: u8, flag: u8) -> Result<(), SessionFault>
-        ensures answer { (e : States) →
-            Stands self.old e →
-            result ≡ (if put_open (named e id) then Ok tt else Err SessionFault.Closed) }
-        ensures state { (e : States) → Stands self.old e → Stands self.new (call e (Attend id flag)) }
-        ensures same { SameEnd self.old self.new }
-    {
-        match self.place(id) {
-            Some(at) => {
-                let session = &mut self.sessions[at];
-                session.attend(flag)
+                call_on(session, call)
             }
             None => Err(SessionFault::Closed),
         }
@@ -134,7 +98,7 @@ impl Sessions {
             out.new ≡ (if take_open (named e id)
             then map item_shown (took e id (length out.old)) ++ drop (take_count (named e id) (length out.old)) out.old
             else out.old) }
-        ensures state { (e : States) → Stands self.old e → Stands self.new (call e (Take id (length out.old))) }
+        ensures state { (e : States) → Stands self.old e → Stands self.new (called e (Take id (length out.old))) }
         ensures same { SameEnd self.old self.new }
         ensures count { IfOk result (λ n. n ≡ min (length out.old) (waiting_at self.old id)) }
         ensures most { IfOk result (λ n. n ≤ length out.old) }
@@ -148,23 +112,31 @@ impl Sessions {
             None => Err(SessionFault::Closed),
         }
     }
+}
 
-    /// Closes the session: what it heard is dropped, and its stop goes out behind its items. `Closed` where `take` is.
-    pub fn close(&mut self, id: u8) -> Result<(), SessionFault>
-        ensures answer { (e : States) →
-            Stands self.old e →
-            result ≡ (if take_open (named e id) then Ok tt else Err SessionFault.Closed) }
-        ensures state { (e : States) → Stands self.old e → Stands self.new (call e (Close id)) }
-        ensures same { SameEnd self.old self.new }
-    {
-        match self.place(id) {
-            Some(at) => {
-                let session = &mut self.sessions[at];
-                session.close()
-            }
-            None => Err(SessionFault::Closed),
-        }
+// Does the call on one session.
+fn call_on(session: &mut Stream, call: &SessionCall) -> Result<usize, SessionFault>
+    ensures answer { (master : Bool) (ceiling : ℕ) (s : Session) →
+        Sound master ceiling s → session.old ≡ kept_of master ceiling s →
+        result ≡ answer_of s call.now }
+    ensures state { (master : Bool) (ceiling : ℕ) (s : Session) →
+        Sound master ceiling s → session.old ≡ kept_of master ceiling s →
+        session.new ≡ (if is_taken s call.now then kept_of master ceiling (after s call.now) else session.old) }
+    ensures most { IfOk result (λ n. n ≤ bytes_in call.now) }
+{
+    match call {
+        SessionCall::Put(bytes) => session.put(bytes),
+        SessionCall::Set(setting) => without_bytes(session.set(*setting)),
+        SessionCall::Attend(flag) => without_bytes(session.attend(*flag)),
+        SessionCall::Close => without_bytes(session.close()),
     }
+}
+
+// The answer to a call that puts no bytes.
+fn without_bytes(answer: Result<(), SessionFault>) -> Result<usize, SessionFault>
+    ensures { result ≡ without_bytes answer }
+{
+    answer.map(|()| 0)
 }
 
 // The ask waits for an answer to the session of this id.

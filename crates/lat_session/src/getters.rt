@@ -9,7 +9,7 @@ ghost use Rattle.lat_model.specs.Lists.{upwards};
 ghost use Rattle.lat_model.specs.sessions.Session.{state, peer, take_open, waits};
 ghost use Rattle.lat_model.specs.sessions.Sessions.{Sessions as States, named, held};
 ghost use Rattle.lat_model.specs.sessions.Slots.{items, credits, costs};
-ghost use Rattle.lat_stream.specs.Kept.{Kept, state_shown, told_total, end_of};
+ghost use Rattle.lat_stream.specs.Kept.{Kept, state_shown, saturated, end_of};
 ghost use Rattle.lat_session.specs.Stands.{Stands};
 ghost use Rattle.lat_session.specs.States.{is_free, is_asked, asked_at, asked_of};
 ghost use Rattle.lat_session.specs.Table.{session_at, state_at, waiting_at};
@@ -93,7 +93,7 @@ impl Sessions {
     pub fn totals(&self, id: u8) -> (u64, u64)
         ensures { (e : States) →
             Stands self.now e →
-            result ≡ (told_total (credits (named e id).out), told_total (costs (named e id).out)) }
+            result ≡ (saturated (credits (named e id).out), saturated (costs (named e id).out)) }
     {
         match self.place(id) {
             Some(at) => self.sessions[at].totals(),

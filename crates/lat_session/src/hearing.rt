@@ -1,6 +1,7 @@
 //! The slots that the peer's sessions send. It takes no memory.
 
-ghost use Rattle.std.specs.Prelude.{true, ◌≡◌, ◌-◌, ◌≤◌, ◌<◌, ◌++◌, ◌∷◌, [], ◌&&◌, false, cond, ℕ, List, Option, Some, None, IfSome, OnErr, length, nat_eq, nat_lt};
+ghost use Rattle.std.specs.Prelude.{◌≡◌, ◌-◌, ◌≤◌, ◌<◌, ◌++◌, ◌∷◌, [], ◌&&◌};
+ghost use Rattle.std.specs.Prelude.{true, false, cond, ℕ, List, Option, Some, None, IfSome, OnErr, length, nat_eq, nat_lt};
 ghost use Rattle.std.specs.List.{list_any};
 ghost use Rattle.lat_model.specs.sessions.Hearing.{hear_slot, hear_behind, ask_in, is_full};
 ghost use Rattle.lat_model.specs.sessions.Session.{waits};
@@ -15,11 +16,8 @@ ghost use Rattle.lat_session.specs.Table.{SameEnd, state_at, table_of, reason_of
 use crate::ask::Ask;
 use crate::table::{OPEN_ASKS, Sessions};
 use lat_base::SessionState;
-use lat_slots::{Param, Params, Slot};
+use lat_slots::{Param, Params, RejectReason, Slot};
 use lat_stream::{BadSlot, Opening, Stream};
-
-/// The reason of the reject of an ask that finds the agreed number of sessions held.
-const NO_ROOM: u8 = 7;
 
 /// The code of the parameter that bears a request.
 const REQUEST: u8 = 5;
@@ -267,7 +265,8 @@ impl Sessions {
     fn open_ask(&mut self, from: u8, credits: u8, size: u8, opening: Opening) -> Ask
         requires { credits ≤ 15 }
         ensures opened { (e : States) → Stands self.old e → e.master ≡ false →
-            record self.new { asks = self.new.asks ++ result ∷ [] } ≡ table_of (length self.old.sessions) (ask_in e (sessions.Start 0 from credits size opening.service opening.request) opening.service opening.request) }
+            record self.new { asks = self.new.asks ++ result ∷ [] } ≡ table_of (length self.old.sessions)
+            (ask_in e (sessions.Start 0 from credits size opening.service opening.request) opening.service opening.request) }
         ensures asks { self.new.asks ≡ self.old.asks }
         ensures reason { reason_of result ≤ 15 }
         ensures same { SameEnd self.old self.new }
@@ -280,7 +279,7 @@ impl Sessions {
             }
             None => Ask::Rejected {
                 peer: from,
-                reason: NO_ROOM,
+                reason: RejectReason::NoRoom.bits(),
             },
         }
     }

@@ -2,14 +2,17 @@
 #![tactic(auto)]
 
 mod ask;
+mod call;
 mod calls;
 mod getters;
 mod hearing;
+mod named;
 mod packing;
 mod places;
 mod table;
 
 pub use ask::Ask;
+pub use call::SessionCall;
 pub use getters::Asked;
 pub use lat_stream::{BadSlot, SessionFault};
 pub use table::Sessions;

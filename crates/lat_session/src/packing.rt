@@ -18,7 +18,7 @@ ghost use Rattle.lat_session.specs.Table.{SameEnd};
 use crate::ask::Ask;
 use crate::table::Sessions;
 use lat_base::{Payload, SessionState};
-use lat_slots::REJECT;
+use lat_slots::SlotKind;
 use lat_stream::Formed;
 
 /// How many bytes a reject has.
@@ -230,5 +230,5 @@ fn write_reject(out: &mut Payload, peer: u8, reason: u8)
     out.push(peer);
     out.push(0);
     out.push(0);
-    out.push(REJECT * 16 + reason);
+    out.push(SlotKind::Reject.bits() * 16 + reason);
 }

@@ -6,7 +6,7 @@ use Rattle.lat_model.specs.sessions.Slots.{Slot, items, items_of, credits, credi
 use Rattle.lat_model.specs.sessions.Session.{Session, Free, Calling, Asked, Live, Closing, Left, peer, answered, rejected, held_slots}
 use Rattle.lat_model.specs.sessions.Packing.{formed}
 use Rattle.lat_model.proofs.sessions.Words.{items-append, credits-append, costs-append, has_stop-append}
-use Rattle.lat_stream.specs.Kept.{Kept, kept_of, item_shown, state_shown, told_total, left_in, reject_reason}
+use Rattle.lat_stream.specs.Kept.{Kept, kept_of, item_shown, state_shown, saturated, left_in, reject_reason}
 
 -- over: both stops were formed and heard
 abbrev pub over_by : Session → (stop : Bool) → Bool
@@ -39,7 +39,7 @@ kept_with master ceiling s attention none stop outstanding unused given used cou
 -- by the words themselves
 abbrev pub kept_now : Bool → ℕ → Session → (attention : Option ℕ) (none stop : Bool) (given used count : ℕ) → Kept
 kept_now master ceiling s attention none stop given used count =
-    kept_with master ceiling s attention none stop (given - costs s.came) (credits s.came - used) (told_total given) (told_total used) count
+    kept_with master ceiling s attention none stop (given - costs s.came) (credits s.came - used) (saturated given) (saturated used) count
 
 pub now_is : (m : Bool) (c : ℕ) (s : Session) → kept_of m c s ≡ kept_now m c s s.attention (is_empty s.out) (has_stop s.out) (credits s.out) (costs s.out) (length (items s.out))
 now_is m c s = refl
@@ -72,5 +72,5 @@ then_is m c s x =
     ∙ ap (λ z. kept_now m c s a false (has_stop s.out || is_stop x) (credits s.out + credits_of x) (costs s.out + cost_of x) z) n
 
 -- the totals as they are told
-pub told_more : (n k : ℕ) → told_total (n + k) ≡ told_total (told_total n + k)
+pub told_more : (n k : ℕ) → saturated (n + k) ≡ saturated (saturated n + k)
 told_more n k = omega arith

@@ -12,7 +12,7 @@ use Rattle.lat_model.specs.sessions.Session.{Session, Free, Calling, Asked, Live
 use Rattle.lat_model.specs.sessions.Session as session
 use Rattle.lat_model.specs.sessions.Offers.{start_of}
 use Rattle.lat_model.specs.sessions.Packing.{formed}
-use Rattle.lat_stream.specs.Kept.{Kept, kept_of, item_shown, state_shown, told_total, reject_reason}
+use Rattle.lat_stream.specs.Kept.{Kept, kept_of, item_shown, state_shown, saturated, reject_reason}
 use Rattle.lat_stream.specs.Turns.{gave, framed, stopped}
 use Rattle.lat_stream.proofs.Forms.{kept_with, kept_now, then_is, or_false, told_more}
 
@@ -45,11 +45,11 @@ open_then m c s x h =
 -- a slot that gives n credits and costs none
 gives_more : (m : Bool) (c : ℕ) (s : Session) (a : Option ℕ) (t t' : Bool) (n : ℕ) → costs s.came ≤ credits s.out → t ≡ t' →
     kept_now m c s a false t (credits s.out + n) (costs s.out + 0) (length (items s.out) + 0) ≡
-    kept_with m c s a false t' (credits s.out - costs s.came + n) (credits s.came - costs s.out) (told_total (told_total (credits s.out) + n)) (told_total (costs s.out)) (length (items s.out))
+    kept_with m c s a false t' (credits s.out - costs s.came + n) (credits s.came - costs s.out) (saturated (saturated (credits s.out) + n)) (saturated (costs s.out)) (length (items s.out))
 gives_more m c s a t t' n h e =
     let w : costs s.out + 0 ≡ costs s.out = omega arith in
-    with_same m c s a false t t' _ (credits s.out - costs s.came + n) _ (credits s.came - costs s.out) _ (told_total (told_total (credits s.out) + n)) _ (told_total (costs s.out)) _ (length (items s.out))
-    e (omega (arith, h)) (omega arith) (told_more (credits s.out) n) (ap told_total w) (omega arith)
+    with_same m c s a false t t' _ (credits s.out - costs s.came + n) _ (credits s.came - costs s.out) _ (saturated (saturated (credits s.out) + n)) _ (saturated (costs s.out)) _ (length (items s.out))
+    e (omega (arith, h)) (omega arith) (told_more (credits s.out) n) (ap saturated w) (omega arith)
 
 -- a slot that neither gives a credit nor costs one
 plain : (m : Bool) (c : ℕ) (s : Session) (a : Option ℕ) (t : Bool) →
@@ -98,8 +98,8 @@ frames_more : (m : Bool) (c : ℕ) (s : Session) (n : ℕ) → costs s.came ≤ 
     kept_now m c s s.attention false false (credits s.out + session.due c s) (costs s.out + 1) (length (items s.out) + n) ≡ framed n (gave (open_kept m c s))
 frames_more m c s n h =
     let d : ℕ = session.due c s in
-    let k : Kept = kept_with m c s s.attention false false (credits s.out - costs s.came + d) (credits s.came - costs s.out - 1) (told_total (told_total (credits s.out) + d)) (told_total (told_total (costs s.out) + 1)) (length (items s.out) + n) in
-    with_same m c s s.attention false false false _ (credits s.out - costs s.came + d) _ (credits s.came - costs s.out - 1) _ (told_total (told_total (credits s.out) + d)) _ (told_total (told_total (costs s.out) + 1)) _ (length (items s.out) + n)
+    let k : Kept = kept_with m c s s.attention false false (credits s.out - costs s.came + d) (credits s.came - costs s.out - 1) (saturated (saturated (credits s.out) + d)) (saturated (saturated (costs s.out) + 1)) (length (items s.out) + n) in
+    with_same m c s s.attention false false false _ (credits s.out - costs s.came + d) _ (credits s.came - costs s.out - 1) _ (saturated (saturated (credits s.out) + d)) _ (saturated (saturated (costs s.out) + 1)) _ (length (items s.out) + n)
     refl (omega (arith, h)) (omega arith) (told_more (credits s.out) d) (told_more (costs s.out) 1) refl
     ∙ ap (λ z. record k { unframed = z }) (left_unframed (rejected s) (has_stop s.came) (length (items s.out)) n s.put)
 

@@ -43,8 +43,8 @@ state_shown Closing = kept_states.Closing
 state_shown Left = kept_states.Left
 
 -- a total as it is told: it stops at the greatest number of 64 bits
-abbrev pub told_total : ℕ → ℕ
-told_total n = min 18446744073709551615 n
+abbrev pub saturated : ℕ → ℕ
+saturated n = min 18446744073709551615 n
 
 -- of each slot with an item behind the first n, how many of its items stand there
 abbrev pub left_in : ℕ → List Slot → List ℕ
@@ -95,8 +95,8 @@ kept_of master ceiling s = record {
   attention = s.attention;
   mark = s.mark;
   credits = credits_kept ceiling s;
-  given = told_total (credits s.out);
-  used = told_total (costs s.out);
+  given = saturated (credits s.out);
+  used = saturated (costs s.out);
   unframed = cond (rejected s) [] (map item_shown (unframed s));
   heard = cond s.closed [] (map item_shown (drop s.taken (items s.came)));
   held = cond s.closed [] (left_in s.taken s.came);

@@ -14,7 +14,7 @@ use Rattle.lat_stream.specs.declared.forming.Formed.{Formed}
 use Rattle.lat_stream.specs.declared.forming.Formed.TheVariants as answers
 use Rattle.lat_stream.specs.declared.forming.Turn.{Turn}
 use Rattle.lat_stream.specs.declared.forming.Turn.TheVariants as turns
-use Rattle.lat_stream.specs.Kept.{Kept, told_total}
+use Rattle.lat_stream.specs.Kept.{Kept, saturated}
 use Rattle.lat_stream.specs.Wire.{formed_as}
 
 -- an item goes where a credit is left; else credits alone
@@ -90,11 +90,11 @@ offer_at master id room k turns.Credits = credits_offer id room k
 
 -- the credits due are given
 abbrev pub gave : Kept → Kept
-gave k = record k { credits = record k.credits { outstanding = k.credits.outstanding + due k }; given = told_total (k.given + due k) }
+gave k = record k { credits = record k.credits { outstanding = k.credits.outstanding + due k }; given = saturated (k.given + due k) }
 
 -- a credit is used, for a slot with the first n items
 abbrev pub framed : ℕ → Kept → Kept
-framed n k = record k { credits = record k.credits { unused = k.credits.unused - 1 }; used = told_total (k.used + 1); unframed = drop n k.unframed }
+framed n k = record k { credits = record k.credits { unused = k.credits.unused - 1 }; used = saturated (k.used + 1); unframed = drop n k.unframed }
 
 -- both stops were formed and heard: the session is over, or left until its items are taken
 abbrev pub over : Kept → Kept

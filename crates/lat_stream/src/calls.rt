@@ -1,6 +1,7 @@
 //! The calls of a session's user, and the node's answer to an ask.
 
-ghost use Rattle.std.specs.Prelude.{◌≡◌, ◌+◌, ◌-◌, ◌<◌, ◌≤◌, ◌++◌, [], ◌∷◌, not, Bool, true, false, ℕ, Result, Ok, Err, Some, map, length, take, drop, min, nat_lt, cond, if◌then◌else◌, IfOk, OnOk, OnErr};
+ghost use Rattle.std.specs.Prelude.{◌≡◌, ◌+◌, ◌-◌, ◌<◌, ◌≤◌, ◌++◌, [], ◌∷◌, if◌then◌else◌};
+ghost use Rattle.std.specs.Prelude.{not, Bool, true, false, ℕ, Result, Ok, Err, Some, map, length, take, drop, min, nat_lt, cond, IfOk, OnOk, OnErr};
 ghost use Rattle.lat_base.specs.declared.item.Item.TheVariants as kept_items;
 ghost use Rattle.lat_base.specs.declared.state.SessionState.TheVariants as kept_states;
 ghost use Rattle.lat_model.specs.sessions.Slots.{Byte, Setting, items};

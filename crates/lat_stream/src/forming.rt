@@ -14,7 +14,8 @@ ghost use Rattle.lat_stream.specs.Does.{Does, reject_due};
 ghost use Rattle.lat_stream.specs.Kept.{kept_of};
 ghost use Rattle.lat_stream.specs.Sound.{Sound};
 ghost use Rattle.lat_stream.specs.Wire.{IsFormed};
-ghost use Rattle.lat_stream.specs.Turns.{Meets, turn_of, later_turn, over, data_turn, due, gave, framed, stopped, is_byte, leading, bytes_in, next_bytes, start_slot, bytes_offer, credits_offer, kept_after, offer_at};
+ghost use Rattle.lat_stream.specs.Turns.{Meets, turn_of, later_turn, data_turn, offer_at, start_slot, bytes_offer, credits_offer, kept_after};
+ghost use Rattle.lat_stream.specs.Turns.{over, due, gave, framed, stopped, is_byte, leading, bytes_in, next_bytes};
 
 use crate::opening::Opening;
 use crate::stream::Stream;
@@ -24,7 +25,7 @@ use crate::write::{
 };
 use circular_buffer::HeapCircularBuffer;
 use lat_base::{Item, Payload, SessionEnd, SessionState};
-use lat_slots::DATA_A;
+use lat_slots::SlotKind;
 
 /// What became of a session's turn in a message.
 #[derive(Clone, Copy, Debug, PartialEq, Eq)]
@@ -74,7 +75,10 @@ impl Stream {
 
     fn form_turn(&mut self, master: bool, id: u8, room: u16, out: &mut Payload) -> Formed
         requires { length out.old + room ≤ 1500 }
-        ensures meets { Meets (offer_at master id room self.old (turn_of self.old)) (kept_after room self.old (turn_of self.old)) self.old self.new out.old out.new result }
+        ensures meets { Meets
+            (offer_at master id room self.old (turn_of self.old))
+            (kept_after room self.old (turn_of self.old))
+            self.old self.new out.old out.new result }
         ensures room { (length out.old ≤ length out.new) × (length out.new ≤ length out.old + room) }
         ensures whole { (t : List ℕ) → turn_of self.old ≡ turns.Setting t → length t ≡ 5 }
         ensures named { (opening : Opening) → turn_of self.old ≡ turns.Start opening → IsName opening.service }
@@ -160,7 +164,10 @@ impl Stream {
     ) -> Formed
         requires room { length out.old + room ≤ 1500 }
         requires answered { self.old.state ≢ states.Asked }
-        ensures meets { Meets (offers.fit room (start_slot master id self.old opening.now)) (record (gave self.old) { start = None }) self.old self.new out.old out.new result }
+        ensures meets { Meets
+            (offers.fit room (start_slot master id self.old opening.now))
+            (record (gave self.old) { start = None })
+            self.old self.new out.old out.new result }
         ensures named { IsName opening.now.service }
         ensures room { (length out.old ≤ length out.new) × (length out.new ≤ length out.old + room) }
     {
@@ -177,7 +184,10 @@ impl Stream {
 
     fn form_attention(&mut self, id: u8, flag: u8, room: u16, out: &mut Payload) -> Formed
         requires { length out.old + room ≤ 1500 }
-        ensures meets { Meets (offers.fit room (sessions.Attention self.old.peer id flag)) (record self.old { attention = None }) self.old self.new out.old out.new result }
+        ensures meets { Meets
+            (offers.fit room (sessions.Attention self.old.peer id flag))
+            (record self.old { attention = None })
+            self.old self.new out.old out.new result }
         ensures room { (length out.old ≤ length out.new) × (length out.new ≤ length out.old + room) }
     {
         if !fits(6, room) {
@@ -202,7 +212,10 @@ impl Stream {
 
     fn form_stop(&mut self, id: u8, room: u16, out: &mut Payload) -> Formed
         requires { length out.old + room ≤ 1500 }
-        ensures meets { Meets (offers.fit room (sessions.Stop self.old.peer id 1)) (stopped self.old) self.old self.new out.old out.new result }
+        ensures meets { Meets
+            (offers.fit room (sessions.Stop self.old.peer id 1))
+            (stopped self.old)
+            self.old self.new out.old out.new result }
         ensures room { (length out.old ≤ length out.new) × (length out.new ≤ length out.old + room) }
     {
         if !fits(4, room) {
@@ -227,7 +240,10 @@ impl Stream {
     // Forms the setting that stands next, with the credits due.
     fn form_setting(&mut self, id: u8, setting: &[u8; 5], room: u16, out: &mut Payload) -> Formed
         requires { length out.old + room ≤ 1500 }
-        ensures meets { Meets (offers.fit room (sessions.DataB self.old.peer id (due self.old) setting.now)) (framed 1 (gave self.old)) self.old self.new out.old out.new result }
+        ensures meets { Meets
+            (offers.fit room (sessions.DataB self.old.peer id (due self.old) setting.now))
+            (framed 1 (gave self.old))
+            self.old self.new out.old out.new result }
         ensures room { (length out.old ≤ length out.new) × (length out.new ≤ length out.old + room) }
     {
         if !fits(10, room) {
@@ -244,7 +260,10 @@ impl Stream {
     // none they don't fit.
     fn form_bytes(&mut self, id: u8, room: u16, out: &mut Payload) -> Formed
         requires { length out.old + room ≤ 1500 }
-        ensures meets { Meets (bytes_offer id self.old (next_bytes room self.old)) (framed (length (next_bytes room self.old)) (gave self.old)) self.old self.new out.old out.new result }
+        ensures meets { Meets
+            (bytes_offer id self.old (next_bytes room self.old))
+            (framed (length (next_bytes room self.old)) (gave self.old))
+            self.old self.new out.old out.new result }
         ensures room { (length out.old ≤ length out.new) × (length out.new ≤ length out.old + room) }
     {
         let count = leading_count(&self.unframed, most_bytes(self.size, room));
@@ -253,7 +272,7 @@ impl Stream {
         }
         let credits = self.give_due();
         self.spend();
-        write_head(out, self.peer, id, count, DATA_A, credits);
+        write_head(out, self.peer, id, count, SlotKind::DataA, credits);
         move_bytes(&mut self.unframed, count, out);
         write_pad(out, count);
         Formed::Slot

@@ -1,6 +1,7 @@
 //! The slots that a session hears.
 
-ghost use Rattle.std.specs.Prelude.{◌≡◌, ◌+◌, ◌-◌, ◌<◌, ◌≤◌, ◌++◌, [], ◌∷◌, ◌&&◌, ◌||◌, not, Bool, true, false, ℕ, List, Option, Some, map, length, nat_eq, nat_lt, nat_le, cond, is_ok, OnOk, OnErr};
+ghost use Rattle.std.specs.Prelude.{◌≡◌, ◌+◌, ◌-◌, ◌<◌, ◌≤◌, ◌++◌, [], ◌∷◌, ◌&&◌, ◌||◌};
+ghost use Rattle.std.specs.Prelude.{not, Bool, true, false, ℕ, List, Option, Some, map, length, nat_eq, nat_lt, nat_le, cond, is_ok, OnOk, OnErr};
 ghost use Rattle.lat_base.specs.declared.item.Item.TheVariants as kept_items;
 ghost use Rattle.lat_base.specs.declared.state.SessionState.TheVariants as kept_states;
 ghost use Rattle.lat_model.specs.sessions.Slots as slots;

@@ -6,7 +6,7 @@ ghost use Rattle.lat_base.specs.declared.state.SessionState.TheVariants as state
 ghost use Rattle.lat_model.specs.sessions.Session.{Session, blank, state, peer, take_open};
 ghost use Rattle.lat_model.specs.sessions.Slots.{items, credits, costs};
 ghost use Rattle.lat_stream.specs.Begins.{called, asked};
-ghost use Rattle.lat_stream.specs.Kept.{kept_of, state_shown, told_total, end_of, start_left};
+ghost use Rattle.lat_stream.specs.Kept.{kept_of, state_shown, saturated, end_of, start_left};
 ghost use Rattle.lat_stream.specs.Sound.{Sound};
 ghost use Rattle.lat_stream.specs.Steps.{can_put, can_take, can_hear};
 
@@ -214,7 +214,7 @@ impl Stream {
     pub fn totals(&self) -> (u64, u64)
         ensures value { result ≡ (self.now.given, self.now.used) }
         ensures model { (master : Bool) (ceiling : ℕ) (s : Session) → self.now ≡ kept_of master ceiling s →
-            result ≡ (told_total (credits s.out), told_total (costs s.out)) }
+            result ≡ (saturated (credits s.out), saturated (costs s.out)) }
     {
         (self.given, self.used)
     }

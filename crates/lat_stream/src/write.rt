@@ -4,12 +4,13 @@ ghost use Rattle.std.specs.Prelude.{◌≡◌, ◌+◌, ◌<◌, ◌≤◌, ◌*
 ghost use Rattle.lat_base.specs.Names.{IsName};
 ghost use Rattle.lat_fields.specs.Params.{params_text};
 ghost use Rattle.lat_model.specs.sessions.Slots as sessions;
+ghost use Rattle.lat_slots.specs.Kinds.{bits_of};
 ghost use Rattle.lat_slots.specs.Layout.{slot_text};
 ghost use Rattle.lat_stream.specs.Wire.{formed_as, request_params};
 
 use lat_base::{Name, Payload};
 use lat_fields::{write_counted, write_number};
-use lat_slots::{ATTENTION, DATA_A, DATA_B, SERVICE_CLASS, START, STOP};
+use lat_slots::{SERVICE_CLASS, SlotKind, StopReason};
 
 /// The greatest data slot that an end takes, as its starts state.
 const DATA_SIZE: u8 = 255;
@@ -20,19 +21,16 @@ const ATTENTION_SIZE: u8 = 1;
 /// The code of the parameter that bears a request.
 const REQUEST: u8 = 5;
 
-/// The reason that each stop gives.
-const USER: u8 = 1;
-
-/// The head of a slot. The number of its type and what stands beside it have four bits each.
-pub fn write_head(out: &mut Payload, to: u8, from: u8, count: u8, kind: u8, low: u8)
-    requires halves { (kind < 16) × (low < 16) }
+/// The head of a slot. What stands beside its type has four bits.
+pub fn write_head(out: &mut Payload, to: u8, from: u8, count: u8, kind: SlotKind, low: u8)
+    requires low { low < 16 }
     requires room { length out.old + 4 ≤ 1500 }
-    ensures { out.new ≡ out.old ++ to ∷ from ∷ count ∷ (kind * 16 + low) ∷ [] }
+    ensures { out.new ≡ out.old ++ to ∷ from ∷ count ∷ (bits_of kind * 16 + low) ∷ [] }
 {
     out.push(to);
     out.push(from);
     out.push(count);
-    out.push(kind * 16 + low);
+    out.push(kind.bits() * 16 + low);
 }
 
 /// The byte behind a body of odd length.
@@ -92,7 +90,7 @@ pub fn write_start(
 {
     let name = service.bytes();
     let count = 5 + name.len() as u8 + request_len(request);
-    write_head(out, to, from, count, START, credits);
+    write_head(out, to, from, count, SlotKind::Start, credits);
     out.push(SERVICE_CLASS);
     out.push(ATTENTION_SIZE);
     out.push(DATA_SIZE);
@@ -108,7 +106,7 @@ pub fn write_setting(out: &mut Payload, to: u8, from: u8, credits: u8, setting: 
     requires room { length out.old + 10 ≤ 1500 }
     ensures { out.new ≡ out.old ++ slot_text (formed_as (sessions.DataB to from credits setting.now)) }
 {
-    write_head(out, to, from, 5, DATA_B, credits);
+    write_head(out, to, from, 5, SlotKind::DataB, credits);
     out.append(setting);
     out.push(0);
 }
@@ -119,7 +117,7 @@ pub fn write_credits(out: &mut Payload, to: u8, from: u8, credits: u8)
     requires room { length out.old + 4 ≤ 1500 }
     ensures { out.new ≡ out.old ++ slot_text (formed_as (sessions.DataA to from credits [])) }
 {
-    write_head(out, to, from, 0, DATA_A, credits);
+    write_head(out, to, from, 0, SlotKind::DataA, credits);
 }
 
 /// An attention.
@@ -127,15 +125,15 @@ pub fn write_attention(out: &mut Payload, to: u8, from: u8, flag: u8)
     requires { length out.old + 6 ≤ 1500 }
     ensures { out.new ≡ out.old ++ slot_text (formed_as (sessions.Attention to from flag)) }
 {
-    write_head(out, to, from, 1, ATTENTION, 0);
+    write_head(out, to, from, 1, SlotKind::Attention, 0);
     out.push(flag);
     out.push(0);
 }
 
-/// A stop, for the reason 1.
+/// A stop, for its one reason: the user closed the session.
 pub fn write_stop(out: &mut Payload, to: u8, from: u8)
     requires { length out.old + 4 ≤ 1500 }
     ensures { out.new ≡ out.old ++ slot_text (formed_as (sessions.Stop to from 1)) }
 {
-    write_head(out, to, from, 0, STOP, USER);
+    write_head(out, to, from, 0, SlotKind::Stop, StopReason::Closed.bits());
 }

@@ -1,13 +1,9 @@
-use Rattle.std.proofs.Common.{sym, subst}
-use Rattle.lat_model.specs.ends.End.{call_end}
-use Rattle.lat_model.specs.sessions.Calls.{call, Close}
-use Rattle.lat_circuit.specs.Stands.{Stands}
-use Rattle.lat_circuit.proofs.Sends.{with_sessions}
+use Rattle.std.proofs.Common.{◌∙◌, ap, true}
+use Rattle.lat_model.specs.sessions.Session.{take_open}
+use Rattle.lat_model.specs.sessions.Sessions.{named}
+use Rattle.lat_session.specs.Calls.{without_count}
+use Rattle.lat_session.proofs.Called.{no_count}
 use Rattle.lat_circuit.proofs.circuit.Circuit.close.Goals as goal
 
-pub returns-clause-state : goal.returns-clause-state
-returns-clause-state c = λ e st.
-    let here = subst (λ k. Stands k e) (sym c.self.view_is) st in
-    c.note_empty.ensures.state e (call_end (Close c.args.id) e)
-    (with_sessions c.self.inside c.close-answer.new.self e (call e.half.sessions (Close c.args.id)) here (c.close-answer.ensures.state e.half.sessions here.sessions))
-    (c.is_held-was_held.ensures e st)
+pub returns-clause-answer : goal.returns-clause-answer
+returns-clause-answer c = λ e st. c.without_count.ensures ∙ ap without_count (c.call_session.ensures.answer e st) ∙ no_count (take_open (named e.half.sessions c.args.id)) true

@@ -3,7 +3,7 @@ use Rattle.lat_base.specs.declared.heard.Heard.TheVariants as answers
 use Rattle.lat_stream.specs.Wire.{told}
 use Rattle.lat_model.specs.ends.End.{End}
 use Rattle.lat_circuit.specs.Frames.{wide_head_shown}
-use Rattle.lat_circuit.specs.Hears.{hears_run, DidHear}
+use Rattle.lat_circuit.specs.Hears.{hears_run, SimulatesHearing}
 use Rattle.lat_circuit.specs.Kept.{Kept}
 use Rattle.lat_circuit.specs.Shown.{shown}
 use Rattle.lat_circuit.specs.Stands.{Stands}
@@ -21,7 +21,7 @@ pub returns-then-not-fits_kind-clause-did : goal.returns-then-not-fits_kind-clau
 returns-then-not-fits_kind-clause-did c =
     let a = c.self.inside in
     let h = wide_head_shown c.args.head in
-    let P : Kept → Type 0 = λ k. DidHear (hears_run k.facts.id c.args.now c.args.wide h (map told c.args.slots.now)) answers.Foreign k (shown (given a c.args.now)) c.args.out.now c.args.out.now in
+    let P : Kept → Type 0 = λ k. SimulatesHearing (hears_run k.facts.id c.args.now c.args.wide h (map told c.args.slots.now)) answers.Foreign k (shown (given a c.args.now)) c.args.out.now c.args.out.now in
     let Is : Kept → Type 0 = λ k. (e : End) → Stands k e → c.is_named.result ≡ is_named k.facts.id h e in
     let is = subst Is (sym c.self.view_is) c.is_named.ensures.model in
     subst P c.self.view_is (
@@ -34,7 +34,7 @@ pub returns-clause-did : goal.returns-clause-did
 returns-clause-did c =
     let a = c.self.inside in
     let h = wide_head_shown c.args.head in
-    let P : Kept → Type 0 = λ k. DidHear (hears_run k.facts.id c.args.now c.args.wide h (map told c.args.slots.now)) c.take_run.result k c.take_run.new.self c.args.out.now c.take_run.new.out in
+    let P : Kept → Type 0 = λ k. SimulatesHearing (hears_run k.facts.id c.args.now c.args.wide h (map told c.args.slots.now)) c.take_run.result k c.take_run.new.self c.args.out.now c.take_run.new.out in
     let Is : Kept → Type 0 = λ k. (e : End) → Stands k e → c.is_named.result ≡ is_named k.facts.id h e in
     let is = subst Is (sym c.self.view_is) c.is_named.ensures.model in
     subst P c.self.view_is (

@@ -7,7 +7,7 @@ use Rattle.lat_model.specs.sessions.Packing.{pack}
 use Rattle.lat_link.specs.Payloads.{head_size, slots_as_text}
 use Rattle.lat_circuit.specs.Kept.{Facts, Kept}
 use Rattle.lat_circuit.specs.Shown.{shown}
-use Rattle.lat_circuit.specs.Stands.{Did}
+use Rattle.lat_circuit.specs.Stands.{Simulates}
 use Rattle.lat_circuit.proofs.Packs.{length_wire, texts_are, take_back}
 use Rattle.lat_circuit.proofs.Sends.{window_is, idle_did, busy_did}
 use Rattle.lat_circuit.proofs.circuit.Circuit.occasion.Goals as goal
@@ -17,11 +17,11 @@ returns-then-slots-eq0-clause-did c =
     let after = c.settle-then-slots-eq0.new in
     let after_did = c.settle-then-slots-eq0.ensures.did in
     let run = ap (λ (k : Kept). k.running) c.self.view_is ∙ c.requires.running in
-    subst (λ k. Did occasion k after.self c.args.out.now after.out) c.self.view_is (
+    subst (λ k. Simulates occasion k after.self c.args.out.now after.out) c.self.view_is (
     idle_did c.self.inside c.pack-slots.new.self c.pack-slots.result after.self c.args.out.now after.out
     (window_is c.self.inside true c.is_open.result run c.is_open.ensures.state c.if-not-is_open.false)
     c.pack-slots.ensures.state c.pack-slots.ensures.count c.if-slots-eq0.true
-    (subst (λ out. Did settle (shown (record c.self.inside { sessions = c.pack-slots.new.self })) after.self out after.out) (c.withdraw.ensures ∙ take_back c.args.out.now _) after_did)
+    (subst (λ out. Simulates settle (shown (record c.self.inside { sessions = c.pack-slots.new.self })) after.self out after.out) (c.withdraw.ensures ∙ take_back c.args.out.now _) after_did)
     )
 
 pub returns-clause-did : goal.returns-clause-did
@@ -30,7 +30,7 @@ returns-clause-did c =
     let new = c.form.new.self in
     let outs : Facts → List OutFrame = λ k. c.args.out.now ++ frame_of k.config.peer k.id Fresh c.form.new.payload ∷ [] in
     let facts = (shown c.self.inside).facts in
-    subst (λ k. Did occasion k new c.args.out.now (outs k.facts)) c.self.view_is (
+    subst (λ k. Simulates occasion k new c.args.out.now (outs k.facts)) c.self.view_is (
     busy_did c.self.inside c.pack-slots.new.self c.pack-slots.result new c.args.out.now (outs facts)
     (window_is c.self.inside true c.is_open.result run c.is_open.ensures.state c.if-not-is_open.false)
     c.pack-slots.ensures.state c.pack-slots.ensures.count c.if-slots-eq0.false

@@ -13,4 +13,4 @@ returns-in-Some-clause-opened c = λ e st m.
     ∙ placed_ask c.args.self.now e c.args.opening c.args.from c.args.credits c.args.size c.in-Some.at c.index_mut-session.result.now c.ask.new.self st m (c.in-Some.ensures.model e st) (ap (λ (k : Kept). k.credits.ceiling) was) c.ask.ensures
 
 pub returns-in-None-clause-opened : goal.returns-in-None-clause-opened
-returns-in-None-clause-opened c = λ e st m. full_ask c.args.self.now e c.args.opening c.args.from c.args.credits c.args.size st m (c.in-None.ensures.model e st)
+returns-in-None-clause-opened c = λ e st m. full_ask c.args.self.now e c.args.opening c.args.from c.args.credits c.args.size c.bits.result st m (c.in-None.ensures.model e st) c.bits.ensures.value
