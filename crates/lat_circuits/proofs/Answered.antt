@@ -19,7 +19,7 @@ use Rattle.lat_machines.specs.cores.Acts.{put_at}
 use Rattle.lat_machines.specs.cores.Cores.{Core, Doing, acts, setup_of}
 use Rattle.lat_machines.specs.cores.Hearing.{Makes, Refuses}
 use Rattle.lat_link.specs.Payloads.{message_of}
-use Rattle.lat_payload.specs.Frames.{Adds, seen}
+use Rattle.lat_payload.specs.Frames.{Emits, frame_view}
 use Rattle.lat_payload.proofs.Frames.{adds_one}
 use Rattle.lat_payload.proofs.Readable.{message_readable}
 use Rattle.lat_circuit.specs.declared.config.CircuitConfig.{CircuitConfig}
@@ -27,7 +27,7 @@ use Rattle.lat_circuit.specs.Kept as circuit
 use Rattle.lat_circuit.specs.Begins.{Begins, facts_answered}
 use Rattle.lat_circuit.specs.Frames.{timing_shown, IsFormed}
 use Rattle.lat_circuits.specs.Kept.{Kept, Holds, IsClear, ids, side_of}
-use Rattle.lat_circuits.specs.Stands.{Stands, Did}
+use Rattle.lat_circuits.specs.Stands.{Stands, Simulates}
 use Rattle.lat_circuits.specs.Hears.{start_core, new_fact}
 use Rattle.lat_circuits.proofs.Held.{each_with, each_pop}
 use Rattle.lat_circuits.proofs.Places.{id_of, lives_at}
@@ -106,23 +106,23 @@ as_core k c to source info st node =
 
 pub answered_did : (k : Kept) (from : Addr) (source : ℕ) (info : StartInfo) (own_id size : ℕ) (rooms : List ℕ) (q : circuit.Kept) (before after : List OutFrame)
     → Answered k from source info own_id size q before after
-    → Did (λ c. (start_core (side_of k) c (address from.0) source info (Makes (suc c.circuits.drawn))).doing) k (held_too k q rooms) before after
+    → Simulates (λ c. (start_core (side_of k) c (address from.0) source info (Makes (suc c.circuits.drawn))).doing) k (held_too k q rooms) before after
 answered_did k from source info own_id size rooms q before after b = λ c st.
     let f = facts_answered (config_of k from info.name) own_id source info in
     let s : Step = answers_step k k.moment source info in
     let new = is_new k from source info own_id size q before after b in
-    let P : Doing → Type 0 = λ d. Stands (held_too k q rooms) d.core × Adds d.frames before after in
+    let P : Doing → Type 0 = λ d. Stands (held_too k q rooms) d.core × Emits d.frames before after in
     subst P (sym (as_core k c (address from.0) source info st b.node))
     (stands_begun k c rooms (address from.0) info.name f size q s before after b.holds st new b.begins, adds_begun k c (address from.0) info.name f size q s before after st new b.begins)
 
 -- a START is refused: a STOP goes back
 pub refused_did : (k : Kept) (from : Addr) (source : ℕ) (info : StartInfo) (f : OutFrame) (before after : List OutFrame)
     → f ≡ record { to = from; payload = padded (message_text (message_of (StopMessage false false source 0 7 []))); circuit = 0; mark = marks.Plain }
-    → IsFormed (StopMessage false false source 0 7 []) → after ≡ before ++ f ∷ [] → Did (λ c. (start_core (side_of k) c (address from.0) source info Refuses).doing) k k before after
+    → IsFormed (StopMessage false false source 0 7 []) → after ≡ before ++ f ∷ [] → Simulates (λ c. (start_core (side_of k) c (address from.0) source info Refuses).doing) k k before after
 refused_did k from source info f before after frame formed is = λ c st.
     let fs = (start_core (side_of k) c (address from.0) source info Refuses).doing.frames in
     let stop = StopMessage false false source 0 7 [] in
-    (st, subst (λ z. Adds fs before z) (sym is) (adds_one (plain (address from.0) 0 (OfCircuit stop)) f before (record { same = ap seen frame; readable = message_readable stop formed.writable formed.shown })))
+    (st, subst (λ z. Emits fs before z) (sym is) (adds_one (plain (address from.0) 0 (OfCircuit stop)) f before (record { same = ap frame_view frame; readable = message_readable stop formed.writable formed.shown })))
 
 -- what becomes of one that is new
 

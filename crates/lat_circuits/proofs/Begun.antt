@@ -11,7 +11,7 @@ use Rattle.lat_machines.specs.values.Addresses.{address}
 use Rattle.lat_machines.specs.values.Names.{Name}
 use Rattle.lat_machines.specs.cores.Acts.{put_at}
 use Rattle.lat_machines.specs.cores.Cores.{Core, Doing, acts, sent_frame}
-use Rattle.lat_payload.specs.Frames.{Adds}
+use Rattle.lat_payload.specs.Frames.{Emits}
 use Rattle.lat_circuit.specs.Kept as circuit
 use Rattle.lat_circuit.specs.Stands as circuit_stands
 use Rattle.lat_circuit.specs.Begins.{Begins}
@@ -151,14 +151,14 @@ stands_begun k c rooms to name f places q s before after h st new b = record {
 -- and its frames go out
 pub adds_begun : (k : Kept) (c : Core) (to : ℕ) (name : Name) (f : circuit.Facts) (places : ℕ) (q : circuit.Kept) (s : Step) (before after : List OutFrame)
     → Stands k c → IsNew k to name f places → Begins s f places k.moment q before after
-    → Adds (begins_core k c to name s).frames before after
+    → Emits (begins_core k c to name s).frames before after
 adds_begun k c to name f places q s before after st new b =
     let x : ℕ = suc c.circuits.drawn in
     let id : f.id ≡ x = new.id ∙ ap suc st.drawn in
     let is = new_circuit k c to name f places q s before after st new b in
     let at : q.facts ≡ f = b.is in
     let d : Core = (begins_core k c to name s).core in
-    subst (λ z. Adds (map (sent_frame (side_of k) d) (wire_all k.server z to s.end.peer s.sent)) before after) id (
+    subst (λ z. Emits (map (sent_frame (side_of k) d) (wire_all k.server z to s.end.peer s.sent)) before after) id (
     sent_adds (side_of k) d f to s.end.peer s.sent before after
     (record {
       to = new.peer;

@@ -13,13 +13,13 @@ use Rattle.lat_machines.specs.values.Addresses.{address}
 use Rattle.lat_machines.specs.values.Names.{Name}
 use Rattle.lat_machines.specs.cores.Acts.{called, put_at}
 use Rattle.lat_machines.specs.cores.Cores.{Core, Doing, acts, setup_of, circuit_to}
-use Rattle.lat_payload.specs.Frames.{Adds}
+use Rattle.lat_payload.specs.Frames.{Emits}
 use Rattle.lat_circuit.specs.declared.config.CircuitConfig.{CircuitConfig}
 use Rattle.lat_circuit.specs.Kept as circuit
 use Rattle.lat_circuit.specs.Begins.{Begins, facts_called}
 use Rattle.lat_circuit.specs.Frames.{timing_shown}
 use Rattle.lat_circuits.specs.Kept.{Kept, Holds, side_of}
-use Rattle.lat_circuits.specs.Stands.{Stands, Did, IsCircuit}
+use Rattle.lat_circuits.specs.Stands.{Stands, Simulates, IsCircuit}
 use Rattle.lat_circuits.specs.Opens.{id_told, called_core}
 use Rattle.lat_circuits.proofs.Places.{id_of}
 use Rattle.lat_circuits.proofs.Ids.{least_held, living_held}
@@ -121,12 +121,12 @@ call_holds k peer node id size rooms q before after b fewer each =
     (new_call k peer node id size b.server b.next b.places) b.begins fewer each
 
 pub call_did : (k : Kept) (peer : Addr) (node : Name) (id size : ℕ) (rooms : List ℕ) (q : circuit.Kept) (before after : List OutFrame)
-    → Calls k peer node id size rooms q before after → Did (called_core (side_of k) (address peer.0) node) k (held_too k q rooms) before after
+    → Calls k peer node id size rooms q before after → Simulates (called_core (side_of k) (address peer.0) node) k (held_too k q rooms) before after
 call_did k peer node id size rooms q before after b = λ c st.
     let f = facts_called (config_of k peer node) id in
     let s : Step = called (setup_of (timing_shown k.timing)) k.moment in
     let new = new_call k peer node id size b.server b.next b.places in
-    let P : Doing → Type 0 = λ d. Stands (held_too k q rooms) d.core × Adds d.frames before after in
+    let P : Doing → Type 0 = λ d. Stands (held_too k q rooms) d.core × Emits d.frames before after in
     subst P (same c st)
     (stands_begun k c rooms (address peer.0) node f size q s before after b.holds st new b.begins, adds_begun k c (address peer.0) node f size q s before after st new b.begins)
   where

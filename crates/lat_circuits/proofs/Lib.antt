@@ -4,7 +4,6 @@ pub mod Places
 pub mod Ids
 pub mod Passing
 pub mod Begun
-pub mod Addresses
 pub mod Messages
 pub mod Found
 pub mod Calling

@@ -9,13 +9,13 @@ use Rattle.lat_model.specs.ends.Timers.{note_empty, time_step}
 use Rattle.lat_model.specs.circuits.World.{CircuitEntry}
 use Rattle.lat_machines.specs.cores.Acts.{put_at, idle, steps_at}
 use Rattle.lat_machines.specs.cores.Cores.{Side, Core, Doing, acts, rests, then_doing, time_each, passes_time}
-use Rattle.lat_payload.specs.Frames.{Adds}
+use Rattle.lat_payload.specs.Frames.{Emits}
 use Rattle.lat_payload.proofs.Frames.{adds_none, adds_then}
 use Rattle.lat_circuit.specs.Kept as circuit
 use Rattle.lat_circuit.specs.Stands as circuit_stands
 use Rattle.lat_circuit.specs.Frames.{timing_shown, frame_sent, AreFormed}
 use Rattle.lat_circuits.specs.Kept.{Kept, Holds, IsOwn, Rising, SameCore, SameCircuits, ids, side_of}
-use Rattle.lat_circuits.specs.Stands.{Stands, IsCircuit, Did}
+use Rattle.lat_circuits.specs.Stands.{Stands, IsCircuit, Simulates}
 use Rattle.lat_circuits.specs.Times.{passes_one}
 use Rattle.lat_circuits.proofs.Held.{each_at}
 use Rattle.lat_circuits.proofs.Places.{id_of, Became, id_read, lives_at, act_at, adds_at}
@@ -79,17 +79,17 @@ time_more k (y ∷ ys) x d = time_more k ys x (then_doing d (passes_one k y))
 
 -- one that ended, at its place
 pub one_ended : (k : Kept) (at : ℕ) (q : circuit.Kept) (out : List OutFrame) → slice_get k.held at ≡ Some q → is_none q.ended ≡ false
-    → Did (passes_one (side_of k) (slice_index (ids k) at)) k k out out
+    → Simulates (passes_one (side_of k) (slice_index (ids k) at)) k k out out
 one_ended k at q out here ended = λ c st.
     let x : ℕ = q.facts.id in
     let idle : passes_one (side_of k) (slice_index (ids k) at) c ≡ rests c =
     ap (λ z. passes_one (side_of k) z c) (id_read k at q here) ∙ one_idle (side_of k) x c (lives_at k c at q st here ∙ ended) in
-    subst (λ (d : Doing). Stands k d.core × Adds d.frames out out) (sym idle) (st, adds_none out)
+    subst (λ (d : Doing). Stands k d.core × Emits d.frames out out) (sym idle) (st, adds_none out)
 
 -- one that lives
 pub one_lives : (k : Kept) (at : ℕ) (q r : circuit.Kept) (l : Kept) (before after : List OutFrame) → Holds k → Became k at q r l → IsOwn k r → is_none q.ended ≡ true
-    → circuit_stands.Did (λ e. note_empty e (time_step k.moment e)) q r before after
-    → Did (passes_one (side_of k) (slice_index (ids k) at)) k l before after
+    → circuit_stands.Simulates (λ e. note_empty e (time_step k.moment e)) q r before after
+    → Simulates (passes_one (side_of k) (slice_index (ids k) at)) k l before after
 one_lives k at q r l before after h b own alive did = λ c st.
     let x : ℕ = q.facts.id in
     let e : End = (c.circuits.circuit_at x).end in
@@ -97,7 +97,7 @@ one_lives k at q r l before after h b own alive did = λ c st.
     let s : Step = note_empty e (time_step c.moment e) in
     let Q : Step → Type 0 = λ z. circuit_stands.Stands r z.end × (after ≡ before ++ map (frame_sent r.facts) z.sent) × AreFormed r.facts z.sent in
     let d : Q s = subst (λ n. Q (note_empty e (time_step n e))) st.moment (did e is.end) in
-    let P : Doing → Type 0 = λ z. Stands l z.core × Adds z.frames before after in
+    let P : Doing → Type 0 = λ z. Stands l z.core × Emits z.frames before after in
     let goes : passes_one (side_of k) (slice_index (ids k) at) c ≡ acts (side_of k) c (put_at k.server c.circuits c.circuits.drawn x (c.circuits.circuit_at x).address s) =
     ap (λ z. passes_one (side_of k) z c) (id_read k at q b.here)
     ∙ ap (λ t. acts (side_of k) c (cond t (steps_at k.server c.circuits x (time_step c.moment e)) (idle c.circuits))) (lives_at k c at q st b.here ∙ alive) in
@@ -105,16 +105,16 @@ one_lives k at q r l before after h b own alive did = λ c st.
 
 -- steps one after another
 
-pub did_then : (f g : Core → Doing) (k m n : Kept) (x y z : List OutFrame) → Did f k m x y → Did g m n y z → Did (λ c. then_doing (f c) g) k n x z
+pub did_then : (f g : Core → Doing) (k m n : Kept) (x y z : List OutFrame) → Simulates f k m x y → Simulates g m n y z → Simulates (λ c. then_doing (f c) g) k n x z
 did_then f g k m n x y z one two = λ c st.
     let p = one c st in
     let q = two (f c).core p.0 in
     (q.0, adds_then (f c).frames (g (f c).core).frames x y z p.1 q.1)
 
-pub did_as : (f g : Core → Doing) (k m : Kept) (x y : List OutFrame) → ((c : Core) → Stands k c → g c ≡ f c) → Did f k m x y → Did g k m x y
-did_as f g k m x y same did = λ c st. subst (λ (d : Doing). Stands m d.core × Adds d.frames x y) (sym (same c st)) (did c st)
+pub did_as : (f g : Core → Doing) (k m : Kept) (x y : List OutFrame) → ((c : Core) → Stands k c → g c ≡ f c) → Simulates f k m x y → Simulates g k m x y
+did_as f g k m x y same did = λ c st. subst (λ (d : Doing). Stands m d.core × Emits d.frames x y) (sym (same c st)) (did c st)
 
-pub did_nothing : (k : Kept) (x : List OutFrame) → Did rests k k x x
+pub did_nothing : (k : Kept) (x : List OutFrame) → Simulates rests k k x x
 did_nothing k x = λ c st. (st, adds_none x)
 
 -- the same core
@@ -139,11 +139,11 @@ same_none k = record { core = record { own = refl; name = refl; timing = refl; s
 -- the time of one more
 
 pub times_more : (k m n : Kept) (at : ℕ) (x y z : List OutFrame) → at < length k.held → SameCircuits k m
-    → Did (λ c. time_each (side_of k) (take at (ids k)) (rests c)) k m x y → Did (passes_one (side_of m) (slice_index (ids m) at)) m n y z
-    → Did (λ c. time_each (side_of k) (take (at + 1) (ids k)) (rests c)) k n x z
+    → Simulates (λ c. time_each (side_of k) (take at (ids k)) (rests c)) k m x y → Simulates (passes_one (side_of m) (slice_index (ids m) at)) m n y z
+    → Simulates (λ c. time_each (side_of k) (take (at + 1) (ids k)) (rests c)) k n x z
 times_more k m n at x y z low same did one =
-    let next : Did (passes_one (side_of k) (slice_index (ids k) at)) m n y z =
-    subst (λ i. Did (passes_one (side_of k) (slice_index i at)) m n y z) same.ids (subst (λ s. Did (passes_one s (slice_index (ids m) at)) m n y z) (side_same k m same.core) one) in
+    let next : Simulates (passes_one (side_of k) (slice_index (ids k) at)) m n y z =
+    subst (λ i. Simulates (passes_one (side_of k) (slice_index i at)) m n y z) same.ids (subst (λ s. Simulates (passes_one s (slice_index (ids m) at)) m n y z) (side_same k m same.core) one) in
     let long : at < length (ids k) = omega (arith, low, length-map k.held id_of) in
     did_as (λ c. then_doing (time_each (side_of k) (take at (ids k)) (rests c)) (passes_one (side_of k) (slice_index (ids k) at)))
     (λ c. time_each (side_of k) (take (at + 1) (ids k)) (rests c)) k n x z
@@ -152,7 +152,7 @@ times_more k m n at x y z low same did one =
 
 -- the time of all
 pub times_all : (k m : Kept) (n : ℕ) (x y : List OutFrame) → Holds k → length k.held ≤ n
-    → Did (λ c. time_each (side_of k) (take n (ids k)) (rests c)) k m x y → Did (passes_time (side_of k)) k m x y
+    → Simulates (λ c. time_each (side_of k) (take n (ids k)) (rests c)) k m x y → Simulates (passes_time (side_of k)) k m x y
 times_all k m n x y h long did =
     did_as (λ c. time_each (side_of k) (take n (ids k)) (rests c)) (passes_time (side_of k)) k m x y
     (λ c st. time_held k c h st ∙ ap (λ is. time_each (side_of k) is (rests c)) (sym (take_all n (ids k) (omega (arith, long, length-map k.held id_of)))))

@@ -12,7 +12,7 @@ use Rattle.lat_model.specs.circuits.World.{CircuitEntry, wire_all}
 use Rattle.lat_machines.specs.values.Addresses.{address}
 use Rattle.lat_machines.specs.cores.Acts.{put_at}
 use Rattle.lat_machines.specs.cores.Cores.{Core, at_moment, with_circuits, acts, sent_frame}
-use Rattle.lat_payload.specs.Frames.{Adds}
+use Rattle.lat_payload.specs.Frames.{Emits}
 use Rattle.lat_circuit.specs.Kept as circuit
 use Rattle.lat_circuit.specs.Stands as circuit_stands
 use Rattle.lat_circuit.specs.Frames.{timing_shown, frame_sent, AreFormed}
@@ -136,14 +136,14 @@ act_at k c at q r l s h st b did = subst (λ z. Stands z (put_core k c q.facts.i
 -- and sent what the core is to send
 pub adds_at : (k : Kept) (c : Core) (at : ℕ) (q r : circuit.Kept) (l : Kept) (s : Step) (before after : List OutFrame) → Stands k c → Became k at q r l
     → IsOwn k r → circuit_stands.Stands r s.end → after ≡ before ++ map (frame_sent r.facts) s.sent → AreFormed r.facts s.sent
-    → Adds (acts (side_of k) c (put_at k.server c.circuits c.circuits.drawn q.facts.id (c.circuits.circuit_at q.facts.id).address s)).frames before after
+    → Emits (acts (side_of k) c (put_at k.server c.circuits c.circuits.drawn q.facts.id (c.circuits.circuit_at q.facts.id).address s)).frames before after
 adds_at k c at q r l s before after st b own did sent formed =
     let x : ℕ = q.facts.id in
     let to : ℕ = (c.circuits.circuit_at x).address in
     let was = each_at (IsCircuit c) k.held at q st.each b.here in
     let is = is_circuit_after k c q r s was b.config b.id did in
     let d : Core = put_core k c x s in
-    subst (λ z. Adds (map (sent_frame (side_of k) d) (wire_all k.server z to s.end.peer s.sent)) before after) b.id (
+    subst (λ z. Emits (map (sent_frame (side_of k) d) (wire_all k.server z to s.end.peer s.sent)) before after) b.id (
     sent_adds (side_of k) d r.facts to s.end.peer s.sent before after
     (record {
       to = ap (λ z. address z.peer.0) b.config ∙ was.address;

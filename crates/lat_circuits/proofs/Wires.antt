@@ -7,7 +7,7 @@ use Rattle.lat_model.specs.circuits.World.{Wired, wire_all}
 use Rattle.lat_machines.specs.values.Addresses.{address}
 use Rattle.lat_machines.specs.cores.Cores.{Side, Core, sent_frame}
 use Rattle.lat_model.specs.Lists.{Each}
-use Rattle.lat_payload.specs.Frames.{seen, expected, IsReadable, Adds}
+use Rattle.lat_payload.specs.Frames.{frame_view, expected, IsReadable, Emits}
 use Rattle.lat_payload.proofs.Readable.{message_readable}
 use Rattle.lat_circuit.specs.Kept.{Facts}
 use Rattle.lat_circuit.specs.Frames.{timing_shown, frame_sent, message_sent, IsFormed, AreFormed}
@@ -27,17 +27,17 @@ abbrev wired : Bool → ℕ → ℕ → ℕ → Sent → Wired
 wired b x to destination s = record { by_server = b; circuit = x; to = to; destination = destination; source = x; sent = s }
 
 sent_seen : (k : Side) (c : Core) (f : Facts) (to destination : ℕ) (s : Sent) → Bears k c f to destination
-    → seen (frame_sent f s) ≡ expected (sent_frame k c (wired k.server f.id to destination s))
+    → frame_view (frame_sent f s) ≡ expected (sent_frame k c (wired k.server f.id to destination s))
 sent_seen k c f to destination (Run m ask g) b = rw (← b.to, ← b.destination, ← b.master, ← b.wide) refl
 sent_seen k c f to destination CallStart b = rw (← b.to, ← b.destination, ← b.name, ← b.timing, ← b.peer_name) refl
 sent_seen k c f to destination ReplyStart b = rw (← b.to, ← b.destination, ← b.wide, ← b.name, ← b.timing, ← b.peer_name) refl
 sent_seen k c f to destination (Stopped reason) b = rw (← b.to, ← b.destination, ← b.master) refl
 
 all_seen : (k : Side) (c : Core) (f : Facts) (to destination : ℕ) (ss : List Sent) → Bears k c f to destination
-    → map seen (map (frame_sent f) ss) ≡ map expected (map (sent_frame k c) (wire_all k.server f.id to destination ss))
+    → map frame_view (map (frame_sent f) ss) ≡ map expected (map (sent_frame k c) (wire_all k.server f.id to destination ss))
 all_seen k c f to destination [] b = refl
 all_seen k c f to destination (s ∷ ss) b =
-    ap (λ z. z ∷ map seen (map (frame_sent f) ss)) (sent_seen k c f to destination s b)
+    ap (λ z. z ∷ map frame_view (map (frame_sent f) ss)) (sent_seen k c f to destination s b)
     ∙ ap (λ z. expected (sent_frame k c (wired k.server f.id to destination s)) ∷ z) (all_seen k c f to destination ss b)
 
 -- each is readable
@@ -56,11 +56,11 @@ all_readable k c f to destination (s ∷ ss) b formed = (sent_readable k c f to 
 
 -- what a circuit sent is what the core is to send
 pub sent_adds : (k : Side) (c : Core) (f : Facts) (to destination : ℕ) (ss : List Sent) (before after : List OutFrame) → Bears k c f to destination
-    → after ≡ before ++ map (frame_sent f) ss → AreFormed f ss → Adds (map (sent_frame k c) (wire_all k.server f.id to destination ss)) before after
+    → after ≡ before ++ map (frame_sent f) ss → AreFormed f ss → Emits (map (sent_frame k c) (wire_all k.server f.id to destination ss)) before after
 sent_adds k c f to destination ss before after b is formed = record {
   same =
-      ap (map seen) is
-      ∙ map-append seen before (map (frame_sent f) ss)
-      ∙ ap (λ z. map seen before ++ z) (all_seen k c f to destination ss b);
+      ap (map frame_view) is
+      ∙ map-append frame_view before (map (frame_sent f) ss)
+      ∙ ap (λ z. map frame_view before ++ z) (all_seen k c f to destination ss b);
   readable = all_readable k c f to destination ss b formed;
 }

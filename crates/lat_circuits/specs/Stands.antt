@@ -7,7 +7,7 @@ use Rattle.lat_model.specs.ends.End.{lives}
 use Rattle.lat_machines.specs.values.Addresses.{address}
 use Rattle.lat_machines.specs.cores.Acts.{local_at}
 use Rattle.lat_machines.specs.cores.Cores.{Side, Core, Doing, acts}
-use Rattle.lat_payload.specs.Frames.{Adds}
+use Rattle.lat_payload.specs.Frames.{Emits}
 use Rattle.lat_circuit.specs.Kept as circuit
 use Rattle.lat_circuit.specs.Stands as circuit_stands
 use Rattle.lat_circuits.specs.Kept.{Kept, has_id}
@@ -27,8 +27,8 @@ pub record Stands (k : Kept) (c : Core) : Type 0 where
   pub all : (i : ℕ) → lives (c.circuits.circuit_at i).end ≡ true → has_id i k ≡ true
 
 -- They did this of every core that they stood for, and its frames went out in order
-abbrev pub Did : (Core → Doing) → (old new : Kept) → (before after : List OutFrame) → Type 0
-Did step old new before after = (c : Core) → Stands old c → Stands new (step c).core × Adds (step c).frames before after
+abbrev pub Simulates : (Core → Doing) → (old new : Kept) → (before after : List OutFrame) → Type 0
+Simulates step old new before after = (c : Core) → Stands old c → Stands new (step c).core × Emits (step c).frames before after
 
 -- a local call on the sessions of a circuit
 abbrev pub calling : Side → ℕ → Call → Core → Core

@@ -1,14 +1,18 @@
 -- What circuits tell of a session, by the ids of its circuit and its own.
-use Rattle.std.specs.Prelude.{ℕ, Bool, false, cond, ◌&&◌, Option, Some, None, find, is_none, nat_eq}
+use Rattle.std.specs.Prelude.{ℕ, Bool, false, cond, ◌&&◌, Option, Some, None, Result, Err, find, is_none, nat_eq, if◌then◌else◌}
 use Rattle.lat_base.specs.declared.state.SessionEnd.{SessionEnd}
-use Rattle.lat_model.specs.sessions.Session.{peer, state}
+use Rattle.lat_model.specs.sessions.Session.{Session, peer, state}
 use Rattle.lat_model.specs.sessions.Sessions.{Sessions, named}
 use Rattle.lat_model.specs.sessions.Slots.{credits, costs}
-use Rattle.lat_model.specs.ends.End.{End}
+use Rattle.lat_model.specs.ends.End.{End, lives}
 use Rattle.lat_machines.specs.values.Addresses.{address}
 use Rattle.lat_machines.specs.cores.Cores.{Core}
 use Rattle.lat_seq.specs.declared.span.Span.{Span}
-use Rattle.lat_stream.specs.Kept.{told_total, state_shown}
+use Rattle.lat_stream.specs.Kept.{saturated, state_shown}
+use Rattle.lat_stream.specs.declared.calls.SessionFault.{SessionFault}
+use Rattle.lat_stream.specs.declared.calls.SessionFault.TheVariants.{Closed}
+use Rattle.lat_session.specs.declared.call.SessionCall.{SessionCall}
+use Rattle.lat_session.specs.Calls.{answer_of}
 use Rattle.lat_session.specs.States.{is_asked}
 use Rattle.lat_session.specs.Table.{waiting_at, state_at}
 use Rattle.lat_circuit.specs.Kept as circuit
@@ -16,6 +20,13 @@ use Rattle.lat_circuit.specs.Told.{session_end}
 use Rattle.lat_circuit.specs.Agrees.{span_of}
 use Rattle.lat_circuits.specs.declared.told.Told.{Told}
 use Rattle.lat_circuits.specs.Kept.{Kept}
+
+abbrev pub sessions_at : Core → ℕ → Sessions
+sessions_at c x = (c.circuits.circuit_at x).end.half.sessions
+
+-- the session of an id on a circuit
+abbrev pub session_at : Core → ℕ → ℕ → Session
+session_at c x id = named (sessions_at c x) id
 
 -- what is told, with the address as a number
 pub record Telling : Type 0 where
@@ -49,8 +60,8 @@ telling_of c x id =
       peer = (c.circuits.circuit_at x).address;
       peer_circuit = e.peer;
       peer_session = peer (named e.half.sessions id);
-      given = told_total (credits (named e.half.sessions id).out);
-      used = told_total (costs (named e.half.sessions id).out);
+      given = saturated (credits (named e.half.sessions id).out);
+      used = saturated (costs (named e.half.sessions id).out);
       end = session_end e id;
       is_asked = asks e.half.sessions id;
     }
@@ -81,3 +92,7 @@ asks_in (Some q) id = is_none q.ended && is_asked (state_at q.sessions id)
 
 abbrev pub is_asked_at : Kept → ℕ → ℕ → Bool
 is_asked_at k x id = asks_in (held_circuit k x) id
+
+-- what a call on the session of the id is answered; `Closed` where no such circuit lives
+abbrev pub answer_at : Core → ℕ → ℕ → SessionCall → Result ℕ SessionFault
+answer_at c x id call = if lives (c.circuits.circuit_at x).end then answer_of (session_at c x id) call else Err Closed

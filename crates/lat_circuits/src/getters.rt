@@ -1,13 +1,13 @@
 //! What circuits tell. No call takes memory. Of a circuit that isn't held each tells that there is none.
 
-ghost use Rattle.std.specs.Prelude.{◌≡◌, ◌≤◌, ◌+◌, ◌-◌, ◌&&◌, cond, length, filter, not, IfSome, is_none, nat_eq, Some, None, true, false};
+ghost use Rattle.std.specs.Prelude.{◌≡◌, ◌≤◌, ◌+◌, ◌-◌, ◌&&◌, cond, not, nat_eq, true, false};
+ghost use Rattle.std.specs.Prelude.{length, filter, Some, None, is_none, IfSome};
 ghost use Rattle.std.specs.List.{find, position};
 ghost use Rattle.std.specs.Option.{is_some, option_copied};
 ghost use Rattle.lat_base.specs.declared.state.SessionState.TheVariants as states;
 ghost use Rattle.lat_model.specs.Lists.{upwards};
 ghost use Rattle.lat_model.specs.ends.End.{lives};
 ghost use Rattle.lat_model.specs.sessions.Session.{take_open, waits};
-ghost use Rattle.lat_model.specs.sessions.Sessions.{named};
 ghost use Rattle.lat_model.specs.sessions.Slots.{items};
 ghost use Rattle.lat_machines.specs.values.Addresses.{address};
 ghost use Rattle.lat_machines.specs.cores.Cores.{Core, span};
@@ -17,7 +17,8 @@ ghost use Rattle.lat_circuit.specs.Kept.{Kept};
 ghost use Rattle.lat_circuit.specs.Told.{session_state};
 ghost use Rattle.lat_circuits.specs.Kept.{has_id, IsOwn};
 ghost use Rattle.lat_circuits.specs.Stands.{Stands, IsCircuit};
-ghost use Rattle.lat_circuits.specs.Told.{telling, telling_of, held_circuit, is_of_circuit, ready, span_told, is_asked_at};
+ghost use Rattle.lat_circuits.specs.Told.{sessions_at, session_at, held_circuit, is_of_circuit};
+ghost use Rattle.lat_circuits.specs.Told.{telling, telling_of, ready, span_told, is_asked_at};
 
 use crate::circuits::Circuits;
 use crate::hearing::is_to;
@@ -47,7 +48,9 @@ impl Circuits {
         ensures model { (c : Core) → Stands self.now c → IfSome result (λ t. telling t ≡ telling_of c circuit id) }
         ensures held { is_some result ≡ has_id circuit self.now }
         ensures within { IfSome result (λ t. (1 ≤ circuit) × (circuit ≤ self.now.drawn)) }
-        ensures side { (c : Core) → Stands self.now c → IfSome result (λ t. (c.circuits.circuit_at circuit).end.half.sessions.master ≡ self.now.server) }
+        ensures side { (c : Core) →
+            Stands self.now c →
+            IfSome result (λ t. (sessions_at c circuit).master ≡ self.now.server) }
     {
         let held = self.circuit(circuit)?;
         Some(tell(held, id))
@@ -59,7 +62,7 @@ impl Circuits {
         ensures side { (c : Core) →
             Stands self.now c →
             lives (c.circuits.circuit_at circuit).end ≡ true →
-            (c.circuits.circuit_at circuit).end.half.sessions.master ≡ self.now.server }
+            (sessions_at c circuit).master ≡ self.now.server }
     {
         match self.circuit(circuit) {
             Some(held) => held.state(id),
@@ -72,7 +75,9 @@ impl Circuits {
         ensures value { result ≡ ready self.now circuit id }
         ensures model { (c : Core) →
             Stands self.now c →
-            result ≡ cond (lives (c.circuits.circuit_at circuit).end && take_open (named (c.circuits.circuit_at circuit).end.half.sessions id)) (length (items (named (c.circuits.circuit_at circuit).end.half.sessions id).came) - (named (c.circuits.circuit_at circuit).end.half.sessions id).taken) 0 }
+            result ≡ cond (lives (c.circuits.circuit_at circuit).end && take_open (session_at c circuit id))
+            (length (items (session_at c circuit id).came) - (session_at c circuit id).taken)
+            0 }
     {
         match self.circuit(circuit) {
             Some(held) => held.waiting(id),
@@ -86,7 +91,9 @@ impl Circuits {
         ensures model { (c : Core) →
             Stands self.now c →
             self.now.server ≡ false →
-            result ≡ cond (lives (c.circuits.circuit_at circuit).end && waits (named (c.circuits.circuit_at circuit).end.half.sessions id)) (Some (asked_at (c.circuits.circuit_at circuit).end.half.sessions id)) None }
+            result ≡ cond (lives (c.circuits.circuit_at circuit).end && waits (session_at c circuit id))
+            (Some (asked_at (sessions_at c circuit) id))
+            None }
     {
         let held = self.circuit(circuit)?;
         if held.lives() {
@@ -102,7 +109,7 @@ impl Circuits {
             Stands self.now c →
             self.now.server ≡ false →
             has_id circuit self.now ≡ true →
-            result ≡ length (filter (λ id. waits (named (c.circuits.circuit_at circuit).end.half.sessions id)) (upwards 0 64)) }
+            result ≡ length (filter (λ id. waits (session_at c circuit id)) (upwards 0 64)) }
     {
         match self.circuit(circuit) {
             Some(held) => held.asked_count(),
@@ -184,7 +191,9 @@ fn tell(circuit: &Circuit, id: u8) -> Told
 
 // Whether a RUN from a station with this id of its circuit is for it.
 fn is_named(circuit: &Circuit, from: Addr, source: u16) -> bool
-    ensures { result ≡ (is_of_circuit circuit.now (address from.0) source && is_none circuit.now.ended && circuit.now.running) }
+    ensures { result ≡ (is_of_circuit circuit.now (address from.0) source
+        && is_none circuit.now.ended
+        && circuit.now.running) }
 {
     is_of(circuit, from, source) && circuit.lives() && circuit.running()
 }

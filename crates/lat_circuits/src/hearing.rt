@@ -1,6 +1,7 @@
 //! What circuits do at a circuit message.
 
-ghost use Rattle.std.specs.Prelude.{◌≡◌, ℕ, suc, ◌≤◌, ◌<◌, ◌+◌, ◌&&◌, true, false, cond, length, nat_eq, nat_lt, position, slice_index};
+ghost use Rattle.std.specs.Prelude.{◌≡◌, ℕ, suc, ◌≤◌, ◌<◌, ◌+◌, ◌&&◌, true, false, cond, nat_eq, nat_lt};
+ghost use Rattle.std.specs.Prelude.{length, position, slice_index};
 ghost use Rattle.lat_frames.specs.Conditions.{InfoFits};
 ghost use Rattle.lat_frames.specs.Written.{IsWritable};
 ghost use Rattle.lat_machines.specs.values.Addresses.{address};
@@ -12,13 +13,14 @@ ghost use Rattle.lat_circuit.specs.Kept.{Kept};
 ghost use Rattle.lat_circuit.specs.Hears.{heard_shown};
 ghost use Rattle.lat_circuit.specs.Frames.{info_shown, message_shown};
 ghost use Rattle.lat_circuits.specs.Kept.{side_of, ids, SameCore, SameCircuits, has_id, IsClear};
-ghost use Rattle.lat_circuits.specs.Stands.{Stands, Did};
+ghost use Rattle.lat_circuits.specs.Stands.{Stands, Simulates};
 ghost use Rattle.lat_circuits.specs.Hears.{heard_core, hears_named, hears_at, start_core, new_fact, hearing_shown};
 
 use crate::circuits::{CIRCUITS, Circuits};
 use lat_base::{Addr, Heard, Name, OutBox};
 use lat_circuit::{Circuit, CircuitConfig, refusal};
 use lat_frames::{Message, StartInfo};
+use lat_payload::is_same;
 
 /// What became of a circuit message.
 #[derive(Clone, Copy, Debug, PartialEq, Eq)]
@@ -40,8 +42,11 @@ impl Circuits {
         requires ok { IsWritable m.now }
         requires clear { IsClear self.old }
         requires room { length out.old + 16 ≤ 256 }
-        ensures did { Did (λ c. (heard_core (side_of self.old) (address from.0) (message_shown m.now) c).doing) self.old self.new out.old out.new }
-        ensures answer { (c : Core) → Stands self.old c → hearing_shown result ≡ (heard_core (side_of self.old) (address from.0) (message_shown m.now) c).answer }
+        ensures did { Simulates (λ c. (heard_core (side_of self.old) (address from.0) (message_shown m.now) c).doing)
+            self.old self.new out.old out.new }
+        ensures answer { (c : Core) →
+            Stands self.old c →
+            hearing_shown result ≡ (heard_core (side_of self.old) (address from.0) (message_shown m.now) c).answer }
         ensures core { SameCore self.old self.new }
         ensures moment { self.new.moment ≡ self.old.moment }
         ensures held { (x : ℕ) → has_id x self.old ≡ true → has_id x self.new ≡ true }
@@ -80,8 +85,11 @@ impl Circuits {
         requires ok { IsWritable m.now }
         requires clear { IsClear self.old }
         requires room { length out.old + 16 ≤ 256 }
-        ensures did { Did (λ c. (hears_named (side_of self.old) id (address from.0) (message_shown m.now) c).doing) self.old self.new out.old out.new }
-        ensures answer { (c : Core) → Stands self.old c → hearing_shown result ≡ (hears_named (side_of self.old) id (address from.0) (message_shown m.now) c).answer }
+        ensures did { Simulates (λ c. (hears_named (side_of self.old) id (address from.0) (message_shown m.now) c).doing)
+            self.old self.new out.old out.new }
+        ensures answer { (c : Core) →
+            Stands self.old c →
+            hearing_shown result ≡ (hears_named (side_of self.old) id (address from.0) (message_shown m.now) c).answer }
         ensures same { SameCircuits self.old self.new }
         ensures most { length out.new ≤ length out.old + 1 }
     {
@@ -97,8 +105,11 @@ impl Circuits {
         requires ok { IsWritable m.now }
         requires clear { IsClear self.old }
         requires room { length out.old + 16 ≤ 256 }
-        ensures did { Did (λ c. (hears_at (side_of self.old) (slice_index (ids self.old) at) (message_shown m.now) c).doing) self.old self.new out.old out.new }
-        ensures answer { (c : Core) → Stands self.old c → CircuitAnswer (heard_shown result) ≡ (hears_at (side_of self.old) (slice_index (ids self.old) at) (message_shown m.now) c).answer }
+        ensures did { Simulates (λ c. (hears_at (side_of self.old) (slice_index (ids self.old) at) (message_shown m.now) c).doing)
+            self.old self.new out.old out.new }
+        ensures answer { (c : Core) →
+            Stands self.old c →
+            CircuitAnswer (heard_shown result) ≡ (hears_at (side_of self.old) (slice_index (ids self.old) at) (message_shown m.now) c).answer }
         ensures same { SameCircuits self.old self.new }
         ensures most { length out.new ≤ length out.old + 1 }
     {
@@ -108,7 +119,8 @@ impl Circuits {
 
     // Where the circuit of this id to this station stands.
     fn find(&self, id: u16, from: Addr) -> Option<usize>
-        ensures { result ≡ position (λ (q : Kept). nat_eq q.facts.id id && nat_eq (address q.facts.config.peer.0) (address from.0)) self.now.held }
+        ensures { result ≡ position (λ (q : Kept). nat_eq q.facts.id id
+            && nat_eq (address q.facts.config.peer.0) (address from.0)) self.now.held }
     {
         self.held
             .iter()
@@ -117,7 +129,8 @@ impl Circuits {
 
     // Where the slave stands whose master has this address and this id of the circuit.
     fn slave_of(&self, from: Addr, source: u16) -> Option<usize>
-        ensures { result ≡ position (λ (q : Kept). nat_eq q.facts.peer source && nat_eq (address q.facts.config.peer.0) (address from.0)) self.now.held }
+        ensures { result ≡ position (λ (q : Kept). nat_eq q.facts.peer source
+            && nat_eq (address q.facts.config.peer.0) (address from.0)) self.now.held }
     {
         self.held.iter().position(|circuit| circuit.peer_id() == source && is_to(circuit, from))
     }
@@ -129,7 +142,8 @@ impl Circuits {
         requires source { 0 < source }
         requires clear { IsClear self.old }
         requires room { length out.old + 16 ≤ 256 }
-        ensures did { Did (λ c. (start_core (side_of self.old) c (address from.0) source (info_shown info.now) (new_fact c.circuits)).doing) self.old self.new out.old out.new }
+        ensures did { Simulates (λ c. (start_core (side_of self.old) c (address from.0) source (info_shown info.now) (new_fact c.circuits)).doing)
+            self.old self.new out.old out.new }
         ensures answer { (c : Core) → Stands self.old c → hearing_shown result ≡ start_answer (new_fact c.circuits) }
         ensures core { SameCore self.old self.new }
         ensures moment { self.new.moment ≡ self.old.moment }
@@ -147,7 +161,10 @@ impl Circuits {
     // Whether there are a room and an id for one more circuit.
     fn has_place(&self) -> bool
         ensures value { result ≡ (nat_lt (length self.now.held) 8 && nat_lt self.now.drawn 65535) }
-        ensures model { (c : Core) → Stands self.now c → IsClear self.now → new_fact c.circuits ≡ cond result (Makes (suc c.circuits.drawn)) Refuses }
+        ensures model { (c : Core) →
+            Stands self.now c →
+            IsClear self.now →
+            new_fact c.circuits ≡ cond result (Makes (suc c.circuits.drawn)) Refuses }
     {
         self.held.len() < CIRCUITS && self.drawn < u16::MAX
     }
@@ -160,7 +177,8 @@ impl Circuits {
         requires few { length self.old.held < 8 }
         requires ids { self.old.drawn < 65535 }
         requires room { length out.old + 16 ≤ 256 }
-        ensures did { Did (λ c. (start_core (side_of self.old) c (address from.0) source (info_shown info.now) (Makes (suc c.circuits.drawn))).doing) self.old self.new out.old out.new }
+        ensures did { Simulates (λ c. (start_core (side_of self.old) c (address from.0) source (info_shown info.now) (Makes (suc c.circuits.drawn))).doing)
+            self.old self.new out.old out.new }
         ensures id { result ≡ suc self.old.drawn }
         ensures core { SameCore self.old self.new }
         ensures moment { self.new.moment ≡ self.old.moment }
@@ -179,7 +197,13 @@ impl Circuits {
 
     // What a circuit to this station is made of.
     pub(crate) fn config_to(&self, peer: Addr, peer_name: Name) -> CircuitConfig
-        ensures { result ≡ record { own = self.now.own; peer = peer; name = self.now.name; peer_name = peer_name; timing = self.now.timing } }
+        ensures { result ≡ record {
+          own = self.now.own;
+          peer = peer;
+          name = self.now.name;
+          peer_name = peer_name;
+          timing = self.now.timing;
+        } }
     {
         CircuitConfig {
             own: self.own,
@@ -196,11 +220,4 @@ pub(crate) fn is_to(circuit: &Circuit, station: Addr) -> bool
     ensures { result ≡ nat_eq (address circuit.now.facts.config.peer.0) (address station.0) }
 {
     is_same(&circuit.config().peer.0, &station.0)
-}
-
-// Whether two addresses are one.
-fn is_same(one: &[u8; 6], other: &[u8; 6]) -> bool
-    ensures { result ≡ nat_eq (address one.now) (address other.now) }
-{
-    one == other
 }

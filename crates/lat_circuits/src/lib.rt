@@ -11,5 +11,5 @@ mod told;
 
 pub use circuits::Circuits;
 pub use hearing::Hearing;
-pub use lat_circuit::{Asked, SessionFault, Timing};
+pub use lat_circuit::{Asked, SessionCall, SessionFault, Timing};
 pub use told::Told;

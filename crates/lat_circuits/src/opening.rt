@@ -1,6 +1,7 @@
 //! Circuits that a server calls.
 
-ghost use Rattle.std.specs.Prelude.{◌≡◌, ℕ, ◌≤◌, ◌<◌, ◌+◌, ◌&&◌, true, suc, length, nat_eq, nat_lt, is_none, count_by, cond, Ok, Err, IfSome, if◌then◌else◌};
+ghost use Rattle.std.specs.Prelude.{◌≡◌, ℕ, ◌≤◌, ◌<◌, ◌+◌, ◌&&◌, if◌then◌else◌, true, suc, cond, nat_eq, nat_lt};
+ghost use Rattle.std.specs.Prelude.{length, count_by, is_none, Ok, Err, IfSome};
 ghost use Rattle.std.specs.List.{find};
 ghost use Rattle.std.specs.Option.{option_map};
 ghost use Rattle.lat_model.specs.circuits.Arriving.{living};
@@ -14,7 +15,8 @@ ghost use Rattle.lat_circuit.specs.Agrees.{IsTiming};
 ghost use Rattle.lat_circuit.specs.Kept.{Kept};
 ghost use Rattle.lat_circuit.specs.Stands as circuit_stands;
 ghost use Rattle.lat_circuits.specs.Kept.{side_of, SameCore, SameCircuits, has_id, IsClear};
-ghost use Rattle.lat_circuits.specs.Stands.{Stands, Did, calling};
+ghost use Rattle.lat_circuits.specs.Stands.{Stands, Simulates, calling};
+ghost use Rattle.lat_circuits.specs.Told.{sessions_at};
 ghost use Rattle.lat_circuits.specs.Opens.{id_told, called_core};
 
 use crate::circuits::Circuits;
@@ -50,7 +52,9 @@ impl Circuits {
 
     /// Whether a living circuit holds fewer sessions than were agreed. False where no circuit of this id lives.
     pub fn has_room(&self, circuit: u16) -> bool
-        ensures { (c : Core) → Stands self.now c → result ≡ (lives (c.circuits.circuit_at circuit).end && has_room c circuit) }
+        ensures { (c : Core) →
+            Stands self.now c →
+            result ≡ (lives (c.circuits.circuit_at circuit).end && has_room c circuit) }
     {
         match self.circuit(circuit) {
             Some(held) => held.lives() && has_room(held),
@@ -65,7 +69,7 @@ impl Circuits {
         requires few { length self.old.held < 8 }
         requires ids { self.old.drawn < 65535 }
         requires room { length out.old + 16 ≤ 256 }
-        ensures did { Did (called_core (side_of self.old) (address peer.0) node.now) self.old self.new out.old out.new }
+        ensures did { Simulates (called_core (side_of self.old) (address peer.0) node.now) self.old self.new out.old out.new }
         ensures id { result ≡ suc self.old.drawn }
         ensures drawn { self.new.drawn ≡ suc self.old.drawn }
         ensures core { SameCore self.old self.new }
@@ -97,8 +101,12 @@ impl Circuits {
         requires server { self.old.server ≡ true }
         ensures answer { (c : Core) →
             Stands self.old c →
-            result ≡ (if lives (c.circuits.circuit_at circuit).end && has_room c circuit then Ok (least_free (c.circuits.circuit_at circuit).end.half.sessions) else Err SessionFault.Full) }
-        ensures state { (c : Core) → Stands self.old c → Stands self.new (calling (side_of self.old) circuit (Connect service.now request) c) }
+            result ≡ (if lives (c.circuits.circuit_at circuit).end && has_room c circuit
+            then Ok (least_free (sessions_at c circuit))
+            else Err SessionFault.Full) }
+        ensures state { (c : Core) →
+            Stands self.old c →
+            Stands self.new (calling (side_of self.old) circuit (Connect service.now request) c) }
         ensures same { SameCircuits self.old self.new }
         ensures clear { IsClear self.old → IsClear self.new }
     {
@@ -114,7 +122,8 @@ impl Circuits {
 
 // The id of the living circuit to a station.
 fn id_to(held: &[Circuit], peer: Addr) -> Option<u16>
-    ensures { result ≡ option_map (λ (q : Kept). q.facts.id) (find (λ (q : Kept). is_none q.ended && nat_eq (address q.facts.config.peer.0) (address peer.0)) held.now) }
+    ensures { result ≡ option_map (λ (q : Kept). q.facts.id)
+        (find (λ (q : Kept). is_none q.ended && nat_eq (address q.facts.config.peer.0) (address peer.0)) held.now) }
 {
     let found = held
         .iter()
@@ -135,7 +144,9 @@ fn is_alive(circuit: &Circuit) -> bool
 }
 
 fn has_room(circuit: &Circuit) -> bool
-    ensures { (e : End) → circuit_stands.Stands circuit.now e → result ≡ nat_lt (held e.half.sessions) e.half.sessions.agreed }
+    ensures { (e : End) →
+        circuit_stands.Stands circuit.now e →
+        result ≡ nat_lt (held e.half.sessions) e.half.sessions.agreed }
 {
     circuit.held() < circuit.agreed()
 }

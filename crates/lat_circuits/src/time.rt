@@ -3,7 +3,7 @@
 ghost use Rattle.std.specs.Prelude.{◌≡◌, ◌≤◌, ◌<◌, ◌+◌, length, slice_index};
 ghost use Rattle.lat_machines.specs.cores.Cores.{passes_time};
 ghost use Rattle.lat_circuits.specs.Kept.{side_of, SameCircuits, ids};
-ghost use Rattle.lat_circuits.specs.Stands.{Did};
+ghost use Rattle.lat_circuits.specs.Stands.{Simulates};
 ghost use Rattle.lat_circuits.specs.Times.{passes_one};
 
 use crate::circuits::Circuits;
@@ -14,7 +14,7 @@ impl Circuits {
     /// circuit. See "What a time event does" in docs/PROTOCOL.md.
     pub fn time(&mut self, out: &mut OutBox)
         requires room { length out.old + 128 ≤ 256 }
-        ensures did { Did (passes_time (side_of self.old)) self.old self.new out.old out.new }
+        ensures did { Simulates (passes_time (side_of self.old)) self.old self.new out.old out.new }
         ensures same { SameCircuits self.old self.new }
         ensures most { length out.new ≤ length out.old + 128 }
     {
@@ -27,7 +27,7 @@ impl Circuits {
     fn time_at(&mut self, at: usize, out: &mut OutBox)
         requires at { at < length self.old.held }
         requires room { length out.old + 16 ≤ 256 }
-        ensures did { Did (passes_one (side_of self.old) (slice_index (ids self.old) at)) self.old self.new out.old out.new }
+        ensures did { Simulates (passes_one (side_of self.old) (slice_index (ids self.old) at)) self.old self.new out.old out.new }
         ensures same { SameCircuits self.old self.new }
         ensures most { length out.new ≤ length out.old + 16 }
     {

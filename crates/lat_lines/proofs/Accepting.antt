@@ -20,8 +20,8 @@ use Rattle.lat_lines.specs.Cores.{CoreLater}
 use Rattle.lat_lines.specs.Opens.{accepted_core}
 use Rattle.lat_lines.specs.Stands.{IsSeat, Stands, freed_key, freed_from, freed_between}
 use Rattle.lat_lines.proofs.later.Calls.{called_later, answered_leads}
-use Rattle.lat_lines.proofs.settling.Held.{IsStood, stood_at}
-use Rattle.lat_lines.proofs.settling.Seats.{Between, still_over}
+use Rattle.lat_lines.proofs.reaping.Held.{IsStood, stood_at}
+use Rattle.lat_lines.proofs.reaping.Seats.{Between, still_over}
 use Rattle.lat_lines.proofs.CoresLater.{none_later}
 
 -- a line without a session has none after an act

@@ -1,12 +1,14 @@
 -- A local call on the session of a line, as the circuits do it and as the machines do.
-use Rattle.std.proofs.Common.{◌≡◌, ℕ, ◌+◌, ◌-◌, Bool, true, false, not, cond, ◌&&◌, nat_eq, nat_lt, eqb-true, List, [], ◌∷◌, ◌++◌, append-nil, drop_of_length-le, map, length, take, drop, min, le_of_eq, Result, Ok, Err, if◌then◌else◌, refl, sym, ap, ap₂, subst₂, ◌∙◌, arith}
+use Rattle.std.proofs.Common.{◌≡◌, ℕ, ◌+◌, ◌-◌, Bool, true, false, not, cond, ◌&&◌, nat_eq, nat_lt, eqb-true, List, [], ◌∷◌, ◌++◌, append-nil, drop_of_length-le, map, length, take, drop, min, le_of_eq, Result, Ok, Err, if◌then◌else◌, refl, sym, ap, ap₂, subst, subst₂, ◌∙◌, arith}
 use Rattle.std.proofs.Math.Path.{fun_ext}
+use Rattle.lat_base.specs.declared.answer.Answer.TheVariants as answers
 use Rattle.lat_base.specs.declared.item.Item as base_item
 use Rattle.lat_model.specs.Lists.{updated}
 use Rattle.lat_model.specs.sessions.Slots.{Item, Byte, Setting, items}
 use Rattle.lat_model.specs.sessions.Session.{Session, put_open, take_open, unframed}
 use Rattle.lat_model.specs.sessions.Sessions.{Sessions, named, held}
-use Rattle.lat_model.specs.sessions.Calls.{Call, Put, Set, Attend, Take, Close, call, touch, put_count, take_count, took}
+use Rattle.lat_model.specs.sessions.Calls as calls
+use Rattle.lat_model.specs.sessions.Calls.{Call, Take, call, touch, put_count, take_count, took}
 use Rattle.lat_model.specs.ends.End.{End, lives, still}
 use Rattle.lat_model.specs.ends.Timers.{note_empty}
 use Rattle.lat_model.specs.circuits.World.{CircuitEntry}
@@ -18,8 +20,13 @@ use Rattle.lat_machines.specs.cores.LineCalls.{Said, says, put_on, set_on, atten
 use Rattle.lat_stream.specs.Kept.{item_shown}
 use Rattle.lat_stream.specs.declared.calls.SessionFault.{SessionFault}
 use Rattle.lat_stream.specs.declared.calls.SessionFault.TheVariants.{Full, Closed}
+use Rattle.lat_session.specs.declared.call.SessionCall.{SessionCall}
+use Rattle.lat_session.specs.declared.call.SessionCall.TheVariants.{Put, Set, Attend, Close}
+use Rattle.lat_session.specs.Calls.{call_of, answer_of, is_taken}
 use Rattle.lat_circuits.specs.Stands.{calling}
-use Rattle.lat_lines.specs.Answers.{answer_shown, item_in, put_answer, done_answer, took_answer}
+use Rattle.lat_circuits.specs.Told.{answer_at}
+use Rattle.lat_lines.specs.Answers.{answer_shown, item_in, took_answer}
+use Rattle.lat_lines.specs.Calls.{call_on, call_answer, done_answer}
 use Rattle.lat_lines.proofs.HeldSeats.{IsHeld}
 use Rattle.lat_lines.proofs.Telling.{takes_at}
 
@@ -93,32 +100,10 @@ agrees_at D A x id t a s p q e g = agrees_as (D x id) a (A x id) s e (subst₂ (
 no_call : (b : Bool) (x e : Sessions) → b ≡ false → cond b x e ≡ e
 no_call b x e f = ap (λ z. cond z x e) f
 
-done_shown : (b : Bool) → answer_shown (done_answer (if b then Ok tt else Err Closed)) ≡ cond b Done Refused
-done_shown true = refl
-done_shown false = refl
-
 abbrev has_space : Session → Bool
 has_space u = nat_lt (length (unframed u)) 4096
 
--- what the circuits answer
-
-abbrev pub putting : Core → ℕ → ℕ → ℕ → Result ℕ SessionFault
-putting c x id n =
-    if lives (c.circuits.circuit_at x).end && put_open (named (c.circuits.circuit_at x).end.half.sessions id)
-    then Ok (put_count (named (c.circuits.circuit_at x).end.half.sessions id) n) else Err Closed
-
-abbrev pub setting_at : Core → ℕ → ℕ → Result (Unit {0}) SessionFault
-setting_at c x id =
-    if lives (c.circuits.circuit_at x).end && put_open (named (c.circuits.circuit_at x).end.half.sessions id)
-    then (if nat_lt (length (unframed (named (c.circuits.circuit_at x).end.half.sessions id))) 4096 then Ok tt else Err Full) else Err Closed
-
-abbrev pub attending : Core → ℕ → ℕ → Result (Unit {0}) SessionFault
-attending c x id =
-    if lives (c.circuits.circuit_at x).end && put_open (named (c.circuits.circuit_at x).end.half.sessions id) then Ok tt else Err Closed
-
-abbrev pub closing : Core → ℕ → ℕ → Result (Unit {0}) SessionFault
-closing c x id =
-    if lives (c.circuits.circuit_at x).end && take_open (named (c.circuits.circuit_at x).end.half.sessions id) then Ok tt else Err Closed
+-- what the circuits answer a take
 
 abbrev pub taking : Core → ℕ → ℕ → ℕ → Result ℕ SessionFault
 taking c x id n =
@@ -127,77 +112,57 @@ taking c x id n =
 
 -- each call
 
-pub put_agrees : (k : Side) (c : Core) (lines : ℕ) (t : Seat) (bytes : List ℕ) → IsHeld lines c t
-    → Agrees (calling k t.circuit (Put t.id bytes) c) (answer_shown (put_answer (putting c t.circuit t.id (length bytes)))) (put_on k c t bytes)
-put_agrees k c lines t bytes h =
-    agrees_as d (answer_shown (put_answer (putting c t.circuit t.id (length bytes)))) (cond (put_open s) (Accepted (put_count s (length bytes))) Refused) (put_on k c t bytes) (told ∙ by (put_open s))
-    (agrees_either c d (put_open s) (Accepted (put_count s (length bytes))) Refused (λ f. sym (calls_nothing k t.circuit c (Put t.id bytes) (no_call _ _ _ (ap put_open h.named ∙ f)))))
-  where
-    s : Session
-    s = session_of c t
+told : (c : Core) (lines : ℕ) (t : Seat) (call : SessionCall) → IsHeld lines c t → answer_at c t.circuit t.id call ≡ answer_of (session_of c t) call
+told c lines t call h = ap₂ (λ b (u : Session). if b then answer_of u call else Err Closed) h.lives h.named
 
-    d : Core
-    d = calling k t.circuit (Put t.id bytes) c
+-- one that isn't taken changes nothing
+untaken : (k : Side) (c : Core) (lines : ℕ) (t : Seat) (call : SessionCall) → IsHeld lines c t → is_taken (session_of c t) call ≡ false → c ≡ calling k t.circuit (call_of t.id call) c
+untaken k c lines t (Put bytes) h f = sym (calls_nothing k t.circuit c (calls.Put t.id bytes.now) (no_call _ _ _ (ap put_open h.named ∙ f)))
+untaken k c lines t (Set setting) h f = sym (calls_nothing k t.circuit c (calls.Set t.id setting) (no_call _ _ _ (ap (λ (u : Session). put_open u && has_space u) h.named ∙ f)))
+untaken k c lines t (Attend flag) h f = sym (calls_nothing k t.circuit c (calls.Attend t.id flag) (no_call _ _ _ (ap put_open h.named ∙ f)))
+untaken k c lines t Close h f = sym (calls_nothing k t.circuit c (calls.Close t.id) (no_call _ _ _ (ap take_open h.named ∙ f)))
 
-    told : answer_shown (put_answer (putting c t.circuit t.id (length bytes))) ≡ answer_shown (put_answer (if put_open s then Ok (put_count s (length bytes)) else Err Closed))
-    told = ap₂ (λ b (u : Session). answer_shown (put_answer (if b && put_open u then Ok (put_count u (length bytes)) else Err Closed))) h.lives h.named
+put_shown : (call : SessionCall) (n : ℕ) (b : Bool) → ((m : ℕ) → done_answer call m ≡ answers.Put (min m 4096)) → min n 4096 ≡ n
+    → answer_shown (call_answer call (if b then Ok n else Err Closed)) ≡ cond b (Accepted n) Refused
+put_shown call n true is low = ap answer_shown (is n) ∙ ap Accepted low
+put_shown call n false is low = refl
 
-    few : min (put_count s (length bytes)) 4096 ≡ put_count s (length bytes)
-    few = omega arith
+done_shown : (call : SessionCall) (a b : Bool) → ((m : ℕ) → done_answer call m ≡ answers.Done)
+    → answer_shown (call_answer call (if a then (if b then Ok 0 else Err Full) else Err Closed)) ≡ cond a (cond b Done Filled) Refused
+done_shown call true true is = ap answer_shown (is 0)
+done_shown call true false is = refl
+done_shown call false b is = refl
 
-    by : (b : Bool) → answer_shown (put_answer (if b then Ok (put_count s (length bytes)) else Err Closed)) ≡ cond b (Accepted (put_count s (length bytes))) Refused
-    by true = ap Accepted few
-    by false = refl
+few : (s : Session) (n : ℕ) → min (put_count s n) 4096 ≡ put_count s n
+few s n = omega arith
 
-pub set_agrees : (k : Side) (c : Core) (lines : ℕ) (t : Seat) (setting : List ℕ) → IsHeld lines c t
-    → Agrees (calling k t.circuit (Set t.id setting) c) (answer_shown (done_answer (setting_at c t.circuit t.id))) (set_on k c t setting)
-set_agrees k c lines t setting h =
-    agrees_as d (answer_shown (done_answer (setting_at c t.circuit t.id))) (cond (put_open s) (cond (has_space s) Done Filled) Refused) (set_on k c t setting) (told ∙ by (put_open s) (has_space s))
-    (agrees_both c d (put_open s) (has_space s) Done Filled Refused (λ f. sym (calls_nothing k t.circuit c (Set t.id setting) (no_call _ _ _ (ap (λ (u : Session). put_open u && has_space u) h.named ∙ f)))))
-  where
-    s : Session
-    s = session_of c t
+agrees : (k : Side) (c d : Core) (t : Seat) (call : SessionCall) → d ≡ calling k t.circuit (call_of t.id call) c → (is_taken (session_of c t) call ≡ false → c ≡ d)
+    → Agrees d (answer_shown (call_answer call (answer_of (session_of c t) call))) (call_on k c t call)
+agrees k c d t (Put bytes) is none =
+    let s : Session = session_of c t in
+    let n : ℕ = put_count s (length bytes.now) in
+    agrees_as d (answer_shown (call_answer (Put bytes) (answer_of s (Put bytes)))) (cond (put_open s) (Accepted n) Refused) (put_on k c t bytes.now) (put_shown (Put bytes) n (put_open s) (λ m. refl) (few s (length bytes.now)))
+    (subst (λ z. Agrees d (cond (put_open s) (Accepted n) Refused) (cond (put_open s) (says z (Accepted n)) (says c Refused))) is (agrees_either c d (put_open s) (Accepted n) Refused none))
+agrees k c d t (Set setting) is none =
+    let s : Session = session_of c t in
+    agrees_as d (answer_shown (call_answer (Set setting) (answer_of s (Set setting)))) (cond (put_open s) (cond (has_space s) Done Filled) Refused) (set_on k c t setting) (done_shown (Set setting) (put_open s) (has_space s) (λ m. refl))
+    (subst (λ z. Agrees d (cond (put_open s) (cond (has_space s) Done Filled) Refused) (cond (put_open s) (cond (has_space s) (says z Done) (says c Filled)) (says c Refused))) is (agrees_both c d (put_open s) (has_space s) Done Filled Refused none))
+agrees k c d t (Attend flag) is none =
+    let s : Session = session_of c t in
+    agrees_as d (answer_shown (call_answer (Attend flag) (answer_of s (Attend flag)))) (cond (put_open s) Done Refused) (attend_on k c t flag) (done_shown (Attend flag) (put_open s) true (λ m. refl))
+    (subst (λ z. Agrees d (cond (put_open s) Done Refused) (cond (put_open s) (says z Done) (says c Refused))) is (agrees_either c d (put_open s) Done Refused none))
+agrees k c d t Close is none =
+    let s : Session = session_of c t in
+    agrees_as d (answer_shown (call_answer Close (answer_of s Close))) (cond (take_open s) Done Refused) (close_on k c t) (done_shown Close (take_open s) true (λ m. refl))
+    (subst (λ z. Agrees d (cond (take_open s) Done Refused) (cond (take_open s) (says z Done) (says c Refused))) is (agrees_either c d (take_open s) Done Refused none))
 
-    d : Core
-    d = calling k t.circuit (Set t.id setting) c
-
-    told : answer_shown (done_answer (setting_at c t.circuit t.id)) ≡ answer_shown (done_answer (if put_open s then (if has_space s then Ok tt else Err Full) else Err Closed))
-    told = ap₂ (λ b (u : Session). answer_shown (done_answer (if b && put_open u then (if has_space u then Ok tt else Err Full) else Err Closed))) h.lives h.named
-
-    by : (a b : Bool) → answer_shown (done_answer (if a then (if b then Ok tt else Err Full) else Err Closed)) ≡ cond a (cond b Done Filled) Refused
-    by true true = refl
-    by true false = refl
-    by false b = refl
-
-pub attend_agrees : (k : Side) (c : Core) (lines : ℕ) (t : Seat) (flag : ℕ) → IsHeld lines c t
-    → Agrees (calling k t.circuit (Attend t.id flag) c) (answer_shown (done_answer (attending c t.circuit t.id))) (attend_on k c t flag)
-attend_agrees k c lines t flag h =
-    agrees_as d (answer_shown (done_answer (attending c t.circuit t.id))) (cond (put_open s) Done Refused) (attend_on k c t flag) (told ∙ done_shown (put_open s))
-    (agrees_either c d (put_open s) Done Refused (λ f. sym (calls_nothing k t.circuit c (Attend t.id flag) (no_call _ _ _ (ap put_open h.named ∙ f)))))
-  where
-    s : Session
-    s = session_of c t
-
-    d : Core
-    d = calling k t.circuit (Attend t.id flag) c
-
-    told : answer_shown (done_answer (attending c t.circuit t.id)) ≡ answer_shown (done_answer (if put_open s then Ok tt else Err Closed))
-    told = ap₂ (λ b (u : Session). answer_shown (done_answer (if b && put_open u then Ok tt else Err Closed))) h.lives h.named
-
-pub close_agrees : (k : Side) (c : Core) (lines : ℕ) (t : Seat) → IsHeld lines c t
-    → Agrees (calling k t.circuit (Close t.id) c) (answer_shown (done_answer (closing c t.circuit t.id))) (close_on k c t)
-close_agrees k c lines t h =
-    agrees_as d (answer_shown (done_answer (closing c t.circuit t.id))) (cond (take_open s) Done Refused) (close_on k c t) (told ∙ done_shown (take_open s))
-    (agrees_either c d (take_open s) Done Refused (λ f. sym (calls_nothing k t.circuit c (Close t.id) (no_call _ _ _ (ap take_open h.named ∙ f)))))
-  where
-    s : Session
-    s = session_of c t
-
-    d : Core
-    d = calling k t.circuit (Close t.id) c
-
-    told : answer_shown (done_answer (closing c t.circuit t.id)) ≡ answer_shown (done_answer (if take_open s then Ok tt else Err Closed))
-    told = ap₂ (λ b (u : Session). answer_shown (done_answer (if b && take_open u then Ok tt else Err Closed))) h.lives h.named
+pub call_agrees : (k : Side) (c : Core) (lines : ℕ) (t : Seat) (call : SessionCall) → IsHeld lines c t
+    → Agrees (calling k t.circuit (call_of t.id call) c) (answer_shown (call_answer call (answer_at c t.circuit t.id call))) (call_on k c t call)
+call_agrees k c lines t call h =
+    let d : Core = calling k t.circuit (call_of t.id call) c in
+    agrees_as d (answer_shown (call_answer call (answer_at c t.circuit t.id call))) (answer_shown (call_answer call (answer_of (session_of c t) call))) (call_on k c t call)
+    (ap (λ r. answer_shown (call_answer call r)) (told c lines t call h))
+    (agrees k c d t call refl (untaken k c lines t call h))
 
 -- a take of as many items as there are, at most
 

@@ -30,7 +30,7 @@ use Rattle.lat_lines.specs.Cores.{CoreLater}
 use Rattle.lat_lines.proofs.later.Known.{end_later_refl}
 use Rattle.lat_lines.proofs.later.Calls.{call_later, call_unheard}
 use Rattle.lat_lines.proofs.later.Ends.{time_later, time_unheard, move_later, move_unheard, again_later, again_unheard, stop_later, stop_unheard, reply_later, reply_unheard, run_later, run_unheard}
-use Rattle.lat_lines.proofs.settling.Held.{IsStood, stood_at}
+use Rattle.lat_lines.proofs.reaping.Held.{IsStood, stood_at}
 
 -- what is known of the circuits of a core that others stand for
 pub record CoreOk (c : Core) : Type 0 where

@@ -9,8 +9,8 @@ use Rattle.lat_lines.specs.declared.seat.Seat as own
 use Rattle.lat_lines.specs.Kept.{Kept}
 use Rattle.lat_lines.specs.Cores.{Covers}
 use Rattle.lat_lines.specs.Stands.{Stands, seat_shown, seat_told, present}
-use Rattle.lat_lines.proofs.settling.Seats.{not_over}
-use Rattle.lat_lines.proofs.settling.After.{AllHeld}
+use Rattle.lat_lines.proofs.reaping.Seats.{not_over}
+use Rattle.lat_lines.proofs.reaping.After.{AllHeld}
 
 -- a session that isn't over is on a living circuit, which is held
 present_held : (k : circuits.Kept) (c : Core) (n : ℕ) (ss : List Seat) → stands.Stands k c → AllHeld k (present c n ss)

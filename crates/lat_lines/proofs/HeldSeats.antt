@@ -10,8 +10,8 @@ use Rattle.lat_machines.specs.cores.Lines.{end_of, sessions_of, session_of, over
 use Rattle.lat_lines.specs.declared.seat.Seat as own
 use Rattle.lat_lines.specs.Kept.{Kept}
 use Rattle.lat_lines.specs.Stands.{IsSeat, Stands}
-use Rattle.lat_lines.proofs.settling.Held.{stood_at}
-use Rattle.lat_lines.proofs.settling.Seats.{not_over}
+use Rattle.lat_lines.proofs.reaping.Held.{stood_at}
+use Rattle.lat_lines.proofs.reaping.Seats.{not_over}
 use Rattle.lat_lines.proofs.OnLines.{HasSeat, no_seat_over}
 
 -- Its circuit lives, it isn't free, and its id leads to it

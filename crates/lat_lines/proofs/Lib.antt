@@ -1,7 +1,7 @@
 pub mod Back
 pub mod later
 pub mod Lists
-pub mod settling
+pub mod reaping
 pub mod OnLines
 pub mod Pigeons
 pub mod HeldSeats

@@ -15,11 +15,10 @@ use Rattle.lat_lines.specs.declared.seat.Seat as own
 use Rattle.lat_lines.specs.Kept.{Kept, side_of}
 use Rattle.lat_lines.specs.Calm.{CoreCalm}
 use Rattle.lat_lines.specs.Stands.{Stands, freed_key, freed_from, freed_between}
-use Rattle.lat_lines.specs.Answers.{SaidTo, Says, answer_shown, seat_or}
+use Rattle.lat_lines.specs.Answers.{HasAnswered, SimulatesCall, answer_shown, seat_or}
 use Rattle.lat_lines.proofs.OnLines.{HasSeat, Found, found, is_seat_of}
 use Rattle.lat_lines.proofs.HeldSeats.{IsHeld, held_seat, circuit_is, id_is}
 use Rattle.lat_lines.proofs.Standing.{stands_as}
-use Rattle.lat_lines.proofs.resting.Rested.{rested}
 use Rattle.lat_lines.proofs.CoresLater.{calling_later}
 use Rattle.lat_lines.proofs.Acting.{Settles, SettlesUnless, Acted, same_held, ok_of, acted, acted_unless}
 use Rattle.lat_lines.proofs.Calling.{Agrees}
@@ -69,18 +68,18 @@ freed_none c (s ∷ ss) = by (over c s) (freed_none c ss)
     by true ih = ih
     by false ih = ih
 
-refused_so : (k : Kept) (c : Core) (a : base.Answer) (s : Said) → Stands k c → answer_shown a ≡ s.answer → s.core ≡ c → SaidTo c s (record k { freed = [] }) a
+refused_so : (k : Kept) (c : Core) (a : base.Answer) (s : Said) → Stands k c → answer_shown a ≡ s.answer → s.core ≡ c → HasAnswered c s (record k { freed = [] }) a
 refused_so k c a s st e f = record {
   state = subst (Stands (record k { freed = [] })) (sym f) (stands_as k k.circuits [] c st st.circuits);
   answered = e;
   freed = sym (ap (freed_between c) f ∙ freed_none c c.seats);
 }
 
-pub refused : (k : Kept) (line : ℕ) (f : Core → Seat → Said) (a : base.Answer) → seat_or k line ≡ Err a → Says (λ c. on_line k.lines c line (f c)) k (record k { freed = [] }) a
+pub refused : (k : Kept) (line : ℕ) (f : Core → Seat → Said) (a : base.Answer) → seat_or k line ≡ Err a → SimulatesCall (λ c. on_line k.lines c line (f c)) k (record k { freed = [] }) a
 refused k line f a e c st = by (line_exists k.lines line) refl (find (is_seat_of line) k.seats) (found k c line st (find (is_seat_of line) k.seats) refl) e
   where
     by : (b : Bool) → line_exists k.lines line ≡ b → (o : Option own.Seat) → Found c line o → cond b (ok_or o answers.Closed) (Err answers.NoLine) ≡ Err a
-        → SaidTo c (on_line k.lines c line (f c)) (record k { freed = [] }) a
+        → HasAnswered c (on_line k.lines c line (f c)) (record k { freed = [] }) a
     by false g o h e =
         let is : on_line k.lines c line (f c) ≡ says c NoLine = ap (λ b. cond b (cond (holds c line) (f c (seat_at c line)) (says c Closed)) (says c NoLine)) g in
         refused_so k c a (on_line k.lines c line (f c)) st (ap answer_shown (sym (same_err answers.NoLine a e)) ∙ sym (ap (λ z. z.answer) is)) (ap (λ z. z.core) is)
@@ -106,19 +105,12 @@ pub settled_calling : (k m : Kept) (q : circuits.Kept) (x : ℕ) (call : Call) (
 settled_calling k m q x call calm c st ids h settles same calms =
     acted_unless k q m calm c (stands.calling (side_of k) x call c) st (same_held k.circuits q ids) h (calling_later (side_of k) x call c (ok_of k c st)) settles same calms
 
--- what it does to lines that know all of their sessions then
-pub calm_calling : (k m : Kept) (q : circuits.Kept) (x : ℕ) (call : Call) (c : Core) → Stands k c
-    → stands.Stands q (stands.calling (side_of k) x call c) → CoreCalm c (stands.calling (side_of k) x call c) → m ≡ record k { circuits = q; freed = [] }
-    → Acted c (stands.calling (side_of k) x call c) m
-calm_calling k m q x call c st h calm same =
-    rested k q m c (stands.calling (side_of k) x call c) st h (calling_later (side_of k) x call c (ok_of k c st)) calm same
-
 -- A call X of the circuits on the kept session agrees with the machines' call f on the line's one
 pub says_called : (k m : Kept) (line : ℕ) (s : own.Seat) (f : Core → Seat → Said) (x : Call) (a : base.Answer)
     → IsSeat k line s
     → ((c : Core) → Stands k c → Acted c (stands.calling (side_of k) s.session.circuit x c) m)
     → ((c : Core) (t : Seat) → Stands k c → IsHeld k.lines c t → s.session.circuit ≡ t.circuit → s.session.session ≡ t.id → Agrees (stands.calling (side_of k) s.session.circuit x c) (answer_shown a) (f c t))
-    → Says (λ c. on_line k.lines c line (f c)) k m a
+    → SimulatesCall (λ c. on_line k.lines c line (f c)) k m a
 says_called k m line s f x a is did agrees c st =
     let has : HasSeat c line s = found k c line st (Some s) is.seat in
     let t : Seat = seat_at c line in

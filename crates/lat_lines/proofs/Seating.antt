@@ -19,7 +19,7 @@ use Rattle.lat_circuit.specs.Kept as circuit
 use Rattle.lat_circuits.specs.Kept as circuits
 use Rattle.lat_circuits.specs.Stands as stands
 use Rattle.lat_circuits.proofs.Held.{each_push}
-use Rattle.lat_stream.specs.Kept.{told_total}
+use Rattle.lat_stream.specs.Kept.{saturated}
 use Rattle.lat_lines.specs.declared.seat.Seat as own
 use Rattle.lat_lines.specs.Kept.{Kept, Holds, Apart, IsLine}
 use Rattle.lat_lines.specs.Stands.{Present, IsSeat, NoneOn, Latest, Stands, present, seat_shown, seat_told, session_shown, session_told}
@@ -140,14 +140,14 @@ pub record Begins (k : Kept) (c : Core) (t : Seat) (s : own.Seat) : Type 0 where
   pub seat : IsSeat k.lines c t
   pub shown : seat_shown s ≡ seat_told c (suc (length c.seats)) t
 
-pub stands_push : (k : Kept) (c : Core) (t : Seat) (s : own.Seat) (made : ℕ) → Stands k c → Begins k c t s → made ≡ told_total (suc (length c.seats))
+pub stands_push : (k : Kept) (c : Core) (t : Seat) (s : own.Seat) (made : ℕ) → Stands k c → Begins k c t s → made ≡ saturated (suc (length c.seats))
     → Stands (record k { seats = k.seats ++ s ∷ []; made = made }) (seated_core c t)
 stands_push k c t s made st b m = record {
   circuits = stands_seated k.circuits c ts st.circuits;
   seated = record {
     seats = map-append seat_shown k.seats (s ∷ []) ∙ ap₂ (λ ps p. ps ++ p ∷ []) st.seated.seats b.shown ∙ sym (present_push c ts 0 c.seats t b.going ∙ ap (λ m. present c 0 c.seats ++ seat_told c (suc m) t ∷ []) (omega arith));
     last = λ line l. st.seated.last line l ∙ ap (option_map session_told) (sym (book_push c line t b.going b.none));
-    made = m ∙ ap told_total (omega (arith, length-append c.seats (t ∷ [])));
+    made = m ∙ ap saturated (omega (arith, length-append c.seats (t ∷ [])));
     finished = st.seated.finished ∙ ap told_count (sym (ended_push c ts c.seats t b.going));
     each = seats_push k.lines c ts c.seats t st.seated.each b.seat;
     latest = latest_push c ts t.line no_seat c.seats t refl st.seated.latest (not-false (over c (seat_at c t.line)) b.none);
@@ -207,20 +207,20 @@ not_ended c t o =
 
 abbrev told_of : Core → ℕ → Seat → Session → Option SessionEnd → LineSession
 told_of c n t s end = record {
-  number = told_total n;
+  number = saturated n;
   peer_address = (c.circuits.circuit_at t.circuit).address;
   circuit = t.circuit;
   session = t.id;
   peer_circuit = (end_of c t).peer;
   peer_session = peer s;
-  given = told_total (credits s.out);
-  used_up = told_total (costs s.out);
+  given = saturated (credits s.out);
+  used_up = saturated (costs s.out);
   end = end;
 }
 
 pub begins : (k : Kept) (c : Core) (t : Seat) (key : Option Key) (u : base.LineSession) → Stands k c → holds c t.line ≡ false → IsLine k.lines t.line → lives (end_of c t) ≡ true → Leads (sessions_of c t) t.id t.serial
     → (1 ≤ t.circuit) × (t.circuit ≤ c.circuits.drawn) → t.key ≡ some_key key
-    → session_shown u ≡ session_begun (told_total (suc (length c.seats))) t.circuit t.id (telling_of c t.circuit t.id)
+    → session_shown u ≡ session_begun (saturated (suc (length c.seats))) t.circuit t.id (telling_of c t.circuit t.id)
     → Begins k c t (record { line = t.line; key = key; session = u })
 begins k c t key u st h l alive leads drawn e is =
     let going : over c t ≡ false = or_from (not (lives (end_of c t))) (free (session_of c t)) (ap not alive) leads.taken in

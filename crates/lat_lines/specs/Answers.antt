@@ -1,5 +1,5 @@
 -- Answers to line calls, as the machines know them.
-use Rattle.std.specs.Prelude.{◌≡◌, ℕ, cond, min, List, map, Option, Some, None, Result, Ok, Err, find, nat_eq}
+use Rattle.std.specs.Prelude.{◌≡◌, ℕ, cond, List, map, Option, Some, None, Result, Ok, Err, find, nat_eq}
 use Rattle.std.specs.Option.{ok_or}
 use Rattle.lat_base.specs.declared.answer.Answer as base
 use Rattle.lat_base.specs.declared.answer.Answer.TheVariants as answers
@@ -54,14 +54,20 @@ answer_shown answers.Full = Full
 answer_shown answers.IdUsed = IdUsed
 answer_shown answers.NotHere = NotHere
 
+-- it tells neither of bytes that were put nor of items that were taken
+abbrev pub IsPlain : base.Answer → Type 0
+IsPlain (answers.Put n) = ⊥
+IsPlain (answers.Took items) = ⊥
+IsPlain a = Unit {0}
+
 -- the call was done and answered so, and the requests whose sessions became free are known
-pub record SaidTo (c : Core) (s : Said) (new : Kept) (answer : base.Answer) : Type 0 where
+pub record HasAnswered (c : Core) (s : Said) (new : Kept) (answer : base.Answer) : Type 0 where
   pub state : Stands new s.core
   pub answered : answer_shown answer ≡ s.answer
   pub freed : map key_in new.freed ≡ freed_between c s.core
 
-abbrev pub Says : (Core → Said) → (old new : Kept) → base.Answer → Type 0
-Says call old new answer = (c : Core) → Stands old c → SaidTo c (call c) new answer
+abbrev pub SimulatesCall : (Core → Said) → (old new : Kept) → base.Answer → Type 0
+SimulatesCall call old new answer = (c : Core) → Stands old c → HasAnswered c (call c) new answer
 
 -- the session of a line, or what a call on it is answered
 abbrev pub seat_or : Kept → ℕ → Result Seat base.Answer
@@ -75,14 +81,6 @@ seat_or k line =
 abbrev pub fault_answer : SessionFault → base.Answer
 fault_answer faults.Full = answers.Full
 fault_answer faults.Closed = answers.Closed
-
-abbrev pub put_answer : Result ℕ SessionFault → base.Answer
-put_answer (Ok n) = answers.Put (min n 4096)
-put_answer (Err fault) = fault_answer fault
-
-abbrev pub done_answer : Result (Unit {0}) SessionFault → base.Answer
-done_answer (Ok u) = answers.Done
-done_answer (Err fault) = fault_answer fault
 
 abbrev pub took_answer : Result ℕ SessionFault → List base_item.Item → base.Answer
 took_answer (Ok n) given = answers.Took given

@@ -5,6 +5,7 @@ pub mod Looks
 pub mod Cores
 pub mod Calm
 pub mod Answers
+pub mod Calls
 pub mod Opens
 pub mod Shown
 pub mod Events

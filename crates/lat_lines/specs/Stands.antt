@@ -13,8 +13,8 @@ use Rattle.lat_machines.specs.cores.Books.{SessionEnd, EndedClosed, EndedRejecte
 use Rattle.lat_machines.specs.cores.Cores.{Seat, Core, Doing}
 use Rattle.lat_machines.specs.cores.Lines.{sessions_of, session_of, over, ended, told_count}
 use Rattle.lat_queue.specs.Histories.{key_in, some_key}
-use Rattle.lat_stream.specs.Kept.{told_total}
-use Rattle.lat_payload.specs.Frames.{Adds}
+use Rattle.lat_stream.specs.Kept.{saturated}
+use Rattle.lat_payload.specs.Frames.{Emits}
 use Rattle.lat_circuits.specs.Stands as circuits
 use Rattle.lat_lines.specs.declared.seat.Seat as own
 use Rattle.lat_lines.specs.Kept.{Kept, IsLine}
@@ -42,7 +42,7 @@ session_shown s = record {
 
 -- as it is told: its counts stop at the greatest number of 64 bits
 abbrev pub session_told : LineSession → LineSession
-session_told s = record s { number = told_total s.number; given = told_total s.given; used_up = told_total s.used_up }
+session_told s = record s { number = saturated s.number; given = saturated s.given; used_up = saturated s.used_up }
 
 abbrev pub book_shown : base_book.LineBook → LineBook
 book_shown b = record { present = option_map session_shown b.present; last = option_map session_shown b.last }
@@ -105,7 +105,7 @@ last_shown (Some (Some s)) = Some (session_shown s)
 pub record Seated (k : Kept) (c : Core) : Type 0 where
   pub seats : map seat_shown k.seats ≡ present c 0 c.seats
   pub last : (line : ℕ) → IsLine k.lines line → last_shown (slice_get k.last (line - 1)) ≡ option_map session_told (book c line).last
-  pub made : k.made ≡ told_total (length c.seats)
+  pub made : k.made ≡ saturated (length c.seats)
   pub finished : k.finished ≡ told_count (ended c)
   pub each : Each (IsSeat k.lines c) c.seats
   pub latest : Latest c c.seats
@@ -119,10 +119,10 @@ pub record Stands (k : Kept) (c : Core) : Type 0 where
 
 -- They did this of every core that they stood for: its frames went out in order, and the requests whose sessions became free
 -- are known
-pub record DidTo (c : Core) (d : Doing) (new : Kept) (before after : List OutFrame) : Type 0 where
+pub record HasStepped (c : Core) (d : Doing) (new : Kept) (before after : List OutFrame) : Type 0 where
   pub state : Stands new d.core
-  pub frames : Adds d.frames before after
+  pub frames : Emits d.frames before after
   pub freed : map key_in new.freed ≡ freed_between c d.core
 
-abbrev pub Did : (Core → Doing) → (old new : Kept) → (before after : List OutFrame) → Type 0
-Did step old new before after = (c : Core) → Stands old c → DidTo c (step c) new before after
+abbrev pub Simulates : (Core → Doing) → (old new : Kept) → (before after : List OutFrame) → Type 0
+Simulates step old new before after = (c : Core) → Stands old c → HasStepped c (step c) new before after

@@ -11,7 +11,7 @@ ghost use Rattle.lat_circuits.specs.Kept.{IsClear, has_id};
 ghost use Rattle.lat_circuits.specs.Hears.{heard_core, hearing_shown};
 ghost use Rattle.lat_lines.specs.Calm.{takes_nothing};
 ghost use Rattle.lat_lines.specs.Kept.{side_of, SameLines};
-ghost use Rattle.lat_lines.specs.Stands.{Stands, Did};
+ghost use Rattle.lat_lines.specs.Stands.{Stands, Simulates};
 
 use crate::lines::Lines;
 use lat_base::{Addr, Heard, OutBox};
@@ -23,7 +23,7 @@ impl Lines {
     /// event does" in docs/PROTOCOL.md.
     pub fn time(&mut self, out: &mut OutBox)
         requires room { length out.old + 128 ≤ 256 }
-        ensures did { Did (passes_time (side_of self.old)) self.old self.new out.old out.new }
+        ensures did { Simulates (passes_time (side_of self.old)) self.old self.new out.old out.new }
         ensures same { SameLines self.old self.new }
         ensures moment { self.new.circuits.moment ≡ self.old.circuits.moment }
         ensures most { length out.new ≤ length out.old + 128 }
@@ -31,7 +31,7 @@ impl Lines {
         let before = out.len();
         self.circuits.time(out);
         let is_calm = self.is_calm(before, out);
-        self.settle_unless(is_calm);
+        self.reap_unless(is_calm);
     }
 
     /// Hears a circuit message from a station, at the core's moment. No circuit that has ended may be held. See
@@ -40,8 +40,11 @@ impl Lines {
         requires ok { IsWritable m.now }
         requires clear { IsClear self.old.circuits }
         requires room { length out.old + 16 ≤ 256 }
-        ensures did { Did (λ c. (heard_core (side_of self.old) (address from.0) (message_shown m.now) c).doing) self.old self.new out.old out.new }
-        ensures answer { (c : Core) → Stands self.old c → hearing_shown result ≡ (heard_core (side_of self.old) (address from.0) (message_shown m.now) c).answer }
+        ensures did { Simulates (λ c. (heard_core (side_of self.old) (address from.0) (message_shown m.now) c).doing)
+            self.old self.new out.old out.new }
+        ensures answer { (c : Core) →
+            Stands self.old c →
+            hearing_shown result ≡ (heard_core (side_of self.old) (address from.0) (message_shown m.now) c).answer }
         ensures same { SameLines self.old self.new }
         ensures moment { self.new.circuits.moment ≡ self.old.circuits.moment }
         ensures held { (x : ℕ) → has_id x self.old.circuits ≡ true → has_id x self.new.circuits ≡ true }
@@ -50,13 +53,14 @@ impl Lines {
         let before = out.len();
         let hearing = self.circuits.heard(from, m, out);
         let is_calm = is_quiet(&hearing, before, out);
-        self.settle_unless(is_calm);
+        self.reap_unless(is_calm);
         hearing
     }
 
     // Whether a time left each session as its line knows it: none formed a slot, and no circuit ended.
     fn is_calm(&self, before: usize, out: &OutBox) -> bool
-        ensures { result ≡ (nat_eq (length out.now) before && not (list_any (λ (q : Kept). not (is_none q.ended)) self.now.circuits.held)) }
+        ensures { result ≡ (nat_eq (length out.now) before
+            && not (list_any (λ (q : Kept). not (is_none q.ended)) self.now.circuits.held)) }
     {
         out.len() == before && !self.circuits.has_ended()
     }

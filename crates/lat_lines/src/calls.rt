@@ -4,28 +4,31 @@
 ghost use Rattle.std.specs.Prelude.{◌≡◌, [], length, IfOk, OnErr};
 ghost use Rattle.lat_base.specs.Answers.{PutFits, TookFits};
 ghost use Rattle.lat_base.specs.declared.event.Event.TheVariants as events;
-ghost use Rattle.lat_machines.specs.cores.LineCalls.{put_on, set_on, attend_on, take_on, close_on, on_line};
+ghost use Rattle.lat_machines.specs.cores.LineCalls.{take_on, on_line};
 ghost use Rattle.lat_session.specs.States.{is_free};
 ghost use Rattle.lat_circuits.specs.Kept.{IsClear};
 ghost use Rattle.lat_lines.specs.Kept.{side_of, SameLines};
-ghost use Rattle.lat_lines.specs.Answers.{Says, ready, seat_or, fault_answer, put_answer, done_answer, took_answer};
+ghost use Rattle.lat_lines.specs.Calls.{call_on, event_of, call_answer, done_answer};
+ghost use Rattle.lat_lines.specs.Answers.{SimulatesCall, ready, seat_or, fault_answer, took_answer};
 
 use crate::getters::seat_of;
 use crate::lines::Lines;
 use crate::seat::Seat;
 use lat_base::{Answer, Item, Items, Memory, SessionState};
-use lat_circuits::SessionFault;
+use lat_circuits::{SessionCall, SessionFault};
 use std::alloc::Global;
 
 /// No put takes more bytes: so many items of a session wait to be framed at most.
 const MOST: usize = 4096;
 
 impl Lines {
-    /// Bytes for the line's session: `Put` with how many were taken, the first ones.
-    pub fn put(&mut self, line: u8, bytes: &[u8]) -> Answer
-        ensures says { Says (λ c. on_line self.old.lines c line (λ s. put_on (side_of self.old) c s bytes.now)) self.old self.new result }
-        ensures fits { PutFits result (events.Put line bytes.now) }
-        ensures took { TookFits (ready self.old) result (events.Put line bytes.now) }
+    /// Does a call on the line's session: `Put` with how many bytes were taken, the first ones; `Done` of the others, but for a
+    /// setting that is `Full`. See `SessionCall`.
+    pub fn call(&mut self, line: u8, call: &SessionCall) -> Answer
+        ensures says { SimulatesCall (λ c. on_line self.old.lines c line (λ s. call_on (side_of self.old) c s call.now))
+            self.old self.new result }
+        ensures fits { PutFits result (event_of line call.now) }
+        ensures took { TookFits (ready self.old) result (event_of line call.now) }
         ensures same { SameLines self.old self.new }
         ensures clear { IsClear self.old.circuits → IsClear self.new.circuits }
         ensures moment { self.new.circuits.moment ≡ self.old.circuits.moment }
@@ -33,70 +36,12 @@ impl Lines {
         match self.seat_on(line) {
             Ok(seat) => {
                 let session = seat.session;
-                let answer = self.circuits.put(session.circuit, session.session, bytes);
-                self.rest();
-                put_told(answer)
-            }
-            Err(answer) => self.refused(answer),
-        }
-    }
-
-    /// A setting for the line's session: `Done`, or `Full`.
-    pub fn set(&mut self, line: u8, setting: [u8; 5]) -> Answer
-        ensures says { Says (λ c. on_line self.old.lines c line (λ s. set_on (side_of self.old) c s setting)) self.old self.new result }
-        ensures fits { PutFits result (events.Set line setting) }
-        ensures took { TookFits (ready self.old) result (events.Set line setting) }
-        ensures same { SameLines self.old self.new }
-        ensures clear { IsClear self.old.circuits → IsClear self.new.circuits }
-        ensures moment { self.new.circuits.moment ≡ self.old.circuits.moment }
-    {
-        match self.seat_on(line) {
-            Ok(seat) => {
-                let session = seat.session;
-                let answer = self.circuits.set(session.circuit, session.session, setting);
-                self.rest();
-                done_told(answer)
-            }
-            Err(answer) => self.refused(answer),
-        }
-    }
-
-    /// An attention for the line's session: `Done`.
-    pub fn attend(&mut self, line: u8, flag: u8) -> Answer
-        ensures says { Says (λ c. on_line self.old.lines c line (λ s. attend_on (side_of self.old) c s flag)) self.old self.new result }
-        ensures fits { PutFits result (events.Attend line flag) }
-        ensures took { TookFits (ready self.old) result (events.Attend line flag) }
-        ensures same { SameLines self.old self.new }
-        ensures clear { IsClear self.old.circuits → IsClear self.new.circuits }
-        ensures moment { self.new.circuits.moment ≡ self.old.circuits.moment }
-    {
-        match self.seat_on(line) {
-            Ok(seat) => {
-                let session = seat.session;
-                let answer = self.circuits.attend(session.circuit, session.session, flag);
-                self.rest();
-                done_told(answer)
-            }
-            Err(answer) => self.refused(answer),
-        }
-    }
-
-    /// The line's session is closed: `Done`.
-    pub fn close(&mut self, line: u8) -> Answer
-        ensures says { Says (λ c. on_line self.old.lines c line (λ s. close_on (side_of self.old) c s)) self.old self.new result }
-        ensures fits { PutFits result (events.Close line) }
-        ensures took { TookFits (ready self.old) result (events.Close line) }
-        ensures same { SameLines self.old self.new }
-        ensures clear { IsClear self.old.circuits → IsClear self.new.circuits }
-        ensures moment { self.new.circuits.moment ≡ self.old.circuits.moment }
-    {
-        match self.seat_on(line) {
-            Ok(seat) => {
-                let session = seat.session;
-                let answer = self.circuits.close(session.circuit, session.session);
+                let answer = self
+                    .circuits
+                    .call_session(session.circuit, session.session, call);
                 let is_over = is_free(self.circuits.state(session.circuit, session.session));
-                self.settle_unless(!is_over);
-                done_told(answer)
+                self.reap_unless(!is_over);
+                call_told(call, answer)
             }
             Err(answer) => self.refused(answer),
         }
@@ -105,7 +50,8 @@ impl Lines {
     /// The first items that the line's session has heard, at most `n`: `Took`. Takes memory for them first; after `Memory`
     /// nothing has changed.
     pub fn take(&mut self, alloc: Global, line: u8, n: u16) -> Result<Answer, Memory>
-        ensures says { IfOk result (λ a. Says (λ c. on_line self.old.lines c line (λ s. take_on (side_of self.old) c s n)) self.old self.new a) }
+        ensures says { IfOk result (λ a. SimulatesCall (λ c. on_line self.old.lines c line (λ s. take_on (side_of self.old) c s n))
+            self.old self.new a) }
         ensures fits { IfOk result (λ a. PutFits a (events.Take line n)) }
         ensures took { IfOk result (λ a. TookFits (ready self.old) a (events.Take line n)) }
         ensures same { SameLines self.old self.new }
@@ -125,7 +71,7 @@ impl Lines {
                     .circuits
                     .take(session.circuit, session.session, items.as_mut_slice());
                 let is_over = is_free(self.circuits.state(session.circuit, session.session));
-                self.settle_unless(!is_over);
+                self.reap_unless(!is_over);
                 Ok(took_told(answer, items))
             }
             Err(answer) => Ok(self.refused(answer)),
@@ -178,21 +124,21 @@ fn fault_told(fault: SessionFault) -> Answer
     }
 }
 
-fn put_told(answer: Result<usize, SessionFault>) -> Answer
-    ensures { result ≡ put_answer answer }
+fn call_told(call: &SessionCall, answer: Result<usize, SessionFault>) -> Answer
+    ensures { result ≡ call_answer call.now answer }
 {
     match answer {
-        Ok(n) => Answer::Put(n.min(MOST) as u16),
+        Ok(taken) => done_told(call, taken),
         Err(fault) => fault_told(fault),
     }
 }
 
-fn done_told(answer: Result<(), SessionFault>) -> Answer
-    ensures { result ≡ done_answer answer }
+fn done_told(call: &SessionCall, taken: usize) -> Answer
+    ensures { result ≡ done_answer call.now taken }
 {
-    match answer {
-        Ok(()) => Answer::Done,
-        Err(fault) => fault_told(fault),
+    match call {
+        SessionCall::Put(_) => Answer::Put(taken.min(MOST) as u16),
+        SessionCall::Set(_) | SessionCall::Attend(_) | SessionCall::Close => Answer::Done,
     }
 }
 

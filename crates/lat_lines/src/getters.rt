@@ -1,19 +1,19 @@
 //! What lines tell. No call takes memory.
 
-ghost use Rattle.std.specs.Prelude.{◌≡◌, ◌≤◌, ◌&&◌, true, false, not, cond, length, filter, find, nat_eq, Some, None, IfSome};
+ghost use Rattle.std.specs.Prelude.{◌≡◌, ◌≤◌, ◌&&◌, true, false, not, cond, nat_eq};
+ghost use Rattle.std.specs.Prelude.{length, filter, find, Some, None, IfSome};
 ghost use Rattle.lat_model.specs.Lists.{least, upwards};
 ghost use Rattle.lat_model.specs.ends.End.{lives};
 ghost use Rattle.lat_model.specs.sessions.Session.{waits};
-ghost use Rattle.lat_model.specs.sessions.Sessions.{named};
 ghost use Rattle.lat_machines.specs.values.Addresses.{address};
 ghost use Rattle.lat_machines.specs.cores.Books.{book};
 ghost use Rattle.lat_machines.specs.cores.Cores.{Core, span};
 ghost use Rattle.lat_machines.specs.cores.Hearing.{names};
 ghost use Rattle.lat_machines.specs.cores.Lines.{holds, used, ended, told_count, line_exists, line_state, waiting_at};
 ghost use Rattle.lat_session.specs.States.{asked_at};
-ghost use Rattle.lat_stream.specs.Kept.{state_shown, told_total};
+ghost use Rattle.lat_stream.specs.Kept.{state_shown, saturated};
 ghost use Rattle.lat_circuits.specs.Kept.{has_id};
-ghost use Rattle.lat_circuits.specs.Told.{span_told, is_asked_at};
+ghost use Rattle.lat_circuits.specs.Told.{sessions_at, session_at, span_told};
 ghost use Rattle.lat_circuits.specs.Opens.{id_told};
 ghost use Rattle.lat_lines.specs.Kept.{side_of, IsLine};
 ghost use Rattle.lat_lines.specs.Answers.{ready};
@@ -74,7 +74,7 @@ impl Lines {
 
     /// How many sessions lines have had. It stops at the greatest number of 64 bits.
     pub fn made(&self) -> u64
-        ensures { (c : Core) → Stands self.now c → result ≡ told_total (length c.seats) }
+        ensures { (c : Core) → Stands self.now c → result ≡ saturated (length c.seats) }
     {
         self.made
     }
@@ -124,7 +124,9 @@ impl Lines {
 
     /// The least line without a session, `None` where each has one.
     pub fn free_line(&self) -> Option<u8>
-        ensures model { (c : Core) → Stands self.now c → id_told result ≡ least (λ line. not (holds c line)) (upwards 0 self.now.lines) }
+        ensures model { (c : Core) →
+            Stands self.now c →
+            id_told result ≡ least (λ line. not (holds c line)) (upwards 0 self.now.lines) }
         ensures line { IfSome result (λ line. IsLine self.now.lines line) }
     {
         (1..self.count + 1).find(|line| !self.holds(*line))
@@ -156,7 +158,9 @@ impl Lines {
         ensures { (c : Core) →
             Stands self.now c →
             self.now.circuits.server ≡ false →
-            result ≡ cond (lives (c.circuits.circuit_at circuit).end && waits (named (c.circuits.circuit_at circuit).end.half.sessions id)) (Some (asked_at (c.circuits.circuit_at circuit).end.half.sessions id)) None }
+            result ≡ cond (lives (c.circuits.circuit_at circuit).end && waits (session_at c circuit id))
+            (Some (asked_at (sessions_at c circuit) id))
+            None }
     {
         self.circuits.asked_at(circuit, id)
     }
@@ -167,7 +171,7 @@ impl Lines {
             Stands self.now c →
             self.now.circuits.server ≡ false →
             has_id circuit self.now.circuits ≡ true →
-            result ≡ length (filter (λ id. waits (named (c.circuits.circuit_at circuit).end.half.sessions id)) (upwards 0 64)) }
+            result ≡ length (filter (λ id. waits (session_at c circuit id)) (upwards 0 64)) }
     {
         self.circuits.asked_count(circuit)
     }

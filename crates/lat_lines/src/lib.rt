@@ -3,12 +3,14 @@
 
 mod acts;
 mod calls;
+mod events;
 mod getters;
 mod lines;
 mod opening;
+mod reap;
 mod seat;
-mod settle;
 
-pub use lat_circuits::{Asked, Hearing, Timing};
+pub use events::line_call;
+pub use lat_circuits::{Asked, Hearing, SessionCall, Timing};
 pub use lines::Lines;
 pub use opening::OpenFault;

@@ -71,7 +71,10 @@ impl Lines {
         requires timing { IsTiming timing }
         requires count { (1 ≤ count) × (count ≤ 64) }
         ensures stands { IfOk result (λ k. Stands k (open_core (side_of k) (address own.0))) }
-        ensures own { IfOk result (λ k. (k.circuits.own ≡ own) × (k.circuits.name ≡ name) × (k.circuits.timing ≡ timing) × (k.circuits.server ≡ server)) }
+        ensures own { IfOk result (λ k. (k.circuits.own ≡ own)
+            × (k.circuits.name ≡ name)
+            × (k.circuits.timing ≡ timing)
+            × (k.circuits.server ≡ server)) }
         ensures clear { IfOk result (λ k. IsClear k.circuits) }
         ensures lines { IfOk result (λ k. k.lines ≡ count) }
         ensures freed { IfOk result (λ k. k.freed ≡ []) }

@@ -10,10 +10,10 @@ ghost use Rattle.lat_machines.specs.cores.Cores.{Core};
 ghost use Rattle.lat_machines.specs.cores.Lines.{holds};
 ghost use Rattle.lat_machines.specs.server.Server.{ServerConfig, server_side, has_room, can_open, opens};
 ghost use Rattle.lat_queue.specs.Histories.{key_in, some_key};
-ghost use Rattle.lat_payload.specs.Frames.{Adds};
+ghost use Rattle.lat_payload.specs.Frames.{Emits};
 ghost use Rattle.lat_circuit.specs.Agrees.{IsTiming};
 ghost use Rattle.lat_circuits.specs.Kept.{side_of as circuits_side, IsClear, SameCore, SameCircuits, has_id};
-ghost use Rattle.lat_circuits.specs.Stands.{calling, Did, Stands as CircuitsStand};
+ghost use Rattle.lat_circuits.specs.Stands.{calling, Simulates, Stands as CircuitsStand};
 ghost use Rattle.lat_circuits.specs.Told.{telling};
 ghost use Rattle.lat_lines.specs.Later.{Leads};
 ghost use Rattle.lat_lines.specs.Kept.{side_of, SameLines, IsLine};
@@ -81,7 +81,7 @@ impl Lines {
             Stands self.old c →
             holds c line ≡ false →
             OnOk result (Stands self.new (opens config line (address peer.0) node.now service.now (some_key key) (request_of key) c).core
-            × Adds (opens config line (address peer.0) node.now service.now (some_key key) (request_of key) c).frames out.old out.new) }
+            × Emits (opens config line (address peer.0) node.now service.now (some_key key) (request_of key) c).frames out.old out.new) }
         ensures answer { (c : Core) → Stands self.old c → result ≡ opening c (address peer.0) }
         ensures err { OnErr result ((self.new ≡ self.old) × (out.new ≡ out.old)) }
         ensures same { SameLines self.old self.new }
@@ -93,7 +93,7 @@ impl Lines {
         let way = self.opening(peer)?;
         let circuit = reach(&mut self.circuits, way, peer, node, out);
         let session = connect(&mut self.circuits, circuit, service, request_in(&key));
-        self.settle();
+        self.reap();
         // An opening frees none.
         self.freed.clear();
         self.seat(line, key, circuit, session);
@@ -117,21 +117,23 @@ impl Lines {
         ensures same { SameLines self.old self.new }
     {
         self.circuits.answer(circuit, id);
-        self.settle();
+        self.reap();
         self.seat(line, None, circuit, id);
     }
 
     /// Rejects the asked session of this id for a reason, 0 to 15, at a node. `freed` tells then whose sessions became free.
     pub fn reject(&mut self, circuit: u16, id: u8, reason: u8)
         requires reason { reason ≤ 15 }
-        ensures state { (c : Core) → Stands self.old c → Stands self.new (calling (side_of self.old) circuit (Refuse id reason) c) }
+        ensures state { (c : Core) →
+            Stands self.old c →
+            Stands self.new (calling (side_of self.old) circuit (Refuse id reason) c) }
         ensures freed { (c : Core) →
             Stands self.old c →
             map key_in self.new.freed ≡ freed_between c (calling (side_of self.old) circuit (Refuse id reason) c) }
         ensures same { SameLines self.old self.new }
     {
         self.circuits.reject(circuit, id, reason);
-        self.settle();
+        self.reap();
     }
 
     // The line, which has no session, has this one from now on, where its circuit is held.
@@ -142,7 +144,13 @@ impl Lines {
             holds c line ≡ false →
             lives (c.circuits.circuit_at circuit).end ≡ true →
             Leads (c.circuits.circuit_at circuit).end.half.sessions session serial →
-            Stands self.new (seated_core c (record { line = line; circuit = circuit; id = session; serial = serial; key = some_key key })) }
+            Stands self.new (seated_core c (record {
+              line = line;
+              circuit = circuit;
+              id = session;
+              serial = serial;
+              key = some_key key;
+            })) }
         ensures side { (c : Core) →
             Stands self.old c →
             holds c line ≡ false →
@@ -175,7 +183,8 @@ fn reach(
     requires clear { IsClear circuits.old }
     requires way { MayCall circuits.old way }
     requires room { length out.old + 16 ≤ 256 }
-    ensures did { Did (reaches (circuits_side circuits.old) (address peer.0) node.now way) circuits.old circuits.new out.old out.new }
+    ensures did { Simulates (reaches (circuits_side circuits.old) (address peer.0) node.now way)
+        circuits.old circuits.new out.old out.new }
     ensures id { result ≡ reached circuits.old.drawn way }
     ensures timing { way ≡ None → IsTiming circuits.old.timing }
     ensures core { SameCore circuits.old circuits.new }
@@ -197,7 +206,9 @@ fn connect(circuits: &mut Circuits, circuit: u16, service: &Name, request: Optio
         CircuitsStand circuits.old c →
         (lives (c.circuits.circuit_at circuit).end && has_room c circuit) ≡ true →
         result ≡ least_free (c.circuits.circuit_at circuit).end.half.sessions }
-    ensures state { (c : Core) → CircuitsStand circuits.old c → CircuitsStand circuits.new (calling (circuits_side circuits.old) circuit (Connect service.now request) c) }
+    ensures state { (c : Core) →
+        CircuitsStand circuits.old c →
+        CircuitsStand circuits.new (calling (circuits_side circuits.old) circuit (Connect service.now request) c) }
     ensures same { SameCircuits circuits.old circuits.new }
     ensures clear { IsClear circuits.old → IsClear circuits.new }
 {

@@ -13,6 +13,9 @@ use Rattle.lat_machines.specs.cores.Acts.{steps_at, idle}
 use Rattle.lat_machines.specs.cores.Cores.{Core, Side}
 use Rattle.lat_stream.specs.Kept.{state_shown}
 use Rattle.lat_circuit.specs.Told.{session_state}
+use Rattle.lat_session.specs.declared.call.SessionCall.{SessionCall}
+use Rattle.lat_session.specs.declared.call.SessionCall.TheVariants as calls
+use Rattle.lat_session.specs.Calls.{call_of}
 use Rattle.lat_session.specs.States.{is_free}
 use Rattle.lat_circuits.specs.Stands.{calling}
 use Rattle.lat_circuits.proofs.Held.{eqb_self}
@@ -38,13 +41,13 @@ touch_looks s k v e j = by (nat_eq j k) refl
 open_looks : (s : Sessions) (b : Bool) (k : ℕ) (v : Session) → (b ≡ true → look v ≡ look (s.session k)) → SameLooks s (cond b (touch s k v) s)
 open_looks s b k v e = cond_both b (touch s k v) s (SameLooks s) (λ h. touch_looks s k v (e h)) (λ h. same_looks s)
 
-pub put_looks : (s : Sessions) (id : ℕ) (bytes : List ℕ) → SameLooks s (call s (Put id bytes))
+put_looks : (s : Sessions) (id : ℕ) (bytes : List ℕ) → SameLooks s (call s (Put id bytes))
 put_looks s id bytes = open_looks s (put_open (named s id)) (s.at_id id) (put_items (named s id) (map Byte (take (put_count (named s id) (length bytes)) bytes))) (λ h. refl)
 
-pub set_looks : (s : Sessions) (id : ℕ) (setting : List ℕ) → SameLooks s (call s (Set id setting))
+set_looks : (s : Sessions) (id : ℕ) (setting : List ℕ) → SameLooks s (call s (Set id setting))
 set_looks s id setting = open_looks s (put_open (named s id) && nat_lt (length (unframed (named s id))) 4096) (s.at_id id) (put_items (named s id) (Setting setting ∷ [])) (λ h. refl)
 
-pub attend_looks : (s : Sessions) (id flag : ℕ) → SameLooks s (call s (Attend id flag))
+attend_looks : (s : Sessions) (id flag : ℕ) → SameLooks s (call s (Attend id flag))
 attend_looks s id flag = open_looks s (put_open (named s id)) (s.at_id id) (record (named s id) { attention = Some flag }) (λ h. refl)
 
 -- one that wasn't free and isn't now
@@ -83,7 +86,7 @@ close_looks s id f = open_looks s (take_open (named s id)) (s.at_id id) v looks
     looks h = still_free u v refl refl refl refl (taken_open u h) (sym (ap free (touched_at s (s.at_id id) v)) ∙ sym (ap (λ b. free (named (cond b (touch s (s.at_id id) v) s) id)) h) ∙ f)
 
 -- the circuits after a call
-pub calling_calm : (k : Side) (x : ℕ) (a : Call) (c : Core) → (lives (c.circuits.circuit_at x).end ≡ true → SameLooks (c.circuits.circuit_at x).end.half.sessions (call (c.circuits.circuit_at x).end.half.sessions a))
+calling_calm : (k : Side) (x : ℕ) (a : Call) (c : Core) → (lives (c.circuits.circuit_at x).end ≡ true → SameLooks (c.circuits.circuit_at x).end.half.sessions (call (c.circuits.circuit_at x).end.half.sessions a))
     → CoreCalm c (calling k x a c)
 calling_calm k x a c looks y =
     cond_both (lives e) (steps_at k.server c.circuits x (record { end = call_end a e; sent = [] })) (idle c.circuits) (λ z. IsCalm (c.circuits.circuit_at y).end (z.table.circuit_at y).end)
@@ -143,6 +146,12 @@ pub take_calm : (k : Side) (x id n : ℕ) (c : Core) → is_free (session_state 
 take_calm k x id n c f = calling_calm k x (Take id n) c (λ h.
     take_looks (c.circuits.circuit_at x).end.half.sessions id n (subst (λ s. free (named s id) ≡ false) (called_sessions k x (Take id n) c h) (not_free ((calling k x (Take id n) c).circuits.circuit_at x).end id f)))
 
-pub close_calm : (k : Side) (x id : ℕ) (c : Core) → is_free (session_state ((calling k x (Close id) c).circuits.circuit_at x).end id) ≡ false → CoreCalm c (calling k x (Close id) c)
+close_calm : (k : Side) (x id : ℕ) (c : Core) → is_free (session_state ((calling k x (Close id) c).circuits.circuit_at x).end id) ≡ false → CoreCalm c (calling k x (Close id) c)
 close_calm k x id c f = calling_calm k x (Close id) c (λ h.
     close_looks (c.circuits.circuit_at x).end.half.sessions id (subst (λ s. free (named s id) ≡ false) (called_sessions k x (Close id) c h) (not_free ((calling k x (Close id) c).circuits.circuit_at x).end id f)))
+
+pub call_calm : (k : Side) (x id : ℕ) (call : SessionCall) (c : Core) → is_free (session_state ((calling k x (call_of id call) c).circuits.circuit_at x).end id) ≡ false → CoreCalm c (calling k x (call_of id call) c)
+call_calm k x id (calls.Put bytes) c f = calling_calm k x (Put id bytes.now) c (λ h. put_looks (c.circuits.circuit_at x).end.half.sessions id bytes.now)
+call_calm k x id (calls.Set setting) c f = calling_calm k x (Set id setting) c (λ h. set_looks (c.circuits.circuit_at x).end.half.sessions id setting)
+call_calm k x id (calls.Attend flag) c f = calling_calm k x (Attend id flag) c (λ h. attend_looks (c.circuits.circuit_at x).end.half.sessions id flag)
+call_calm k x id calls.Close c f = close_calm k x id c f

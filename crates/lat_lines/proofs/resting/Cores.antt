@@ -9,7 +9,7 @@ use Rattle.lat_model.specs.ends.End.{End, Sent, Step, lives}
 use Rattle.lat_model.specs.ends.Timers.{note_empty, time_step}
 use Rattle.lat_model.specs.circuits.World.{CircuitEntry, wire_all}
 use Rattle.lat_machines.specs.values.Frames as machines
-use Rattle.lat_payload.specs.Frames.{Adds, seen, expected}
+use Rattle.lat_payload.specs.Frames.{Emits, frame_view, expected}
 use Rattle.lat_machines.specs.cores.Acts.{Acted, idle, steps_at, time_at}
 use Rattle.lat_machines.specs.cores.Cores.{Core, Side, Doing, with_circuits, acts, rests, then_doing, sent_frame, time_each, passes_time}
 use Rattle.lat_circuit.specs.Kept as circuit
@@ -43,10 +43,10 @@ wire_nil b x to peer [] e = refl
 wire_nil b x to peer (s ∷ ss) e = absurd (omega (arith, ap length e))
 
 -- nothing was added to what goes out
-pub none_added : (frames : List machines.OutFrame) (before after : List OutFrame) → Adds frames before after → length after ≡ length before → frames ≡ []
+pub none_added : (frames : List machines.OutFrame) (before after : List OutFrame) → Emits frames before after → length after ≡ length before → frames ≡ []
 none_added [] before after a e = refl
 none_added (f ∷ fs) before after a e =
-    absurd (omega (arith, e, ap length a.same, length-map after seen, length-append (map seen before) (map expected (f ∷ fs)), length-map before seen, length-map (f ∷ fs) expected))
+    absurd (omega (arith, e, ap length a.same, length-map after frame_view, length-append (map frame_view before) (map expected (f ∷ fs)), length-map before frame_view, length-map (f ∷ fs) expected))
 
 -- one circuit takes a quiet step
 

@@ -7,7 +7,7 @@ use Rattle.lat_model.specs.ends.End.{lives}
 use Rattle.lat_machines.specs.cores.Cores.{no_seat, Core}
 use Rattle.lat_machines.specs.cores.Lines.{over, session_of, told_count}
 use Rattle.lat_queue.specs.Histories.{key_in}
-use Rattle.lat_stream.specs.Kept.{told_total}
+use Rattle.lat_stream.specs.Kept.{saturated}
 use Rattle.lat_circuits.specs.Kept as circuits
 use Rattle.lat_circuits.specs.Stands as stands
 use Rattle.lat_lines.specs.Kept.{Kept}
@@ -16,8 +16,8 @@ use Rattle.lat_lines.specs.Cores.{CoreLater}
 use Rattle.lat_lines.specs.Stands.{Seated, Stands, IsSeat, Latest, present, session_told, freed_between}
 use Rattle.lat_lines.proofs.CoresLater.{none_later}
 use Rattle.lat_lines.proofs.Acting.{Acted}
-use Rattle.lat_lines.proofs.settling.Seats.{Between}
-use Rattle.lat_lines.proofs.settling.After.{seats_later, latest_later}
+use Rattle.lat_lines.proofs.reaping.Seats.{Between}
+use Rattle.lat_lines.proofs.reaping.After.{seats_later, latest_later}
 use Rattle.lat_lines.proofs.resting.Steady.{AllSteady, present_steady, book_steady, ended_steady, freed_steady}
 use Rattle.lat_lines.proofs.resting.Ends.{calm_steady}
 
@@ -42,7 +42,7 @@ rested_seated k q c d s h later calm zero = (seated, sym (freed_steady c d c.sea
     seated = record {
       seats = s.seats ∙ sym (present_steady c d 0 c.seats steady) ∙ ap (present d 0) (sym later.seats);
       last = λ line l. s.last line l ∙ ap (λ z. option_map session_told z.last) (sym (book_steady c d line later.seats none steady));
-      made = s.made ∙ ap (λ xs. told_total (length xs)) (sym later.seats);
+      made = s.made ∙ ap (λ xs. saturated (length xs)) (sym later.seats);
       finished = s.finished ∙ ap told_count (sym (ended_steady c d later.seats steady));
       each = subst (Each (IsSeat k.lines d)) (sym later.seats) (seats_later q k.lines c d c.seats b s.each);
       latest = subst (Latest d) (sym later.seats) (latest_later q k.lines c d c.seats b s.each s.latest);

@@ -6,7 +6,7 @@ use Rattle.lat_circuit.specs.Frames.{info_shown}
 use Rattle.lat_circuits.specs.Hears.{start_core}
 use Rattle.lat_circuits.specs.Kept.{Kept, Holds, side_of}
 use Rattle.lat_circuits.specs.Shown.{shown}
-use Rattle.lat_circuits.specs.Stands.{Did}
+use Rattle.lat_circuits.specs.Stands.{Simulates}
 use Rattle.lat_circuits.proofs.Called.{config_of}
 use Rattle.lat_circuits.proofs.Answered.{Begun, begun, too_is, answered_holds, answered_did}
 use Rattle.lat_circuits.proofs.circuits.Circuits.answer_start.Goals as goal
@@ -48,8 +48,8 @@ returns-in-Some-clause-did c =
     (c.pop.ensures.items ∙ ap (λ r. rooms ++ option_to_list r) c.in-Some.is)
     c.answer_in-circuit.ensures.begins in
     let new : Kept = record k { drawn = k.drawn + 1; held = c.push_reserved.new.self.items; rooms = rooms } in
-    let P : Kept → Type 0 = λ z. Did (λ d. (start_core (side_of z) d (address from.0) c.args.source info (Makes (suc d.circuits.drawn))).doing) z new out after in
-    let Q : Kept → Type 0 = λ z. Did (λ d. (start_core (side_of k) d (address from.0) c.args.source info (Makes (suc d.circuits.drawn))).doing) k z out after in
+    let P : Kept → Type 0 = λ z. Simulates (λ d. (start_core (side_of z) d (address from.0) c.args.source info (Makes (suc d.circuits.drawn))).doing) z new out after in
+    let Q : Kept → Type 0 = λ z. Simulates (λ d. (start_core (side_of k) d (address from.0) c.args.source info (Makes (suc d.circuits.drawn))).doing) k z out after in
     subst P c.self.view_is (
     subst Q (sym (too_is k q rooms c.push_reserved.new.self.items c.push_reserved.ensures.items))
     (answered_did k from c.args.source info (k.drawn + 1) c.in-Some.room rooms q out after b.answered)

@@ -8,7 +8,7 @@ use Rattle.lat_circuit.specs.Begins.{Begins, facts_called}
 use Rattle.lat_circuit.specs.Frames.{timing_shown}
 use Rattle.lat_circuits.specs.Kept.{Kept, Holds, side_of}
 use Rattle.lat_circuits.specs.Shown.{shown}
-use Rattle.lat_circuits.specs.Stands.{Did}
+use Rattle.lat_circuits.specs.Stands.{Simulates}
 use Rattle.lat_circuits.specs.Opens.{called_core}
 use Rattle.lat_circuits.proofs.Called.{Calls, config_of, call_holds, call_did, held_now, each_last}
 use Rattle.lat_circuits.proofs.circuits.Circuits.call.Goals as goal
@@ -52,5 +52,5 @@ returns-in-Some-clause-did c =
       begins = subst (λ z. P z (config_of k c.args.peer node)) c.self.view_is (subst (P (shown c.self.inside)) c.config_to-config.ensures c.call_in-circuit.ensures.begins);
     } in
     let is = held_now k q left id c.push_reserved.new.self.items b.next (c.push_reserved.ensures.items ∙ ap (λ (z : Kept). z.held ++ q ∷ []) c.self.view_is) ∙ ap (λ (z : Kept). record z { drawn = id; held = c.push_reserved.new.self.items; rooms = left }) (sym c.self.view_is) in
-    subst (λ l. Did (called_core (side_of k) (address c.args.peer.0) node) k l c.args.out.now c.call_in-circuit.new.out) is
+    subst (λ l. Simulates (called_core (side_of k) (address c.args.peer.0) node) k l c.args.out.now c.call_in-circuit.new.out) is
     (call_did k c.args.peer node id c.in-Some.room left q c.args.out.now c.call_in-circuit.new.out b)

@@ -6,7 +6,7 @@ use Rattle.lat_circuit.specs.Hears.{heard_shown}
 use Rattle.lat_circuits.specs.Hears.{hears_at}
 use Rattle.lat_circuits.specs.Kept.{Kept, SameCircuits, IsOwn, side_of, ids}
 use Rattle.lat_circuits.specs.Shown.{shown}
-use Rattle.lat_circuits.specs.Stands.{Stands, Did}
+use Rattle.lat_circuits.specs.Stands.{Stands, Simulates}
 use Rattle.lat_circuits.proofs.Held.{each_at}
 use Rattle.lat_circuits.proofs.Heard.{heard_at, heard_answer}
 use Rattle.lat_circuits.proofs.Places.{became, with_at, own_after, holds_after, same_after}
@@ -33,7 +33,7 @@ returns-clause-did c =
     let b = became a c.args.at q c.heard.new.self low c.index_mut-circuit.ensures.value r.config r.id in
     let own = each_at (IsOwn (shown a)) a.held.items c.args.at q c.self.invariant.0.each b.here in
     let after : IsOwn (shown a) c.heard.new.self = own_after (shown a) q c.heard.new.self own r.config r.master r.sessions.0 r.sessions.1 r.moment in
-    let P : Kept → Type 0 = λ k. Did (λ d. (hears_at (side_of k) (slice_index (ids k) c.args.at) m d).doing) k (shown (with_at a c.args.at c.heard.new.self)) c.args.out.now c.heard.new.out in
+    let P : Kept → Type 0 = λ k. Simulates (λ d. (hears_at (side_of k) (slice_index (ids k) c.args.at) m d).doing) k (shown (with_at a c.args.at c.heard.new.self)) c.args.out.now c.heard.new.out in
     subst P c.self.view_is (
     heard_at (shown a) c.args.at q c.heard.new.self (shown (with_at a c.args.at c.heard.new.self)) m c.args.out.now c.heard.new.out c.self.invariant.0 b own after c.heard.ensures.did
     )

@@ -3,7 +3,7 @@ use Rattle.std.proofs.lemmas.Option.{same_Some}
 use Rattle.lat_circuit.specs.Kept as circuit
 use Rattle.lat_circuits.specs.Kept.{Kept, SameCircuits, IsOwn, side_of, ids}
 use Rattle.lat_circuits.specs.Shown.{shown}
-use Rattle.lat_circuits.specs.Stands.{Did}
+use Rattle.lat_circuits.specs.Stands.{Simulates}
 use Rattle.lat_circuits.specs.Times.{passes_one}
 use Rattle.lat_circuits.proofs.Held.{each_at}
 use Rattle.lat_circuits.proofs.Places.{became, with_at, read_at, own_after, holds_after, same_after}
@@ -44,7 +44,7 @@ returns-clause-did c =
     let read = read_at (shown a) a.held.items c.args.at c.index.result.now refl low c.index.ensures in
     let one = same_Some q c.index.result.now (sym b.here ∙ read) in
     let alive = ap (λ (z : circuit.Kept). is_none z.ended) one ∙ sym c.lives.ensures.value ∙ c.if-not-lives.false in
-    let P : Kept → Type 0 = λ k. Did (passes_one (side_of k) (slice_index (ids k) c.args.at)) k (shown (with_at a c.args.at r)) c.args.out.now c.time.new.out in
+    let P : Kept → Type 0 = λ k. Simulates (passes_one (side_of k) (slice_index (ids k) c.args.at)) k (shown (with_at a c.args.at r)) c.args.out.now c.time.new.out in
     subst P c.self.view_is (
     one_lives (shown a) c.args.at q r (shown (with_at a c.args.at r)) c.args.out.now c.time.new.out c.self.invariant.0 b after alive c.time.ensures.did
     )

@@ -22,9 +22,9 @@ returns-clause-state c = λ d st none l w.
     let e : Core = calling (side_of k) x call d in
     let st2 : Stands k d = subst (λ z. Stands z d) (sym c.self.view_is) st in
     let did = c.answer.ensures.state d st2.circuits in
-    let done : Stands c.settle.new.self e = (acted_calling k c.settle.new.self c.answer.new.self x call d st2 c.answer.ensures.same.ids did c.settle.ensures.state c.settle.ensures.circuits).state in
+    let done : Stands c.reap.new.self e = (acted_calling k c.reap.new.self c.answer.new.self x call d st2 c.answer.ensures.same.ids did c.reap.ensures.state c.reap.ensures.circuits).state in
     let going : lives (e.circuits.circuit_at x).end ≡ true = called_lives (side_of k) x call d l in
-    let node : c.settle.new.self.circuits.server ≡ false = ap (λ z. z.server) c.settle.ensures.circuits ∙ c.answer.ensures.same.core.server ∙ ap (λ (z : Kept). z.circuits.server) c.self.view_is ∙ c.requires.node in
+    let node : c.reap.new.self.circuits.server ≡ false = ap (λ z. z.server) c.reap.ensures.circuits ∙ c.answer.ensures.same.core.server ∙ ap (λ (z : Kept). z.circuits.server) c.self.view_is ∙ c.requires.node in
     let free_still = none_still k c.answer.new.self d e c.args.line st2 did (calling_later (side_of k) x call d (ok_of k d st2)) none in
     let leads = accepted_leads k (side_of k) x c.args.id d st2 l w (c.seat.ensures.side e done free_still going ∙ node) in
     subst (λ (z : Kept). Stands c.seat.new.self (accepted_core (side_of z) c.args.line x c.args.id d)) c.self.view_is
@@ -35,6 +35,6 @@ returns-clause-freed c = λ d st.
     let k = shown c.self.inside in
     let x = c.args.circuit in
     let st2 : Stands k d = subst (λ z. Stands z d) (sym c.self.view_is) st in
-    let did = acted_calling k c.settle.new.self c.answer.new.self x (Answer c.args.id) d st2 c.answer.ensures.same.ids (c.answer.ensures.state d st2.circuits) c.settle.ensures.state c.settle.ensures.circuits in
+    let did = acted_calling k c.reap.new.self c.answer.new.self x (Answer c.args.id) d st2 c.answer.ensures.same.ids (c.answer.ensures.state d st2.circuits) c.reap.ensures.state c.reap.ensures.circuits in
     subst (λ (z : Kept). map key_in c.seat.new.self.freed ≡ freed_between d (accepted_core (side_of z) c.args.line x c.args.id d)) c.self.view_is
     (ap (map key_in) c.seat.ensures.freed ∙ did.freed ∙ accepted_frees (side_of k) c.args.line x c.args.id d)

@@ -8,7 +8,7 @@ use Rattle.lat_circuits.specs.Kept.{has_id}
 use Rattle.lat_lines.specs.Calm.{CoreCalm, takes_nothing}
 use Rattle.lat_lines.specs.Kept.{Kept, side_of}
 use Rattle.lat_lines.specs.Shown.{shown}
-use Rattle.lat_lines.specs.Stands.{Stands, DidTo}
+use Rattle.lat_lines.specs.Stands.{Stands, HasStepped}
 use Rattle.lat_lines.proofs.CoresLater.{heard_later}
 use Rattle.lat_lines.proofs.Acting.{ok_of, acted_unless}
 use Rattle.lat_lines.proofs.resting.Cores.{none_added}
@@ -16,7 +16,7 @@ use Rattle.lat_lines.proofs.resting.Hears.{heard_calm}
 use Rattle.lat_lines.proofs.lines.Lines.heard.Goals as goal
 
 -- where no frame went out and no slot was taken, lines know all of their sessions
-calms : (c : goal.After-settle_unless) (d : Core) → Stands (shown c.self.inside) d → c.is_quiet-is_calm.result ≡ true
+calms : (c : goal.After-reap_unless) (d : Core) → Stands (shown c.self.inside) d → c.is_quiet-is_calm.result ≡ true
     → CoreCalm d (heard_core (side_of (shown c.self.inside)) (address c.args.from.0) (message_shown c.args.m.now) d).doing.core
 calms c d st t =
     let k = shown c.self.inside in
@@ -26,18 +26,18 @@ calms c d st t =
     let none = none_added h.doing.frames c.args.out.now c.heard-hearing.new.out did.1 (eqb-true (length c.heard-hearing.new.out) c.len-before.result parts.0 ∙ c.len-before.ensures.value) in
     heard_calm (side_of k) (address c.args.from.0) (message_shown c.args.m.now) d (ap takes_nothing (sym (c.heard-hearing.ensures.answer d st.circuits)) ∙ parts.1) none
 
-did_hear : (c : goal.After-settle_unless) (d : Core) → Stands (shown c.self.inside) d → DidTo d (heard_core (side_of (shown c.self.inside)) (address c.args.from.0) (message_shown c.args.m.now) d).doing c.settle_unless.new.self c.args.out.now c.heard-hearing.new.out
+did_hear : (c : goal.After-reap_unless) (d : Core) → Stands (shown c.self.inside) d → HasStepped d (heard_core (side_of (shown c.self.inside)) (address c.args.from.0) (message_shown c.args.m.now) d).doing c.reap_unless.new.self c.args.out.now c.heard-hearing.new.out
 did_hear c d st =
     let k = shown c.self.inside in
     let did = c.heard-hearing.ensures.did d st.circuits in
-    let a = acted_unless k c.heard-hearing.new.self c.settle_unless.new.self _ d (heard_core (side_of k) (address c.args.from.0) (message_shown c.args.m.now) d).doing.core st c.heard-hearing.ensures.held did.0 (heard_later (side_of k) (address c.args.from.0) (message_shown c.args.m.now) d (ok_of k d st)) c.settle_unless.ensures.state c.settle_unless.ensures.circuits (calms c d st) in
+    let a = acted_unless k c.heard-hearing.new.self c.reap_unless.new.self _ d (heard_core (side_of k) (address c.args.from.0) (message_shown c.args.m.now) d).doing.core st c.heard-hearing.ensures.held did.0 (heard_later (side_of k) (address c.args.from.0) (message_shown c.args.m.now) d (ok_of k d st)) c.reap_unless.ensures.state c.reap_unless.ensures.circuits (calms c d st) in
     record { state = a.state; frames = did.1; freed = a.freed }
 
 pub returns-clause-did : goal.returns-clause-did
 returns-clause-did c = λ d st.
-    subst (λ (z : Kept). DidTo d (heard_core (side_of z) (address c.args.from.0) (message_shown c.args.m.now) d).doing c.settle_unless.new.self c.args.out.now c.heard-hearing.new.out) c.self.view_is
+    subst (λ (z : Kept). HasStepped d (heard_core (side_of z) (address c.args.from.0) (message_shown c.args.m.now) d).doing c.reap_unless.new.self c.args.out.now c.heard-hearing.new.out) c.self.view_is
     (did_hear c d (subst (λ z. Stands z d) (sym c.self.view_is) st))
 
 pub returns-clause-held : goal.returns-clause-held
 returns-clause-held c = λ x h.
-    subst (λ z. has_id x z ≡ true) (sym c.settle_unless.ensures.circuits) (c.heard-hearing.ensures.held x (subst (λ (z : Kept). has_id x z.circuits ≡ true) (sym c.self.view_is) h))
+    subst (λ z. has_id x z ≡ true) (sym c.reap_unless.ensures.circuits) (c.heard-hearing.ensures.held x (subst (λ (z : Kept). has_id x z.circuits ≡ true) (sym c.self.view_is) h))

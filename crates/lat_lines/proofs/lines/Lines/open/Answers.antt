@@ -7,7 +7,7 @@ use Rattle.lat_machines.specs.values.Addresses.{address}
 use Rattle.lat_machines.specs.cores.Cores.{Core, Side, Doing}
 use Rattle.lat_machines.specs.server.Server.{server_side, has_room, opens}
 use Rattle.lat_queue.specs.Histories.{some_key}
-use Rattle.lat_payload.specs.Frames.{Adds}
+use Rattle.lat_payload.specs.Frames.{Emits}
 use Rattle.lat_circuits.specs.Stands.{calling}
 use Rattle.lat_circuits.specs.Stands as stands
 use Rattle.lat_lines.specs.Kept.{Kept, side_of}
@@ -50,13 +50,13 @@ returns-clause-opened c = λ config d side st none.
     let e : Core = calling S x asks R.core in
     let stood : stands.Stands c.connect-session.new.circuits e = subst (λ z. stands.Stands c.connect-session.new.circuits (calling z x asks R.core)) (side_kept k.circuits c.reach-circuit.new.circuits c.reach-circuit.ensures.core) (c.connect-session.ensures.state R.core did.0) in
     let held : StayHeld k.circuits c.connect-session.new.circuits = λ y h. same_held c.reach-circuit.new.circuits c.connect-session.new.circuits c.connect-session.ensures.same.ids y (c.reach-circuit.ensures.held y h) in
-    let done : Stands c.settle.new.self e = (acted k c.connect-session.new.circuits c.settle.new.self d e st2 held stood (r.later asks) c.settle.ensures.state c.settle.ensures.circuits).state in
+    let done : Stands c.reap.new.self e = (acted k c.connect-session.new.circuits c.reap.new.self d e st2 held stood (r.later asks) c.reap.ensures.state c.reap.ensures.circuits).state in
     let k2 = shown c.self-2.inside in
     let st3 : Stands k2 e = subst (λ z. Stands z e) (sym c.self-2.view_is) done in
     let st4 = stands_as k2 k2.circuits c.clear.new.self.items e st3 st3.circuits in
     let free = none_still k c.connect-session.new.circuits d e c.args.line st2 stood (r.later asks) none in
     let alive = called_lives S x asks R.core r.lives in
-    let server = ap (λ (z : Kept). z.circuits.server) c.self-2.view_is ∙ ap (λ z. z.server) c.settle.ensures.circuits ∙ c.connect-session.ensures.same.core.server ∙ c.reach-circuit.ensures.core.server ∙ ap (λ (z : Kept). z.circuits.server) c.self.view_is ∙ c.requires.server in
+    let server = ap (λ (z : Kept). z.circuits.server) c.self-2.view_is ∙ ap (λ z. z.server) c.reap.ensures.circuits ∙ c.connect-session.ensures.same.core.server ∙ c.reach-circuit.ensures.core.server ∙ ap (λ (z : Kept). z.circuits.server) c.self.view_is ∙ c.requires.server in
     let leads = connected_leads S x c.args.service.now c.request_in.result R.core r.lives r.room (c.seat.ensures.side e st4 free alive ∙ server) in
     let first = least_free (R.core.circuits.circuit_at x).end.half.sessions in
     let serial = suc (R.core.circuits.circuit_at x).end.half.sessions.made in
@@ -68,7 +68,7 @@ returns-clause-opened c = λ config d side st none.
     sym (ap (λ z. z.core) so ∙ ap (λ z. F z wants first) is ∙ ap (λ req. F S req first) (sym c.request_in.ensures) ∙ ap (F S c.request_in.result) (sym named)) in
     let frames = ap (λ z. z.frames) so ∙ connects_frames config c.args.line x c.args.service.now key wants R in (
       subst (Stands c.seat.new.self) core seated,
-      subst (λ fs. Adds fs c.args.out.now c.reach-circuit.new.out) (sym frames) did.1,
+      subst (λ fs. Emits fs c.args.out.now c.reach-circuit.new.out) (sym frames) did.1,
     )
 
 pub returns-clause-answer : goal.returns-clause-answer

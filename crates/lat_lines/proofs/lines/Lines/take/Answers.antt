@@ -5,7 +5,7 @@ use Rattle.lat_circuits.specs.Stands.{calling}
 use Rattle.std.proofs.lemmas.Bool.{not-true}
 use Rattle.lat_session.specs.States.{is_free}
 use Rattle.lat_lines.specs.Kept.{Kept, side_of}
-use Rattle.lat_lines.specs.Answers.{Says, answer_shown, seat_or, took_answer}
+use Rattle.lat_lines.specs.Answers.{SimulatesCall, answer_shown, seat_or, took_answer}
 use Rattle.lat_lines.specs.Shown.{shown}
 use Rattle.lat_lines.proofs.Standing.{refilled}
 use Rattle.lat_lines.proofs.Telling.{takes_at}
@@ -23,10 +23,10 @@ returns-in_ok-items-in-Ok-clause-says c =
     let long : length given ≡ min c.waiting.result c.args.n = search rules in
     let out = c.take-answer.new.out in
     let whole = refilled c.in_ok-items-in-Ok.items.len out c.in_ok-items-in-Ok.items.items (c.take-answer.ensures.places ∙ c.as_mut_slice.ensures.len) (sym c.in_ok-items-in-Ok.items.ok.0) in
-    subst (λ (z : Kept). Says (λ d. on_line z.lines d c.args.line (λ t. take_on (side_of z) d t c.args.n)) z c.settle_unless.new.self c.took_told.result) c.self.view_is
-    (says_called k c.settle_unless.new.self c.args.line s (λ d t. take_on (side_of k) d t c.args.n) (Take s.session.session (length given)) c.took_told.result is
-    (λ d st. settled_calling k c.settle_unless.new.self c.take-answer.new.self s.session.circuit (Take s.session.session (length given)) _ d st c.take-answer.ensures.same.ids (c.take-answer.ensures.state d st.circuits)
-    c.settle_unless.ensures.state c.settle_unless.ensures.circuits (λ t. take_calm (side_of k) s.session.circuit s.session.session (length given) d
+    subst (λ (z : Kept). SimulatesCall (λ d. on_line z.lines d c.args.line (λ t. take_on (side_of z) d t c.args.n)) z c.reap_unless.new.self c.took_told.result) c.self.view_is
+    (says_called k c.reap_unless.new.self c.args.line s (λ d t. take_on (side_of k) d t c.args.n) (Take s.session.session (length given)) c.took_told.result is
+    (λ d st. settled_calling k c.reap_unless.new.self c.take-answer.new.self s.session.circuit (Take s.session.session (length given)) _ d st c.take-answer.ensures.same.ids (c.take-answer.ensures.state d st.circuits)
+    c.reap_unless.ensures.state c.reap_unless.ensures.circuits (λ t. take_calm (side_of k) s.session.circuit s.session.session (length given) d
     (sym (ap is_free (c.state.ensures.model (calling (side_of k) s.session.circuit (Take s.session.session (length given)) d) (c.take-answer.ensures.state d st.circuits))) ∙ sym c.is_free-is_over.ensures ∙ not-true _ t)))
     (λ d t st h p q.
     agrees_at (λ x i. calling (side_of k) x (Take i (length given)) d) (λ x i. answer_shown (took_answer (taking d x i (length given)) (giving d x i given))) s.session.circuit s.session.session t (answer_shown c.took_told.result) (take_on (side_of k) d t c.args.n) p q
@@ -36,5 +36,5 @@ returns-in_ok-items-in-Ok-clause-says c =
 pub returns-in-Err-clause-says : goal.returns-in-Err-clause-says
 returns-in-Err-clause-says c =
     let r = refused c.args.self.now c.args.line (λ d t. take_on (side_of c.args.self.now) d t c.args.n) c.in-Err.answer (sym c.seat_on.ensures ∙ c.in-Err.is) in
-    subst (λ z. Says (λ d. on_line c.args.self.now.lines d c.args.line (λ t. take_on (side_of c.args.self.now) d t c.args.n)) c.args.self.now z c.refused.result) (sym c.refused.ensures.kept)
-    (subst (Says (λ d. on_line c.args.self.now.lines d c.args.line (λ t. take_on (side_of c.args.self.now) d t c.args.n)) c.args.self.now (record (c.args.self.now) { freed = [] })) (sym c.refused.ensures.answer) r)
+    subst (λ z. SimulatesCall (λ d. on_line c.args.self.now.lines d c.args.line (λ t. take_on (side_of c.args.self.now) d t c.args.n)) c.args.self.now z c.refused.result) (sym c.refused.ensures.kept)
+    (subst (SimulatesCall (λ d. on_line c.args.self.now.lines d c.args.line (λ t. take_on (side_of c.args.self.now) d t c.args.n)) c.args.self.now (record (c.args.self.now) { freed = [] })) (sym c.refused.ensures.answer) r)
