@@ -9,7 +9,7 @@ use Rattle.lat_machines.specs.values.Events.{Hears}
 use Rattle.lat_machines.specs.values.Frames as machines
 use Rattle.lat_machines.specs.server.Server.{server_step}
 use Rattle.lat_machines.specs.node.Node.{node_step}
-use Rattle.lat_payload.specs.Frames.{seen, expected, IsReadable}
+use Rattle.lat_payload.specs.Frames.{frame_view, expected, IsReadable}
 use Rattle.lat_payload.specs.Reads.{reading_of}
 use Rattle.lat_lines.specs.Back.{answer_of}
 use Rattle.lat_server.specs.Stands as server
@@ -20,12 +20,12 @@ use Rattle.lat_heard.proofs.Answers.{server_whole, node_whole, not_bad}
 abbrev IsWhole : OutFrame → Type 0
 IsWhole f = (v : machines.Value) × (reading_of f.payload ≡ machines.Whole v)
 
-all_whole : (fs : List OutFrame) (ms : List machines.OutFrame) → map seen fs ≡ map expected ms → Each IsReadable ms → Each IsWhole fs
+all_whole : (fs : List OutFrame) (ms : List machines.OutFrame) → map frame_view fs ≡ map expected ms → Each IsReadable ms → Each IsWhole fs
 all_whole [] ms same readable = tt
 all_whole (f ∷ fs) [] same readable = let z : ⊥ = cc in absurd z
 all_whole (f ∷ fs) (m ∷ ms) same readable =
-    let one : seen f ≡ expected m = cc in
-    let rest : map seen fs ≡ map expected ms = cc in
+    let one : frame_view f ≡ expected m = cc in
+    let rest : map frame_view fs ≡ map expected ms = cc in
     ((m.value, ap (λ s. reading_of s.payload) one ∙ readable.0), all_whole fs ms rest readable.1)
 
 all_heard : (P : OutFrame → Type 0) (fs : List OutFrame) → ((f : OutFrame) → IsWhole f → P f) → Each IsWhole fs → Each P fs

@@ -21,7 +21,7 @@ use Rattle.lat_machines.specs.cores.Lines.{used}
 use Rattle.lat_machines.specs.node.Node.{Node, rated, announcement, response, solicited}
 use Rattle.lat_dir.specs.Stands.{service_shown}
 use Rattle.lat_payload.specs.Shown.{notice_shown}
-use Rattle.lat_payload.specs.Frames.{GoesOutAs, Adds}
+use Rattle.lat_payload.specs.Frames.{GoesOutAs, Emits}
 use Rattle.lat_payload.proofs.Frames.{adds_none, adds_one, adds_then}
 use Rattle.lat_circuits.proofs.Found.{finds_at}
 use Rattle.lat_node.specs.Announced.{ratings, IsAnnounced}
@@ -148,7 +148,7 @@ announced_rated may k s held n f before after lines a goes is = record {
   rates = a.rates;
   count = a.count;
   each = subst (λ u. Each (may k.rule u k.lines.lines) a.rates) lines a.each;
-  frames = subst (Adds (announcement (config_of k) a.rates ∷ []) before) (sym is) (adds_one (announcement (config_of k) a.rates) f before (subst (GoesOutAs f) a.is goes));
+  frames = subst (Emits (announcement (config_of k) a.rates ∷ []) before) (sym is) (adds_one (announcement (config_of k) a.rates) f before (subst (GoesOutAs f) a.is goes));
 }
 
 pub response_rated : {H : Type 0} (may : H → ℕ → ℕ → ℕ → Type 0) (k : Kept H) (s : Node) (held to id : ℕ) (service : Name) (rate : ℕ) (n : Notice) (e f : OutFrame) (before between after : List OutFrame) →
@@ -162,8 +162,8 @@ response_rated may k s held to id service rate n e f before between after lines 
   each = subst (λ u. Each (may k.rule u k.lines.lines) (rate ∷ a.rates)) lines (one, a.each);
   frames =
       adds_then (r ∷ []) (m ∷ []) before between after
-      (subst (Adds (r ∷ []) before) (sym first) (adds_one r e before goes_first))
-      (subst (Adds (m ∷ []) between) (sym then) (adds_one m f between (subst (GoesOutAs f) a.is goes)));
+      (subst (Emits (r ∷ []) before) (sym first) (adds_one r e before goes_first))
+      (subst (Emits (m ∷ []) between) (sym then) (adds_one m f between (subst (GoesOutAs f) a.is goes)));
 }
   where
     r : machines.OutFrame

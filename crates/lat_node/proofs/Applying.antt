@@ -11,42 +11,42 @@ use Rattle.lat_machines.specs.cores.Cores.{Side}
 use Rattle.lat_machines.specs.cores.LineCalls.{take_on, on_line}
 use Rattle.lat_machines.specs.node.Node.{Node, node_step}
 use Rattle.lat_lines.specs.Kept as lines
-use Rattle.lat_lines.specs.Answers.{Says}
+use Rattle.lat_lines.specs.Answers.{SimulatesCall}
 use Rattle.lat_lines.specs.Events.{event_shown}
 use Rattle.lat_node.specs.Kept.{Kept, config_of}
 use Rattle.lat_node.specs.Stands.{Stands}
-use Rattle.lat_node.specs.Events.{Does, Steps, Rated, IsAct, announces}
+use Rattle.lat_node.specs.Events.{Simulates, SimulatesRated, Rated, IsAct, announces}
 use Rattle.lat_node.proofs.StepLemmas.{with_lines, called}
 use Rattle.lat_node.proofs.FrameLemmas.{IsQuiet, steps_quiet, steps_announce}
 
 -- an event of the core, as the machines know it
 pub steps_event : {H : Type 0} (may : H → ℕ → ℕ → ℕ → Type 0) (k l : Kept H) (e : base_event.Event) (x : Event) (result : Result base.Answer Memory) (before after : List OutFrame) → event_shown e ≡ x →
-    IfOk result (λ a. Steps may x k l a before after) → IfOk result (λ a. Steps may (event_shown e) k l a before after)
-steps_event may k l e x result before after is steps = subst (λ (y : Event). IfOk result (λ a. Steps may y k l a before after)) (sym is) steps
+    IfOk result (λ a. SimulatesRated may x k l a before after) → IfOk result (λ a. SimulatesRated may (event_shown e) k l a before after)
+steps_event may k l e x result before after is steps = subst (λ (y : Event). IfOk result (λ a. SimulatesRated may y k l a before after)) (sym is) steps
 
 -- one that asks for no ratings
 pub steps_does : {H : Type 0} (may : H → ℕ → ℕ → ℕ → Type 0) (k l : Kept H) (e : base_event.Event) (x : Event) (result : Result base.Answer Memory) (before after : List OutFrame) → event_shown e ≡ x → IsQuiet x →
-    IfOk result (λ a. Does (λ config s. node_step config [] s x) k l a before after) → IfOk result (λ a. Steps may (event_shown e) k l a before after)
-steps_does may k l e x (Ok a) before after is quiet does = subst (λ (y : Event). Steps may y k l a before after) (sym is) (steps_quiet may k l x a before after quiet does)
+    IfOk result (λ a. Simulates (λ config s. node_step config [] s x) k l a before after) → IfOk result (λ a. SimulatesRated may (event_shown e) k l a before after)
+steps_does may k l e x (Ok a) before after is quiet does = subst (λ (y : Event). SimulatesRated may y k l a before after) (sym is) (steps_quiet may k l x a before after quiet does)
 steps_does may k l e x (Err m) before after is quiet does = tt
 
 -- a take
 pub steps_take : {H : Type 0} (may : H → ℕ → ℕ → ℕ → Type 0) (k old : Kept H) (l : lines.Kept) (e : base_event.Event) (line n : ℕ) (result : Result base.Answer Memory) (before : List OutFrame) → k ≡ old → k.lines.circuits.server ≡ false →
-    event_shown e ≡ Takes line n → IfOk result (λ a. Says (λ d. on_line k.lines.lines d line (λ x. take_on (lines.side_of k.lines) d x n)) k.lines l a) →
-    IfOk result (λ a. Steps may (event_shown e) old (with_lines k l) a before before)
+    event_shown e ≡ Takes line n → IfOk result (λ a. SimulatesCall (λ d. on_line k.lines.lines d line (λ x. take_on (lines.side_of k.lines) d x n)) k.lines l a) →
+    IfOk result (λ a. SimulatesRated may (event_shown e) old (with_lines k l) a before before)
 steps_take {H = H} may k old l e line n (Ok a) before same node is says =
-    subst (λ (z : Kept H). Steps may (event_shown e) z (with_lines k l) a before before) same
-    (subst (λ (y : Event). Steps may y k (with_lines k l) a before before) (sym is)
+    subst (λ (z : Kept H). SimulatesRated may (event_shown e) z (with_lines k l) a before before) same
+    (subst (λ (y : Event). SimulatesRated may y k (with_lines k l) a before before) (sym is)
     (steps_quiet may k (with_lines k l) (Takes line n) a before before tt (called k l (λ (side : Side) d. on_line k.lines.lines d line (λ x. take_on side d x n)) a before node says)))
 steps_take may k old l e line n (Err m) before same node is says = tt
 
 -- an announcement
 pub steps_announced : {H : Type 0} (may : H → ℕ → ℕ → ℕ → Type 0) (k : Kept H) (e : base_event.Event) (result : Result base.Answer Memory) (before after : List OutFrame) → event_shown e ≡ Announces →
     IfOk result (λ a. a ≡ answers.Done) → ((s : Node) → Stands k s → OnOk result (Rated may k s (announces (config_of k) s) (length k.services) before after)) →
-    IfOk result (λ a. Steps may (event_shown e) k k a before after)
+    IfOk result (λ a. SimulatesRated may (event_shown e) k k a before after)
 steps_announced may k e (Ok a) before after is done rated =
-    subst (λ (y : Event). Steps may y k k a before after) (sym is)
-    (subst (λ (z : base.Answer). Steps may Announces k k z before after) (sym done) (steps_announce may k before after rated))
+    subst (λ (y : Event). SimulatesRated may y k k a before after) (sym is)
+    (subst (λ (z : base.Answer). SimulatesRated may Announces k k z before after) (sym done) (steps_announce may k before after rated))
 steps_announced may k e (Err m) before after is done rated = tt
 
 -- the other events take no memory

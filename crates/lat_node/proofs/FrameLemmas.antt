@@ -19,11 +19,11 @@ use Rattle.lat_machines.specs.cores.LineCalls.{Said, says, calls_on, put_on, set
 use Rattle.lat_machines.specs.cores.Hearing.{StartFact, Repeats, Makes, Refuses, start_fact}
 use Rattle.lat_machines.specs.node.Node.{NodeConfig, Node, Requested, node_side, tells, command_frame, request_of, requests_again, withdraws, start_answer, solicited, hears_message, node_step, rates_of, NodeFrames}
 use Rattle.lat_machines.proofs.events.Ratings.{same_but_frames}
-use Rattle.lat_payload.specs.Frames.{seen, expected, Adds}
+use Rattle.lat_payload.specs.Frames.{frame_view, expected, Emits}
 use Rattle.lat_lines.specs.Events.{event_shown}
 use Rattle.lat_node.specs.Kept.{Kept, config_of}
 use Rattle.lat_node.specs.Stands.{Stands, Machine, IsMachine, Frames}
-use Rattle.lat_node.specs.Events.{Does, Steps, Rated, ratings_for, IsAct}
+use Rattle.lat_node.specs.Events.{Simulates, SimulatesRated, Rated, ratings_for, IsAct}
 
 -- as many ratings as are asked for give the frames of an event
 pub frames_rated : {H : Type 0} (may : H → ℕ → ℕ → ℕ → Type 0) (k : Kept H) (m : Machine H) (e : base.Event) (after : List OutFrame) → IsMachine k m →
@@ -41,7 +41,7 @@ frames_rated {H = H} may k m e after is r =
 -- an event without ratings
 pub unrated : {H : Type 0} (may : H → ℕ → ℕ → ℕ → Type 0) (k : Kept H) (s : Node) (e : Event) (before after : List OutFrame) →
     rates_of (config_of k) (node_step (config_of k) [] s e).answer e ≡ 0 →
-    Adds (node_step (config_of k) [] s e).frames before after →
+    Emits (node_step (config_of k) [] s e).frames before after →
     Rated may k s (λ rates. node_step (config_of k) rates s e) (rates_of (config_of k) (node_step (config_of k) [] s e).answer e) before after
 unrated may k s e before after none adds = record { rates = []; count = sym none; each = tt; frames = adds }
 
@@ -118,13 +118,13 @@ solicited_rates config rates s from id (Some service) x r k now = refl
 -- an event without ratings, whole
 
 pub steps_quiet : {H : Type 0} (may : H → ℕ → ℕ → ℕ → Type 0) (k l : Kept H) (e : Event) (answer : base_answer.Answer) (before after : List OutFrame) →
-    IsQuiet e → Does (λ config s. node_step config [] s e) k l answer before after → Steps may e k l answer before after
+    IsQuiet e → Simulates (λ config s. node_step config [] s e) k l answer before after → SimulatesRated may e k l answer before after
 steps_quiet may k l e answer before after q does = λ s st.
     let d = does s st in
     (d.0, d.1, unrated may k s e before after (quiet (config_of k) s e q) d.2)
 
 pub steps_announce : {H : Type 0} (may : H → ℕ → ℕ → ℕ → Type 0) (k : Kept H) (before after : List OutFrame) →
-    ((s : Node) → Stands k s → Rated may k s (λ rates. node_step (config_of k) rates s Announces) (length k.services) before after) → Steps may Announces k k answers.Done before after
+    ((s : Node) → Stands k s → Rated may k s (λ rates. node_step (config_of k) rates s Announces) (length k.services) before after) → SimulatesRated may Announces k k answers.Done before after
 steps_announce may k before after rated = λ s st. (st, refl, rated s st)
 
 pub act_quiet : (e : base.Event) → IsAct e → IsQuiet (event_shown e)

@@ -14,12 +14,12 @@ use Rattle.lat_machines.specs.values.Names.{Name, same}
 use Rattle.lat_machines.specs.values.Notices.{Notice, AnnouncementNotice, CommandNotice, StatusNotice, SolicitNotice, ResponseNotice}
 use Rattle.lat_machines.specs.cores.Cores.{at_moment}
 use Rattle.lat_machines.specs.node.Node.{NodeConfig, Node, NodeStep, with_core, tells, solicited, hears_message, hears_notice, hears_value, node_step, rates_of}
-use Rattle.lat_payload.specs.Frames.{Adds}
+use Rattle.lat_payload.specs.Frames.{Emits}
 use Rattle.lat_payload.specs.Reads.{malformed}
 use Rattle.lat_lines.specs.Answers.{answer_shown}
 use Rattle.lat_node.specs.Kept.{Kept, config_of}
 use Rattle.lat_node.specs.Stands.{Stands}
-use Rattle.lat_node.specs.Events.{Does, Steps, Rated, notice_ratings}
+use Rattle.lat_node.specs.Events.{Simulates, SimulatesRated, Rated, notice_ratings}
 use Rattle.lat_payload.proofs.Frames.{adds_none}
 use Rattle.lat_node.proofs.FrameLemmas.{quiet_message, solicited_rates}
 
@@ -40,7 +40,7 @@ Stepped may e old new s answer before after =
 -- one that is the same whatever the ratings, and asks for none
 stepped : {H : Type 0} (may : H → ℕ → ℕ → ℕ → Type 0) (e : Event) (k l : Kept H) (s : Node) (answer : base.Answer) (before after : List OutFrame) (t : NodeStep) →
     ((rates : List ℕ) → node_step (config_of k) rates s e ≡ t) → rates_of (config_of k) t.answer e ≡ 0 →
-    Stands l t.state → answer_shown answer ≡ t.answer → Adds t.frames before after → Stepped may e k l s answer before after
+    Stands l t.state → answer_shown answer ≡ t.answer → Emits t.frames before after → Stepped may e k l s answer before after
 stepped may e k l s answer before after t same none st told adds = (
   subst (λ (x : NodeStep). Stands l x.state) (sym (same [])) st,
   told ∙ ap (λ (x : NodeStep). x.answer) (sym (same [])),
@@ -48,23 +48,23 @@ stepped may e k l s answer before after t same none st told adds = (
     rates = [];
     count = sym none ∙ ap (λ (x : NodeStep). rates_of (config_of k) x.answer e) (sym (same []));
     each = tt;
-    frames = subst (λ (x : NodeStep). Adds x.frames before after) (sym (same [])) adds;
+    frames = subst (λ (x : NodeStep). Emits x.frames before after) (sym (same [])) adds;
   },
 )
 
 -- a payload with a bad field
 pub steps_bad : {H : Type 0} (may : H → ℕ → ℕ → ℕ → Type 0) (k l : Kept H) (from now : ℕ) (reading : Reading) (bad : Bad) (before : List OutFrame) →
-    Passed now k l → reading ≡ malformed bad → Steps may (Hears from reading None now) k l (answers.Bad bad) before before
+    Passed now k l → reading ≡ malformed bad → SimulatesRated may (Hears from reading None now) k l (answers.Bad bad) before before
 steps_bad {H = H} may k l from now reading bad before p is =
-    subst (λ (r : Reading). Steps may (Hears from r None now) k l (answers.Bad bad) before before) (sym is)
+    subst (λ (r : Reading). SimulatesRated may (Hears from r None now) k l (answers.Bad bad) before before) (sym is)
     (λ s st. stepped may (Hears from (malformed bad) None now) k l s (answers.Bad bad) before before (node_step (config_of k) [] s (Hears from (malformed bad) None now))
     (λ rates. refl) refl (p s st) refl (adds_none before))
 
 -- a payload that reads as a value
 pub steps_read : {H : Type 0} (may : H → ℕ → ℕ → ℕ → Type 0) (k l : Kept H) (from now : ℕ) (reading : Reading) (v : Value) (result : Result base.Answer Memory) (before after : List OutFrame) →
-    reading ≡ Whole v → IfOk result (λ a. Steps may (Hears from (Whole v) None now) k l a before after) → IfOk result (λ a. Steps may (Hears from reading None now) k l a before after)
+    reading ≡ Whole v → IfOk result (λ a. SimulatesRated may (Hears from (Whole v) None now) k l a before after) → IfOk result (λ a. SimulatesRated may (Hears from reading None now) k l a before after)
 steps_read may k l from now reading v result before after is steps =
-    subst (λ (r : Reading). IfOk result (λ a. Steps may (Hears from r None now) k l a before after)) (sym is) steps
+    subst (λ (r : Reading). IfOk result (λ a. SimulatesRated may (Hears from r None now) k l a before after)) (sym is) steps
 
 -- by the address of everyone
 
@@ -75,17 +75,17 @@ of_station : (config : NodeConfig) (s : Node) (from now : ℕ) (v : Value) → n
 of_station config s from now v e rates = ap (λ b. cond b (tells (passed now s) Ignored) (hears_value config rates (passed now s) from v None)) e
 
 pub steps_everyone : {H : Type 0} (may : H → ℕ → ℕ → ℕ → Type 0) (k l : Kept H) (from now : ℕ) (v : Value) (before : List OutFrame) →
-    nat_eq from everyone ≡ true → Passed now k l → Steps may (Hears from (Whole v) None now) k l answers.Ignored before before
+    nat_eq from everyone ≡ true → Passed now k l → SimulatesRated may (Hears from (Whole v) None now) k l answers.Ignored before before
 steps_everyone may k l from now v before e p = λ s st.
     stepped may (Hears from (Whole v) None now) k l s answers.Ignored before before (tells (passed now s) Ignored)
     (of_everyone (config_of k) s from now v e) refl (p s st) refl (adds_none before)
 
 -- a circuit message of a station
 pub steps_message : {H : Type 0} (may : H → ℕ → ℕ → ℕ → Type 0) (k l : Kept H) (from now : ℕ) (v : Value) (m : Message) (answer : base.Answer) (before after : List OutFrame) →
-    v ≡ OfCircuit m → nat_eq from everyone ≡ false → Does (λ config s. hears_message config (with_core s (at_moment now s.core)) from m None) k l answer before after →
-    Steps may (Hears from (Whole v) None now) k l answer before after
+    v ≡ OfCircuit m → nat_eq from everyone ≡ false → Simulates (λ config s. hears_message config (with_core s (at_moment now s.core)) from m None) k l answer before after →
+    SimulatesRated may (Hears from (Whole v) None now) k l answer before after
 steps_message may k l from now v m answer before after is e does =
-    subst (λ (x : Value). Steps may (Hears from (Whole x) None now) k l answer before after) (sym is)
+    subst (λ (x : Value). SimulatesRated may (Hears from (Whole x) None now) k l answer before after) (sym is)
     (λ s st.
     let d = does s st in
     stepped may (Hears from (Whole (OfCircuit m)) None now) k l s answer before after (hears_message (config_of k) (passed now s) from m None)
@@ -131,7 +131,7 @@ pub steps_notice : {H : Type 0} (may : H → ℕ → ℕ → ℕ → Type 0) (k 
     nat_eq from everyone ≡ false → Passed now k l →
     ((s : Node) → Stands k s → answer_shown answer ≡ (hears_notice (config_of k) [] s from n).answer) →
     ((s : Node) → Stands k s → Rated may k s (λ rates. hears_notice (config_of k) rates s from n) (notice_ratings (config_of k) n) before after) →
-    Steps may (Hears from (Whole (OfNotice n)) None now) k l answer before after
+    SimulatesRated may (Hears from (Whole (OfNotice n)) None now) k l answer before after
 steps_notice {H = H} may k l from now n answer before after e p told rated s st = (
   subst (Stands l) ((of_notices (config_of k) [] s (passed now s) from n from now (Whole (OfNotice n))).state ∙ ap (λ (x : NodeStep). x.state) (sym (is []))) (p s st),
   told s st ∙ (of_notices (config_of k) [] s (passed now s) from n from now (Whole (OfNotice n))).answer ∙ ap (λ (x : NodeStep). x.answer) (sym (is [])),
@@ -139,7 +139,7 @@ steps_notice {H = H} may k l from now n answer before after e p told rated s st 
     rates = r.rates;
     count = r.count ∙ (of_notices (config_of k) [] s (passed now s) from n from now (Whole (OfNotice n))).asked ∙ ap (λ (x : NodeStep). rates_of (config_of k) x.answer (Hears from (Whole (OfNotice n)) None now)) (sym (is []));
     each = r.each;
-    frames = subst (λ fs. Adds fs before after) ((of_notices (config_of k) r.rates s (passed now s) from n from now (Whole (OfNotice n))).frames ∙ ap (λ (x : NodeStep). x.frames) (sym (is r.rates))) r.frames;
+    frames = subst (λ fs. Emits fs before after) ((of_notices (config_of k) r.rates s (passed now s) from n from now (Whole (OfNotice n))).frames ∙ ap (λ (x : NodeStep). x.frames) (sym (is r.rates))) r.frames;
   },
 )
   where
@@ -151,4 +151,4 @@ steps_notice {H = H} may k l from now n answer before after e p told rated s st 
 
 -- what asks for no ratings
 pub rated_none : {H : Type 0} (may : H → ℕ → ℕ → ℕ → Type 0) (k : Kept H) (s : Node) (t : List ℕ → NodeStep) (before : List OutFrame) → (t []).frames ≡ [] → Rated may k s t 0 before before
-rated_none may k s t before none = record { rates = []; count = refl; each = tt; frames = subst (λ fs. Adds fs before before) (sym none) (adds_none before) }
+rated_none may k s t before none = record { rates = []; count = refl; each = tt; frames = subst (λ fs. Emits fs before before) (sym none) (adds_none before) }

@@ -9,7 +9,7 @@ use Rattle.lat_machines.specs.values.Messages.{Message, RunMessage, WideMessage,
 use Rattle.lat_machines.specs.cores.Hearing.{names, hear_run}
 use Rattle.lat_machines.specs.cores.Cores.{Side, Core, at_moment}
 use Rattle.lat_machines.specs.node.Node.{NodeConfig, Node, NodeStep, node_side, with_core, does, then_answers, heard_at, hears_message, answers_asked}
-use Rattle.lat_payload.specs.Frames.{Adds}
+use Rattle.lat_payload.specs.Frames.{Emits}
 use Rattle.lat_circuits.specs.Hears.{HeardCore, heard_core}
 use Rattle.lat_circuits.specs.Kept.{has_id}
 use Rattle.lat_lines.specs.Kept as lines
@@ -18,7 +18,7 @@ use Rattle.lat_lines.specs.Answers.{answer_shown}
 use Rattle.lat_node.specs.Kept.{Kept, SameConfig, config_of}
 use Rattle.lat_node.specs.Stands.{Stands}
 use Rattle.lat_node.specs.Hearing.{named_by, then_asked, AskedThen}
-use Rattle.lat_node.specs.Events.{Does}
+use Rattle.lat_node.specs.Events.{Simulates}
 use Rattle.lat_node.proofs.StepLemmas.{with_lines, moved, same_lines, side_is, side_stays}
 
 -- what the circuits do, as a step of the node
@@ -60,16 +60,16 @@ pub record MessageParts {H : Type 0} (k : Kept H) (l d : lines.Kept) (new : Kept
   pub passed : (c : Core) → line_stands.Stands k.lines c → line_stands.Stands l (at_moment now c)
   pub same : lines.SameLines k.lines l
   pub names : (s : Node) → Stands (with_lines k l) s → named ≡ named_by s.core.circuits from m
-  pub did : line_stands.Did (λ c. (heard_core (lines.side_of l) from m c).doing) l d before after
+  pub did : line_stands.Simulates (λ c. (heard_core (lines.side_of l) from m c).doing) l d before after
   pub answers : (c : Core) → line_stands.Stands l c → answer_shown answer ≡ (heard_core (lines.side_of l) from m c).answer
   pub still : lines.SameLines l d
   pub held : (x : ℕ) → has_id x l.circuits ≡ true → has_id x d.circuits ≡ true
   pub asked : AskedThen named (with_lines k d) new
 
 pub message_does : {H : Type 0} (k : Kept H) (l d : lines.Kept) (new : Kept H) (now from : ℕ) (m : Message) (named : Option ℕ) (answer : base.Answer) (before after : List OutFrame) → MessageParts k l d new now from m named answer before after →
-    Does (λ config s. hears_message config (with_core s (at_moment now s.core)) from m None) k new answer before after
+    Simulates (λ config s. hears_message config (with_core s (at_moment now s.core)) from m None) k new answer before after
 message_does {H = H} k l d new now from m named answer before after p s st =
-    subst (λ (t : NodeStep). Stands new t.state × (answer_shown answer ≡ t.answer) × Adds t.frames before after)
+    subst (λ (t : NodeStep). Stands new t.state × (answer_shown answer ≡ t.answer) × Emits t.frames before after)
     (sym (message_is (config_of k) t from m ∙ ap (λ o. then_asked (config_of k) o (heard_step t h)) (sym (p.names t stood))))
     (go named (p.names t stood) p.asked)
   where
@@ -85,8 +85,8 @@ message_does {H = H} k l d new now from m named answer before after p s st =
     h : HeardCore
     h = heard_core (node_side (config_of k)) from m t.core
 
-    did : line_stands.DidTo t.core h.doing d before after
-    did = subst (λ (x : Side). line_stands.DidTo t.core (heard_core x from m t.core).doing d before after) side (p.did t.core stood.lines)
+    did : line_stands.HasStepped t.core h.doing d before after
+    did = subst (λ (x : Side). line_stands.HasStepped t.core (heard_core x from m t.core).doing d before after) side (p.did t.core stood.lines)
 
     told : answer_shown answer ≡ h.answer
     told = p.answers t.core stood.lines ∙ ap (λ (x : Side). (heard_core x from m t.core).answer) side
@@ -98,7 +98,7 @@ message_does {H = H} k l d new now from m named answer before after p s st =
     same = (same_lines (with_lines k l) d p.still).config ∙ (same_lines k l p.same).config
 
     go : (o : Option ℕ) → o ≡ named_by t.core.circuits from m → AskedThen o (with_lines k d) new →
-        Stands new (then_asked (config_of k) o (heard_step t h)).state × (answer_shown answer ≡ (then_asked (config_of k) o (heard_step t h)).answer) × Adds (then_asked (config_of k) o (heard_step t h)).frames before after
+        Stands new (then_asked (config_of k) o (heard_step t h)).state × (answer_shown answer ≡ (then_asked (config_of k) o (heard_step t h)).answer) × Emits (then_asked (config_of k) o (heard_step t h)).frames before after
     go None e a = (subst (λ (x : Kept H). Stands x (with_core t h.doing.core)) (sym a) standing, told, did.frames)
     go (Some x) e a =
         let held : has_id x d.circuits ≡ true = p.held x (stood.lines.circuits.all x (named_lives t.core.circuits from m x (sym e))) in

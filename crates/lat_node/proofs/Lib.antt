@@ -1,7 +1,6 @@
 pub mod AnnounceLemmas
 pub mod Applying
 pub mod AskedLemmas
-pub mod Everyone
 pub mod FrameLemmas
 pub mod Fullness
 pub mod HeardLemmas

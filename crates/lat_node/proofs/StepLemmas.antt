@@ -1,5 +1,5 @@
 -- What a node stands for once its lines have done something, and how its machine goes on.
-use Rattle.std.proofs.Common.{◌≡◌, ◌⊎◌, inl, inr, ℕ, refl, sym, ap, subst, ◌∙◌, false, List, []}
+use Rattle.std.proofs.Common.{◌≡◌, ℕ, refl, sym, ap, subst, ◌∙◌, false, List, []}
 use Rattle.lat_base.specs.Answers.{PutFits, TookFits}
 use Rattle.lat_base.specs.declared.answer.Answer as base
 use Rattle.lat_base.specs.declared.answer.Answer.TheVariants as answers
@@ -7,19 +7,22 @@ use Rattle.lat_base.specs.declared.event.Event.{Event}
 use Rattle.lat_base.specs.declared.event.Event.TheVariants as events
 use Rattle.lat_base.specs.declared.outbox.OutFrame.{OutFrame}
 use Rattle.lat_machines.specs.cores.Cores.{Side, Core, at_moment, passes_time}
-use Rattle.lat_machines.specs.cores.LineCalls.{Said}
+use Rattle.lat_machines.specs.cores.LineCalls.{Said, on_line}
 use Rattle.lat_machines.specs.values.Answers.{NotHere}
 use Rattle.lat_machines.specs.values.Events.{Time}
 use Rattle.lat_machines.specs.node.Node.{NodeConfig, Node, NodeStep, node_side, with_core, said, tells, node_step}
-use Rattle.lat_payload.specs.Frames.{Adds}
+use Rattle.lat_payload.specs.Frames.{Emits}
 use Rattle.lat_payload.proofs.Frames.{adds_none}
 use Rattle.lat_lines.specs.Kept as lines
 use Rattle.lat_lines.specs.Stands as line_stands
-use Rattle.lat_lines.specs.Answers.{Says, SaidTo}
+use Rattle.lat_session.specs.declared.call.SessionCall.{SessionCall}
+use Rattle.lat_session.specs.declared.call.SessionCall.TheVariants.{Put, Set, Attend, Close}
+use Rattle.lat_lines.specs.Answers.{SimulatesCall, HasAnswered, answer_shown, IsPlain}
+use Rattle.lat_lines.specs.Calls.{call_on, event_of, IsNoCall}
 use Rattle.lat_lines.specs.Events.{event_shown}
 use Rattle.lat_node.specs.Kept.{Kept, SameConfig, config_of}
 use Rattle.lat_node.specs.Stands.{Stands}
-use Rattle.lat_node.specs.Events.{Does, IsAct, IsPlain}
+use Rattle.lat_node.specs.Events.{Simulates, IsAct}
 
 abbrev pub with_lines : {H : Type 0} → Kept H → lines.Kept → Kept H
 with_lines k l = record k { lines = l }
@@ -43,58 +46,60 @@ side_stays k l same = rw (same.core.server, same.core.timing, same.core.name) re
 
 -- a call on a line
 pub called : {H : Type 0} (k : Kept H) (l : lines.Kept) (call : Side → Core → Said) (answer : base.Answer) (before : List OutFrame) → k.lines.circuits.server ≡ false →
-    Says (call (lines.side_of k.lines)) k.lines l answer → Does (λ config s. said s (call (node_side config) s.core)) k (with_lines k l) answer before before
+    SimulatesCall (call (lines.side_of k.lines)) k.lines l answer → Simulates (λ config s. said s (call (node_side config) s.core)) k (with_lines k l) answer before before
 called k l call answer before node says s st =
-    let x : SaidTo s.core (call (node_side (config_of k)) s.core) l answer = subst (λ (side : Side). SaidTo s.core (call side s.core) l answer) (side_is k node) (says s.core st.lines) in
+    let x : HasAnswered s.core (call (node_side (config_of k)) s.core) l answer = subst (λ (side : Side). HasAnswered s.core (call side s.core) l answer) (side_is k node) (says s.core st.lines) in
     (moved k l s (call (node_side (config_of k)) s.core).core st x.state, x.answered, adds_none before)
 
 -- a moment, and what the circuits do then
 pub timed : {H : Type 0} (k : Kept H) (l d : lines.Kept) (now : ℕ) (before after : List OutFrame) → k.lines.circuits.server ≡ false →
-    ((c : Core) → line_stands.Stands k.lines c → line_stands.Stands l (at_moment now c)) → lines.SameLines k.lines l → line_stands.Did (passes_time (lines.side_of l)) l d before after →
-    Does (λ config s. node_step config [] s (Time now)) k (with_lines k d) answers.Done before after
+    ((c : Core) → line_stands.Stands k.lines c → line_stands.Stands l (at_moment now c)) → lines.SameLines k.lines l → line_stands.Simulates (passes_time (lines.side_of l)) l d before after →
+    Simulates (λ config s. node_step config [] s (Time now)) k (with_lines k d) answers.Done before after
 timed k l d now before after node passed same did s st =
     let t : Node = with_core s (at_moment now s.core) in
     let stood = moved k l s (at_moment now s.core) st (passed s.core st.lines) in
-    let x : line_stands.DidTo t.core (passes_time (node_side (config_of k)) t.core) d before after = subst (λ (side : Side). line_stands.DidTo t.core (passes_time side t.core) d before after) (side_stays k.lines l same ∙ side_is k node) (did t.core stood.lines) in
+    let x : line_stands.HasStepped t.core (passes_time (node_side (config_of k)) t.core) d before after = subst (λ (side : Side). line_stands.HasStepped t.core (passes_time side t.core) d before after) (side_stays k.lines l same ∙ side_is k node) (did t.core stood.lines) in
     (moved (with_lines k l) d t (passes_time (node_side (config_of k)) t.core).core stood x.state, refl, x.frames)
 
+-- a call on a line's session
+
+node_call : (config : NodeConfig) (s : Node) (line : ℕ) (call : SessionCall) → node_step config [] s (event_shown (event_of line call)) ≡ said s (on_line config.lines s.core line (λ x. call_on (node_side config) s.core x call))
+node_call config s line (Put bytes) = refl
+node_call config s line (Set setting) = refl
+node_call config s line (Attend flag) = refl
+node_call config s line Close = refl
+
+-- what it did, and answered
+abbrev HasDone : {H : Type 0} (new : Kept H) → base.Answer → List OutFrame → NodeStep → Type 0
+HasDone new answer out t = Stands new t.state × (answer_shown answer ≡ t.answer) × Emits t.frames out out
+
+pub does_call : {H : Type 0} (k old : Kept H) (l : lines.Kept) (e : Event) (line : ℕ) (call : SessionCall) (answer : base.Answer) (out : List OutFrame) → k ≡ old → k.lines.circuits.server ≡ false → e ≡ event_of line call →
+    SimulatesCall (λ c. on_line k.lines.lines c line (λ x. call_on (lines.side_of k.lines) c x call)) k.lines l answer → Simulates (λ config s. node_step config [] s (event_shown e)) old (with_lines k l) answer out out
+does_call {H = H} k old l e line call answer out same node is says =
+    subst (λ (y : Event). Simulates (λ config s. node_step config [] s (event_shown y)) old (with_lines k l) answer out out) (sym is)
+    (subst (λ (z : Kept H). Simulates (λ config s. node_step config [] s (event_shown (event_of line call))) z (with_lines k l) answer out out) same
+    (λ s st. subst (HasDone (with_lines k l) answer out) (sym (node_call (config_of k) s line call))
+    (called k l (λ side d. on_line k.lines.lines d line (λ x. call_on side d x call)) answer out node says s st)))
+
 -- an event that there is none of at a node
-abbrev IsNothing : Event → Type 0
-IsNothing (events.Connect line service) = Unit {0}
-IsNothing e = ⊥
 
--- one that is none of the others
-abbrev pub IsElse : Event → Type 0
-IsElse e =
-    ((line : _) × (service : _) × (e ≡ events.Connect line service))
-    ⊎ (((from : _) × (payload : _) × (now : _) × (e ≡ events.Heard from payload now))
-    ⊎ (((line : _) × (n : _) × (e ≡ events.Take line n))
-    ⊎ (((to : _) × (id : _) × (service : _) × (e ≡ events.Request to id service))
-    ⊎ (e ≡ events.Announce))))
+at_nothing : (config : NodeConfig) (s : Node) (e : Event) → IsAct e → ((now : _) → e ≡ events.Time now → ⊥) → ((id : _) → e ≡ events.Cancel id → ⊥) → IsNoCall e → node_step config [] s (event_shown e) ≡ tells s NotHere
+at_nothing config s (events.Heard from payload now) a t w c = absurd a
+at_nothing config s (events.Time now) a t w c = absurd (t now refl)
+at_nothing config s (events.Connect line service) a t w c = refl
+at_nothing config s (events.Put line bytes) a t w c = absurd c
+at_nothing config s (events.Set line setting) a t w c = absurd c
+at_nothing config s (events.Take line count) a t w c = absurd a
+at_nothing config s (events.Attend line flag) a t w c = absurd c
+at_nothing config s (events.Close line) a t w c = absurd c
+at_nothing config s (events.Request to id service) a t w c = absurd a
+at_nothing config s (events.Cancel id) a t w c = absurd (w id refl)
+at_nothing config s events.Announce a t w c = absurd a
 
-nothing : (e : Event) → IsAct e → IsElse e → IsNothing e
-nothing e a (inl h) = subst IsNothing (sym h.2) tt
-nothing e a (inr (inl h)) = absurd (subst IsAct h.3 a)
-nothing e a (inr (inr (inl h))) = absurd (subst IsAct h.2 a)
-nothing e a (inr (inr (inr (inl h)))) = absurd (subst IsAct h.3 a)
-nothing e a (inr (inr (inr (inr h)))) = absurd (subst IsAct h a)
-
-at_nothing : (config : NodeConfig) (s : Node) (e : Event) → IsNothing e → node_step config [] s (event_shown e) ≡ tells s NotHere
-at_nothing config s (events.Heard from payload now) n = absurd n
-at_nothing config s (events.Time now) n = absurd n
-at_nothing config s (events.Connect line service) n = refl
-at_nothing config s (events.Put line bytes) n = absurd n
-at_nothing config s (events.Set line setting) n = absurd n
-at_nothing config s (events.Take line count) n = absurd n
-at_nothing config s (events.Attend line flag) n = absurd n
-at_nothing config s (events.Close line) n = absurd n
-at_nothing config s (events.Request to id service) n = absurd n
-at_nothing config s (events.Cancel id) n = absurd n
-at_nothing config s events.Announce n = absurd n
-
-pub does_nothing : {H : Type 0} (k : Kept H) (e : Event) (before : List OutFrame) → IsAct e → IsElse e → Does (λ config s. node_step config [] s (event_shown e)) k k answers.NotHere before before
-does_nothing k e before a h = λ s st.
-    subst (λ (t : NodeStep). Stands k t.state × (NotHere ≡ t.answer) × Adds t.frames before before) (sym (at_nothing (config_of k) s e (nothing e a h))) (st, refl, adds_none before)
+pub does_nothing : {H : Type 0} (k : Kept H) (e : Event) (before : List OutFrame) → IsAct e → ((now : _) → e ≡ events.Time now → ⊥) → ((id : _) → e ≡ events.Cancel id → ⊥) → IsNoCall e →
+    Simulates (λ config s. node_step config [] s (event_shown e)) k k answers.NotHere before before
+does_nothing k e before a t w c = λ s st.
+    subst (HasDone k answers.NotHere before) (sym (at_nothing (config_of k) s e a t w c)) (st, refl, adds_none before)
 
 -- what a plain answer tells of no call
 pub plain_fits : (ready : ℕ → ℕ) (a : base.Answer) (e : Event) → IsPlain a → PutFits a e × TookFits ready a e

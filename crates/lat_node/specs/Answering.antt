@@ -2,13 +2,15 @@
 use Rattle.std.specs.Prelude.{◌≡◌, ℕ, true, Option, Some, None, Result, Ok, Err}
 use Rattle.lat_model.specs.ends.End.{lives}
 use Rattle.lat_model.specs.sessions.Session.{waits}
+use Rattle.lat_slots.specs.declared.reason.RejectReason.{RejectReason}
+use Rattle.lat_slots.specs.Reasons.{reject_bits}
 use Rattle.lat_session.specs.declared.getters.Asked.{Asked}
 use Rattle.lat_machines.specs.node.Node.{NodeConfig, Node, Verdict, Accepts, Rejects, verdict, judged, asked_at}
 use Rattle.lat_node.specs.Stands.{was_made}
 
-abbrev pub verdict_shown : Result ℕ ℕ → Verdict
+abbrev pub verdict_shown : Result ℕ RejectReason → Verdict
 verdict_shown (Ok line) = Accepts line
-verdict_shown (Err reason) = Rejects reason
+verdict_shown (Err reason) = Rejects (reject_bits reason)
 
 -- the session of its id waits for an answer, on a circuit that lives
 pub record Asks (s : Node) (circuit : ℕ) (asked : Asked) : Type 0 where

@@ -1,7 +1,6 @@
 -- Parts of an event of the node machine.
 use Rattle.std.specs.Prelude.{◌≡◌, ℕ, suc, List, [], length, find, Option, Some, None}
 use Rattle.lat_base.specs.declared.answer.Answer.{Answer}
-use Rattle.lat_base.specs.declared.answer.Answer.TheVariants as answers
 use Rattle.lat_base.specs.declared.event.Event.{Event}
 use Rattle.lat_base.specs.declared.event.Event.TheVariants as events
 use Rattle.lat_base.specs.declared.outbox.OutFrame.{OutFrame}
@@ -11,18 +10,18 @@ use Rattle.lat_machines.specs.node.Node.{NodeConfig, Node, NodeStep, node_step, 
 use Rattle.lat_machines.specs.values.Events as machine
 use Rattle.lat_machines.specs.values.Names.{Name, same}
 use Rattle.lat_machines.specs.values.Notices.{Notice, AnnouncementNotice, CommandNotice, StatusNotice, SolicitNotice, ResponseNotice}
-use Rattle.lat_payload.specs.Frames.{Adds}
+use Rattle.lat_payload.specs.Frames.{Emits}
 use Rattle.lat_lines.specs.Answers.{answer_shown}
 use Rattle.lat_node.specs.Kept.{Kept, config_of}
 use Rattle.lat_node.specs.Stands.{Stands}
 
 -- It did so of every state that it stood for, and answered so, whatever the ratings
-abbrev pub Does : {H : Type 0} → (NodeConfig → Node → NodeStep) → (old new : Kept H) → Answer → (before after : List OutFrame) → Type 0
-Does event old new answer before after =
+abbrev pub Simulates : {H : Type 0} → (NodeConfig → Node → NodeStep) → (old new : Kept H) → Answer → (before after : List OutFrame) → Type 0
+Simulates event old new answer before after =
     (s : Node) → Stands old s →
     Stands new (event (config_of old) s).state
     × (answer_shown answer ≡ (event (config_of old) s).answer)
-    × Adds (event (config_of old) s).frames before after
+    × Emits (event (config_of old) s).frames before after
 
 -- Ratings, as many as are asked for, each one that the rule may give at the lines held, with which the frames of such an
 -- event went out
@@ -30,16 +29,20 @@ pub record Rated {H : Type 0} (may : H → ℕ → ℕ → ℕ → Type 0) (k : 
   pub rates : List ℕ
   pub count : length rates ≡ asked
   pub each : Each (may k.rule (used s.core) k.lines.lines) rates
-  pub frames : Adds (event rates).frames before after
+  pub frames : Emits (event rates).frames before after
 
 -- It did what the machine does at an event, of every state that it stood for, and answered so. Only the frames depend on the
 -- ratings
-abbrev pub Steps : {H : Type 0} → (H → ℕ → ℕ → ℕ → Type 0) → machine.Event → (old new : Kept H) → Answer → (before after : List OutFrame) → Type 0
-Steps may e old new answer before after =
+abbrev pub SimulatesRated : {H : Type 0} → (H → ℕ → ℕ → ℕ → Type 0) → machine.Event → (old new : Kept H) → Answer → (before after : List OutFrame) → Type 0
+SimulatesRated may e old new answer before after =
     (s : Node) → Stands old s →
     Stands new (node_step (config_of old) [] s e).state
     × (answer_shown answer ≡ (node_step (config_of old) [] s e).answer)
     × Rated may old s (λ rates. node_step (config_of old) rates s e) (rates_of (config_of old) (node_step (config_of old) [] s e).answer e) before after
+
+-- an event that asks for no ratings
+abbrev pub at_event : machine.Event → NodeConfig → Node → NodeStep
+at_event e config s = node_step config [] s e
 
 -- announcing, by its ratings
 abbrev pub announces : NodeConfig → Node → List ℕ → NodeStep
@@ -57,12 +60,6 @@ notice_ratings config (StatusNotice n) = 0
 notice_ratings config (AnnouncementNotice n) = 0
 notice_ratings config (CommandNotice n) = 0
 notice_ratings config (ResponseNotice n) = 0
-
--- it tells neither of bytes that were put nor of items that were taken
-abbrev pub IsPlain : Answer → Type 0
-IsPlain (answers.Put n) = ⊥
-IsPlain (answers.Took items) = ⊥
-IsPlain a = Unit {0}
 
 -- the events that take no memory
 abbrev pub IsLocal : Event → Type 0

@@ -10,7 +10,7 @@ use Rattle.lat_machines.specs.values.Addresses.{address}
 use Rattle.lat_machines.specs.values.Frames as machine
 use Rattle.lat_machines.specs.cores.Lines.{line_state, waiting_at, told_count}
 use Rattle.lat_machines.specs.node.Node.{NodeConfig, Requested, Node, NodeStep, NodeFrames, node_side, open_node, node_step, finished}
-use Rattle.lat_payload.specs.Frames.{seen, expected, IsReadable}
+use Rattle.lat_payload.specs.Frames.{frame_view, expected, IsReadable}
 use Rattle.lat_stream.specs.Kept.{state_shown}
 use Rattle.lat_lines.specs.Back.{answer_of}
 use Rattle.lat_lines.specs.Events.{event_shown}
@@ -76,7 +76,7 @@ answered m e = answer_of (stepped m e).answer
 pub record Frames {H : Type 0} (may : H → ℕ → ℕ → ℕ → Type 0) (m : Machine H) (e : Event) (frames : List OutFrame) : Type 0 where
   pub made : List machine.OutFrame
   pub allowed : NodeFrames (may m.rule) m.config m.state (event_shown e) made
-  pub same : map seen frames ≡ map expected made
+  pub same : map frame_view frames ≡ map expected made
   pub readable : Each IsReadable made
 
 abbrev pub line_of : {H : Type 0} → Machine H → ℕ → SessionState

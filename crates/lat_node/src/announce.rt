@@ -11,9 +11,9 @@ ghost use Rattle.lat_machines.specs.node.Node as machine;
 ghost use Rattle.lat_machines.specs.values.Addresses.{address};
 ghost use Rattle.lat_machines.specs.values.Names.{same};
 ghost use Rattle.lat_dir.specs.Stands.{service_shown};
-ghost use Rattle.lat_lines.specs.Answers.{answer_shown};
+ghost use Rattle.lat_lines.specs.Answers.{answer_shown, IsPlain};
 ghost use Rattle.lat_node.specs.Announced.{ratings, IsAnnounced};
-ghost use Rattle.lat_node.specs.Events.{announces, Rated, ratings_for, IsPlain};
+ghost use Rattle.lat_node.specs.Events.{announces, Rated, ratings_for};
 ghost use Rattle.lat_node.specs.Kept.{config_of};
 ghost use Rattle.lat_node.specs.Stands.{Stands};
 
@@ -30,7 +30,9 @@ impl<H: RatingRule> NodeCore<H> {
         requires fact { H.fact self.now.rule }
         requires room { length out.old + 16 ≤ 256 }
         ensures answer { IfOk result (λ a. a ≡ answers.Done) }
-        ensures frames { (s : machine.Node) → Stands self.now s → OnOk result (Rated H.may self.now s (announces (config_of self.now) s) (length self.now.services) out.old out.new) }
+        ensures frames { (s : machine.Node) →
+            Stands self.now s →
+            OnOk result (Rated H.may self.now s (announces (config_of self.now) s) (length self.now.services) out.old out.new) }
         ensures most { length out.new ≤ length out.old + 1 }
         ensures err { OnErr result (out.new ≡ out.old) }
     {
@@ -49,10 +51,20 @@ impl<H: RatingRule> NodeCore<H> {
     ) -> Result<Answer, Memory>
         requires fact { H.fact self.now.rule }
         requires room { length out.old + 16 ≤ 256 }
-        ensures answer { (s : machine.Node) → Stands self.now s → IfOk result (λ a. answer_shown a ≡ (machine.solicited (config_of self.now) [] s (address from.0) solicit.now.id (find (same solicit.now.service) self.now.services)).answer) }
+        ensures answer { (s : machine.Node) →
+            Stands self.now s →
+            IfOk result (λ a.
+            answer_shown a
+            ≡ (machine.solicited (config_of self.now) [] s (address from.0) solicit.now.id
+            (find (same solicit.now.service) self.now.services)).answer) }
         ensures frames { (s : machine.Node) →
             Stands self.now s →
-            OnOk result (Rated H.may self.now s (λ rates. machine.solicited (config_of self.now) rates s (address from.0) solicit.now.id (find (same solicit.now.service) self.now.services)) (ratings_for (config_of self.now) (find (same solicit.now.service) self.now.services)) out.old out.new) }
+            OnOk result
+            (Rated H.may self.now s
+            (λ rates. machine.solicited (config_of self.now) rates s (address from.0) solicit.now.id
+            (find (same solicit.now.service) self.now.services))
+            (ratings_for (config_of self.now) (find (same solicit.now.service) self.now.services))
+            out.old out.new) }
         ensures plain { IfOk result IsPlain }
         ensures most { length out.new ≤ length out.old + 2 }
         ensures err { OnErr result (out.new ≡ out.old) }
@@ -80,7 +92,11 @@ impl<H: RatingRule> NodeCore<H> {
         ensures answer { IfOk result (λ a. a ≡ answers.Solicited) }
         ensures frames { (s : machine.Node) →
             Stands self.now s →
-            OnOk result (Rated H.may self.now s (λ rates. machine.solicited (config_of self.now) rates s (address from.0) id (Some service.now)) (suc (length self.now.services)) out.old out.new) }
+            OnOk result
+            (Rated H.may self.now s
+            (λ rates. machine.solicited (config_of self.now) rates s (address from.0) id (Some service.now))
+            (suc (length self.now.services))
+            out.old out.new) }
         ensures most { length out.new ≤ length out.old + 2 }
         ensures err { OnErr result (out.new ≡ out.old) }
     {

@@ -1,6 +1,6 @@
 //! How a node answers the sessions that are asked for.
 
-ghost use Rattle.std.specs.Prelude.{◌≡◌, ◌≤◌, true, false, IfOk, IfErr};
+ghost use Rattle.std.specs.Prelude.{◌≡◌, true, false, IfOk};
 ghost use Rattle.lat_model.specs.ends.End.{lives};
 ghost use Rattle.lat_model.specs.Lists.{upwards};
 ghost use Rattle.lat_machines.specs.cores.Lines.{holds};
@@ -14,15 +14,7 @@ ghost use Rattle.lat_node.specs.Stands.{Stands};
 use crate::hook::RatingRule;
 use crate::node::NodeCore;
 use lat_lines::Asked;
-
-/// The reason of a reject where the service isn't offered.
-const NOT_OFFERED: u8 = 4;
-
-/// The reason where no such request was made, or one start was accepted for it.
-const NOT_REQUESTED: u8 = 5;
-
-/// The reason where no line is free.
-const NO_LINE: u8 = 7;
+use lat_slots::RejectReason;
 
 /// How many sessions a circuit has at most.
 const SESSIONS: u8 = 64;
@@ -31,7 +23,10 @@ impl<H: RatingRule> NodeCore<H> {
     /// Answers the asked sessions of a held circuit, by rising id; where the frame has ended it, they are turned away. See "How
     /// a node answers" in docs/PROTOCOL.md.
     pub(crate) fn answer_asked(&mut self, circuit: u16)
-        ensures state { (s : machine.Node) → Stands self.old s → has_id circuit self.old.lines.circuits ≡ true → Stands self.new (machine.answers_asked (config_of self.old) circuit s) }
+        ensures state { (s : machine.Node) →
+            Stands self.old s →
+            has_id circuit self.old.lines.circuits ≡ true →
+            Stands self.new (machine.answers_asked (config_of self.old) circuit s) }
         ensures same { SameConfig self.old self.new }
     {
         let asked = self.lines.asked_count(circuit);
@@ -46,7 +41,10 @@ impl<H: RatingRule> NodeCore<H> {
     }
 
     fn answer_all(&mut self, circuit: u16)
-        ensures state { (s : machine.Node) → Stands self.old s → lives (s.core.circuits.circuit_at circuit).end ≡ true → Stands self.new (machine.answers_in (config_of self.old) circuit (upwards 0 64) s) }
+        ensures state { (s : machine.Node) →
+            Stands self.old s →
+            lives (s.core.circuits.circuit_at circuit).end ≡ true →
+            Stands self.new (machine.answers_in (config_of self.old) circuit (upwards 0 64) s) }
         ensures same { SameConfig self.old self.new }
     {
         for id in 1..SESSIONS + 1 {
@@ -56,7 +54,10 @@ impl<H: RatingRule> NodeCore<H> {
 
     // Answers the session of an id, where it asks.
     fn answer_at(&mut self, circuit: u16, id: u8)
-        ensures state { (s : machine.Node) → Stands self.old s → lives (s.core.circuits.circuit_at circuit).end ≡ true → Stands self.new (machine.answers_one (config_of self.old) circuit s id) }
+        ensures state { (s : machine.Node) →
+            Stands self.old s →
+            lives (s.core.circuits.circuit_at circuit).end ≡ true →
+            Stands self.new (machine.answers_one (config_of self.old) circuit s id) }
         ensures same { SameConfig self.old self.new }
     {
         if let Some(asked) = self.lines.asked_at(circuit, id) {
@@ -65,13 +66,16 @@ impl<H: RatingRule> NodeCore<H> {
     }
 
     fn answer_one(&mut self, circuit: u16, asked: &Asked)
-        ensures state { (s : machine.Node) → Stands self.old s → Asks s circuit asked.now → Stands self.new (judged_by (config_of self.old) s circuit asked.now) }
+        ensures state { (s : machine.Node) →
+            Stands self.old s →
+            Asks s circuit asked.now →
+            Stands self.new (judged_by (config_of self.old) s circuit asked.now) }
         ensures same { SameConfig self.old self.new }
     {
         match self.verdict(asked) {
             Ok(line) => self.accept(line, circuit, asked),
             Err(reason) => {
-                self.lines.reject(circuit, asked.id, reason);
+                self.lines.reject(circuit, asked.id, reason.bits());
                 self.turned_away = self.turned_away.saturating_add(1);
             }
         }
@@ -94,15 +98,18 @@ impl<H: RatingRule> NodeCore<H> {
     }
 
     // The line that the session is accepted for, or the reason why it is rejected.
-    fn verdict(&self, asked: &Asked) -> Result<u8, u8>
-        ensures verdict { (s : machine.Node) → Stands self.now s → verdict_shown result ≡ machine.verdict (config_of self.now) s asked.now.service asked.now.request }
+    fn verdict(&self, asked: &Asked) -> Result<u8, RejectReason>
+        ensures verdict { (s : machine.Node) →
+            Stands self.now s →
+            verdict_shown result ≡ machine.verdict (config_of self.now) s asked.now.service asked.now.request }
         ensures line { IfOk result (IsLine self.now.lines.lines) }
-        ensures reason { IfErr result (λ reason. reason ≤ 15) }
     {
         match asked.request {
-            Some(id) if !self.is_requested(id, &asked.service) => Err(NOT_REQUESTED),
-            None if self.services.place_of(&asked.service).is_none() => Err(NOT_OFFERED),
-            _ => self.lines.free_line().ok_or(NO_LINE),
+            Some(id) if !self.is_requested(id, &asked.service) => Err(RejectReason::NotRequested),
+            None if self.services.place_of(&asked.service).is_none() => Err(
+                RejectReason::NotOffered,
+            ),
+            _ => self.lines.free_line().ok_or(RejectReason::NoRoom),
         }
     }
 }

@@ -10,22 +10,23 @@ ghost use Rattle.lat_machines.specs.values.Events.{Hears};
 ghost use Rattle.lat_machines.specs.values.Frames.{Reading, Whole, OfNotice};
 ghost use Rattle.lat_circuit.specs.Frames.{message_shown};
 ghost use Rattle.lat_circuits.specs.Hears.{hearing_shown};
-ghost use Rattle.lat_lines.specs.Answers.{answer_shown};
+ghost use Rattle.lat_lines.specs.Answers.{answer_shown, IsPlain};
 ghost use Rattle.lat_payload.specs.Reads as reads;
+ghost use Rattle.lat_value.specs.Texts as texts;
 ghost use Rattle.lat_payload.specs.Shown.{value_shown, notice_shown};
-ghost use Rattle.lat_node.specs.Events.{Does, Steps, Rated, notice_ratings, IsPlain};
+ghost use Rattle.lat_node.specs.Events.{Simulates, SimulatesRated, Rated, notice_ratings};
 ghost use Rattle.lat_node.specs.Hearing.{named_by, AskedThen};
 ghost use Rattle.lat_node.specs.Kept.{config_of, AtRest, SameConfig};
 ghost use Rattle.lat_node.specs.Stands.{Stands};
 
 use crate::hook::RatingRule;
 use crate::node::NodeCore;
-use lat_base::{Addr, Answer, EVERYONE, Memory, OutBox};
+use lat_base::{Addr, Answer, Memory, OutBox};
 use lat_fields::LayoutFault;
 use lat_frames::Message;
 use lat_lines::Hearing;
 use lat_notices::Notice;
-use lat_payload::{Value, read_value};
+use lat_payload::{Value, is_everyone, read_value};
 use std::alloc::Global;
 
 impl<H: RatingRule> NodeCore<H> {
@@ -41,7 +42,7 @@ impl<H: RatingRule> NodeCore<H> {
         requires rest { AtRest self.old }
         requires fact { H.fact self.old.rule }
         requires room { length out.old + 16 ≤ 256 }
-        ensures steps { IfOk result (λ a. Steps H.may (Hears (address from.0) (reads.reading_of payload.now) None now) self.old self.new a out.old out.new) }
+        ensures steps { IfOk result (λ a. SimulatesRated H.may (Hears (address from.0) (reads.reading_of payload.now) None now) self.old self.new a out.old out.new) }
         ensures same { SameConfig self.old self.new }
         ensures plain { IfOk result IsPlain }
         ensures most { length out.new ≤ length out.old + 2 }
@@ -57,7 +58,7 @@ impl<H: RatingRule> NodeCore<H> {
     fn misread(&mut self, fault: LayoutFault, now: u64) -> Result<Answer, Memory>
         ensures steps { (reading : Reading) (from : ℕ) (frames : List OutFrame) →
             reads.Answers (Err fault) reading →
-            IfOk result (λ a. Steps H.may (Hears from reading None now) self.old self.new a frames frames) }
+            IfOk result (λ a. SimulatesRated H.may (Hears from reading None now) self.old self.new a frames frames) }
         ensures same { SameConfig self.old self.new }
         ensures plain { IfOk result IsPlain }
         ensures err { OnErr result (self.new ≡ self.old) }
@@ -91,8 +92,8 @@ impl<H: RatingRule> NodeCore<H> {
         requires rest { AtRest self.old }
         requires fact { H.fact self.old.rule }
         requires room { length out.old + 16 ≤ 256 }
-        requires ok { reads.IsWritable value.now }
-        ensures steps { IfOk result (λ a. Steps H.may (Hears (address from.0) (Whole (value_shown value.now)) None now) self.old self.new a out.old out.new) }
+        requires ok { texts.IsWritable value.now }
+        ensures steps { IfOk result (λ a. SimulatesRated H.may (Hears (address from.0) (Whole (value_shown value.now)) None now) self.old self.new a out.old out.new) }
         ensures same { SameConfig self.old self.new }
         ensures plain { IfOk result IsPlain }
         ensures most { length out.new ≤ length out.old + 2 }
@@ -113,7 +114,9 @@ impl<H: RatingRule> NodeCore<H> {
         requires rest { AtRest self.old }
         requires ok { IsWritable message.now }
         requires room { length out.old + 16 ≤ 256 }
-        ensures does { Does (λ config s. hears_message config (with_core s (at_moment now s.core)) (address from.0) (message_shown message.now) None) self.old self.new result out.old out.new }
+        ensures does { Simulates
+            (λ config s. hears_message config (with_core s (at_moment now s.core)) (address from.0) (message_shown message.now) None)
+            self.old self.new result out.old out.new }
         ensures same { SameConfig self.old self.new }
         ensures plain { IsPlain result }
         ensures most { length out.new ≤ length out.old + 1 }
@@ -161,7 +164,9 @@ impl<H: RatingRule> NodeCore<H> {
         requires fact { H.fact self.old.rule }
         requires room { length out.old + 16 ≤ 256 }
         requires apart { nat_eq (address from.0) everyone ≡ false }
-        ensures steps { IfOk result (λ a. Steps H.may (Hears (address from.0) (Whole (OfNotice (notice_shown notice.now))) None now) self.old self.new a out.old out.new) }
+        ensures steps { IfOk result (λ a.
+            SimulatesRated H.may (Hears (address from.0) (Whole (OfNotice (notice_shown notice.now))) None now)
+            self.old self.new a out.old out.new) }
         ensures same { SameConfig self.old self.new }
         ensures plain { IfOk result IsPlain }
         ensures most { length out.new ≤ length out.old + 2 }
@@ -182,10 +187,17 @@ impl<H: RatingRule> NodeCore<H> {
     ) -> Result<Answer, Memory>
         requires fact { H.fact self.now.rule }
         requires room { length out.old + 16 ≤ 256 }
-        ensures answer { (s : Node) → Stands self.now s → IfOk result (λ a. answer_shown a ≡ (hears_notice (config_of self.now) [] s (address from.0) (notice_shown notice.now)).answer) }
+        ensures answer { (s : Node) →
+            Stands self.now s →
+            IfOk result (λ a.
+            answer_shown a ≡ (hears_notice (config_of self.now) [] s (address from.0) (notice_shown notice.now)).answer) }
         ensures frames { (s : Node) →
             Stands self.now s →
-            OnOk result (Rated H.may self.now s (λ rates. hears_notice (config_of self.now) rates s (address from.0) (notice_shown notice.now)) (notice_ratings (config_of self.now) (notice_shown notice.now)) out.old out.new) }
+            OnOk result
+            (Rated H.may self.now s
+            (λ rates. hears_notice (config_of self.now) rates s (address from.0) (notice_shown notice.now))
+            (notice_ratings (config_of self.now) (notice_shown notice.now))
+            out.old out.new) }
         ensures plain { IfOk result IsPlain }
         ensures most { length out.new ≤ length out.old + 2 }
         ensures err { OnErr result (out.new ≡ out.old) }
@@ -198,13 +210,6 @@ impl<H: RatingRule> NodeCore<H> {
             }
         }
     }
-}
-
-// Whether it is the address of everyone.
-fn is_everyone(station: &[u8; 6]) -> bool
-    ensures { result ≡ nat_eq (address station.now) everyone }
-{
-    *station == EVERYONE.0
 }
 
 // What is answered to a circuit message.

@@ -1,16 +1,18 @@
 //! The requests of a node to servers.
 
-ghost use Rattle.std.specs.Prelude.{◌≡◌, ◌<◌, ◌≤◌, ◌+◌, ◌&&◌, ◌++◌, ◌∷◌, [], true, false, not, length, nat_eq, Some, None, IfOk, OnOk, OnErr};
+ghost use Rattle.std.specs.Prelude.{◌≡◌, ◌<◌, ◌≤◌, ◌+◌, ◌&&◌, ◌++◌, ◌∷◌, []};
+ghost use Rattle.std.specs.Prelude.{true, false, not, length, nat_eq, Some, None, IfOk, OnOk, OnErr};
 ghost use Rattle.std.specs.List.{list_any};
 ghost use Rattle.std.specs.Map.{lookup};
 ghost use Rattle.indexmap.specs.IndexMap.{insert_entry, IsUnique};
 ghost use Rattle.lat_machines.specs.node.Node.{Node, Requested, command_frame, requests_again, withdraws, request_of, was_requested};
 ghost use Rattle.lat_machines.specs.values.Addresses.{address};
+ghost use Rattle.lat_machines.specs.values.Events.{Requests};
 ghost use Rattle.lat_machines.specs.values.Names.{same};
-ghost use Rattle.lat_payload.specs.Frames.{Adds};
+ghost use Rattle.lat_payload.specs.Frames.{Emits};
 ghost use Rattle.lat_payload.specs.Shown.{action_shown};
-ghost use Rattle.lat_lines.specs.Answers.{answer_shown};
-ghost use Rattle.lat_node.specs.Events.{Does, IsPlain};
+ghost use Rattle.lat_lines.specs.Answers.{answer_shown, IsPlain};
+ghost use Rattle.lat_node.specs.Events.{Simulates, at_event};
 ghost use Rattle.lat_node.specs.Kept.{config_of, SameConfig};
 ghost use Rattle.lat_node.specs.Stands.{Stands, was_made, request_shown, request_in};
 
@@ -19,7 +21,7 @@ use crate::node::NodeCore;
 use indexmap::IndexMap;
 use lat_base::{Addr, Answer, Memory, Name, OutBox};
 use lat_notices::Action;
-use lat_payload::command_frame;
+use lat_payload::{command_frame, is_same};
 use std::alloc::Global;
 
 /// A request, as it was first made.
@@ -42,7 +44,8 @@ impl<H: RatingRule> NodeCore<H> {
         out: &mut OutBox,
     ) -> Result<Answer, Memory>
         requires room { length out.old + 16 ≤ 256 }
-        ensures does { IfOk result (λ a. Does (λ config s. requests_again config s (address to.0) id service.now (request_of id s)) self.old self.new a out.old out.new) }
+        ensures does { IfOk result (λ a.
+            Simulates (at_event (Requests (address to.0) id service.now)) self.old self.new a out.old out.new) }
         ensures same { SameConfig self.old self.new }
         ensures lines { self.new.lines ≡ self.old.lines }
         ensures plain { IfOk result IsPlain }
@@ -77,7 +80,7 @@ impl<H: RatingRule> NodeCore<H> {
             answer_shown result ≡ (requests_again (config_of self.now) s (address to.0) id service.now (Some r)).answer }
         ensures frames { (s : Node) (r : Requested) →
             request_shown (id, request.now) ≡ request_in s r →
-            Adds (requests_again (config_of self.now) s (address to.0) id service.now (Some r)).frames out.old out.new }
+            Emits (requests_again (config_of self.now) s (address to.0) id service.now (Some r)).frames out.old out.new }
         ensures plain { IsPlain result }
         ensures most { length out.new ≤ length out.old + 1 }
     {
@@ -91,7 +94,7 @@ impl<H: RatingRule> NodeCore<H> {
     /// Withdraws the request of this id.
     pub(crate) fn withdraw(&self, id: u16, out: &mut OutBox) -> Answer
         requires room { length out.old + 16 ≤ 256 }
-        ensures does { Does (λ config s. withdraws config s (request_of id s)) self.now self.now result out.old out.new }
+        ensures does { Simulates (λ config s. withdraws config s (request_of id s)) self.now self.now result out.old out.new }
         ensures plain { IsPlain result }
         ensures most { length out.new ≤ length out.old + 1 }
     {
@@ -107,7 +110,7 @@ impl<H: RatingRule> NodeCore<H> {
     // Sends a command.
     fn command(&self, to: Addr, id: u16, action: Action, service: &Name, out: &mut OutBox)
         requires room { length out.old < 256 }
-        ensures frames { Adds (command_frame (config_of self.now) (address to.0) id (action_shown action) service.now ∷ []) out.old out.new }
+        ensures frames { Emits (command_frame (config_of self.now) (address to.0) id (action_shown action) service.now ∷ []) out.old out.new }
         ensures most { length out.new ≡ length out.old + 1 }
     {
         out.push(command_frame(
@@ -148,15 +151,8 @@ impl Request {
     fn is_for(&self, to: Addr, service: &Name) -> bool
         ensures { result ≡ (nat_eq (address self.now.to.0) (address to.0) && same self.now.service service.now) }
     {
-        is_one(&self.to.0, &to.0) && self.service.same(service)
+        is_same(&self.to.0, &to.0) && self.service.same(service)
     }
-}
-
-// Whether two addresses are one.
-fn is_one(one: &[u8; 6], other: &[u8; 6]) -> bool
-    ensures { result ≡ nat_eq (address one.now) (address other.now) }
-{
-    one == other
 }
 
 // A request more, behind all others.

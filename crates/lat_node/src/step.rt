@@ -7,13 +7,14 @@ ghost use Rattle.lat_machines.specs.node.Node.{Node, node_step};
 ghost use Rattle.lat_machines.specs.values.Events.{Time};
 ghost use Rattle.lat_lines.specs.Answers as lines;
 ghost use Rattle.lat_lines.specs.Events.{event_shown};
-ghost use Rattle.lat_node.specs.Events.{Does, Steps, IsLocal, IsAct};
+ghost use Rattle.lat_node.specs.Events.{Simulates, SimulatesRated, IsLocal, IsAct};
 ghost use Rattle.lat_node.specs.Kept.{AtRest, SameConfig};
 ghost use Rattle.lat_node.specs.Stands.{Stands, Machine, IsMachine, opening, next, answered, Frames};
 
 use crate::hook::RatingRule;
 use crate::node::NodeCore;
 use lat_base::{Answer, Core, Event, Memory, OutBox, SessionState};
+use lat_lines::line_call;
 use std::alloc::Global;
 
 impl<H: RatingRule> Core for NodeCore<H> {
@@ -96,7 +97,7 @@ impl<H: RatingRule> NodeCore<H> {
         requires rest { AtRest self.old }
         requires fact { H.fact self.old.rule }
         requires room { length out.old + 128 ≤ 256 }
-        ensures steps { IfOk result (λ a. Steps H.may (event_shown event.now) self.old self.new a out.old out.new) }
+        ensures steps { IfOk result (λ a. SimulatesRated H.may (event_shown event.now) self.old self.new a out.old out.new) }
         ensures same { SameConfig self.old self.new }
         ensures put { IfOk result (λ a. PutFits a event.now) }
         ensures took { IfOk result (λ a. TookFits (lines.ready self.old.lines) a event.now) }
@@ -126,30 +127,25 @@ impl<H: RatingRule> NodeCore<H> {
     fn act(&mut self, event: &Event, out: &mut OutBox) -> Answer
         requires act { IsAct event.now }
         requires room { length out.old + 128 ≤ 256 }
-        ensures does { Does (λ config s. node_step config [] s (event_shown event.now)) self.old self.new result out.old out.new }
+        ensures does { Simulates (λ config s. node_step config [] s (event_shown event.now)) self.old self.new result out.old out.new }
         ensures same { SameConfig self.old self.new }
         ensures put { PutFits result event.now }
         ensures took { TookFits (lines.ready self.old.lines) result event.now }
     {
         match event {
             Event::Time { now } => self.time(*now, out),
-            Event::Put { line, bytes } => self.lines.put(*line, bytes.as_slice()),
-            Event::Set { line, setting } => self.lines.set(*line, *setting),
-            Event::Attend { line, flag } => self.lines.attend(*line, *flag),
-            Event::Close { line } => self.lines.close(*line),
             Event::Cancel { id } => self.withdraw(*id, out),
-            Event::Connect { .. }
-            | Event::Heard { .. }
-            | Event::Take { .. }
-            | Event::Request { .. }
-            | Event::Announce => Answer::NotHere,
+            other => match line_call(other) {
+                Some((line, call)) => self.lines.call(line, &call),
+                None => Answer::NotHere,
+            },
         }
     }
 
     // Time has come to a moment: circuits do what is due.
     fn time(&mut self, now: u64, out: &mut OutBox) -> Answer
         requires room { length out.old + 128 ≤ 256 }
-        ensures does { Does (λ config s. node_step config [] s (Time now)) self.old self.new result out.old out.new }
+        ensures does { Simulates (λ config s. node_step config [] s (Time now)) self.old self.new result out.old out.new }
         ensures same { SameConfig self.old self.new }
         ensures done { result ≡ answers.Done }
     {

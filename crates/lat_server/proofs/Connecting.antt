@@ -14,7 +14,7 @@ use Rattle.lat_machines.specs.server.Directory.{Best, best}
 use Rattle.lat_machines.specs.cores.Cores.{circuit_to}
 use Rattle.lat_machines.specs.cores.Lines.{line_exists, holds}
 use Rattle.lat_machines.specs.server.Server.{ServerConfig, Server, ServerStep, server_side, tells, does, has_room, opens, connects_to, solicits_for, connect_event}
-use Rattle.lat_payload.specs.Frames.{GoesOutAs, Adds}
+use Rattle.lat_payload.specs.Frames.{GoesOutAs, Emits}
 use Rattle.lat_payload.proofs.Frames.{adds_none, adds_one}
 use Rattle.lat_queue.specs.Histories.{key_in}
 use Rattle.lat_lines.specs.Kept as lines
@@ -25,7 +25,7 @@ use Rattle.lat_lines.specs.declared.opening.OpenFault.TheVariants as faults
 use Rattle.lat_server.specs.Kept.{Kept, config_of, AtRest}
 use Rattle.lat_server.specs.Opened.{opened_answer}
 use Rattle.lat_server.specs.Stands.{Stands}
-use Rattle.lat_server.specs.Events.{Underway, DidTo}
+use Rattle.lat_server.specs.Events.{Underway, HasDone}
 use Rattle.lat_server.proofs.Openings.{opening_of, opening_frees_none, none_between}
 
 -- its configuration and its lines say the same of it
@@ -87,16 +87,16 @@ connects_is config s line service b = by (nat_eq x 0) (nat_lt (living s.core.cir
     by false q r false = refl
 
 pub did_connect : (k : Kept) (s : Server) (line : ℕ) (service : Name) (b : Best) (l : lines.Kept) (r : Result (ℕ × ℕ) OpenFault) (before after : List OutFrame) → AtRest k → Stands k s → r ≡ opening s.core b.from
-    → OnOk r (stands.Stands l (opens (config_of k) line b.from b.node service None None s.core).core × Adds (opens (config_of k) line b.from b.node service None None s.core).frames before after) → OnOk r (l.freed ≡ []) → OnErr r ((l ≡ k.lines) × (after ≡ before))
-    → DidTo s (connects_to (config_of k) s line service b) (record k { lines = l }) (opened_answer r) before after
-did_connect k s line service b l r before after rest st e o f n = subst (λ t. DidTo s t (record k { lines = l }) (opened_answer r) before after) (sym (connects_is (config_of k) s line service b ∙ ap (connected_by (config_of k) s line service b) (sym e))) (by r o f n)
+    → OnOk r (stands.Stands l (opens (config_of k) line b.from b.node service None None s.core).core × Emits (opens (config_of k) line b.from b.node service None None s.core).frames before after) → OnOk r (l.freed ≡ []) → OnErr r ((l ≡ k.lines) × (after ≡ before))
+    → HasDone s (connects_to (config_of k) s line service b) (record k { lines = l }) (opened_answer r) before after
+did_connect k s line service b l r before after rest st e o f n = subst (λ t. HasDone s t (record k { lines = l }) (opened_answer r) before after) (sym (connects_is (config_of k) s line service b ∙ ap (connected_by (config_of k) s line service b) (sym e))) (by r o f n)
   where
     same : (a : Answer) → (l ≡ k.lines) × (after ≡ before) → Underway s (tells s a) (record k { lines = l }) before after
     same a n = subst (λ z. Underway s (tells s a) (record k { lines = z }) before after) (sym n.0) (subst (Underway s (tells s a) k before) (sym n.1) (idle k s a before rest st))
 
     by : (r : Result (ℕ × ℕ) OpenFault)
-        → OnOk r (stands.Stands l (opens (config_of k) line b.from b.node service None None s.core).core × Adds (opens (config_of k) line b.from b.node service None None s.core).frames before after) → OnOk r (l.freed ≡ []) → OnErr r ((l ≡ k.lines) × (after ≡ before))
-        → DidTo s (connected_by (config_of k) s line service b r) (record k { lines = l }) (opened_answer r) before after
+        → OnOk r (stands.Stands l (opens (config_of k) line b.from b.node service None None s.core).core × Emits (opens (config_of k) line b.from b.node service None None s.core).frames before after) → OnOk r (l.freed ≡ []) → OnErr r ((l ≡ k.lines) × (after ≡ before))
+        → HasDone s (connected_by (config_of k) s line service b r) (record k { lines = l }) (opened_answer r) before after
     by (Ok ids) o f n = record {
       state = record {
         core = o.0;
@@ -117,7 +117,7 @@ did_connect k s line service b l r before after rest st e o f n = subst (λ t. D
 
 pub did_solicit : (k : Kept) (s : Server) (service asker : Name) (f : OutFrame) (before after : List OutFrame) → AtRest k → Stands k s → asker ≡ k.lines.circuits.name
     → GoesOutAs f (plain everyone 0 (OfNotice (SolicitNotice (record { id = (k.solicits + 1) % 65536; asker = asker; service = service })))) → after ≡ before ++ f ∷ []
-    → DidTo s (solicits_for (config_of k) s service) (record k { solicits = (k.solicits + 1) % 65536 }) base.NoService before after
+    → HasDone s (solicits_for (config_of k) s service) (record k { solicits = (k.solicits + 1) % 65536 }) base.NoService before after
 did_solicit k s service asker f before after rest st a e n = record {
   state = record {
     core = st.lines;
@@ -126,7 +126,7 @@ did_solicit k s service asker f before after rest st a e n = record {
     solicits = ap (λ z. (z + 1) % 65536) st.solicits;
     settled = st.settled;
     freed = ap (map key_in) rest.freed ∙ sym (none_between s.core s.core.seats);
-    frames = subst (Adds (solicits_for (config_of k) s service).frames before) (sym n)
+    frames = subst (Emits (solicits_for (config_of k) s service).frames before) (sym n)
         (adds_one (plain everyone 0 (OfNotice (SolicitNotice (record { id = (s.solicits + 1) % 65536; asker = k.lines.circuits.name; service = service })))) f before
         (subst (λ x. GoesOutAs f (plain everyone 0 (OfNotice (SolicitNotice (record { id = (x + 1) % 65536; asker = k.lines.circuits.name; service = service }))))) st.solicits
         (subst (λ y. GoesOutAs f (plain everyone 0 (OfNotice (SolicitNotice (record { id = (k.solicits + 1) % 65536; asker = y; service = service }))))) a e)));

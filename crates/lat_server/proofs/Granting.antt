@@ -11,7 +11,7 @@ use Rattle.lat_machines.specs.cores.Cores.{Core, Doing, circuit_to}
 use Rattle.lat_machines.specs.cores.Lines.{holds}
 use Rattle.lat_machines.specs.server.Queue.{QueueEvent, Grants, Request, next_request}
 use Rattle.lat_machines.specs.server.Server.{ServerConfig, Passing, has_room, can_open, opens, offer_on, grant_frame, granting, fitting, grants_by, grant_line, grant_lines}
-use Rattle.lat_payload.specs.Frames.{GoesOutAs, Adds}
+use Rattle.lat_payload.specs.Frames.{GoesOutAs, Emits}
 use Rattle.lat_payload.proofs.Frames.{adds_one, adds_then}
 use Rattle.lat_queue.specs.declared.key.Key as own
 use Rattle.lat_queue.specs.Tables.{Table}
@@ -53,19 +53,19 @@ pub has_granted : (k : Kept) (p : Passing) (start before middle after : List Out
     → HasPassed p k start before → next_request service p.state.queue ≡ Some r → r.key ≡ m → r.from ≡ x → can_open p.state.core r.from ≡ true
     → some_key g ≡ request_key (next_request service p.state.queue) → IfSome g (λ j. queue.Stands t (p.state.queue ++ Grants (key_in j) service ∷ []))
     → GoesOutAs f (grant_frame (record r { key = m; from = x })) → middle ≡ before ++ f ∷ [] → o ≡ opening p.state.core x
-    → OnOk o (stands.Stands l (opens (config_of k) line x m.node service (Some m) (Some m.request) p.state.core).core × Adds (opens (config_of k) line x m.node service (Some m) (Some m.request) p.state.core).frames middle after)
+    → OnOk o (stands.Stands l (opens (config_of k) line x m.node service (Some m) (Some m.request) p.state.core).core × Emits (opens (config_of k) line x m.node service (Some m) (Some m.request) p.state.core).frames middle after)
     → HasPassed (granting (config_of k) line service p r) (record k { lines = l; queue = t }) start after
 has_granted k p start before middle after line service r m x l t g f o h n key from can answer gives e push a opened =
     let c : Core = p.state.core in
     let ok : (ids : ℕ × ℕ) × (opening c r.from ≡ Ok ids) = opening_ok c r.from can in
-    let both : stands.Stands l (opens (config_of k) line x m.node service (Some m) (Some m.request) c).core × Adds (opens (config_of k) line x m.node service (Some m) (Some m.request) c).frames middle after
-    = on_ok o ok.0 (stands.Stands l (opens (config_of k) line x m.node service (Some m) (Some m.request) c).core × Adds (opens (config_of k) line x m.node service (Some m) (Some m.request) c).frames middle after) (a ∙ ap (opening c) (sym from) ∙ ok.1) opened in
+    let both : stands.Stands l (opens (config_of k) line x m.node service (Some m) (Some m.request) c).core × Emits (opens (config_of k) line x m.node service (Some m) (Some m.request) c).frames middle after
+    = on_ok o ok.0 (stands.Stands l (opens (config_of k) line x m.node service (Some m) (Some m.request) c).core × Emits (opens (config_of k) line x m.node service (Some m) (Some m.request) c).frames middle after) (a ∙ ap (opening c) (sym from) ∙ ok.1) opened in
     let d : Doing = opens (config_of k) line r.from r.key.node service (Some r.key) (Some r.key.request) c in
     let same : opens (config_of k) line x m.node service (Some m) (Some m.request) c ≡ d = ap (λ y. opens (config_of k) line y m.node service (Some m) (Some m.request) c) (sym from) ∙ ap (λ (y : Key). opens (config_of k) line r.from y.node service (Some y) (Some y.request) c) (sym key) in
     let core : stands.Stands l d.core = subst (λ (y : Doing). stands.Stands l y.core) same both.0 in
-    let sent : Adds d.frames middle after = subst (λ (y : Doing). Adds y.frames middle after) same both.1 in
+    let sent : Emits d.frames middle after = subst (λ (y : Doing). Emits y.frames middle after) same both.1 in
     let frame : GoesOutAs f (grant_frame r) = subst (λ y. GoesOutAs f (grant_frame (record r { from = y }))) (sym from) (subst (λ (y : Key). GoesOutAs f (grant_frame (record r { key = y; from = x }))) (sym key) e) in
-    let told : Adds (grant_frame r ∷ []) before middle = subst (Adds (grant_frame r ∷ []) before) (sym push) (adds_one (grant_frame r) f before frame) in
+    let told : Emits (grant_frame r ∷ []) before middle = subst (Emits (grant_frame r ∷ []) before) (sym push) (adds_one (grant_frame r) f before frame) in
     record {
       state = record {
         lines = core;

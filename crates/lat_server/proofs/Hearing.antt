@@ -16,7 +16,7 @@ use Rattle.lat_machines.specs.cores.Cores.{Seat, Core, at_moment, passes_time}
 use Rattle.lat_machines.specs.cores.Lines.{over}
 use Rattle.lat_machines.specs.cores.LineCalls.{Said}
 use Rattle.lat_machines.specs.server.Server.{ServerConfig, Server, ServerStep, server_side, offered, tells, with_core, does, said, hears_message, hears_announcement, status_frame, key_of, hears_command}
-use Rattle.lat_payload.specs.Frames.{GoesOutAs, Adds}
+use Rattle.lat_payload.specs.Frames.{GoesOutAs, Emits}
 use Rattle.lat_payload.specs.NoticesOf.{IsTold}
 use Rattle.lat_payload.specs.Shown.{outcome_shown}
 use Rattle.lat_payload.proofs.Frames.{adds_none, adds_one}
@@ -29,7 +29,7 @@ use Rattle.lat_queue.specs.Histories.{key_in, some_kept}
 use Rattle.lat_queue.proofs.RecordLemmas.{map_twice}
 use Rattle.lat_circuit.specs.Frames.{timing_shown}
 use Rattle.lat_circuits.specs.Hears.{HeardCore, heard_core}
-use Rattle.lat_lines.specs.Answers.{answer_shown, SaidTo}
+use Rattle.lat_lines.specs.Answers.{answer_shown, HasAnswered}
 use Rattle.lat_lines.specs.Kept as lines
 use Rattle.lat_lines.specs.Stands as stands
 use Rattle.lat_lines.specs.Stands.{freed_key, freed_from}
@@ -39,7 +39,7 @@ use Rattle.lat_server.specs.Commands.{Noted, noted, HasNoted, answer_told, outco
 use Rattle.lat_server.specs.Kept.{Kept, config_of, AtRest}
 use Rattle.lat_server.specs.Settled.{Settled}
 use Rattle.lat_server.specs.Stands.{Stands}
-use Rattle.lat_server.specs.Events.{DidTo}
+use Rattle.lat_server.specs.Events.{HasDone}
 use Rattle.lat_server.proofs.SettledLemmas.{settled_more}
 
 -- what follows from a result where there is one
@@ -65,22 +65,22 @@ abbrev at : ℕ → Server → Server
 at now s = with_core s (at_moment now s.core)
 
 -- nothing but the moment moves on
-pub did_pass : (k : Kept) (s : Server) (now : ℕ) (l : lines.Kept) (a : base.Answer) (out : List OutFrame) → AtRest k → Stands k s → stands.Stands l (at_moment now s.core) → l.freed ≡ k.lines.freed → DidTo s (tells (at now s) (answer_shown a)) (record k { lines = l }) a out out
+pub did_pass : (k : Kept) (s : Server) (now : ℕ) (l : lines.Kept) (a : base.Answer) (out : List OutFrame) → AtRest k → Stands k s → stands.Stands l (at_moment now s.core) → l.freed ≡ k.lines.freed → HasDone s (tells (at now s) (answer_shown a)) (record k { lines = l }) a out out
 did_pass k s now l a out rest st m f = record {
   state = record { core = m; directory = st.directory; waiting = st.queue; solicits = st.solicits; settled = st.settled; freed = ap (map key_in) (f ∙ rest.freed) ∙ sym (none_moved now s.core s.core.seats); frames = adds_none out };
   answered = refl;
 }
 
 -- time
-pub did_time : (k : Kept) (s : Server) (now : ℕ) (l : lines.Kept) (d : dir.Kept) (before after : List OutFrame) → Stands k s → stands.DidTo (at_moment now s.core) (passes_time (server_side (config_of k)) (at_moment now s.core)) l before after → dir.Stands d s.heard
-    → DidTo s (does s Done (passes_time (server_side (config_of k)) (at_moment now s.core))) (record k { lines = l; directory = d }) answers.Done before after
+pub did_time : (k : Kept) (s : Server) (now : ℕ) (l : lines.Kept) (d : dir.Kept) (before after : List OutFrame) → Stands k s → stands.HasStepped (at_moment now s.core) (passes_time (server_side (config_of k)) (at_moment now s.core)) l before after → dir.Stands d s.heard
+    → HasDone s (does s Done (passes_time (server_side (config_of k)) (at_moment now s.core))) (record k { lines = l; directory = d }) answers.Done before after
 did_time k s now l d before after st t h = record {
   state = record { core = t.state; directory = h; waiting = st.queue; solicits = st.solicits; settled = st.settled; freed = t.freed ∙ moved_freed now s.core (passes_time (server_side (config_of k)) (at_moment now s.core)).core s.core.seats; frames = t.frames };
   answered = refl;
 }
 
 -- a call on a line
-pub did_call : (k : Kept) (s : Server) (l : lines.Kept) (a : base.Answer) (x : Said) (out : List OutFrame) → Stands k s → SaidTo s.core x l a → DidTo s (said s x) (record k { lines = l }) a out out
+pub did_call : (k : Kept) (s : Server) (l : lines.Kept) (a : base.Answer) (x : Said) (out : List OutFrame) → Stands k s → HasAnswered s.core x l a → HasDone s (said s x) (record k { lines = l }) a out out
 did_call k s l a x out st t = record {
   state = record { core = t.state; directory = st.directory; waiting = st.queue; solicits = st.solicits; settled = st.settled; freed = t.freed; frames = adds_none out };
   answered = t.answered;
@@ -95,11 +95,11 @@ message_is config s from (StartMessage true ask to source info) = refl
 message_is config s from (StartMessage false ask to source info) = refl
 message_is config s from (StopMessage master ask to source reason text) = refl
 
-pub did_message : (k : Kept) (s : Server) (now from : ℕ) (m : Message) (l : lines.Kept) (a : base.Answer) (before after : List OutFrame) → Stands k s → stands.DidTo (at_moment now s.core) (heard_core (server_side (config_of k)) from m (at_moment now s.core)).doing l before after
-    → answer_shown a ≡ (heard_core (server_side (config_of k)) from m (at_moment now s.core)).answer → DidTo s (hears_message (config_of k) (at now s) from m None) (record k { lines = l }) a before after
+pub did_message : (k : Kept) (s : Server) (now from : ℕ) (m : Message) (l : lines.Kept) (a : base.Answer) (before after : List OutFrame) → Stands k s → stands.HasStepped (at_moment now s.core) (heard_core (server_side (config_of k)) from m (at_moment now s.core)).doing l before after
+    → answer_shown a ≡ (heard_core (server_side (config_of k)) from m (at_moment now s.core)).answer → HasDone s (hears_message (config_of k) (at now s) from m None) (record k { lines = l }) a before after
 did_message k s now from m l a before after st t e =
     let h : HeardCore = heard_core (server_side (config_of k)) from m (at_moment now s.core) in
-    subst (λ z. DidTo s z (record k { lines = l }) a before after) (sym (message_is (config_of k) (at now s) from m))
+    subst (λ z. HasDone s z (record k { lines = l }) a before after) (sym (message_is (config_of k) (at now s) from m))
     (record {
       state = record { core = t.state; directory = st.directory; waiting = st.queue; solicits = st.solicits; settled = st.settled; freed = t.freed ∙ moved_freed now s.core h.doing.core s.core.seats; frames = t.frames };
       answered = e;
@@ -120,7 +120,7 @@ announced_is false false = refl
 pub did_announce : (k : Kept) (s : Server) (now from : ℕ) (m : Announcement) (l : lines.Kept) (d : dir.Kept) (a : base.Answer) (out : List OutFrame) → AtRest k → Stands k s → stands.Stands l (at_moment now s.core) → l.freed ≡ k.lines.freed
     → dir.Stands d (hear k.directory.groups (max s.core.moment now) from m s.heard)
     → answer_shown a ≡ announced_answer (if refuses k.directory.groups (max s.core.moment now) m s.heard then Err faults.Full else Ok (meets k.directory.groups m))
-    → DidTo s (hears_announcement (config_of k) (at now s) from m) (record k { lines = l; directory = d }) a out out
+    → HasDone s (hears_announcement (config_of k) (at now s) from m) (record k { lines = l; directory = d }) a out out
 did_announce k s now from m l d a out rest st c f h e = record {
   state = record { core = c; directory = h; waiting = st.queue; solicits = st.solicits; settled = st.settled; freed = ap (map key_in) (f ∙ rest.freed) ∙ sym (none_moved now s.core s.core.seats); frames = adds_none out };
   answered = e ∙ announced_is (refuses k.directory.groups (max s.core.moment now) m s.heard) (meets k.directory.groups m);
@@ -176,11 +176,11 @@ told_place (Some k) p = p
 
 pub did_command : (k : Kept) (s : Server) (now from : ℕ) (m : Command) (a : Action) (l : lines.Kept) (t : Table) (o : Option base_kept.Kept) (f : OutFrame) (before after : List OutFrame) → AtRest k → Stands k s → offered (config_of k) ≡ k.queue.offered
     → HasNoted (noted k.queue.offered from m a s.queue) t o → GoesOutAs f (status_frame from m (outcome_shown (outcome_told o))) → after ≡ before ++ f ∷ [] → stands.Stands l (at_moment now s.core) → l.freed ≡ k.lines.freed
-    → DidTo s (hears_command (config_of k) (at now s) from m a) (record k { lines = l; queue = t }) (answer_told o) before after
+    → HasDone s (hears_command (config_of k) (at now s) from m a) (record k { lines = l; queue = t }) (answer_told o) before after
 did_command k s now from m a l t o f before after rest st same n e p c g =
     let x : Noted = noted k.queue.offered from m a s.queue in
     let told : outcome_shown (outcome_told o) ≡ outcome_of x.kept = outcome_is o ∙ ap outcome_of n.told in
-    subst (λ z. DidTo s z (record k { lines = l; queue = t }) (answer_told o) before after) (sym (command_is (config_of k) (at now s) from m a ∙ ap (λ ns. noting (at now s) from m (noted ns from m a s.queue)) same))
+    subst (λ z. HasDone s z (record k { lines = l; queue = t }) (answer_told o) before after) (sym (command_is (config_of k) (at now s) from m a ∙ ap (λ ns. noting (at now s) from m (noted ns from m a s.queue)) same))
     (record {
       state = record {
         core = c;
@@ -189,7 +189,7 @@ did_command k s now from m a l t o f before after rest st same n e p c g =
         solicits = st.solicits;
         settled = noted_settled s.core k.queue.offered from m a s.queue st.settled;
         freed = ap (map key_in) (g ∙ rest.freed) ∙ sym (none_moved now s.core s.core.seats);
-        frames = subst (Adds (status_frame from m (outcome_of x.kept) ∷ []) before) (sym p) (adds_one (status_frame from m (outcome_of x.kept)) f before (subst (λ y. GoesOutAs f (status_frame from m y)) told e));
+        frames = subst (Emits (status_frame from m (outcome_of x.kept) ∷ []) before) (sym p) (adds_one (status_frame from m (outcome_of x.kept)) f before (subst (λ y. GoesOutAs f (status_frame from m y)) told e));
       };
       answered = answer_is o ∙ ap answer_of n.told;
     })

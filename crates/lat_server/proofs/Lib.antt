@@ -1,6 +1,5 @@
 pub mod Connecting
 pub mod EventSeats
-pub mod Everyone
 pub mod Following
 pub mod Granting
 pub mod Idle

@@ -1,13 +1,14 @@
 -- Parts of an event of the server machine.
-use Rattle.std.specs.Prelude.{◌≡◌, List, map}
+use Rattle.std.specs.Prelude.{◌≡◌, ℕ, List, map}
 use Rattle.lat_base.specs.declared.answer.Answer.{Answer}
 use Rattle.lat_base.specs.declared.answer.Answer.TheVariants as answers
 use Rattle.lat_base.specs.declared.event.Event.{Event}
 use Rattle.lat_base.specs.declared.event.Event.TheVariants as events
 use Rattle.lat_base.specs.declared.outbox.OutFrame.{OutFrame}
 use Rattle.lat_model.specs.Lists.{upwards}
-use Rattle.lat_machines.specs.server.Server.{ServerConfig, Server, ServerStep, Passing, grant_lines, passed}
-use Rattle.lat_payload.specs.Frames.{Adds}
+use Rattle.lat_machines.specs.cores.Cores.{at_moment}
+use Rattle.lat_machines.specs.server.Server.{ServerConfig, Server, ServerStep, Passing, with_core, grant_lines, passed}
+use Rattle.lat_payload.specs.Frames.{Emits}
 use Rattle.lat_dir.specs.Stands as dir
 use Rattle.lat_queue.specs.Histories as queue
 use Rattle.lat_queue.specs.Histories.{key_in}
@@ -27,22 +28,26 @@ pub record Underway (s : Server) (t : ServerStep) (new : Kept) (before after : L
   pub solicits : new.solicits ≡ t.state.solicits
   pub settled : Settled s.core t.state.queue
   pub freed : map key_in new.lines.freed ≡ freed_between s.core t.state.core
-  pub frames : Adds t.frames before after
+  pub frames : Emits t.frames before after
 
 -- it did so, and answered so
-pub record DidTo (s : Server) (t : ServerStep) (new : Kept) (answer : Answer) (before after : List OutFrame) : Type 0 where
+pub record HasDone (s : Server) (t : ServerStep) (new : Kept) (answer : Answer) (before after : List OutFrame) : Type 0 where
   pub state : Underway s t new before after
   pub answered : answer_shown answer ≡ t.answer
 
 -- of every state that it stood for
-abbrev pub Does : (ServerConfig → Server → ServerStep) → (old new : Kept) → Answer → (before after : List OutFrame) → Type 0
-Does event old new answer before after =
-    (s : Server) → Stands old s → DidTo s (event (config_of old) s) new answer before after
+abbrev pub Simulates : (ServerConfig → Server → ServerStep) → (old new : Kept) → Answer → (before after : List OutFrame) → Type 0
+Simulates event old new answer before after =
+    (s : Server) → Stands old s → HasDone s (event (config_of old) s) new answer before after
+
+-- it did so once time had come to a moment
+abbrev pub DoesAt : ℕ → (ServerConfig → Server → ServerStep) → (old new : Kept) → Answer → (before after : List OutFrame) → Type 0
+DoesAt now event = Simulates (λ config s. event config (with_core s (at_moment now s.core)))
 
 -- the lines so far granted what they could
 pub record HasPassed (p : Passing) (new : Kept) (before after : List OutFrame) : Type 0 where
   pub state : Stands new p.state
-  pub frames : Adds p.frames before after
+  pub frames : Emits p.frames before after
 
 -- from where the lines before have passed, whatever went out till then
 abbrev pub Passes : (ServerConfig → Passing → Passing) → (old new : Kept) → (before after : List OutFrame) → Type 0
@@ -55,7 +60,7 @@ all_lines config p = grant_lines config (upwards 0 config.lines) p
 -- what follows an event has been done
 pub record HasFollowed (t : ServerStep) (new : Kept) (before after : List OutFrame) : Type 0 where
   pub state : Stands new t.state
-  pub frames : Adds t.frames before after
+  pub frames : Emits t.frames before after
 
 abbrev pub Follows : (old new : Kept) → (middle after : List OutFrame) → Type 0
 Follows old new middle after =
@@ -79,9 +84,3 @@ abbrev pub TakesNoMemory : Event → Type 0
 TakesNoMemory (events.Heard from payload now) = ⊥
 TakesNoMemory (events.Take line n) = ⊥
 TakesNoMemory e = Unit {0}
-
--- an answer to neither a put nor a take
-abbrev pub SaysLittle : Answer → Type 0
-SaysLittle (answers.Put n) = ⊥
-SaysLittle (answers.Took items) = ⊥
-SaysLittle a = Unit {0}

@@ -9,7 +9,7 @@ use Rattle.lat_machines.specs.cores.Lines.{line_state, waiting_at}
 use Rattle.lat_machines.specs.server.Server.{ServerConfig, Server, ServerStep, server_side, open_server, server_step, finished}
 use Rattle.lat_dir.specs.Stands as dir
 use Rattle.lat_queue.specs.Histories as queue
-use Rattle.lat_payload.specs.Frames.{seen, expected, IsReadable}
+use Rattle.lat_payload.specs.Frames.{frame_view, expected, IsReadable}
 use Rattle.lat_stream.specs.Kept.{state_shown}
 use Rattle.lat_lines.specs.Back.{answer_of}
 use Rattle.lat_lines.specs.Events.{event_shown}
@@ -52,7 +52,7 @@ answered m e = answer_of (stepped m e).answer
 
 -- the frames that go out: those of the machine, and each of them is readable
 pub record Frames (m : Machine) (e : Event) (frames : List OutFrame) : Type 0 where
-  pub same : map seen frames ≡ map expected (stepped m e).frames
+  pub same : map frame_view frames ≡ map expected (stepped m e).frames
   pub readable : Each IsReadable (stepped m e).frames
 
 abbrev pub line_of : Machine → ℕ → SessionState

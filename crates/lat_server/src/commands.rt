@@ -2,16 +2,16 @@
 
 ghost use Rattle.std.specs.Prelude.{◌≡◌, ◌≤◌, ◌+◌, List, length, IfOk, IfSome, OnErr};
 ghost use Rattle.lat_machines.specs.values.Addresses.{address};
-ghost use Rattle.lat_machines.specs.cores.Cores.{at_moment};
 ghost use Rattle.lat_machines.specs.server.Server as machine;
-ghost use Rattle.lat_machines.specs.server.Server.{with_core, hears_command};
+ghost use Rattle.lat_machines.specs.server.Server.{hears_command};
 ghost use Rattle.lat_machines.specs.server.Queue.{QueueEvent};
 ghost use Rattle.lat_payload.specs.Shown.{action_shown, command_shown};
 ghost use Rattle.lat_queue.specs.Histories as queue;
 ghost use Rattle.lat_queue.specs.Histories.{key_in};
 ghost use Rattle.lat_queue.specs.Tables.{HasPlace};
 ghost use Rattle.lat_server.specs.Commands.{noted, HasNoted, answer_told, outcome_told};
-ghost use Rattle.lat_server.specs.Events.{Does, SaysLittle};
+ghost use Rattle.lat_lines.specs.Answers.{IsPlain};
+ghost use Rattle.lat_server.specs.Events.{DoesAt};
 ghost use Rattle.lat_server.specs.Kept.{AtRest, SameConfig};
 
 use crate::server::ServerCore;
@@ -33,9 +33,12 @@ impl ServerCore {
     ) -> Result<Answer, Memory>
         requires rest { AtRest self.old }
         requires room { length out.old + 16 ≤ 256 }
-        ensures does { IfOk result (λ a. Does (λ config s. hears_command config (with_core s (at_moment now s.core)) (address from.0) (command_shown command.now) (action_shown command.now.action)) self.old self.new a out.old out.new) }
+        ensures does { IfOk result (λ a.
+            DoesAt now (λ config s.
+            hears_command config s (address from.0) (command_shown command.now) (action_shown command.now.action))
+            self.old self.new a out.old out.new) }
         ensures same { SameConfig self.old self.new }
-        ensures told { IfOk result SaysLittle }
+        ensures told { IfOk result IsPlain }
         ensures most { length out.new ≤ length out.old + 1 }
         ensures err { OnErr result ((self.new ≡ self.old) × (out.new ≡ out.old)) }
     {
@@ -70,7 +73,11 @@ fn note(
     from: Addr,
     command: &Command,
 ) -> Result<Option<Kept>, Memory>
-    ensures noted { (q : List QueueEvent) → queue.Stands requests.old q → IfOk result (λ kept. HasNoted (noted requests.old.offered (address from.0) (command_shown command.now) (action_shown command.now.action) q) requests.new kept) }
+    ensures noted { (q : List QueueEvent) →
+        queue.Stands requests.old q →
+        IfOk result (λ kept. HasNoted
+        (noted requests.old.offered (address from.0) (command_shown command.now) (action_shown command.now.action) q)
+        requests.new kept) }
     ensures place { IfOk result (λ kept. IfSome kept HasPlace) }
     ensures offered { requests.new.offered ≡ requests.old.offered }
     ensures err { OnErr result (requests.new ≡ requests.old) }
@@ -85,7 +92,7 @@ fn note(
 // What the command is answered where this is kept of its request.
 fn answer_kept(kept: Option<Kept>) -> Answer
     ensures value { result ≡ answer_told kept }
-    ensures told { SaysLittle result }
+    ensures told { IsPlain result }
 {
     match kept {
         Some(kept) => Answer::Kept(kept),

@@ -5,7 +5,8 @@ ghost use Rattle.lat_machines.specs.cores.Lines.{holds};
 ghost use Rattle.lat_machines.specs.server.Server.{Server, connect_event, connects_to, solicits_for};
 ghost use Rattle.lat_dir.specs.Words.{best_shown};
 ghost use Rattle.lat_lines.specs.Kept.{IsLine};
-ghost use Rattle.lat_server.specs.Events.{DidTo, Does, SaysLittle};
+ghost use Rattle.lat_lines.specs.Answers.{IsPlain};
+ghost use Rattle.lat_server.specs.Events.{HasDone, Simulates};
 ghost use Rattle.lat_server.specs.Kept.{config_of, AtRest, SameConfig};
 ghost use Rattle.lat_server.specs.Opened.{opened_answer};
 ghost use Rattle.lat_server.specs.Stands.{Stands};
@@ -33,9 +34,9 @@ impl ServerCore {
     pub(crate) fn connect(&mut self, line: u8, service: &Name, out: &mut OutBox) -> Answer
         requires rest { AtRest self.old }
         requires room { length out.old + 16 ≤ 256 }
-        ensures does { Does (λ config s. connect_event config s line service.now) self.old self.new result out.old out.new }
+        ensures does { Simulates (λ config s. connect_event config s line service.now) self.old self.new result out.old out.new }
         ensures same { SameConfig self.old self.new }
-        ensures told { SaysLittle result }
+        ensures told { IsPlain result }
         ensures most { length out.new ≤ length out.old + 1 }
     {
         if !self.lines.exists(line) {
@@ -58,9 +59,9 @@ impl ServerCore {
         ensures does { (s : Server) →
             Stands self.old s →
             holds s.core line ≡ false →
-            DidTo s (connects_to (config_of self.old) s line service.now (best_shown best.now)) self.new result out.old out.new }
+            HasDone s (connects_to (config_of self.old) s line service.now (best_shown best.now)) self.new result out.old out.new }
         ensures same { SameConfig self.old self.new }
-        ensures told { SaysLittle result }
+        ensures told { IsPlain result }
         ensures most { length out.new ≤ length out.old + 1 }
     {
         let opened = self
@@ -73,9 +74,9 @@ impl ServerCore {
     fn solicit(&mut self, service: &Name, out: &mut OutBox) -> Answer
         requires rest { AtRest self.old }
         requires room { length out.old + 16 ≤ 256 }
-        ensures does { Does (λ config s. solicits_for config s service.now) self.old self.new result out.old out.new }
+        ensures does { Simulates (λ config s. solicits_for config s service.now) self.old self.new result out.old out.new }
         ensures same { SameConfig self.old self.new }
-        ensures told { SaysLittle result }
+        ensures told { IsPlain result }
         ensures most { length out.new ≤ length out.old + 1 }
     {
         self.solicits = self.solicits.wrapping_add(1);

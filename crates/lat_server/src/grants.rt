@@ -22,7 +22,9 @@ use lat_queue::{Key, Queue};
 
 // Finishes the requests of these keys, in order.
 fn finish_keys(requests: &mut Queue, keys: &[Key])
-    ensures stands { (q : List QueueEvent) → queue.Stands requests.old q → queue.Stands requests.new (finish_each (map key_in keys.now) q) }
+    ensures stands { (q : List QueueEvent) →
+        queue.Stands requests.old q →
+        queue.Stands requests.new (finish_each (map key_in keys.now) q) }
     ensures offered { requests.new.offered ≡ requests.old.offered }
 {
     for key in keys {
@@ -33,7 +35,9 @@ fn finish_keys(requests: &mut Queue, keys: &[Key])
 impl ServerCore {
     /// Finishes the requests whose sessions became free in the event.
     pub(crate) fn finish(&mut self)
-        ensures stands { (q : List QueueEvent) → queue.Stands self.old.queue q → queue.Stands self.new.queue (finish_each (map key_in self.old.lines.freed) q) }
+        ensures stands { (q : List QueueEvent) →
+            queue.Stands self.old.queue q →
+            queue.Stands self.new.queue (finish_each (map key_in self.old.lines.freed) q) }
         ensures others { self.new ≡ with_queue self.new.queue self.old }
     {
         let Self { lines, queue, .. } = self;
@@ -60,7 +64,9 @@ impl ServerCore {
 
     // No line can grant: none offers a service, or no request has a record.
     fn grants_none(&self) -> bool
-        ensures { (q : List QueueEvent) → queue.Stands self.now.queue q → result ≡ (nat_eq (length self.now.offers) 0 || is_none (record_at 0 q)) }
+        ensures { (q : List QueueEvent) →
+            queue.Stands self.now.queue q →
+            result ≡ (nat_eq (length self.now.offers) 0 || is_none (record_at 0 q)) }
     {
         self.offers.as_slice().is_empty() || self.has_no_record()
     }
@@ -107,7 +113,10 @@ impl ServerCore {
         ensures passes { (p : Passing) (start : List OutFrame) →
             HasPassed p self.old start out.old →
             holds p.state.core line ≡ false →
-            HasPassed (grants_by (config_of self.old) line (Some service.now) (fitting p.state.core (next_request service.now p.state.queue)) p) self.new start out.new }
+            HasPassed
+            (grants_by (config_of self.old) line (Some service.now)
+            (fitting p.state.core (next_request service.now p.state.queue)) p)
+            self.new start out.new }
         ensures rest { AtRest self.new }
         ensures same { SameConfig self.old self.new }
         ensures most { length out.new ≤ length out.old + 2 }

@@ -1,45 +1,37 @@
 //! What the server does at a frame that it hears.
 
-ghost use Rattle.std.specs.Prelude.{◌≡◌, ◌≢◌, ◌≤◌, ◌+◌, List, length, nat_eq, Err, IfOk, OnErr, None};
+ghost use Rattle.std.specs.Prelude.{◌≡◌, ◌≢◌, ◌≤◌, ◌+◌, List, length, Err, IfOk, OnErr, None};
 ghost use Rattle.lat_frames.specs.Written.{IsWritable};
-ghost use Rattle.lat_machines.specs.values.Addresses.{address, everyone};
-ghost use Rattle.lat_machines.specs.cores.Cores.{at_moment};
-ghost use Rattle.lat_machines.specs.server.Server.{tells, with_core, hears_message, hears_announcement, hears_notice, hears};
+ghost use Rattle.lat_machines.specs.values.Addresses.{address};
+ghost use Rattle.lat_machines.specs.server.Server.{tells, hears_message, hears_announcement, hears_notice, hears};
 ghost use Rattle.lat_base.specs.declared.outbox.OutFrame.{OutFrame};
 ghost use Rattle.lat_circuits.specs.Hears.{hearing_shown};
-ghost use Rattle.lat_lines.specs.Answers.{answer_shown};
+ghost use Rattle.lat_lines.specs.Answers.{answer_shown, IsPlain};
 ghost use Rattle.lat_machines.specs.values.Frames.{Whole};
 ghost use Rattle.lat_dir.specs.declared.directory.DirFault.TheVariants as faults;
 ghost use Rattle.lat_dir.specs.Stands.{announcement_shown, UnlessMemory};
-ghost use Rattle.lat_payload.specs.Reads as payload;
+ghost use Rattle.lat_value.specs.Texts as payload;
 ghost use Rattle.lat_payload.specs.Reads.{reading_of};
 ghost use Rattle.lat_circuit.specs.Frames.{message_shown};
 ghost use Rattle.lat_payload.specs.Shown.{notice_shown, value_shown};
 ghost use Rattle.lat_server.specs.Commands.{announced_answer};
-ghost use Rattle.lat_server.specs.Events.{Does, SaysLittle};
+ghost use Rattle.lat_server.specs.Events.{DoesAt};
 ghost use Rattle.lat_server.specs.Kept.{AtRest, SameConfig};
 
 use crate::server::ServerCore;
-use lat_base::{Addr, Answer, EVERYONE, Memory, OutBox};
+use lat_base::{Addr, Answer, Memory, OutBox};
 use lat_dir::DirFault;
 use lat_fields::LayoutFault;
 use lat_frames::Message;
 use lat_lines::Hearing;
 use lat_notices::{Announcement, Notice};
-use lat_payload::{Value, read_value};
+use lat_payload::{Value, is_everyone, read_value};
 use std::alloc::Global;
-
-// Whether it is the address of everyone.
-fn is_everyone(station: &[u8; 6]) -> bool
-    ensures { result ≡ nat_eq (address station.now) everyone }
-{
-    *station == EVERYONE.0
-}
 
 // What a circuit message is answered.
 fn answer_heard(hearing: Hearing) -> Answer
     ensures shown { answer_shown result ≡ hearing_shown hearing }
-    ensures told { SaysLittle result }
+    ensures told { IsPlain result }
 {
     match hearing {
         Hearing::Circuit(heard) => Answer::Circuit(heard),
@@ -51,7 +43,7 @@ fn answer_heard(hearing: Hearing) -> Answer
 // What an announcement is answered.
 fn answer_announced(heard: Result<bool, DirFault>) -> Result<Answer, Memory>
     ensures shown { UnlessMemory heard (IfOk result (λ a. answer_shown a ≡ announced_answer heard)) }
-    ensures told { IfOk result SaysLittle }
+    ensures told { IfOk result IsPlain }
     ensures ok { IfOk result (λ a. heard ≢ Err faults.Memory) }
     ensures err { OnErr result (heard ≡ Err faults.Memory) }
 {
@@ -75,9 +67,11 @@ impl ServerCore {
     ) -> Result<Answer, Memory>
         requires rest { AtRest self.old }
         requires room { length out.old + 16 ≤ 256 }
-        ensures does { IfOk result (λ a. Does (λ config s. hears config (with_core s (at_moment now s.core)) (address from.0) (reading_of payload.now) None) self.old self.new a out.old out.new) }
+        ensures does { IfOk result (λ a.
+            DoesAt now (λ config s. hears config s (address from.0) (reading_of payload.now) None)
+            self.old self.new a out.old out.new) }
         ensures same { SameConfig self.old self.new }
-        ensures told { IfOk result SaysLittle }
+        ensures told { IfOk result IsPlain }
         ensures most { length out.new ≤ length out.old + 1 }
         ensures err { OnErr result ((self.new ≡ self.old) × (out.new ≡ out.old)) }
     {
@@ -91,7 +85,8 @@ impl ServerCore {
     // Nothing but the moment moves on.
     fn turn_away(&mut self, answer: Answer, now: u64) -> Answer
         requires rest { AtRest self.old }
-        ensures does { (frames : List OutFrame) → Does (λ config s. tells (with_core s (at_moment now s.core)) (answer_shown answer)) self.old self.new result frames frames }
+        ensures does { (frames : List OutFrame) →
+            DoesAt now (λ config s. tells s (answer_shown answer)) self.old self.new result frames frames }
         ensures same { SameConfig self.old self.new }
         ensures answer { result ≡ answer }
     {
@@ -110,9 +105,11 @@ impl ServerCore {
         requires rest { AtRest self.old }
         requires ok { payload.IsWritable value.now }
         requires room { length out.old + 16 ≤ 256 }
-        ensures does { IfOk result (λ a. Does (λ config s. hears config (with_core s (at_moment now s.core)) (address from.0) (Whole (value_shown value.now)) None) self.old self.new a out.old out.new) }
+        ensures does { IfOk result (λ a.
+            DoesAt now (λ config s. hears config s (address from.0) (Whole (value_shown value.now)) None)
+            self.old self.new a out.old out.new) }
         ensures same { SameConfig self.old self.new }
-        ensures told { IfOk result SaysLittle }
+        ensures told { IfOk result IsPlain }
         ensures most { length out.new ≤ length out.old + 1 }
         ensures err { OnErr result ((self.new ≡ self.old) × (out.new ≡ out.old)) }
     {
@@ -129,9 +126,10 @@ impl ServerCore {
         requires rest { AtRest self.old }
         requires ok { IsWritable message.now }
         requires room { length out.old + 16 ≤ 256 }
-        ensures does { Does (λ config s. hears_message config (with_core s (at_moment now s.core)) (address from.0) (message_shown message.now) None) self.old self.new result out.old out.new }
+        ensures does { DoesAt now (λ config s. hears_message config s (address from.0) (message_shown message.now) None)
+            self.old self.new result out.old out.new }
         ensures same { SameConfig self.old self.new }
-        ensures told { SaysLittle result }
+        ensures told { IsPlain result }
         ensures most { length out.new ≤ length out.old + 1 }
     {
         self.lines.pass(now);
@@ -148,9 +146,11 @@ impl ServerCore {
     ) -> Result<Answer, Memory>
         requires rest { AtRest self.old }
         requires room { length out.old + 16 ≤ 256 }
-        ensures does { IfOk result (λ a. Does (λ config s. hears_notice config (with_core s (at_moment now s.core)) (address from.0) (notice_shown notice.now)) self.old self.new a out.old out.new) }
+        ensures does { IfOk result (λ a.
+            DoesAt now (λ config s. hears_notice config s (address from.0) (notice_shown notice.now))
+            self.old self.new a out.old out.new) }
         ensures same { SameConfig self.old self.new }
-        ensures told { IfOk result SaysLittle }
+        ensures told { IfOk result IsPlain }
         ensures most { length out.new ≤ length out.old + 1 }
         ensures err { OnErr result ((self.new ≡ self.old) × (out.new ≡ out.old)) }
     {
@@ -171,9 +171,11 @@ impl ServerCore {
         now: u64,
     ) -> Result<Answer, Memory>
         requires rest { AtRest self.old }
-        ensures does { (frames : List OutFrame) → IfOk result (λ a. Does (λ config s. hears_announcement config (with_core s (at_moment now s.core)) (address from.0) (announcement_shown announcement.now)) self.old self.new a frames frames) }
+        ensures does { (frames : List OutFrame) → IfOk result (λ a.
+            DoesAt now (λ config s. hears_announcement config s (address from.0) (announcement_shown announcement.now))
+            self.old self.new a frames frames) }
         ensures same { SameConfig self.old self.new }
-        ensures told { IfOk result SaysLittle }
+        ensures told { IfOk result IsPlain }
         ensures err { OnErr result (self.new ≡ self.old) }
     {
         let moment = self.lines.moment().max(now);

@@ -7,7 +7,7 @@ ghost use Rattle.lat_machines.specs.cores.Hearing.{names};
 ghost use Rattle.lat_machines.specs.server.Records.{record_at};
 ghost use Rattle.lat_machines.specs.server.Server.{Server};
 ghost use Rattle.lat_machines.specs.values.Addresses.{address};
-ghost use Rattle.lat_stream.specs.Kept.{told_total};
+ghost use Rattle.lat_stream.specs.Kept.{saturated};
 ghost use Rattle.lat_circuits.specs.Told.{span_told};
 ghost use Rattle.lat_lines.specs.Kept.{IsLine};
 ghost use Rattle.lat_lines.specs.Stands.{book_shown, book_told};
@@ -123,7 +123,7 @@ impl ServerCore {
 
     /// How many sessions its lines have had. It stops at the greatest number of 64 bits.
     pub fn made(&self) -> u64
-        ensures { (s : Server) → Stands self.now s → result ≡ told_total (length s.core.seats) }
+        ensures { (s : Server) → Stands self.now s → result ≡ saturated (length s.core.seats) }
     {
         self.lines.made()
     }

@@ -7,12 +7,13 @@ ghost use Rattle.lat_machines.specs.server.Server.{does, server_side, server_eve
 ghost use Rattle.lat_machines.specs.values.Answers as answers;
 ghost use Rattle.lat_lines.specs.Answers as lines;
 ghost use Rattle.lat_lines.specs.Events.{event_shown};
-ghost use Rattle.lat_server.specs.Events.{Does, Follows, IsLocal, TakesNoMemory};
+ghost use Rattle.lat_server.specs.Events.{Simulates, Follows, IsLocal, TakesNoMemory};
 ghost use Rattle.lat_server.specs.Kept.{AtRest, SameConfig};
 ghost use Rattle.lat_server.specs.Stands.{Machine, IsMachine, opening, next, answered, Frames};
 
 use crate::server::ServerCore;
 use lat_base::{Answer, Core, Event, Memory, OutBox, SessionState};
+use lat_lines::line_call;
 use std::alloc::Global;
 
 impl Core for ServerCore {
@@ -92,7 +93,8 @@ impl ServerCore {
     fn apply(&mut self, alloc: Global, event: &Event, out: &mut OutBox) -> Result<Answer, Memory>
         requires rest { AtRest self.old }
         requires empty { out.old ≡ [] }
-        ensures does { IfOk result (λ a. Does (λ config s. server_event config s (event_shown event.now)) self.old self.new a out.old out.new) }
+        ensures does { IfOk result (λ a.
+            Simulates (λ config s. server_event config s (event_shown event.now)) self.old self.new a out.old out.new) }
         ensures same { SameConfig self.old self.new }
         ensures put { IfOk result (λ a. PutFits a event.now) }
         ensures took { IfOk result (λ a. TookFits (lines.ready self.old.lines) a event.now) }
@@ -113,7 +115,7 @@ impl ServerCore {
         requires rest { AtRest self.old }
         requires local { TakesNoMemory event.now }
         requires empty { out.old ≡ [] }
-        ensures does { Does (λ config s. server_event config s (event_shown event.now)) self.old self.new result out.old out.new }
+        ensures does { Simulates (λ config s. server_event config s (event_shown event.now)) self.old self.new result out.old out.new }
         ensures same { SameConfig self.old self.new }
         ensures put { PutFits result event.now }
         ensures took { TookFits (lines.ready self.old.lines) result event.now }
@@ -122,15 +124,10 @@ impl ServerCore {
         match event {
             Event::Time { now } => self.time(*now, out),
             Event::Connect { line, service } => self.connect(*line, service, out),
-            Event::Put { line, bytes } => self.lines.put(*line, bytes.as_slice()),
-            Event::Set { line, setting } => self.lines.set(*line, *setting),
-            Event::Attend { line, flag } => self.lines.attend(*line, *flag),
-            Event::Close { line } => self.lines.close(*line),
-            Event::Request { .. }
-            | Event::Cancel { .. }
-            | Event::Announce
-            | Event::Heard { .. }
-            | Event::Take { .. } => Answer::NotHere,
+            other => match line_call(other) {
+                Some((line, call)) => self.lines.call(line, &call),
+                None => Answer::NotHere,
+            },
         }
     }
 
@@ -138,7 +135,8 @@ impl ServerCore {
     fn time(&mut self, now: u64, out: &mut OutBox) -> Answer
         requires rest { AtRest self.old }
         requires empty { out.old ≡ [] }
-        ensures does { Does (λ config s. does s answers.Done (passes_time (server_side config) (at_moment now s.core))) self.old self.new result out.old out.new }
+        ensures does { Simulates (λ config s. does s answers.Done (passes_time (server_side config) (at_moment now s.core)))
+            self.old self.new result out.old out.new }
         ensures same { SameConfig self.old self.new }
         ensures most { length out.new ≤ 128 }
         ensures answer { result ≡ Answer.Done }

@@ -8,12 +8,12 @@ use Rattle.lat_base.specs.declared.answer.Answer.{Answer}
 use Rattle.lat_base.specs.declared.answer.Answer.TheVariants as answers
 use Rattle.lat_base.specs.declared.event.Event.{Event}
 use Rattle.lat_base.specs.declared.outbox.OutFrame.{OutFrame}
-use Rattle.lat_payload.specs.Frames.{Adds}
+use Rattle.lat_payload.specs.Frames.{Emits}
 use Rattle.lat_payload.proofs.Frames.{adds_then}
 use Rattle.lat_base.specs.Answers.{PutFits, TookFits}
 use Rattle.lat_base.specs.declared.event.Event.TheVariants as events
 use Rattle.lat_lines.specs.Kept.{IsLine}
-use Rattle.lat_server.specs.Events.{SaysLittle}
+use Rattle.lat_lines.specs.Answers.{IsPlain}
 use Rattle.lat_machines.specs.values.Names.{Name}
 use Rattle.lat_server.specs.Kept as own
 use Rattle.lat_server.specs.Kept.{AtRest}
@@ -54,7 +54,7 @@ has_told c e old new a before after h empty inner lines answer frames = record {
       inner = inner;
       lines = lines ∙ ap (map (gives_way (server.next c.state.inner e))) h.state.lines;
     };
-    frames = adds_then c.frames (stepped c.state.inner e).frames [] [] after (subst (Adds c.frames []) empty h.frames) (record { same = frames.same; readable = frames.readable });
+    frames = adds_then c.frames (stepped c.state.inner e).frames [] [] after (subst (Emits c.frames []) empty h.frames) (record { same = frames.same; readable = frames.readable });
   };
   answered = answer;
 }
@@ -160,7 +160,7 @@ closed_all whole k a out h = subst (λ t. HasDone t k a out) h.leads h.has
 
 -- connecting and closing
 
-pub says_little : (a : Answer) (x : ℕ) (service : Name) (ready : ℕ → ℕ) → PutFits a (events.Connect x service) → TookFits ready a (events.Connect x service) → SaysLittle a
+pub says_little : (a : Answer) (x : ℕ) (service : Name) (ready : ℕ → ℕ) → PutFits a (events.Connect x service) → TookFits ready a (events.Connect x service) → IsPlain a
 says_little (answers.Put n) x service ready p t = p
 says_little (answers.Took items) x service ready p t = t
 says_little a x service ready p t = tt

@@ -15,22 +15,22 @@ use Rattle.lat_machines.specs.cores.Lines.{line_exists}
 use Rattle.lat_lines.specs.Answers as lines
 use Rattle.lat_switch.specs.Core.{ready, ready_at}
 use Rattle.lat_switch.specs.Kept.{Kept}
-use Rattle.lat_switch.specs.Stands.{Does}
+use Rattle.lat_switch.specs.Stands.{Simulates}
 use Rattle.lat_switch.specs.Steps.{on_line, does}
 use Rattle.lat_switch.specs.Switch.{Course, Step, line_in, line_on, relays, refuses}
 use Rattle.lat_switch.proofs.Courses.{such_line, on_shown_line}
 
 pub lined : (k : ℕ) (f : Course → Step) (old new : Kept) (before after : List OutFrame) (r : Result Answer Memory)
     → line_exists (length old.lines) k ≡ true
-    → IfOk r (λ a. Does f old new a before after)
-    → IfOk r (λ a. Does (λ c. on_line k f c) old new a before after)
+    → IfOk r (λ a. Simulates f old new a before after)
+    → IfOk r (λ a. Simulates (λ c. on_line k f c) old new a before after)
 lined k f old new before after (Ok a) e d = λ c h. such_line c old new k f a before after e h (d c h)
 lined k f old new before after (Err m) e d = tt
 
 pub taken : (k x n : ℕ) (old new : Kept) (before after : List OutFrame) (r : Result Answer Memory)
     → line_exists (length old.lines) k ≡ true → x ≡ (line_in k old.lines).shown
-    → IfOk r (λ a. Does (relays (events.Take x n)) old new a before after)
-    → IfOk r (λ a. Does (λ c. on_line k (relays (events.Take (line_on k c.state).shown n)) c) old new a before after)
+    → IfOk r (λ a. Simulates (relays (events.Take x n)) old new a before after)
+    → IfOk r (λ a. Simulates (λ c. on_line k (relays (events.Take (line_on k c.state).shown n)) c) old new a before after)
 taken k x n old new before after (Ok a) e is d = λ c h.
     such_line c old new k (λ (z : Course). relays (events.Take (line_on k z.state).shown n) z) a before after e h
     (on_shown_line c old new k x (λ y. events.Take y n) a before after h is (d c h))

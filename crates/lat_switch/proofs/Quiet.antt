@@ -7,7 +7,7 @@ use Rattle.lat_model.specs.Lists.{upwards}
 use Rattle.lat_machines.specs.values.Events.{Puts, Sets, Attends, Closes}
 use Rattle.lat_machines.specs.server.Server as machine
 use Rattle.lat_machines.specs.server.Server.{ServerConfig, Server, Passing, Offer, offer_on, grantable, grants_by, grant_line, grant_lines, finished_requests}
-use Rattle.lat_payload.specs.Frames.{seen, expected}
+use Rattle.lat_payload.specs.Frames.{frame_view, expected}
 use Rattle.lat_server.specs.Stands.{Machine, stepped, Frames}
 use Rattle.lat_switch.specs.Kept.{IsQuiet}
 
@@ -31,7 +31,7 @@ quiet_frames m (events.Attend line flag) none q = no_grant m.config (finished_re
 quiet_frames m (events.Close line) none q = no_grant m.config (finished_requests (machine.server_event m.config m.state (Closes line)).state) none
 quiet_frames m e none q = absurd q
 
-no_frames : (xs : List OutFrame) → map seen xs ≡ [] → xs ≡ []
+no_frames : (xs : List OutFrame) → map frame_view xs ≡ [] → xs ≡ []
 no_frames [] h = refl
 no_frames (x ∷ xs) h = let z : ⊥ = cc in absurd z
 

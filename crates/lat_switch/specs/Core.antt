@@ -7,7 +7,7 @@ use Rattle.lat_base.specs.declared.state.SessionState.{SessionState}
 use Rattle.lat_base.specs.declared.state.SessionState.TheVariants as states
 use Rattle.lat_model.specs.Lists.{Each}
 use Rattle.lat_machines.specs.cores.Lines.{line_exists}
-use Rattle.lat_payload.specs.Frames.{seen, expected, IsReadable}
+use Rattle.lat_payload.specs.Frames.{frame_view, expected, IsReadable}
 use Rattle.lat_lines.specs.Answers as answers
 use Rattle.lat_lines.specs.Kept as kept
 use Rattle.lat_server.specs.Stands as server
@@ -35,7 +35,7 @@ answered s e = (switch_step s e).answer
 
 -- the frames that go out: those of all inner events in order, and each of them is readable
 pub record Frames (s : Switch) (e : Event) (frames : List OutFrame) : Type 0 where
-  pub same : map seen frames ≡ map expected (switch_step s e).course.frames
+  pub same : map frame_view frames ≡ map expected (switch_step s e).course.frames
   pub readable : Each IsReadable (switch_step s e).course.frames
 
 -- what is told of a line is told of its shown inner line

@@ -2,7 +2,7 @@
 use Rattle.std.specs.Prelude.{◌≡◌, List, []}
 use Rattle.lat_base.specs.declared.answer.Answer.{Answer}
 use Rattle.lat_base.specs.declared.outbox.OutFrame.{OutFrame}
-use Rattle.lat_payload.specs.Frames.{Adds}
+use Rattle.lat_payload.specs.Frames.{Emits}
 use Rattle.lat_server.specs.Stands.{IsMachine}
 use Rattle.lat_switch.specs.Switch.{Switch, Course, Step}
 use Rattle.lat_switch.specs.Kept.{Kept}
@@ -14,7 +14,7 @@ pub record Stands (k : Kept) (s : Switch) : Type 0 where
 -- what was done so far, and its frames have gone out
 pub record HasCome (c : Course) (k : Kept) (out : List OutFrame) : Type 0 where
   pub state : Stands k c.state
-  pub frames : Adds c.frames [] out
+  pub frames : Emits c.frames [] out
 
 abbrev pub Comes : (Course → Course) → (old new : Kept) → (before after : List OutFrame) → Type 0
 Comes f old new before after = (c : Course) → HasCome c old before → HasCome (f c) new after
@@ -24,5 +24,5 @@ pub record HasDone (t : Step) (k : Kept) (answer : Answer) (out : List OutFrame)
   pub course : HasCome t.course k out
   pub answered : answer ≡ t.answer
 
-abbrev pub Does : (Course → Step) → (old new : Kept) → Answer → (before after : List OutFrame) → Type 0
-Does f old new answer before after = (c : Course) → HasCome c old before → HasDone (f c) new answer after
+abbrev pub Simulates : (Course → Step) → (old new : Kept) → Answer → (before after : List OutFrame) → Type 0
+Simulates f old new answer before after = (c : Course) → HasCome c old before → HasDone (f c) new answer after

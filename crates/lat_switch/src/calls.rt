@@ -3,11 +3,11 @@
 ghost use Rattle.std.specs.Prelude.{◌≡◌, [], List, length, Some};
 ghost use Rattle.lat_base.specs.declared.outbox.OutFrame.{OutFrame};
 ghost use Rattle.lat_lines.specs.Kept.{IsLine};
-ghost use Rattle.lat_server.specs.Events.{SaysLittle};
+ghost use Rattle.lat_lines.specs.Answers.{IsPlain};
 ghost use Rattle.lat_switch.specs.Calls.{connects, connects_at, closes, closes_one, either_done, is_connected};
 ghost use Rattle.lat_switch.specs.Kept.{IsValid, IsSame, IsInner};
 ghost use Rattle.lat_switch.specs.Lines.{shows};
-ghost use Rattle.lat_switch.specs.Stands.{HasDone, Comes, Does};
+ghost use Rattle.lat_switch.specs.Stands.{HasDone, Comes, Simulates};
 ghost use Rattle.lat_switch.specs.Switch.{Step, line_in, changes};
 
 use crate::line::{INNER, has_session};
@@ -23,7 +23,7 @@ fn is_connected(answer: &Answer) -> bool
 // `Done` once an inner line answers it.
 fn either_done(before: Answer, answer: Answer) -> Answer
     ensures value { result ≡ either_done before answer }
-    ensures told { SaysLittle before → SaysLittle result }
+    ensures told { IsPlain before → IsPlain result }
 {
     match answer {
         Answer::Done => Answer::Done,
@@ -39,8 +39,8 @@ impl SwitchCore {
         requires empty { out.old ≡ [] }
         ensures valid { IsValid self.new }
         ensures same { IsSame self.old self.new }
-        ensures does { Does (connects line service.now) self.old self.new result out.old out.new }
-        ensures told { SaysLittle result }
+        ensures does { Simulates (connects line service.now) self.old self.new result out.old out.new }
+        ensures told { IsPlain result }
     {
         match self.line_at(line).first_free(&self.inner) {
             Some(inner_line) => self.connect_at(line, inner_line, service, out),
@@ -55,8 +55,8 @@ impl SwitchCore {
         requires empty { out.old ≡ [] }
         ensures valid { IsValid self.new }
         ensures same { IsSame self.old self.new }
-        ensures does { Does (λ c. connects_at line service.now c (Some inner_line)) self.old self.new result out.old out.new }
-        ensures told { SaysLittle result }
+        ensures does { Simulates (λ c. connects_at line service.now c (Some inner_line)) self.old self.new result out.old out.new }
+        ensures told { IsPlain result }
     {
         let event = Event::Connect {
             line: inner_line,
@@ -90,8 +90,8 @@ impl SwitchCore {
         requires empty { out.old ≡ [] }
         ensures valid { IsValid self.new }
         ensures same { IsSame self.old self.new }
-        ensures does { Does (closes line) self.old self.new result out.old out.new }
-        ensures told { SaysLittle result }
+        ensures does { Simulates (closes line) self.old self.new result out.old out.new }
+        ensures told { IsPlain result }
     {
         let first = self.line_at(line).first();
         let mut answer = Answer::Closed;
@@ -108,7 +108,7 @@ impl SwitchCore {
         ensures valid { IsValid self.new }
         ensures same { IsSame self.old self.new }
         ensures does { (t : Step) → HasDone t self.old before out.old → HasDone (closes_one t inner_line) self.new result out.new }
-        ensures told { SaysLittle before → SaysLittle result }
+        ensures told { IsPlain before → IsPlain result }
         ensures quiet { out.new ≡ [] }
     {
         if !has_session(&self.inner, inner_line) {

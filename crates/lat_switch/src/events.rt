@@ -5,7 +5,7 @@ ghost use Rattle.lat_base.specs.Answers.{PutFits, TookFits};
 ghost use Rattle.lat_base.specs.declared.event.Event.TheVariants as events;
 ghost use Rattle.lat_switch.specs.Core.{ready};
 ghost use Rattle.lat_switch.specs.Kept.{IsValid, IsSame};
-ghost use Rattle.lat_switch.specs.Stands.{Does};
+ghost use Rattle.lat_switch.specs.Stands.{Simulates};
 ghost use Rattle.lat_switch.specs.Steps.{does};
 
 use crate::switch::SwitchCore;
@@ -24,7 +24,7 @@ impl SwitchCore {
         requires empty { out.old ≡ [] }
         ensures valid { IsValid self.new }
         ensures same { IsSame self.old self.new }
-        ensures does { IfOk result (λ a. Does (does event.now) self.old self.new a out.old out.new) }
+        ensures does { IfOk result (λ a. Simulates (does event.now) self.old self.new a out.old out.new) }
         ensures put { IfOk result (λ a. PutFits a event.now) }
         ensures took { IfOk result (λ a. TookFits (ready self.old) a event.now) }
         ensures kept { OnErr result (self.new ≡ self.old) }
@@ -48,7 +48,7 @@ impl SwitchCore {
         requires empty { out.old ≡ [] }
         ensures valid { IsValid self.new }
         ensures same { IsSame self.old self.new }
-        ensures does { Does (does (events.Connect line service)) self.old self.new result out.old out.new }
+        ensures does { Simulates (does (events.Connect line service)) self.old self.new result out.old out.new }
         ensures put { PutFits result (events.Connect line service) }
         ensures took { TookFits (ready self.old) result (events.Connect line service) }
     {
@@ -70,7 +70,7 @@ impl SwitchCore {
         requires empty { out.old ≡ [] }
         ensures valid { IsValid self.new }
         ensures same { IsSame self.old self.new }
-        ensures does { IfOk result (λ a. Does (does (events.Put line bytes.now)) self.old self.new a out.old out.new) }
+        ensures does { IfOk result (λ a. Simulates (does (events.Put line bytes.now)) self.old self.new a out.old out.new) }
         ensures put { IfOk result (λ a. PutFits a (events.Put line bytes.now)) }
         ensures took { IfOk result (λ a. TookFits (ready self.old) a (events.Put line bytes.now)) }
         ensures kept { OnErr result (self.new ≡ self.old) }
@@ -88,7 +88,7 @@ impl SwitchCore {
         requires empty { out.old ≡ [] }
         ensures valid { IsValid self.new }
         ensures same { IsSame self.old self.new }
-        ensures does { Does (does (events.Set line setting)) self.old self.new result out.old out.new }
+        ensures does { Simulates (does (events.Set line setting)) self.old self.new result out.old out.new }
         ensures put { PutFits result (events.Set line setting) }
         ensures took { TookFits (ready self.old) result (events.Set line setting) }
     {
@@ -108,7 +108,7 @@ impl SwitchCore {
         requires empty { out.old ≡ [] }
         ensures valid { IsValid self.new }
         ensures same { IsSame self.old self.new }
-        ensures does { IfOk result (λ a. Does (does (events.Take line n)) self.old self.new a out.old out.new) }
+        ensures does { IfOk result (λ a. Simulates (does (events.Take line n)) self.old self.new a out.old out.new) }
         ensures put { IfOk result (λ a. PutFits a (events.Take line n)) }
         ensures took { IfOk result (λ a. TookFits (ready self.old) a (events.Take line n)) }
         ensures kept { OnErr result (self.new ≡ self.old) }
@@ -130,7 +130,7 @@ impl SwitchCore {
         requires empty { out.old ≡ [] }
         ensures valid { IsValid self.new }
         ensures same { IsSame self.old self.new }
-        ensures does { Does (does (events.Attend line flag)) self.old self.new result out.old out.new }
+        ensures does { Simulates (does (events.Attend line flag)) self.old self.new result out.old out.new }
         ensures put { PutFits result (events.Attend line flag) }
         ensures took { TookFits (ready self.old) result (events.Attend line flag) }
     {
@@ -150,7 +150,7 @@ impl SwitchCore {
         requires empty { out.old ≡ [] }
         ensures valid { IsValid self.new }
         ensures same { IsSame self.old self.new }
-        ensures does { Does (does (events.Close line)) self.old self.new result out.old out.new }
+        ensures does { Simulates (does (events.Close line)) self.old self.new result out.old out.new }
         ensures put { PutFits result (events.Close line) }
         ensures took { TookFits (ready self.old) result (events.Close line) }
     {

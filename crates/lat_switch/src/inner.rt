@@ -10,7 +10,7 @@ ghost use Rattle.lat_server.specs.Kept.{AtRest};
 ghost use Rattle.lat_server.specs.Stands.{Machine, IsMachine};
 ghost use Rattle.lat_switch.specs.Kept.{IsValid, IsSame, IsQuiet};
 ghost use Rattle.lat_switch.specs.Lines.{gives_way, shows_next};
-ghost use Rattle.lat_switch.specs.Stands.{Comes, Does};
+ghost use Rattle.lat_switch.specs.Stands.{Comes, Simulates};
 ghost use Rattle.lat_switch.specs.Switch.{line_in, relays, changes};
 
 use crate::line::Line;
@@ -46,7 +46,7 @@ impl SwitchCore {
         requires empty { out.old ≡ [] }
         ensures valid { IsValid self.new }
         ensures same { IsSame self.old self.new }
-        ensures does { Does (relays event.now) self.old self.new result out.old out.new }
+        ensures does { Simulates (relays event.now) self.old self.new result out.old out.new }
         ensures put { PutFits result event.now }
         ensures took { TookFits (lines.ready self.old.inner.lines) result event.now }
         ensures quiet { IsQuiet event.now → out.new ≡ [] }
@@ -67,7 +67,7 @@ impl SwitchCore {
         requires empty { out.old ≡ [] }
         ensures valid { IsValid self.new }
         ensures same { IsSame self.old self.new }
-        ensures does { IfOk result (λ a. Does (relays event.now) self.old self.new a out.old out.new) }
+        ensures does { IfOk result (λ a. Simulates (relays event.now) self.old self.new a out.old out.new) }
         ensures put { IfOk result (λ a. PutFits a event.now) }
         ensures took { IfOk result (λ a. TookFits (lines.ready self.old.inner.lines) a event.now) }
         ensures kept { OnErr result (self.new ≡ self.old) }

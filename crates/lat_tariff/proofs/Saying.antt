@@ -19,7 +19,7 @@ use Rattle.lat_machines.specs.values.Notices.{Solicit, SolicitNotice}
 use Rattle.lat_machines.specs.node.Node.{NodeConfig, Node, NodeStep, with_core, tells, solicited, announcement, response, node_step, rates_of}
 use Rattle.lat_machines.proofs.events.Ratings.{same_but_frames}
 use Rattle.lat_model.specs.Lists.{Each}
-use Rattle.lat_payload.specs.Frames.{Adds, GoesOutAs, expected, IsReadable}
+use Rattle.lat_payload.specs.Frames.{Emits, GoesOutAs, expected, IsReadable}
 use Rattle.lat_payload.proofs.Frames.{adds_one, adds_then}
 use Rattle.lat_payload.specs.Reads.{reading_of}
 use Rattle.lat_circuits.proofs.Found.{finds_at, finds_none}
@@ -107,7 +107,7 @@ says_response {H = H} {R = R} may k from held rate n r f g rule apart services m
       (subst (λ (o : Option (Rule R)). AreOwn may (used s.core) k.node.lines.lines (with_first o k.rules) (rate ∷ a.rates)) (sym rule)
       (subst (λ u. AreOwn may u k.node.lines.lines (r ∷ k.rules) (rate ∷ a.rates)) (model s st) (one, a.own)));
   adds =
-      subst (λ (x : NodeStep). Adds x.frames [] (f ∷ g ∷ [])) (sym (is (rate ∷ a.rates)))
+      subst (λ (x : NodeStep). Emits x.frames [] (f ∷ g ∷ [])) (sym (is (rate ∷ a.rates)))
       (adds_then (p ∷ []) (q ∷ []) [] (f ∷ []) (f ∷ g ∷ []) (adds_one p f [] goes) (adds_one q g (f ∷ []) a.goes));
 }
   where
@@ -129,7 +129,7 @@ says_response {H = H} {R = R} may k from held rate n r f g rule apart services m
 record FramesAt {R : Type 0} (may : R → ℕ → ℕ → ℕ → Type 0) (config : NodeConfig) (rules : List (Rule R)) (s : Node) (e : Event) (frames : List OutFrame) : Type 0 where
   pub rates : List ℕ
   pub own : AreOwn may (used s.core) config.lines (asked rules e (node_step config [] s e).answer) rates
-  pub adds : Adds (node_step config rates s e).frames [] frames
+  pub adds : Emits (node_step config rates s e).frames [] frames
 
 none_left : {A : Type 0} (xs : List A) → length xs ≡ 0 → xs ≡ []
 none_left [] h = refl

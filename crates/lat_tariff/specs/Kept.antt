@@ -11,7 +11,7 @@ use Rattle.lat_machines.specs.values.Events as machine
 use Rattle.lat_machines.specs.values.Frames.{Reading, Whole, OfNotice}
 use Rattle.lat_machines.specs.values.Names.{Name, same}
 use Rattle.lat_machines.specs.values.Notices.{SolicitNotice}
-use Rattle.lat_payload.specs.Frames.{Adds}
+use Rattle.lat_payload.specs.Frames.{Emits}
 use Rattle.lat_lines.specs.Events.{event_shown}
 use Rattle.lat_node.specs.Kept as node
 use Rattle.lat_node.specs.Stands as stands
@@ -86,7 +86,7 @@ asked rules e a = []
 pub record Frames {H R : Type 0} (may : R → ℕ → ℕ → ℕ → Type 0) (m : Machine H R) (e : Event) (frames : List OutFrame) : Type 0 where
   pub rates : List ℕ
   pub own : AreOwn may (used m.node.state.core) m.node.config.lines (asked m.rules (event_shown e) (stands.stepped m.node e).answer) rates
-  pub adds : Adds (node_step m.node.config rates m.node.state (event_shown e)).frames [] frames
+  pub adds : Emits (node_step m.node.config rates m.node.state (event_shown e)).frames [] frames
 
 abbrev pub line_of : {H R : Type 0} → Machine H R → ℕ → SessionState
 line_of m line = stands.line_of m.node line

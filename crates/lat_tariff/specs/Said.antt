@@ -10,7 +10,7 @@ use Rattle.lat_machines.specs.values.Answers.{Answer}
 use Rattle.lat_machines.specs.values.Events as machine
 use Rattle.lat_machines.specs.values.Frames.{plain, OfNotice, Reading, Whole}
 use Rattle.lat_machines.specs.values.Notices.{SolicitNotice}
-use Rattle.lat_payload.specs.Frames.{Adds, GoesOutAs}
+use Rattle.lat_payload.specs.Frames.{Emits, GoesOutAs}
 use Rattle.lat_payload.specs.Shown.{notice_shown, solicit_shown}
 use Rattle.lat_node.specs.Kept.{config_of}
 use Rattle.lat_node.specs.Stands.{Stands}
@@ -35,7 +35,7 @@ pub record IsSilent {R : Type 0} (rules : List (Rule R)) (config : NodeConfig) (
 pub record Rated {H R : Type 0} (may : R → ℕ → ℕ → ℕ → Type 0) (k : Kept H R) (s : Node) (e : machine.Event) (frames : List OutFrame) : Type 0 where
   pub rates : List ℕ
   pub own : AreOwn may (used s.core) k.node.lines.lines (asked k.rules e (node_step (config_of k.node) [] s e).answer) rates
-  pub adds : Adds (node_step (config_of k.node) rates s e).frames [] frames
+  pub adds : Emits (node_step (config_of k.node) rates s e).frames [] frames
 
 -- what goes out at an event of a state: no frame with ratings, or these frames
 abbrev pub Says : {H R : Type 0} → (R → ℕ → ℕ → ℕ → Type 0) → Kept H R → Node → machine.Event → Said → Type 0

@@ -21,7 +21,7 @@ use lat_base::{Addr, Bytes, EVERYONE, Event, Memory, OutFrame};
 use lat_fields::LayoutFault;
 use lat_node::RatingRule;
 use lat_notices::{Announcement, Notice, Solicit};
-use lat_payload::{Value, notice_frame, read_value, response_frame};
+use lat_payload::{Value, is_everyone, notice_frame, read_value, response_frame};
 use std::alloc::Global;
 
 /// The frames with ratings that an event makes.
@@ -120,13 +120,6 @@ impl<H: RatingRule, R: SteadyRule> TariffCore<H, R> {
             services: self.tariff.services(alloc, used, self.lines as u16)?,
         }))
     }
-}
-
-// Whether it is the address of everyone.
-fn is_everyone(station: &[u8; 6]) -> bool
-    ensures { result ≡ nat_eq (address station.now) everyone }
-{
-    *station == EVERYONE.0
 }
 
 // The Solicit that a payload is.

@@ -3,7 +3,7 @@ use Rattle.lat_machines.specs.cores.Cores.{at_moment}
 use Rattle.lat_machines.specs.node.Node.{with_core, hears_message}
 use Rattle.lat_machines.specs.values.Addresses.{address}
 use Rattle.lat_circuit.specs.Frames.{message_shown}
-use Rattle.lat_node.specs.Events.{Does}
+use Rattle.lat_node.specs.Events.{Simulates}
 use Rattle.lat_node.specs.Kept.{Kept}
 use Rattle.lat_node.specs.Shown.{shown}
 use Rattle.lat_node.proofs.HeardLemmas.{message_does}
@@ -14,7 +14,7 @@ returns-clause-does g c =
     let k = shown c.self.inside in
     let from = address c.args.from.0 in
     let m = message_shown c.args.message.now in
-    subst (λ (z : Kept g.row.H.Denot). Does (λ config s. hears_message config (with_core s (at_moment c.args.now s.core)) from m None) z c.answer_named.new.self c.hearing_told.result c.args.out.now c.heard-hearing.new.out) c.self.view_is
+    subst (λ (z : Kept g.row.H.Denot). Simulates (λ config s. hears_message config (with_core s (at_moment c.args.now s.core)) from m None) z c.answer_named.new.self c.hearing_told.result c.args.out.now c.heard-hearing.new.out) c.self.view_is
     (message_does k c.pass.new.self c.heard-hearing.new.self c.answer_named.new.self c.args.now from m c.named-named.result c.hearing_told.result c.args.out.now c.heard-hearing.new.out
     (record {
       node = c.self.invariant.node;

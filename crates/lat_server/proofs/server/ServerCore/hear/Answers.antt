@@ -7,11 +7,11 @@ use Rattle.lat_machines.specs.cores.Cores.{at_moment}
 use Rattle.lat_machines.specs.server.Server.{with_core, hears}
 use Rattle.lat_payload.specs.Reads.{malformed, reading_of, Answers}
 use Rattle.lat_server.specs.Kept.{config_of}
-use Rattle.lat_server.specs.Events.{DidTo}
+use Rattle.lat_server.specs.Events.{HasDone}
 use Rattle.lat_server.proofs.server.ServerCore.hear.Goals as goal
 
 pub returns-in-Err-Bad-clause-does : goal.returns-in-Err-Bad-clause-does
 returns-in-Err-Bad-clause-does c = λ s st.
     let is : reading_of c.args.payload.now ≡ malformed c.in-Err-Bad.bad = subst (λ (f : LayoutFault). Answers (Err f) (reading_of c.args.payload.now)) c.in-Err-Bad.field-0-is c.in-Err-Bad.ensures.reading in
     let d = rw c.in-Err-Bad.field-0-is at (c.turn_away.ensures.does c.args.out.now s st) in
-    subst (λ (r : Reading). DidTo s (hears (config_of c.args.self.now) (with_core s (at_moment c.args.now s.core)) (address c.args.from.0) r None) c.turn_away.new.self c.turn_away.result c.args.out.now c.args.out.now) (sym is) d
+    subst (λ (r : Reading). HasDone s (hears (config_of c.args.self.now) (with_core s (at_moment c.args.now s.core)) (address c.args.from.0) r None) c.turn_away.new.self c.turn_away.result c.args.out.now c.args.out.now) (sym is) d

@@ -11,7 +11,7 @@ use Rattle.lat_server.specs.Commands.{announced_answer}
 use Rattle.lat_server.specs.Kept.{Kept, config_of, AtRest}
 use Rattle.lat_server.specs.Shown.{shown}
 use Rattle.lat_server.specs.Stands.{Stands}
-use Rattle.lat_server.specs.Events.{DidTo}
+use Rattle.lat_server.specs.Events.{HasDone}
 use Rattle.lat_server.proofs.Hearing.{unless_out, did_announce}
 use Rattle.lat_server.proofs.server.ServerCore.hear_announcement.Goals as goal
 
@@ -29,5 +29,5 @@ returns-clause-does c = λ frames s st.
     (unless_out r (dir.Stands c.hear-heard.new.self (heard k.directory.groups c.max-moment.result c.args.from a s.heard)) n (c.hear-heard.ensures.stands s.heard in_it.directory)) in
     let answer : r ≡ answer_to k.directory.groups (max s.core.moment c.args.now) a s.heard = unless_out r (r ≡ answer_to k.directory.groups c.max-moment.result a s.heard) n (c.hear-heard.ensures.answer s.heard in_it.directory) ∙ ap (λ z. answer_to k.directory.groups z a s.heard) moment in
     let told : answer_shown c.in_ok-answer.answer ≡ announced_answer r = unless_out r (answer_shown c.in_ok-answer.answer ≡ announced_answer r) n c.in_ok-answer.ensures.shown in
-    subst (λ (z : Kept). DidTo s (hears_announcement (config_of z) (with_core s (at_moment c.args.now s.core)) (address c.args.from.0) (announcement_shown a)) (record k { lines = c.pass.new.self; directory = c.hear-heard.new.self }) c.in_ok-answer.answer frames frames) c.self.view_is
+    subst (λ (z : Kept). HasDone s (hears_announcement (config_of z) (with_core s (at_moment c.args.now s.core)) (address c.args.from.0) (announcement_shown a)) (record k { lines = c.pass.new.self; directory = c.hear-heard.new.self }) c.in_ok-answer.answer frames frames) c.self.view_is
     (did_announce k s c.args.now (address c.args.from.0) (announcement_shown a) c.pass.new.self c.hear-heard.new.self c.in_ok-answer.answer frames rest in_it (c.pass.ensures.state s.core in_it.lines) c.pass.ensures.freed stands (told ∙ ap announced_answer answer))

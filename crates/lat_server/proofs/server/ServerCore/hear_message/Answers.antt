@@ -10,7 +10,7 @@ use Rattle.lat_lines.specs.Stands as stands
 use Rattle.lat_server.specs.Kept.{Kept, config_of}
 use Rattle.lat_server.specs.Shown.{shown}
 use Rattle.lat_server.specs.Stands.{Stands}
-use Rattle.lat_server.specs.Events.{DidTo}
+use Rattle.lat_server.specs.Events.{HasDone}
 use Rattle.lat_server.proofs.Connecting.{same_side}
 use Rattle.lat_server.proofs.Hearing.{sides, did_message}
 use Rattle.lat_server.proofs.server.ServerCore.hear_message.Goals as goal
@@ -24,8 +24,8 @@ returns-clause-does c = λ s st.
     let message = message_shown c.args.message.now in
     let there : stands.Stands c.pass.new.self m = c.pass.ensures.state s.core in_it.lines in
     let side : lines.side_of c.pass.new.self ≡ server_side (config_of k) = sides k.lines c.pass.new.self c.pass.ensures.same ∙ sym (same_side k c.self.invariant.server) in
-    let did : stands.DidTo m (heard_core (server_side (config_of k)) x message m).doing c.heard.new.self c.args.out.now c.heard.new.out =
-    subst (λ (z : Side). stands.DidTo m (heard_core z x message m).doing c.heard.new.self c.args.out.now c.heard.new.out) side (c.heard.ensures.did m there) in
+    let did : stands.HasStepped m (heard_core (server_side (config_of k)) x message m).doing c.heard.new.self c.args.out.now c.heard.new.out =
+    subst (λ (z : Side). stands.HasStepped m (heard_core z x message m).doing c.heard.new.self c.args.out.now c.heard.new.out) side (c.heard.ensures.did m there) in
     let told : answer_shown c.answer_heard.result ≡ (heard_core (server_side (config_of k)) x message m).answer = c.answer_heard.ensures.shown ∙ c.heard.ensures.answer m there ∙ ap (λ (z : Side). (heard_core z x message m).answer) side in
-    subst (λ (z : Kept). DidTo s (hears_message (config_of z) (with_core s m) x message None) (record k { lines = c.heard.new.self }) c.answer_heard.result c.args.out.now c.heard.new.out) c.self.view_is
+    subst (λ (z : Kept). HasDone s (hears_message (config_of z) (with_core s m) x message None) (record k { lines = c.heard.new.self }) c.answer_heard.result c.args.out.now c.heard.new.out) c.self.view_is
     (did_message k s c.args.now x message c.heard.new.self c.answer_heard.result c.args.out.now c.heard.new.out in_it did told)

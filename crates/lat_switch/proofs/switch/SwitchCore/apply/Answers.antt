@@ -5,14 +5,14 @@ use Rattle.lat_base.specs.declared.answer.Answer.TheVariants as answers
 use Rattle.lat_base.specs.declared.event.Event.{Event}
 use Rattle.lat_base.specs.declared.event.Event.TheVariants as events
 use Rattle.lat_switch.specs.Core.{ready}
-use Rattle.lat_switch.specs.Stands.{Does}
+use Rattle.lat_switch.specs.Stands.{Simulates}
 use Rattle.lat_switch.specs.Steps.{does}
 use Rattle.lat_switch.proofs.Courses.{same_itself}
 use Rattle.lat_switch.proofs.Lined.{as_relay, as_refusal}
 use Rattle.lat_switch.proofs.switch.SwitchCore.apply.Goals as goal
 
 pub returns-in-Connect-clause-does : goal.returns-in-Connect-clause-does
-returns-in-Connect-clause-does c = subst (λ (e : Event). Does (does e) c.args.self.now c.connect_event.new.self c.connect_event.result c.args.out.now c.connect_event.new.out) (sym c.in-Connect.is) c.connect_event.ensures.does
+returns-in-Connect-clause-does c = subst (λ (e : Event). Simulates (does e) c.args.self.now c.connect_event.new.self c.connect_event.result c.args.out.now c.connect_event.new.out) (sym c.in-Connect.is) c.connect_event.ensures.does
 
 pub returns-in-Connect-clause-put : goal.returns-in-Connect-clause-put
 returns-in-Connect-clause-put c = subst (λ (e : Event). PutFits c.connect_event.result e) (sym c.in-Connect.is) c.connect_event.ensures.put
@@ -21,7 +21,7 @@ pub returns-in-Connect-clause-took : goal.returns-in-Connect-clause-took
 returns-in-Connect-clause-took c = subst (λ (e : Event). TookFits (ready c.args.self.now) c.connect_event.result e) (sym c.in-Connect.is) c.connect_event.ensures.took
 
 pub returns-in-Set-clause-does : goal.returns-in-Set-clause-does
-returns-in-Set-clause-does c = subst (λ (e : Event). Does (does e) c.args.self.now c.set.new.self c.set.result c.args.out.now c.set.new.out) (sym c.in-Set.is) c.set.ensures.does
+returns-in-Set-clause-does c = subst (λ (e : Event). Simulates (does e) c.args.self.now c.set.new.self c.set.result c.args.out.now c.set.new.out) (sym c.in-Set.is) c.set.ensures.does
 
 pub returns-in-Set-clause-put : goal.returns-in-Set-clause-put
 returns-in-Set-clause-put c = subst (λ (e : Event). PutFits c.set.result e) (sym c.in-Set.is) c.set.ensures.put
@@ -30,7 +30,7 @@ pub returns-in-Set-clause-took : goal.returns-in-Set-clause-took
 returns-in-Set-clause-took c = subst (λ (e : Event). TookFits (ready c.args.self.now) c.set.result e) (sym c.in-Set.is) c.set.ensures.took
 
 pub returns-in-Attend-clause-does : goal.returns-in-Attend-clause-does
-returns-in-Attend-clause-does c = subst (λ (e : Event). Does (does e) c.args.self.now c.attend.new.self c.attend.result c.args.out.now c.attend.new.out) (sym c.in-Attend.is) c.attend.ensures.does
+returns-in-Attend-clause-does c = subst (λ (e : Event). Simulates (does e) c.args.self.now c.attend.new.self c.attend.result c.args.out.now c.attend.new.out) (sym c.in-Attend.is) c.attend.ensures.does
 
 pub returns-in-Attend-clause-put : goal.returns-in-Attend-clause-put
 returns-in-Attend-clause-put c = subst (λ (e : Event). PutFits c.attend.result e) (sym c.in-Attend.is) c.attend.ensures.put
@@ -39,7 +39,7 @@ pub returns-in-Attend-clause-took : goal.returns-in-Attend-clause-took
 returns-in-Attend-clause-took c = subst (λ (e : Event). TookFits (ready c.args.self.now) c.attend.result e) (sym c.in-Attend.is) c.attend.ensures.took
 
 pub returns-in-Close-clause-does : goal.returns-in-Close-clause-does
-returns-in-Close-clause-does c = subst (λ (e : Event). Does (does e) c.args.self.now c.close_event.new.self c.close_event.result c.args.out.now c.close_event.new.out) (sym c.in-Close.is) c.close_event.ensures.does
+returns-in-Close-clause-does c = subst (λ (e : Event). Simulates (does e) c.args.self.now c.close_event.new.self c.close_event.result c.args.out.now c.close_event.new.out) (sym c.in-Close.is) c.close_event.ensures.does
 
 pub returns-in-Close-clause-put : goal.returns-in-Close-clause-put
 returns-in-Close-clause-put c = subst (λ (e : Event). PutFits c.close_event.result e) (sym c.in-Close.is) c.close_event.ensures.put
@@ -49,8 +49,8 @@ returns-in-Close-clause-took c = subst (λ (e : Event). TookFits (ready c.args.s
 
 pub returns-in-Put-clause-does : goal.returns-in-Put-clause-does
 returns-in-Put-clause-does c =
-    subst (λ (e : Event). IfOk c.put_event.result (λ a. Does (does e) c.args.self.now c.put_event.new.self a c.args.out.now c.put_event.new.out)) (sym c.in-Put.is)
-    (subst (λ (bytes : List ℕ). IfOk c.put_event.result (λ a. Does (does (events.Put c.in-Put.line bytes)) c.args.self.now c.put_event.new.self a c.args.out.now c.put_event.new.out)) c.as_slice.ensures c.put_event.ensures.does)
+    subst (λ (e : Event). IfOk c.put_event.result (λ a. Simulates (does e) c.args.self.now c.put_event.new.self a c.args.out.now c.put_event.new.out)) (sym c.in-Put.is)
+    (subst (λ (bytes : List ℕ). IfOk c.put_event.result (λ a. Simulates (does (events.Put c.in-Put.line bytes)) c.args.self.now c.put_event.new.self a c.args.out.now c.put_event.new.out)) c.as_slice.ensures c.put_event.ensures.does)
 
 pub returns-in-Put-clause-put : goal.returns-in-Put-clause-put
 returns-in-Put-clause-put c =
@@ -63,7 +63,7 @@ returns-in-Put-clause-took c =
     (subst (λ (bytes : List ℕ). IfOk c.put_event.result (λ a. TookFits (ready c.args.self.now) a (events.Put c.in-Put.line bytes))) c.as_slice.ensures c.put_event.ensures.took)
 
 pub returns-in-Take-clause-does : goal.returns-in-Take-clause-does
-returns-in-Take-clause-does c = subst (λ (e : Event). IfOk c.take.result (λ a. Does (does e) c.args.self.now c.take.new.self a c.args.out.now c.take.new.out)) (sym c.in-Take.is) c.take.ensures.does
+returns-in-Take-clause-does c = subst (λ (e : Event). IfOk c.take.result (λ a. Simulates (does e) c.args.self.now c.take.new.self a c.args.out.now c.take.new.out)) (sym c.in-Take.is) c.take.ensures.does
 
 pub returns-in-Take-clause-put : goal.returns-in-Take-clause-put
 returns-in-Take-clause-put c = subst (λ (e : Event). IfOk c.take.result (λ a. PutFits a e)) (sym c.in-Take.is) c.take.ensures.put
@@ -72,10 +72,10 @@ pub returns-in-Take-clause-took : goal.returns-in-Take-clause-took
 returns-in-Take-clause-took c = subst (λ (e : Event). IfOk c.take.result (λ a. TookFits (ready c.args.self.now) a e)) (sym c.in-Take.is) c.take.ensures.took
 
 pub returns-in-Heard-clause-does : goal.returns-in-Heard-clause-does
-returns-in-Heard-clause-does c = as_relay c.args.event.now (λ f. IfOk c.pass.result (λ a. Does f c.args.self.now c.pass.new.self a c.args.out.now c.pass.new.out)) c.in-Heard.is c.pass.ensures.does
+returns-in-Heard-clause-does c = as_relay c.args.event.now (λ f. IfOk c.pass.result (λ a. Simulates f c.args.self.now c.pass.new.self a c.args.out.now c.pass.new.out)) c.in-Heard.is c.pass.ensures.does
 
 pub returns-in-Request-clause-same : goal.returns-in-Request-clause-same
 returns-in-Request-clause-same c = same_itself c.args.self.now
 
 pub returns-in-Request-clause-does : goal.returns-in-Request-clause-does
-returns-in-Request-clause-does c = as_refusal c.args.event.now (λ f. Does f c.args.self.now c.args.self.now answers.NotHere c.args.out.now c.args.out.now) c.in-Request.is (λ course h. record { course = h; answered = refl })
+returns-in-Request-clause-does c = as_refusal c.args.event.now (λ f. Simulates f c.args.self.now c.args.self.now answers.NotHere c.args.out.now c.args.out.now) c.in-Request.is (λ course h. record { course = h; answered = refl })

@@ -1,5 +1,5 @@
 use Rattle.std.proofs.Common.{◌≡◌, ◌+◌, [], map, drop}
-use Rattle.lat_server.specs.Events.{SaysLittle}
+use Rattle.lat_lines.specs.Answers.{IsPlain}
 use Rattle.lat_switch.specs.Calls.{closes}
 use Rattle.lat_switch.specs.Kept.{IsValid, IsSame}
 use Rattle.lat_switch.specs.Progress.{ClosesOn}
@@ -13,6 +13,6 @@ invariant-loop-place l = record {
   valid : IsValid l.self;
   same : IsSame l.initial.self l.self;
   empty : l.out ≡ [];
-  told : SaysLittle l.answer;
+  told : IsPlain l.answer;
   closes : (c : Course) → HasCome c l.initial.self l.initial.out → ClosesOn (closes l.line c) (map (λ i. l.first + i) (drop l.place places)) l.self l.answer l.out;
 }

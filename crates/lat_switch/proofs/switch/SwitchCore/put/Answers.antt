@@ -3,7 +3,7 @@ use Rattle.std.proofs.lemmas.Bool.{eqb-false}
 use Rattle.lat_switch.specs.Pieces.{pieces_of, sizes}
 use Rattle.lat_switch.specs.Progress.{HasRead}
 use Rattle.lat_switch.specs.Reading.{puts, reads_all}
-use Rattle.lat_switch.specs.Stands.{Does}
+use Rattle.lat_switch.specs.Stands.{Simulates}
 use Rattle.lat_switch.proofs.Readings.{has_put, sizes_within, some_pieces}
 use Rattle.lat_switch.proofs.switch.SwitchCore.put.Goals as goal
 
@@ -32,4 +32,4 @@ nil_of (x ∷ xs) h = absurd (omega arith)
 pub returns-then-is_empty-clause-does : goal.returns-then-is_empty-clause-does
 returns-then-is_empty-clause-does c =
     let none : c.args.bytes.now ≡ [] = nil_of c.args.bytes.now (eqb-true (length c.args.bytes.now) 0 (sym c.is_empty.ensures ∙ c.if-is_empty.true)) in
-    subst (λ (bytes : List ℕ). Does (puts c.args.line bytes) c.args.self.now c.put_nothing.new.self c.put_nothing.result c.args.out.now c.put_nothing.new.out) (sym none) c.put_nothing.ensures.does
+    subst (λ (bytes : List ℕ). Simulates (puts c.args.line bytes) c.args.self.now c.put_nothing.new.self c.put_nothing.result c.args.out.now c.put_nothing.new.out) (sym none) c.put_nothing.ensures.does
