@@ -40,18 +40,18 @@ impl<H: RatingRule> RunEnd<H> {
 }
 
 // Writes the text, and ends with the status and the world, or with 5 alone where it couldn't be written.
-fn told<H: RatingRule, K: Sink>(
+fn end_with<H: RatingRule, K: Sink>(
     out: &mut K,
     status: u8,
     text: &str,
     world: Option<World<H>>,
 ) -> RunEnd<H>
     requires { status ≢ 5 }
-    ensures told { (a : Answer) →
+    ensures tells { (a : Answer) →
         status ≡ a.status →
         text.now ≡ a.text →
         HandsBack a.world world →
-        Tells a result (K.told out.old) (K.told out.new) }
+        Tells a result (K.written out.old) (K.written out.new) }
     ensures which { (result ≡ record { status = status; world = world }) ⊎ (result ≡ record { status = 5; world = None }) }
     ensures fault { result.status ≡ 5 → Rose (K.faults out.old) (K.faults out.new) }
     ensures later { K.faults out.old ≤ K.faults out.new }
@@ -105,11 +105,11 @@ pub fn run<S: Source, K: Sink, H: RatingRule>(
 
     // The words are no command: nothing is read.
     ensures words { command_of (map string_bytes words.now) ≡ None →
-        Tells (plain (1, codes "words\n")) result (K.told out.old) (K.told out.new) × (src.new ≡ src.old) }
+        Tells (plain (1, codes "words\n")) result (K.written out.old) (K.written out.new) × (src.new ≡ src.old) }
 
     // They are one: unless a read or a write fails or no memory is found, the answer to the input, and the world that it tells of.
     ensures answer { IfSome (command_of (map string_bytes words.now)) (λ c.
-        IfSome (input_of c (S.left src.old)) (λ input. Answers (answer_of c input) result (K.told out.old) (K.told out.new))) }
+        IfSome (input_of c (S.left src.old)) (λ input. Answers (answer_of c input) result (K.written out.old) (K.written out.new))) }
     ensures status { IfSome (command_of (map string_bytes words.now)) (λ c. IsStatusOf c result.status) }
     ensures world { IfSome (command_of (map string_bytes words.now)) (λ c. WorldWhereDone c result.status result.world) }
     ensures unread { IfSome (command_of (map string_bytes words.now)) (λ c. reads c ≡ false → src.new ≡ src.old) }
@@ -117,7 +117,7 @@ pub fn run<S: Source, K: Sink, H: RatingRule>(
     // What it prints of a circuit is `none`, or `audit` finds it legal; and where nothing was lost, enough rounds bring all that
     // was put, and are refused for the number of frames alone.
     ensures law { IfSome (command_of (map string_bytes words.now)) (λ c.
-        ObeysLaw c (S.left src.old) result.status (K.told out.old) (K.told out.new)) }
+        ObeysLaw c (S.left src.old) result.status (K.written out.old) (K.written out.new)) }
 
     // Each fault has its cause, and want of memory or a failed read writes nothing.
     ensures read { result.status ≡ 4 → Rose (S.faults src.old) (S.faults src.new) }
@@ -126,12 +126,12 @@ pub fn run<S: Source, K: Sink, H: RatingRule>(
     ensures later { (S.faults src.old ≤ S.faults src.new) × (K.faults out.old ≤ K.faults out.new) }
 {
     let Some(command) = command_of(words) else {
-        return told(out, 1, "words\n", None);
+        return end_with(out, 1, "words\n", None);
     };
     let input = match input_of(alloc, command, src) {
         Ok(input) => input,
         Err(ReadEnd::Fault) => return RunEnd::of(4),
-        Err(ReadEnd::Limit) => return told(out, 6, "limit bytes\n", None),
+        Err(ReadEnd::Limit) => return end_with(out, 6, "limit bytes\n", None),
         Err(ReadEnd::Memory) => return RunEnd::of(9),
     };
     let Ok(outcome) = answered(alloc, command, rule, &input) else {
@@ -142,5 +142,5 @@ pub fn run<S: Source, K: Sink, H: RatingRule>(
         text,
         world,
     } = outcome;
-    told(out, status, text.as_str(), world)
+    end_with(out, status, text.as_str(), world)
 }

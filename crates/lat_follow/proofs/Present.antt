@@ -8,7 +8,7 @@ use Rattle.lat_model.specs.Lists.{Each}
 use Rattle.lat_machines.specs.cores.Cores.{Seat, Core}
 use Rattle.lat_machines.specs.cores.Books.{LineSession, line_session, LineBook, book}
 use Rattle.lat_machines.specs.world.Machines.{Machines, core_of}
-use Rattle.lat_stream.specs.Kept.{told_total}
+use Rattle.lat_stream.specs.Kept.{saturated}
 use Rattle.lat_lines.specs.Kept.{IsLine}
 use Rattle.lat_lines.specs.Stands.{session_shown, session_told, book_shown, book_told, IsSeat}
 use Rattle.lat_tales.specs.Books.{InBooks, lines_at}
@@ -19,10 +19,10 @@ use Rattle.lat_follow.specs.Present.{IsPresent, NotOn, IsNewcomer}
 use Rattle.lat_follow.proofs.Stages.{one_line}
 
 -- counts below the greatest number are told exactly
-pub told_exact : (n m : ℕ) → told_total n ≡ m → m < 18446744073709551615 → n ≡ m
+pub told_exact : (n m : ℕ) → saturated n ≡ m → m < 18446744073709551615 → n ≡ m
 told_exact n m q l = omega (arith, q, l)
 
-pub exact_told : (n m : ℕ) → n ≡ m → m < 18446744073709551615 → told_total n ≡ m
+pub exact_told : (n m : ℕ) → n ≡ m → m < 18446744073709551615 → saturated n ≡ m
 exact_told n m q l = omega (arith, q, l)
 
 none_some : {A : Type 0} (x : A) → None ≡ Some x → ⊥

@@ -6,7 +6,7 @@ use Rattle.lat_machines.specs.cores.Lines.{last_on}
 use Rattle.lat_machines.specs.world.Machines.{Setups, Machines, Move, core_of, happens}
 use Rattle.lat_roster.specs.Roster as rosters
 use Rattle.lat_roster.specs.Roster.{Shows}
-use Rattle.lat_stream.specs.Kept.{told_total}
+use Rattle.lat_stream.specs.Kept.{saturated}
 use Rattle.lat_tales.specs.Books.{InBooks, Comes, lines_at}
 use Rattle.lat_tales.specs.Keeping.{connects, accepts, new_seats}
 use Rattle.lat_tales.specs.Mates.{mate_by_ids}
@@ -54,7 +54,7 @@ pub move_comes : (u : Setups) (w : Machines) (m : Move) (b : Bool) → IsReached
 move_comes u w m b h = subst (λ z. Comes (lines_at b u) (core_of z b) (core_of (happens u z m) b)) (sym h.run) (run_comes u h.moves m b h.fit)
 
 -- the new ones are counted exactly
-pub counted : (c d : Core) (lines many before made count : ℕ) → Comes lines c d → before ≡ length c.seats → lines ≡ many → made ≡ told_total (length d.seats) → before + many < 18446744073709551615 → count ≡ min (made - before) many → count ≡ length (new_seats c d)
+pub counted : (c d : Core) (lines many before made count : ℕ) → Comes lines c d → before ≡ length c.seats → lines ≡ many → made ≡ saturated (length d.seats) → before + many < 18446744073709551615 → count ≡ min (made - before) many → count ≡ length (new_seats c d)
 counted c d lines many before made count h b l m few q =
     let whole : length d.seats ≡ length c.seats + length (new_seats c d) = ap length h.behind ∙ length-append c.seats (new_seats c d) in
     let most : length (new_seats c d) ≤ lines = h.few in

@@ -2,7 +2,7 @@
 use Rattle.std.specs.Prelude.{◌≡◌, ◌≢◌, ℕ, suc, List, length, Option, Some, option_map, MatchOption}
 use Rattle.lat_machines.specs.cores.Books.{LineSession, line_session, book}
 use Rattle.lat_machines.specs.cores.Cores.{Seat, Core}
-use Rattle.lat_stream.specs.Kept.{told_total}
+use Rattle.lat_stream.specs.Kept.{saturated}
 use Rattle.lat_lines.specs.Kept.{IsLine}
 use Rattle.lat_lines.specs.Stands.{session_shown, session_told}
 use Rattle.lat_tales.specs.Books.{newest_of}
@@ -12,13 +12,13 @@ use Rattle.lat_follow.specs.declared.newcomer.Newcomer.{Newcomer}
 pub record IsPresent (c : Core) (number : ℕ) (n : Newcomer) : Type 0 where
   pub session : LineSession
   pub present : (book c n.line).present ≡ Some session
-  pub number_is : told_total session.number ≡ number
+  pub number_is : saturated session.number ≡ number
   pub shown : session_shown n.session ≡ session_told session
   pub last : option_map session_shown n.last ≡ option_map session_told (book c n.line).last
 
 -- the line has no present session of this number
 abbrev pub NotOn : Core → ℕ → ℕ → Type 0
-NotOn c number line = (s : LineSession) → (book c line).present ≡ Some s → told_total s.number ≢ number
+NotOn c number line = (s : LineSession) → (book c line).present ≡ Some s → saturated s.number ≢ number
 
 -- the present session of this number, of one of so many lines; None where no line has it
 abbrev pub Finds : Core → ℕ → ℕ → Option Newcomer → Type 0

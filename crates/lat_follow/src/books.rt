@@ -4,7 +4,7 @@ ghost use Rattle.std.specs.Prelude.{◌≡◌, ◌<◌, ◌^◌, ◌-◌, suc, L
 ghost use Rattle.lat_machines.specs.cores.Books.{book};
 ghost use Rattle.lat_machines.specs.cores.Cores.{Seat};
 ghost use Rattle.lat_machines.specs.world.Machines.{Machines, core_of};
-ghost use Rattle.lat_stream.specs.Kept.{told_total};
+ghost use Rattle.lat_stream.specs.Kept.{saturated};
 ghost use Rattle.lat_lines.specs.Kept.{IsLine};
 ghost use Rattle.lat_lines.specs.Stands.{book_shown, book_told};
 ghost use Rattle.lat_tales.specs.Books.{InBooks, lines_at};
@@ -18,7 +18,7 @@ use lat_wire::{RatingRule, Wire};
 
 /// How many line sessions the server or the node has had. It stops at the greatest number of 64 bits.
 pub(crate) fn made<H: RatingRule>(wire: &Wire<H>, server: bool) -> u64
-    ensures { (w : Machines) → Stands wire.now w → result ≡ told_total (length (core_of w server).seats) }
+    ensures { (w : Machines) → Stands wire.now w → result ≡ saturated (length (core_of w server).seats) }
 {
     if server {
         wire.server().made()

@@ -22,7 +22,7 @@ ghost use Rattle.lat_follow.specs.Room.{HasPlaces};
 use crate::books::{made, newcomer_of};
 use crate::newcomer::Newcomer;
 use lat_base::LineSession;
-use lat_ledger::is_same;
+use lat_payload::is_same;
 use lat_roster::{Figures, Roster};
 use lat_wire::{RatingRule, Wire};
 use std::alloc::Global;

@@ -57,7 +57,10 @@ impl Model for Posts {
       room = vec_capacity a.frames - vec_len a.frames;
     } };
 
-    ghost invariant = { λ a. IsNext (map mark_of a.frames.items) a.next × (a.ways.server.turns ≤ vec_len a.frames) × (a.ways.node.turns ≤ vec_len a.frames) };
+    ghost invariant = { λ a.
+        IsNext (map mark_of a.frames.items) a.next
+        × (a.ways.server.turns ≤ vec_len a.frames)
+        × (a.ways.node.turns ≤ vec_len a.frames) };
 }
 
 /// What is known of a frame that was sent, as it was before a delivery.

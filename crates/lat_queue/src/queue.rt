@@ -101,7 +101,9 @@ impl Queue {
         service: &Name,
     ) -> Result<Kept, Memory>
         ensures answer { (h : List QueueEvent) → Stands self.old h → IfOk result (λ a. kept_in a ≡ ask_answer self.old.offered (key_in key.now) service.now h) }
-        ensures stands { (h : List QueueEvent) → Stands self.old h → IfOk result (λ a. Stands self.new (h ++ Asks (key_in key.now) (address_in from) service.now (kept_in a) ∷ [])) }
+        ensures stands { (h : List QueueEvent) →
+            Stands self.old h →
+            IfOk result (λ a. Stands self.new (h ++ Asks (key_in key.now) (address_in from) service.now (kept_in a) ∷ [])) }
         ensures place { IfOk result HasPlace }
         ensures offered { self.new.offered ≡ self.old.offered }
         ensures err { OnErr result (self.new ≡ self.old) }
@@ -171,7 +173,11 @@ impl Queue {
         requires few { length self.old.entries < 65536 }
         ensures answer { IfOk result (λ a. a ≡ new_told self.old (new_standing self.old service.now)) }
         ensures place { IfOk result HasPlace }
-        ensures ok { OnOk result (self.new ≡ added self.old key.now (record { from = from; service = service.now; standing = new_standing self.old service.now })) }
+        ensures ok { OnOk result (self.new ≡ added self.old key.now (record {
+          from = from;
+          service = service.now;
+          standing = new_standing self.old service.now;
+        })) }
         ensures err { OnErr result (self.new ≡ self.old) }
     {
         let standing = self.new_standing(service);

@@ -1,6 +1,6 @@
 -- What the rows of a roster show.
 use Rattle.std.specs.Prelude.{◌≡◌, ℕ, ◌+◌, ◌≤◌, Bool, true, false, map, option_map, vec_len, vec_capacity}
-use Rattle.lat_roster.specs.Shown.{item_shown, end_shown, told_total}
+use Rattle.lat_roster.specs.Shown.{item_shown, end_shown, saturated}
 use Rattle.lat_machines.specs.cores.Cores.{Seat}
 use Rattle.lat_tales.specs.Rows as rows
 use Rattle.lat_roster.specs.declared.figures.Figures.{Figures}
@@ -8,8 +8,8 @@ use Rattle.lat_roster.specs.declared.row.Row.{Row}
 
 -- figures are told: their counts stop at the greatest number of 64 bits
 pub record ShowsFigures (f : Figures) (r : rows.Figures) : Type 0 where
-  pub given : f.given ≡ told_total r.given
-  pub used_up : f.used ≡ told_total r.used_up
+  pub given : f.given ≡ saturated r.given
+  pub used_up : f.used ≡ saturated r.used_up
   pub end : option_map end_shown f.end ≡ r.end
 
 pub record ShowsRow (k : Row) (r : rows.KeptRow) : Type 0 where

@@ -17,5 +17,5 @@ end_shown (ends.Rejected reason) = EndedRejected reason
 end_shown (ends.Circuit reason) = EndedCircuit reason
 
 -- a count as it is told: it stops at the greatest number of 64 bits
-abbrev pub told_total : ℕ → ℕ
-told_total n = min 18446744073709551615 n
+abbrev pub saturated : ℕ → ℕ
+saturated n = min 18446744073709551615 n

@@ -15,7 +15,10 @@ use lat_base::{Item, Memory};
 // The figures of the server's end are written into the row at this place; nothing at 0.
 pub(crate) fn leave_server(list: &mut [Row], place: usize, figures: Figures)
     requires { place ≤ length list.old }
-    ensures { (rs : List rows.KeptRow) (f : rows.Figures) → ShowsRows list.old rs → (place ≢ 0 → ShowsFigures figures f) → ShowsRows list.new (change place (λ r. record r { server = f }) rs) }
+    ensures { (rs : List rows.KeptRow) (f : rows.Figures) →
+        ShowsRows list.old rs →
+        (place ≢ 0 → ShowsFigures figures f) →
+        ShowsRows list.new (change place (λ r. record r { server = f }) rs) }
 {
     if place > 0 {
         list[place - 1].server = figures;
@@ -25,7 +28,10 @@ pub(crate) fn leave_server(list: &mut [Row], place: usize, figures: Figures)
 // The figures of the node's end are written into the row at this place; nothing at 0.
 pub(crate) fn leave_node(list: &mut [Row], place: usize, figures: Figures)
     requires { place ≤ length list.old }
-    ensures { (rs : List rows.KeptRow) (f : rows.Figures) → ShowsRows list.old rs → (place ≢ 0 → ShowsFigures figures f) → ShowsRows list.new (change place (λ r. record r { node = f }) rs) }
+    ensures { (rs : List rows.KeptRow) (f : rows.Figures) →
+        ShowsRows list.old rs →
+        (place ≢ 0 → ShowsFigures figures f) →
+        ShowsRows list.new (change place (λ r. record r { node = f }) rs) }
 {
     if place > 0 {
         list[place - 1].node = figures;
@@ -46,7 +52,10 @@ pub(crate) fn join(list: &mut [Row], place: usize, line: u8)
 pub(crate) fn hand_over(list: &mut [Row], left: usize, figures: Figures, place: usize, line: u8)
     requires left { left ≤ length list.old }
     requires place { place ≤ length list.old }
-    ensures { (rs : List rows.KeptRow) (f : rows.Figures) → ShowsRows list.old rs → (left ≢ 0 → ShowsFigures figures f) → ShowsRows list.new (change place (λ r. record r { node_line = line }) (change left (λ r. record r { node = f }) rs)) }
+    ensures { (rs : List rows.KeptRow) (f : rows.Figures) →
+        ShowsRows list.old rs →
+        (left ≢ 0 → ShowsFigures figures f) →
+        ShowsRows list.new (change place (λ r. record r { node_line = line }) (change left (λ r. record r { node = f }) rs)) }
 {
     leave_node(list, left, figures);
     join(list, place, line);
@@ -67,7 +76,11 @@ pub(crate) fn put_at(list: &mut [Row], place: usize, server: bool, bytes: &[u8])
 pub(crate) fn add_at(list: &mut [Row], place: usize, server: bool, put: &[Item], taken: &[Item])
     requires place { place ≤ length list.old }
     requires room { RoomAt list.old place server (length put.now) (length taken.now) }
-    ensures { (rs : List rows.KeptRow) (ps ts : List slots.Item) → put.now ≡ map item_shown ps → taken.now ≡ map item_shown ts → ShowsRows list.old rs → ShowsRows list.new (change place (with_items server ps ts) rs) }
+    ensures { (rs : List rows.KeptRow) (ps ts : List slots.Item) →
+        put.now ≡ map item_shown ps →
+        taken.now ≡ map item_shown ts →
+        ShowsRows list.old rs →
+        ShowsRows list.new (change place (with_items server ps ts) rs) }
 {
     if place > 0 {
         list[place - 1].adds(server, put, taken);

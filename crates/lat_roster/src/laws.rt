@@ -11,7 +11,11 @@ ghost use Rattle.lat_roster.specs.Roster.{last_row};
 /// The last row with these ids is that of the server's last session with them (`last`), which is the one that a new session of
 /// the node belongs to. What is put and taken, and what the node accepts, changes nothing of it (`adds`, `accepts`).
 pub fn rows_are_found_by_ids()
-    ensures last { (u : Setups) (w : Machines) (k : KeptRows) (circuit id : ℕ) → Keeps u w k → last_row circuit id 0 0 k.rows ≡ last_named circuit id 0 0 w.server.core.seats }
-    ensures adds { (b : Bool) (line : ℕ) (put took : List Item) (k : KeptRows) (circuit id : ℕ) → last_row circuit id 0 0 (adds b line put took k).rows ≡ last_row circuit id 0 0 k.rows }
-    ensures accepts { (line place : ℕ) (f : Figures) (k : KeptRows) (circuit id : ℕ) → last_row circuit id 0 0 (accepts line place f k).rows ≡ last_row circuit id 0 0 k.rows }
+    ensures last { (u : Setups) (w : Machines) (k : KeptRows) (circuit id : ℕ) →
+        Keeps u w k →
+        last_row circuit id 0 0 k.rows ≡ last_named circuit id 0 0 w.server.core.seats }
+    ensures adds { (b : Bool) (line : ℕ) (put took : List Item) (k : KeptRows) (circuit id : ℕ) →
+        last_row circuit id 0 0 (adds b line put took k).rows ≡ last_row circuit id 0 0 k.rows }
+    ensures accepts { (line place : ℕ) (f : Figures) (k : KeptRows) (circuit id : ℕ) →
+        last_row circuit id 0 0 (accepts line place f k).rows ≡ last_row circuit id 0 0 k.rows }
 {}

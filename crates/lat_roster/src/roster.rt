@@ -34,9 +34,21 @@ impl Model for Roster {
 
     ghost Value = { Kept };
 
-    ghost view = { λ a. record { rows = a.rows.items; server_lines = a.server_lines.items; node_lines = a.node_lines.items; names = a.names; room = vec_capacity a.rows - vec_len a.rows } };
+    ghost view = { λ a. record {
+      rows = a.rows.items;
+      server_lines = a.server_lines.items;
+      node_lines = a.node_lines.items;
+      names = a.names;
+      room = vec_capacity a.rows - vec_len a.rows;
+    } };
 
-    ghost invariant = { λ a. Holds (record { rows = a.rows.items; server_lines = a.server_lines.items; node_lines = a.node_lines.items; names = a.names; room = 0 }) };
+    ghost invariant = { λ a. Holds (record {
+      rows = a.rows.items;
+      server_lines = a.server_lines.items;
+      node_lines = a.node_lines.items;
+      names = a.names;
+      room = 0;
+    }) };
 }
 
 // For each line number the place 0.
@@ -133,8 +145,13 @@ impl Roster {
 
     /// The newest session of a line has put and taken items more, for which there is room.
     pub fn adds(&mut self, server: bool, line: u8, put: &[Item], taken: &[Item])
-        requires { RoomAt self.old.rows (slice_index (if server then self.old.server_lines else self.old.node_lines) line) server (length put.now) (length taken.now) }
-        ensures shows { (r : rows.KeptRows) (ps ts : List slots.Item) → put.now ≡ map item_shown ps → taken.now ≡ map item_shown ts → Shows self.old r → Shows self.new (adds server line ps ts r) }
+        requires { RoomAt self.old.rows (slice_index (if server then self.old.server_lines else self.old.node_lines) line) server
+            (length put.now) (length taken.now) }
+        ensures shows { (r : rows.KeptRows) (ps ts : List slots.Item) →
+            put.now ≡ map item_shown ps →
+            taken.now ≡ map item_shown ts →
+            Shows self.old r →
+            Shows self.new (adds server line ps ts r) }
         ensures rows { self.old.room ≡ self.new.room }
         ensures names { self.new.names ≡ self.old.names }
     {

@@ -82,7 +82,11 @@ impl Row {
     // The session at this end has put these items more and taken those, for which there is room.
     pub(crate) fn adds(&mut self, server: bool, put: &[Item], taken: &[Item])
         requires { HasRoom server (length put.now) (length taken.now) self.old }
-        ensures { (r : rows.KeptRow) (ps ts : List slots.Item) → put.now ≡ map item_shown ps → taken.now ≡ map item_shown ts → ShowsRow self.old r → ShowsRow self.new (with_items server ps ts r) }
+        ensures { (r : rows.KeptRow) (ps ts : List slots.Item) →
+            put.now ≡ map item_shown ps →
+            taken.now ≡ map item_shown ts →
+            ShowsRow self.old r →
+            ShowsRow self.new (with_items server ps ts r) }
     {
         if server {
             add_items(&mut self.up.put, put);

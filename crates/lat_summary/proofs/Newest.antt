@@ -76,7 +76,7 @@ line_is most line c e h = had_line (lines.IsSeat most c) (IsLine most) line 0 0 
 
 -- figures that are exact
 
-below : (n m : ℕ) → n ≡ rosters.told_total m → n ≢ 18446744073709551615 → n ≡ m
+below : (n m : ℕ) → n ≡ rosters.saturated m → n ≢ 18446744073709551615 → n ≡ m
 below n m q a = search arith
 
 pub exactly : (f : Figures) (r : rows.Figures) → ShowsFigures f r → f.given ≢ 18446744073709551615 → f.used ≢ 18446744073709551615 → figures_shown f ≡ r

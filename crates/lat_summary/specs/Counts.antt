@@ -3,7 +3,7 @@ use Rattle.std.specs.Prelude.{ℕ, ◌+◌, length}
 use Rattle.std.specs.List.{sum_by}
 use Rattle.lat_machines.specs.world.Reports as reports
 use Rattle.lat_machines.specs.world.Reports.{Report}
-use Rattle.lat_roster.specs.Shown.{told_total}
+use Rattle.lat_roster.specs.Shown.{saturated}
 use Rattle.lat_roster.specs.declared.row.Row.{Row}
 use Rattle.lat_summary.specs.declared.counts.Counts.{Counts}
 
@@ -26,6 +26,6 @@ abbrev pub counts_in : Report → Counts
 counts_in r = record {
   frames = r.frames;
   sessions = length r.sessions;
-  put = told_total (sum_by put_of r.sessions);
-  taken = told_total (sum_by taken_of r.sessions);
+  put = saturated (sum_by put_of r.sessions);
+  taken = saturated (sum_by taken_of r.sessions);
 }

@@ -6,7 +6,7 @@ ghost use Rattle.lat_machines.specs.world.Machines.{Machines};
 ghost use Rattle.lat_machines.specs.world.Reports.{report};
 ghost use Rattle.lat_tales.specs.Rows.{KeptRows, Keeps};
 ghost use Rattle.lat_roster.specs.Roster.{Shows};
-ghost use Rattle.lat_roster.specs.Shown.{told_total};
+ghost use Rattle.lat_roster.specs.Shown.{saturated};
 ghost use Rattle.lat_wire.specs.Kept.{setups_of};
 ghost use Rattle.lat_wire.specs.Stands.{Stands};
 ghost use Rattle.lat_summary.specs.Counts.{counts_in, put_in_row, taken_in_row};
@@ -29,7 +29,7 @@ pub struct Counts {
 
 // The items that were put in these rows.
 fn put_in(rows: &[Row]) -> u64
-    ensures { result ≡ told_total (sum_by put_in_row rows.now) }
+    ensures { result ≡ saturated (sum_by put_in_row rows.now) }
 {
     let mut sum: u64 = 0;
     for row in rows {
@@ -42,7 +42,7 @@ fn put_in(rows: &[Row]) -> u64
 
 // The items that were taken in these rows.
 fn taken_in(rows: &[Row]) -> u64
-    ensures { result ≡ told_total (sum_by taken_in_row rows.now) }
+    ensures { result ≡ saturated (sum_by taken_in_row rows.now) }
 {
     let mut sum: u64 = 0;
     for row in rows {

@@ -10,7 +10,7 @@ use Rattle.lat_machines.specs.world.Machines.{Setups, Posted, Machines, own_of, 
 use Rattle.lat_machines.specs.world.Tally.{formed_in, shown_in}
 use Rattle.lat_machines.specs.world.Young.{head_of}
 use Rattle.lat_payload.specs.Reads.{reading_of}
-use Rattle.lat_payload.specs.Frames.{Seen}
+use Rattle.lat_payload.specs.Frames.{FrameView}
 use Rattle.lat_posts.specs.declared.post.Post.{Post}
 use Rattle.lat_rounds.specs.Lossless.{sent_from}
 use Rattle.lat_posts.specs.declared.post.Sent.{Sent}
@@ -87,7 +87,7 @@ some_head h (Some k) e = (k, refl)
 
 -- what is read of a post
 pub read_post : (s : Post) (p : Posted) → IsPost s p → reading_of s.frame.payload ≡ Whole p.frame.value
-read_post s p i = ap (λ (x : Seen). reading_of x.payload) i.same ∙ i.readable
+read_post s p i = ap (λ (x : FrameView). reading_of x.payload) i.same ∙ i.readable
 
 pub refused_half : (u : Setups) (w : Machines) (p : Posted) (s : Post) (h : Heading) (from : ℕ) (half : Option ℕ) → IsPost s p → heading_of p.frame.value ≡ Some h → own_of u s.by_server ≡ from → half ≡ half_at (core_of w (not s.by_server)) from h → old_run u w p (head_of p.frame.value) ≡ refused_by half (core_of w p.by_server) p.frame
 refused_half u w p s h from half i e own is =
@@ -107,7 +107,7 @@ pub heads : (u : Setups) (w : Machines) (k : Book) (p : Posted) (s : Post) (h : 
 heads u w k p s h from half t book i marks e own is tally fits =
     let head : (x : Head) × (head_of p.frame.value ≡ Some x) = some_head h (head_of p.frame.value) e in
     let n : Numbered s p.frame = i.numbered (marks head.0 head.1) in
-    let c : s.frame.circuit ≡ p.frame.circuit = ap (λ (x : Seen). x.circuit) i.same in
+    let c : s.frame.circuit ≡ p.frame.circuit = ap (λ (x : FrameView). x.circuit) i.same in
     let counts : t ≡ tally_of (counts_at w s.by_server) s.frame.circuit = tally ∙ book.tallies s.by_server s.frame.circuit fits in
     let mine : t ≡ tally_of (counts_at w p.by_server) p.frame.circuit = counts ∙ ap₂ (λ b x. tally_of (counts_at w b) x) i.by_server c in
     record {

@@ -19,7 +19,7 @@ use Rattle.lat_machines.proofs.events.Ratings.{same_but_frames}
 use Rattle.lat_server.specs.Stands as servers
 use Rattle.lat_node.specs.Stands as nodes
 use Rattle.lat_lines.specs.Back.{answer_of}
-use Rattle.lat_payload.specs.Frames.{seen, expected}
+use Rattle.lat_payload.specs.Frames.{frame_view, expected}
 use Rattle.lat_posts.specs.Ways.{CameAtMost, Log}
 use Rattle.lat_posts.specs.declared.tallies.Tally.{Tally}
 use Rattle.lat_posts.specs.Tallies.{tally_at}
@@ -189,7 +189,7 @@ sides_on u false k sent done fs half counts h = record { posts = h.posts; log = 
 abbrev pub Enters : Setups → Machines → Bool → List base_out.OutFrame → Book → Book → Type 0
 Enters u w b out took new =
     (counts : Bool → Counts) (fs : List OutFrame) →
-    map seen out ≡ map expected fs →
+    map frame_view out ≡ map expected fs →
     Each IsReadable fs →
     Tallied (counts b).formed (counts b).taken fs →
     IsBook u took w.posts w.delivered counts →

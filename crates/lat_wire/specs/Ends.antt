@@ -12,7 +12,7 @@ use Rattle.lat_machines.specs.cores.Cores.{Core}
 use Rattle.lat_machines.specs.server.Server.{server_step}
 use Rattle.lat_machines.specs.node.Node.{node_step}
 use Rattle.lat_machines.specs.world.Machines.{Setups, Machines}
-use Rattle.lat_payload.specs.Frames.{seen, expected}
+use Rattle.lat_payload.specs.Frames.{frame_view, expected}
 use Rattle.lat_server.specs.Kept as servers
 use Rattle.lat_server.specs.Stands as server_stands
 use Rattle.lat_node.specs.Kept as nodes
@@ -53,7 +53,7 @@ frames_by u w false e = (node_step u.node (rates u w) w.node e).frames
 
 -- they went out, and each reads as its value
 pub record MadeFrames (u : Setups) (w : Machines) (server : Bool) (e : Event) (out : List OutFrame) : Type 0 where
-  pub same : map seen out ≡ map expected (frames_by u w server e)
+  pub same : map frame_view out ≡ map expected (frames_by u w server e)
   pub readable : Each IsReadable (frames_by u w server e)
 
 -- half the range of the circuit that a RUN from this address names; None where it names none

@@ -5,7 +5,7 @@ use Rattle.lat_base.specs.declared.outbox.OutFrame.{OutFrame}
 use Rattle.lat_machines.specs.values.Events.{Event, Time, is_heard}
 use Rattle.lat_machines.specs.world.Machines.{Setups, Posted, Machines, is_for_other, heard_as}
 use Rattle.lat_machines.specs.world.Safe.{answer_by}
-use Rattle.lat_payload.specs.Frames.{seen, expected}
+use Rattle.lat_payload.specs.Frames.{frame_view, expected}
 use Rattle.lat_posts.specs.declared.post.Sent.{Sent}
 use Rattle.lat_ledger.specs.Books.{IsPost}
 use Rattle.lat_lines.specs.Back.{answer_of}
@@ -33,7 +33,7 @@ pub record ShowsPost (posts : List Posted) (index : ℕ) (by_server : Bool) (f :
   pub post : Posted
   pub is : slice_get posts index ≡ Some post
   pub side : by_server ≡ post.by_server
-  pub frame : seen f ≡ expected post.frame
+  pub frame : frame_view f ≡ expected post.frame
 
 -- the frame of this place, and whether it is for the other end
 pub record IsSent (u : Setups) (w : Machines) (index : ℕ) (s : Sent) : Type 0 where

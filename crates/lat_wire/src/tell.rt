@@ -48,8 +48,9 @@ use crate::fault::{EventFault, FRAMES};
 use crate::notes::{Note, noted_of};
 use crate::wire::Wire;
 use lat_base::{Addr, Answer, Bytes, Event, Heard, Memory};
-use lat_ledger::{Ledger, heading_of, is_same};
+use lat_ledger::{Ledger, heading_of};
 use lat_node::RatingRule;
+use lat_payload::is_same;
 use lat_posts::{Post, Sent, Tally};
 use std::alloc::Global;
 

@@ -7,7 +7,7 @@ pub returns-clause-fits : goal.returns-clause-fits
 returns-clause-fits c =
     record {
       own = c.in_ok-own.ensures.not_everyone;
-      apart = eqb-false (address c.in_ok-own.own.0) (address c.args.server.0) (sym c.is_one.ensures ∙ c.if-is_one.false);
+      apart = eqb-false (address c.in_ok-own.own.0) (address c.args.server.0) (sym c.is_same.ensures ∙ c.if-is_same.false);
       name = c.in_ok-name-2.ensures.name;
       lines = c.in_ok-lines-2.ensures.range;
       timer = c.in_ok-timer.ensures.range.0;
