@@ -2,7 +2,12 @@
 
 mod cores;
 mod crew;
+mod daemon;
 mod far;
 mod free;
+mod loopback;
+mod opener;
 mod outside;
+mod served;
+mod steady;
 mod threads;

@@ -24,8 +24,8 @@ use std::thread::Threads;
 // The words aren't right: says so.
 fn refuse<S: Sink>(out: &mut S) -> u8
     ensures status { (result ≡ 1) ⊎ (result ≡ 5) }
-    ensures written { result ≡ 1 → Appends (S.told out.old) (S.told out.new) refusal }
-    ensures part { result ≡ 5 → (n : ℕ) × Appends (S.told out.old) (S.told out.new) (take n refusal) }
+    ensures written { result ≡ 1 → Appends (S.written out.old) (S.written out.new) refusal }
+    ensures part { result ≡ 5 → (n : ℕ) × Appends (S.written out.old) (S.written out.new) (take n refusal) }
     ensures fault { result ≡ 5 → RoseIn S.faults out.old out.new }
 {
     match write_all(out, "words\n".as_bytes()) {
@@ -73,18 +73,18 @@ pub fn serve<
     requires many { (E.parts ≡ 66) × (B.parts ≡ 66) × (F.parts ≡ 66) }
     ensures wrong { result.status ≡ 1 → AreWrong (map string_bytes words.now) }
     ensures refused { AreWrong (map string_bytes words.now) → (result.status ≡ 1) ⊎ ((result.status ≡ 5) ⊎ (result.status ≡ 9)) }
-    ensures written { result.status ≡ 1 → Appends (S.told out.old) (S.told out.new) refusal }
-    ensures part { AreWrong (map string_bytes words.now) → result.status ≡ 5 → (n : ℕ) × Appends (S.told out.old) (S.told out.new) (take n refusal) }
+    ensures written { result.status ≡ 1 → Appends (S.written out.old) (S.written out.new) refusal }
+    ensures part { AreWrong (map string_bytes words.now) → result.status ≡ 5 → (n : ℕ) × Appends (S.written out.old) (S.written out.new) (take n refusal) }
     ensures opener { result.status ≡ 4 → RoseIn O.faults opener.old opener.new }
     ensures sink { result.status ≡ 5 → RoseIn S.faults out.old out.new }
-    ensures silent { result.status ≡ 4 → S.told out.new ≡ S.told out.old }
-    ensures memory { result.status ≡ 9 → S.told out.new ≡ S.told out.old }
+    ensures silent { result.status ≡ 4 → S.written out.new ≡ S.written out.old }
+    ensures memory { result.status ≡ 9 → S.written out.new ≡ S.written out.old }
     ensures right { AreRight (map string_bytes words.now) →
         IsOwn result.status ⊎ (RoseIn O.faults opener.old opener.new ⊎ RoseIn S.faults out.old out.new) }
     ensures not { result.ran ≡ ran.Not → IsNotRun (map string_bytes words.now) result.status }
     ensures empty { result.ran ≡ ran.Not → (result.shares ≡ []) × (result.ends ≡ []) × (result.lines ≡ []) }
     ensures role { IfSome (role_of result.ran) (λ role. option_map (λ c. c.role) (config_of (map string_bytes words.now)) ≡ Some role) }
-    ensures ended { IfSome (told_of result.ran) (λ t. IsPrinted S.told S.faults out.old out.new t result.shares result.ends result.status) }
+    ensures ended { IfSome (told_of result.ran) (λ t. IsPrinted S.written S.faults out.old out.new t result.shares result.ends result.status) }
     ensures back { IfSome (told_of result.ran) (λ t. BackOf O.L.faults (map string_bytes words.now) result.shares result.ends result.lines) }
 {
     let config = match config_of(alloc, words) {

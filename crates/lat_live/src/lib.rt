@@ -11,8 +11,6 @@ mod roles;
 mod running;
 mod seats;
 mod serving;
-#[cfg(test)]
-mod tests;
 
 pub use daemon::serve;
 pub use lists::{Ends, Lines};

@@ -73,14 +73,14 @@ pub fn serve_in_role<
     requires parts { (blanks.events.parts ≡ E.parts) × (blanks.bytes.parts ≡ B.parts) × (blanks.full.parts ≡ F.parts) }
     requires many { (E.parts ≡ 66) × (B.parts ≡ 66) × (F.parts ≡ 66) }
     ensures role { IfSome (role_of result.ran) (λ role. role ≡ config.now.role) }
-    ensures ended { IfSome (told_of result.ran) (λ t. IsPrinted S.told S.faults out.old out.new t result.shares result.ends result.status) }
+    ensures ended { IfSome (told_of result.ran) (λ t. IsPrinted S.written S.faults out.old out.new t result.shares result.ends result.status) }
     ensures back { IfSome (told_of result.ran) (λ t. GivenBack O.L.faults config.now.lines.count result.shares result.ends result.lines) }
     ensures own { IsOwn result.status ⊎ ((result.status ≡ 4) ⊎ (result.status ≡ 5)) }
     ensures opener { result.status ≡ 4 → RoseIn O.faults opener.old opener.new }
     ensures sink { result.status ≡ 5 → RoseIn S.faults out.old out.new }
     ensures none { result.ran ≡ ran.Not → (result.status ≡ 4) ⊎ (result.status ≡ 9) }
-    ensures silent { result.status ≡ 4 → S.told out.new ≡ S.told out.old }
-    ensures memory { result.status ≡ 9 → S.told out.new ≡ S.told out.old }
+    ensures silent { result.status ≡ 4 → S.written out.new ≡ S.written out.old }
+    ensures memory { result.status ≡ 9 → S.written out.new ≡ S.written out.old }
     ensures empty { result.ran ≡ ran.Not → (result.shares ≡ []) × (result.ends ≡ []) × (result.lines ≡ []) }
 {
     let plan = plan_of(config);

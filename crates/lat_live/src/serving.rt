@@ -117,11 +117,11 @@ fn printed<C: Core, T: Tx, S: Sink, E: Ledger, B: Ledger, F: Ledger>(
     out: &mut S,
 ) -> u8
     requires { length ends.now ≤ 64 }
-    ensures text { IsPrinted S.told S.faults out.old out.new (told cell.now) shares.now ends.now result }
+    ensures text { IsPrinted S.written S.faults out.old out.new (told cell.now) shares.now ends.now result }
     ensures own { IsOwn result ⊎ (result ≡ 5) }
     ensures other { result ≢ 4 }
     ensures sink { result ≡ 5 → RoseIn S.faults out.old out.new }
-    ensures memory { result ≡ 9 → S.told out.new ≡ S.told out.old }
+    ensures memory { result ≡ 9 → S.written out.new ≡ S.written out.old }
 {
     print_end(alloc, cell, shares, ends, out)
 }
@@ -161,14 +161,14 @@ pub fn serve_core<
     requires parts { (blanks.events.parts ≡ E.parts) × (blanks.bytes.parts ≡ B.parts) × (blanks.full.parts ≡ F.parts) }
     requires many { (E.parts ≡ 66) × (B.parts ≡ 66) × (F.parts ≡ 66) }
     ensures ended { IfSome (told_in result.ran) (λ t.
-        IsPrinted S.told S.faults out.old out.new t result.given.shares.items result.given.ends.items result.status) }
+        IsPrinted S.written S.faults out.old out.new t result.given.shares.items result.given.ends.items result.status) }
     ensures back { IfSome (told_in result.ran) (λ t.
         GivenBack O.L.faults plan.now.lines result.given.shares.items result.given.ends.items result.given.lines.items) }
     ensures own { IsOwn result.status ⊎ ((result.status ≡ 4) ⊎ (result.status ≡ 5)) }
     ensures opener { result.status ≡ 4 → RoseIn O.faults opener.old opener.new }
     ensures sink { result.status ≡ 5 → RoseIn S.faults out.old out.new }
-    ensures silent { result.status ≡ 4 → S.told out.new ≡ S.told out.old }
-    ensures memory { result.status ≡ 9 → S.told out.new ≡ S.told out.old }
+    ensures silent { result.status ≡ 4 → S.written out.new ≡ S.written out.old }
+    ensures memory { result.status ≡ 9 → S.written out.new ≡ S.written out.old }
     ensures none { result.ran ≡ None → (result.status ≡ 4) ⊎ (result.status ≡ 9) }
     ensures empty { result.ran ≡ None → (result.given.shares.items ≡ []) × (result.given.ends.items ≡ []) × (result.given.lines.items ≡ []) }
 {

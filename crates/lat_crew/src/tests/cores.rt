@@ -1,7 +1,6 @@
 //! What both cores are made of.
 
-ghost use Rattle.std.specs.Prelude.{◌≤◌, IfOk};
-ghost use Rattle.lat_circuit.specs.Agrees.{IsTiming};
+ghost use Rattle.std.specs.Prelude.{IfOk};
 ghost use Rattle.lat_node.specs.Config as nodes;
 ghost use Rattle.lat_server.specs.Config as servers;
 

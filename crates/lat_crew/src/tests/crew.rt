@@ -85,12 +85,6 @@ struct Back<'a, E: Ledger, B: Ledger, F: Ledger, R: Clock> {
     line: RoundLine<'a, R>,
 }
 
-impl<E: Ledger, B: Ledger, F: Ledger, R: Clock> Back<'_, E, B, F, R> {
-    fn is_back(&self) -> bool {
-        self.line.away.is_empty() && !self.line.wrong
-    }
-}
-
 // The worker of a line.
 fn line<
     'a,
@@ -197,7 +191,7 @@ fn work<
         one,
         two,
     } = at_once(place, &cell, wire, one, two, clock);
-    let back = one.is_back() && two.is_back();
+    let back = one.line.is_back() && two.line.is_back();
     let ended = one.done == LineDone::End && two.done == LineDone::End;
     for share in [wire, one.share, two.share, clock] {
         shares.push(share).ok()?;

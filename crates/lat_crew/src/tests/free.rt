@@ -1,6 +1,6 @@
 //! The node's rule of rating.
 
-ghost use Rattle.std.specs.Prelude.{◌≡◌, ◌≤◌};
+ghost use Rattle.std.specs.Prelude.{◌≡◌};
 
 use lat_node::RatingRule;
 

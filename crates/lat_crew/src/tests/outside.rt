@@ -137,6 +137,13 @@ pub struct RoundLine<'a, R: time::Clock> {
     pub wrong: bool,
 }
 
+impl<R: time::Clock> RoundLine<'_, R> {
+    /// Whether its bytes came back, and nothing else.
+    pub fn is_back(&self) -> bool {
+        self.away.is_empty() && !self.wrong
+    }
+}
+
 impl<R: time::Clock> LineEnd for RoundLine<'_, R> {
     ghost left = { λ l. None };
 

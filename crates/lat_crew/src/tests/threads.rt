@@ -37,8 +37,8 @@ fn fresh_server(alloc: Global) -> Result<ServerCore, Memory>
     ServerCore::make(alloc, &server(alloc, name(b"TS1")?))
 }
 
-// A node behind its first announcement.
-fn announced_node(alloc: Global, service: &Name) -> Result<Far<NodeCore<Free>>, Memory> {
+/// A node behind its first announcement.
+pub fn announced_node(alloc: Global, service: &Name) -> Result<Far<NodeCore<Free>>, Memory> {
     let core = NodeCore::make(alloc, &node(alloc, name(b"VAX1")?, service)?, Free)?;
     let mut far = Far::new(alloc, core, LINES)?;
     far.tell(alloc, &Event::Announce)?;
@@ -95,7 +95,8 @@ fn one<E: Ledger + Sync, B: Ledger + Sync, F: Ledger + Sync, R: Threads + Wait +
     played::<NodeCore<Free>, E, B, F, R>(rt, alloc, far, service, fails, blanks)
 }
 
-fn blanks() -> Blanks
+/// Blanks of 66 parts.
+pub fn blanks() -> Blanks
     ensures { (result.events.parts ≡ 66) × (result.bytes.parts ≡ 66) × (result.full.parts ≡ 66) }
 {
     Blanks {

@@ -3,8 +3,13 @@
 ghost use Rattle.std.specs.Prelude.{◌≡◌, ◌<◌};
 ghost use Rattle.lat_live.specs.Ledgers.{AreBlanks};
 
-use super::daemon::{Came, daemon, new_blanks};
+use super::daemon::daemon;
+use super::free::Free;
+use super::steady::whole_tariff;
+use super::threads::blanks;
+use lat_base::{Memory, Name};
 use lat_cell::Blanks;
+use lat_outside::FreeGate;
 use lat_udp::{NetOpener, RealClock};
 use std::alloc::Global;
 use std::io::{self, Read, Write};
@@ -87,15 +92,15 @@ fn passed<R: Net<Listener = TcpListener, Stream = TcpStream> + Clock>(
     Ok(two_passed && gives_hi(&mut first, &mut second))
 }
 
-/// What came of both, and whether both lines of the server passed their bytes on.
+/// The status of both, and whether both lines of the server passed their bytes on.
 #[derive(Drop)]
 struct Ended {
-    server: Came,
-    node: Came,
+    server: Result<u8, Memory>,
+    node: Result<u8, Memory>,
     is_passed: io::Result<bool>,
 }
 
-// A daemon over the sockets.
+// The status of a daemon over the sockets, whose tariff is that of PRINT.
 fn real<
     E: Ledger + Sync,
     B: Ledger + Sync,
@@ -107,12 +112,28 @@ fn real<
         + Copy
         + Send
         + Sync,
->(rt: &R, alloc: Global, text: &str, blanks: Blanks) -> Came
+>(rt: &R, alloc: Global, text: &str, blanks: Blanks) -> Result<u8, Memory>
     requires { AreBlanks blanks E.name E.parts B.name B.parts F.name F.parts }
 {
+    let Ok(service) = Name::read(b"PRINT") else {
+        return Err(Memory);
+    };
+    let tariff = whole_tariff(alloc, service)?;
     let mut opener = NetOpener::new(*rt);
     let clock = RealClock::new(*rt);
-    daemon::<_, _, E, B, F, R>(rt, alloc, text, blanks, &mut opener, clock, &[])
+    let came = daemon::<_, _, _, _, _, E, B, F, R>(
+        rt,
+        alloc,
+        text,
+        blanks,
+        &mut opener,
+        clock,
+        &FreeGate,
+        Free,
+        tariff,
+        &[],
+    )?;
+    Ok(came.status)
 }
 
 fn pair<
@@ -129,7 +150,13 @@ fn pair<
         + Copy
         + Send
         + Sync,
->(rt: &R, alloc: Global, case: Case, blanks: Blanks, others: Blanks) -> (Came, Came)
+>(
+    rt: &R,
+    alloc: Global,
+    case: Case,
+    blanks: Blanks,
+    others: Blanks,
+) -> (Result<u8, Memory>, Result<u8, Memory>)
     requires blanks { AreBlanks blanks E.name E.parts B.name B.parts F.name F.parts }
     requires others { AreBlanks others P.name P.parts Q.name Q.parts S.name S.parts }
 {
@@ -186,12 +213,12 @@ fn two_lines_at_once(rt: HostRuntime) -> Result<(), Fail> {
             &rt,
             rt.alloc(),
             case,
-            new_blanks(),
-            new_blanks(),
+            blanks(),
+            blanks(),
         );
         assert!(rt; ended.is_passed?);
-        assert_eq!(rt; ended.server.0, 0);
-        assert_eq!(rt; ended.node.0, 0);
+        assert_eq!(rt; ended.server?, 0);
+        assert_eq!(rt; ended.node?, 0);
     }
     Ok(())
 }

@@ -1,9 +1,9 @@
-//! A tariff of one service.
+//! A tariff that the daemon isn't asked for.
 
-ghost use Rattle.std.specs.Prelude.{IfSome};
+ghost use Rattle.std.specs.Prelude.{IfOk};
 ghost use Rattle.lat_tariff.specs.Tariffs.{AreKnown};
 
-use lat_base::Name;
+use lat_base::{Memory, Name};
 use lat_tariff::{Rule, SteadyRule, Tariff};
 use std::alloc::Global;
 
@@ -28,17 +28,14 @@ impl SteadyRule for OneWhileFree {
     }
 }
 
-/// The tariff of the service PRINT alone, where memory is found.
-pub fn printing(alloc: Global) -> Option<Tariff<OneWhileFree>>
-    ensures { IfSome result (λ tariff. AreKnown (λ rule. Unit {0}) tariff) }
+/// The tariff of this service alone.
+pub fn whole_tariff(alloc: Global, name: Name) -> Result<Tariff<OneWhileFree>, Memory>
+    ensures { IfOk result (λ tariff. AreKnown (λ rule. Unit {0}) tariff) }
 {
-    let name = Name::read(b"PRINT").ok()?;
     let mut rules = Vec::new(alloc);
-    rules
-        .push(Rule {
-            name,
-            rule: OneWhileFree,
-        })
-        .ok()?;
-    Some(Tariff::make(rules))
+    rules.push(Rule {
+        name,
+        rule: OneWhileFree,
+    })?;
+    Ok(Tariff::make(rules))
 }

@@ -1,3 +1,0 @@
-mod daemon;
-mod loopback;
-mod rule;
