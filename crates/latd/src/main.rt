@@ -10,9 +10,9 @@ mod rates;
 use crate::rates::{NineWhileFree, TwentyPerFreeLine};
 use lat_base::Name;
 use lat_cell::Blanks;
-use lat_live::serve;
+use lat_live::{Served, serve};
 use lat_node::{RateHook, RatingRule};
-use lat_outside::{FreeGate, StdSink};
+use lat_outside::{FreeGate, LineEnd, StdSink, Tx};
 use lat_tariff::{Rule, SteadyRule, Tariff};
 use lat_udp::{NetOpener, RealClock};
 use std::alloc::{AllocError, Global};
@@ -35,6 +35,15 @@ fn words_of(alloc: Global, all: Args<Global>) -> Result<Vec<String>, AllocError>
         words.push(word)?;
     }
     Ok(words)
+}
+
+// The status alone. All else that a daemon hands back is dropped here, since the proof of that is long.
+fn status_of<H: RatingRule, P: SteadyRule, T: Tx, L: LineEnd, E: Ledger, B: Ledger, F: Ledger>(
+    served: Served<H, P, T, L, E, B, F>,
+) -> u8
+    ensures { result ≡ served.status }
+{
+    served.status
 }
 
 // The status of the daemon, whose node rates its services by this rule, or by those of this tariff.
@@ -62,7 +71,7 @@ fn status_by<
     let mut opener = NetOpener::new(*rt);
     let clock = RealClock::new(*rt);
     let mut out = StdSink::new(io::writer(rt));
-    let served = serve::<_, _, _, _, _, _, E, B, F, R>(
+    status_of(serve::<_, _, _, _, _, _, E, B, F, R>(
         rt,
         alloc,
         words,
@@ -73,8 +82,7 @@ fn status_by<
         rule,
         tariff,
         &mut out,
-    );
-    served.status
+    ))
 }
 
 // The names of the tariff's services.
