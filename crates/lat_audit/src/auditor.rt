@@ -20,12 +20,21 @@ pub struct Broken {
 }
 
 /// What is known of a capture behind its first entries.
-#[derive(Drop)]
 pub struct Auditor {
     pub checker: Checker,
     /// How many entries there were, up to the first broken one.
     pub count: u64,
     pub broken: Option<Broken>,
+}
+
+impl Drop for Auditor {
+    fn drop(self) {
+        let Self {
+            checker,
+            count,
+            broken,
+        } = self;
+    }
 }
 
 // What is found of the entry of this index.

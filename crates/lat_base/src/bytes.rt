@@ -7,9 +7,15 @@ use std::alloc::Global;
 use std::marker::Model;
 
 /// A list of bytes, of any length. Contracts see the list.
-#[derive(Debug, Drop)]
+#[derive(Debug)]
 pub struct Bytes {
     bytes: Vec<u8>,
+}
+
+impl Drop for Bytes {
+    fn drop(self) {
+        let Self { bytes } = self;
+    }
 }
 
 impl Model for Bytes {

@@ -16,9 +16,15 @@ pub enum Item {
 }
 
 /// A list of items, of any length. Contracts see the list.
-#[derive(Debug, Drop)]
+#[derive(Debug)]
 pub struct Items {
     items: Vec<Item>,
+}
+
+impl Drop for Items {
+    fn drop(self) {
+        let Self { items } = self;
+    }
 }
 
 impl Model for Items {
@@ -65,9 +71,14 @@ impl Items {
 }
 
 /// Room for a list of items that isn't known yet. Contracts see how many items it has room for.
-#[derive(Drop)]
 pub struct ItemsRoom {
     items: Vec<Item>,
+}
+
+impl Drop for ItemsRoom {
+    fn drop(self) {
+        let Self { items } = self;
+    }
 }
 
 impl Model for ItemsRoom {

@@ -27,7 +27,6 @@ pub enum Mark {
 }
 
 /// A frame to be sent.
-#[derive(Drop)]
 pub struct OutFrame {
     /// The station that it goes to.
     pub to: Addr,
@@ -37,13 +36,29 @@ pub struct OutFrame {
     pub mark: Mark,
 }
 
+impl Drop for OutFrame {
+    fn drop(self) {
+        let Self {
+            to,
+            payload,
+            circuit,
+            mark,
+        } = self;
+    }
+}
+
 /// The frames of one event, in the order in which they were made: at most 256, for which it has the room from the
 /// beginning. Contracts see their list. A frame that was dropped leaves its place, into which a later one is written.
-#[derive(Drop)]
 pub struct OutBox {
     /// Its frames, and behind them places that frames had.
     places: Vec<OutFrame>,
     count: usize,
+}
+
+impl Drop for OutBox {
+    fn drop(self) {
+        let Self { places, count } = self;
+    }
 }
 
 impl Model for OutBox {

@@ -42,7 +42,6 @@ const NO_ACCOUNT: Account = Account {
 };
 
 /// Under each id the session that a slot with it would belong to.
-#[derive(Drop)]
 pub struct Accounts {
     /// Under a source of the master, the credits of the last ask that the slave has acknowledged.
     pub asked: [Option<u8>; 256],
@@ -50,6 +49,16 @@ pub struct Accounts {
     pub slave: [Account; 256],
     /// Under a destination of the master, the session of the last reply that the master has acknowledged.
     pub master: [Account; 256],
+}
+
+impl Drop for Accounts {
+    fn drop(self) {
+        let Self {
+            asked,
+            slave,
+            master,
+        } = self;
+    }
 }
 
 // The session is given what a slot of it gives.

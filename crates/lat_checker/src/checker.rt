@@ -13,7 +13,6 @@ use lat_base::Memory;
 use std::alloc::Global;
 
 /// What is kept of the RUNs of a capture, all of which keep the rules.
-#[derive(Drop)]
 pub struct Checker {
     title: Title,
     master: Side,
@@ -24,6 +23,19 @@ pub struct Checker {
     // How many RUNs there were.
     runs: u64,
     ghost counted: { (master.count ≤ runs) × (slave.count ≤ runs) },
+}
+
+impl Drop for Checker {
+    fn drop(self) {
+        let Self {
+            title,
+            master,
+            slave,
+            accounts,
+            places,
+            runs,
+        } = self;
+    }
 }
 
 // The first so many messages.

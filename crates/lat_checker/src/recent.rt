@@ -12,10 +12,15 @@ use std::marker::Model;
 const MESSAGES: usize = 8;
 
 /// A message: the text of its slots, and its slots with their sessions. Contracts see both.
-#[derive(Drop)]
 pub struct SentMessage {
     text: Vec<u8>,
     slots: Vec<KeptSlot>,
+}
+
+impl Drop for SentMessage {
+    fn drop(self) {
+        let Self { text, slots } = self;
+    }
 }
 
 impl Model for SentMessage {
@@ -50,9 +55,14 @@ impl SentMessage {
 }
 
 /// The last messages of an end, eight at most, in order. Contracts see the list.
-#[derive(Drop)]
 pub struct Recent {
     messages: Vec<SentMessage>,
+}
+
+impl Drop for Recent {
+    fn drop(self) {
+        let Self { messages } = self;
+    }
 }
 
 impl Model for Recent {

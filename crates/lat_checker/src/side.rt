@@ -9,13 +9,22 @@ use crate::recent::Recent;
 use crate::rule::Rule;
 
 /// What is kept of one end.
-#[derive(Drop)]
 pub struct Side {
     /// How many messages it has sent.
     pub count: u64,
     /// The greatest acknowledgement that it has sent.
     pub acknowledged: u64,
     pub recent: Recent,
+}
+
+impl Drop for Side {
+    fn drop(self) {
+        let Self {
+            count,
+            acknowledged,
+            recent,
+        } = self;
+    }
 }
 
 /// The number and the acknowledgement of a RUN, told from their fields.

@@ -21,7 +21,6 @@ pub(crate) const CIRCUITS: usize = 8;
 /// `clear`, which still tell of their sessions. It has the memory of eight circuits from the beginning. Contracts say for
 /// every core of the model that it stands for (`Stands`) what it stands for afterwards. See "Circuits" and "Cores" in
 /// docs/PROTOCOL.md.
-#[derive(Drop)]
 pub struct Circuits {
     pub(crate) own: Addr,
     pub(crate) name: Name,
@@ -36,6 +35,21 @@ pub struct Circuits {
     pub(crate) held: Vec<Circuit>,
     /// The memory that no circuit has.
     pub(crate) rooms: Vec<CircuitRoom>,
+}
+
+impl Drop for Circuits {
+    fn drop(self) {
+        let Self {
+            own,
+            name,
+            timing,
+            server,
+            drawn,
+            moment,
+            held,
+            rooms,
+        } = self;
+    }
 }
 
 impl Model for Circuits {

@@ -58,12 +58,21 @@ impl<T: Drop> From<AllocFailed<T>> for DirFault {
 }
 
 /// The nodes that a server knows of, each with its last announcement. At most 256 are live.
-#[derive(Drop)]
 pub struct Directory {
     groups: [u8; 32],
     nodes: Nodes,
     // The last moment that it was told.
     moment: u64,
+}
+
+impl Drop for Directory {
+    fn drop(self) {
+        let Self {
+            groups,
+            nodes,
+            moment,
+        } = self;
+    }
 }
 
 impl Model for Directory {

@@ -10,13 +10,24 @@ use lat_notices::Announcement;
 use std::alloc::Global;
 
 /// The last announcement of a node, as far as a choice needs it.
-#[derive(Debug, Drop)]
+#[derive(Debug)]
 pub struct Node {
     pub from: Addr,
     pub name: Name,
     /// The moment from which on it isn't live any more.
     pub until: u128,
     pub offers: Offers,
+}
+
+impl Drop for Node {
+    fn drop(self) {
+        let Self {
+            from,
+            name,
+            until,
+            offers,
+        } = self;
+    }
 }
 
 // How many milliseconds a node is live for each second of its timer: three times the timer.

@@ -79,11 +79,16 @@ fn chosen(nodes: &IndexMap<Name, Node>, service: &Name, now: u64) -> Option<Best
 
 /// What is kept of each node, under its name in upper case, in the order in which they were last heard. Contracts see the
 /// list. What isn't live any more may stay until its place is needed. At most 256 are kept.
-#[derive(Drop)]
 pub struct Nodes {
     nodes: IndexMap<Name, Node>,
     // Below this moment none of them expires.
     until: u128,
+}
+
+impl Drop for Nodes {
+    fn drop(self) {
+        let Self { nodes, until } = self;
+    }
 }
 
 impl Model for Nodes {

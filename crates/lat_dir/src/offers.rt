@@ -16,9 +16,15 @@ pub struct Offer {
 }
 
 /// The services of one announcement, in its order. Contracts see the list.
-#[derive(Debug, Drop)]
+#[derive(Debug)]
 pub struct Offers {
     offers: Vec<Offer>,
+}
+
+impl Drop for Offers {
+    fn drop(self) {
+        let Self { offers } = self;
+    }
 }
 
 impl Model for Offers {

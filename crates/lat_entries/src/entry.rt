@@ -3,9 +3,15 @@
 use lat_base::Bytes;
 
 /// A payload of a capture, of any length.
-#[derive(Debug, Drop)]
+#[derive(Debug)]
 pub struct Entry {
     /// Whether the circuit's master sent it.
     pub by_master: bool,
     pub payload: Bytes,
+}
+
+impl Drop for Entry {
+    fn drop(self) {
+        let Self { by_master, payload } = self;
+    }
 }

@@ -7,16 +7,28 @@ use std::alloc::Global;
 use std::marker::Model;
 
 /// A parameter: a code from 1 to 255, and at most 255 bytes.
-#[derive(Debug, Drop)]
+#[derive(Debug)]
 pub struct Param {
     pub code: u8,
     pub bytes: Bytes,
 }
 
+impl Drop for Param {
+    fn drop(self) {
+        let Self { code, bytes } = self;
+    }
+}
+
 /// A list of parameters. Contracts see the list.
-#[derive(Debug, Drop)]
+#[derive(Debug)]
 pub struct Params {
     entries: Vec<Param>,
+}
+
+impl Drop for Params {
+    fn drop(self) {
+        let Self { entries } = self;
+    }
 }
 
 impl Model for Params {

@@ -37,7 +37,7 @@ pub struct WideHead {
 }
 
 /// What a START message tells of its sender.
-#[derive(Debug, Drop)]
+#[derive(Debug)]
 pub struct StartInfo {
     /// The greatest frame that it takes, 576 to 1,518 bytes.
     pub size: u16,
@@ -60,6 +60,26 @@ pub struct StartInfo {
     pub name: Name,
     pub location: Bytes,
     pub params: Params,
+}
+
+impl Drop for StartInfo {
+    fn drop(self) {
+        let Self {
+            size,
+            eco,
+            sessions,
+            extra,
+            timer,
+            keepalive,
+            facility,
+            product,
+            product_version,
+            slave,
+            name,
+            location,
+            params,
+        } = self;
+    }
 }
 
 /// A message of a circuit. `master` and `ask` are the two low bits of its first byte.

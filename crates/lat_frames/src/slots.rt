@@ -8,9 +8,15 @@ use std::alloc::Global;
 use std::marker::Model;
 
 /// The slots of a message, in order. Contracts see the list.
-#[derive(Debug, Drop)]
+#[derive(Debug)]
 pub struct Slots {
     slots: Vec<Slot>,
+}
+
+impl Drop for Slots {
+    fn drop(self) {
+        let Self { slots } = self;
+    }
 }
 
 impl Model for Slots {

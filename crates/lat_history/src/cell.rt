@@ -26,7 +26,6 @@ pub const BYTES: u64 = 268_435_456;
 /// the middle of a call, the core is the run of the history from the opening that it was made with, and the frames tried since
 /// then are those of the history, in order. Three ledgers count the events, the bytes put and the seats that were refused for
 /// want of room; each seat has its share of them. See "Cells" in docs/PROTOCOL.md.
-#[derive(Drop)]
 pub struct Cell<C: Core, T: Tx, E: Ledger, B: Ledger, F: Ledger> {
     pub(crate) core: C,
     pub(crate) tx: T,
@@ -41,6 +40,24 @@ pub struct Cell<C: Core, T: Tx, E: Ledger, B: Ledger, F: Ledger> {
     pub(crate) events: Book<E>,
     pub(crate) bytes: Book<B>,
     pub(crate) fulls: Book<F>,
+}
+
+impl<C: Core, T: Tx, E: Ledger, B: Ledger, F: Ledger> Drop for Cell<C, T, E, B, F> {
+    fn drop(self) {
+        let Self {
+            core,
+            tx,
+            sent,
+            history,
+            kept,
+            out,
+            stopping,
+            full,
+            events,
+            bytes,
+            fulls,
+        } = self;
+    }
 }
 
 impl<C: Core, T: Tx, E: Ledger, B: Ledger, F: Ledger> Model for Cell<C, T, E, B, F> {

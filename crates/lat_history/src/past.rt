@@ -6,10 +6,16 @@ ghost use Rattle.lat_history.specs.Counts.{seat_of, bytes_in, put_of};
 use lat_base::{Answer, Event};
 
 /// An event and what it was answered.
-#[derive(Debug, Drop)]
+#[derive(Debug)]
 pub struct Past {
     pub event: Event,
     pub answer: Answer,
+}
+
+impl Drop for Past {
+    fn drop(self) {
+        let Self { event, answer } = self;
+    }
 }
 
 /// Whose event it is: its line for an event with a line, 0 (the wire) for what was heard, 65 (the clock) for the others.

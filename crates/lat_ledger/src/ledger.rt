@@ -19,11 +19,20 @@ use std::alloc::Global;
 use std::marker::Model;
 
 /// The frames that were sent, and the tallies of both ends' circuits.
-#[derive(Drop)]
 pub struct Ledger {
     pub posts: Posts,
     pub server: Tallies,
     pub node: Tallies,
+}
+
+impl Drop for Ledger {
+    fn drop(self) {
+        let Self {
+            posts,
+            server,
+            node,
+        } = self;
+    }
 }
 
 impl Model for Ledger {

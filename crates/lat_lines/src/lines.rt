@@ -18,7 +18,6 @@ use std::marker::Model;
 /// The lines of one core, a server or a node, the sessions that they have and had, and the circuits that carry them.
 /// Contracts say for every core of the model that it stands for (`Stands`) what it stands for afterwards. See "Lines and
 /// their sessions" in docs/PROTOCOL.md.
-#[derive(Drop)]
 pub struct Lines {
     /// How many there are, 1 to 64.
     pub(crate) count: u8,
@@ -33,6 +32,20 @@ pub struct Lines {
     pub(crate) finished: u32,
     /// The requests whose sessions became free in the last act, in the order of the sessions.
     pub(crate) freed: Vec<Key>,
+}
+
+impl Drop for Lines {
+    fn drop(self) {
+        let Self {
+            count,
+            circuits,
+            seats,
+            last,
+            made,
+            finished,
+            freed,
+        } = self;
+    }
 }
 
 impl Model for Lines {

@@ -20,7 +20,6 @@ const MOST_MESSAGES: usize = 8;
 /// every `l` that it stands for (`Stands`) what it is afterwards. Of the messages it keeps those that the peer isn't known to
 /// have taken, as their payloads, which are written once. Only `make` takes memory. See "Messages and numbers" in
 /// docs/PROTOCOL.md.
-#[derive(Drop)]
 pub struct Link {
     ids: Ids,
     window: u8,
@@ -28,6 +27,19 @@ pub struct Link {
     pub(crate) sending: SendSide,
     pub(crate) receiving: RecvSide,
     pub(crate) texts: HeapCircularBuffer<Payload>,
+}
+
+impl Drop for Link {
+    fn drop(self) {
+        let Self {
+            ids,
+            window,
+            span,
+            sending,
+            receiving,
+            texts,
+        } = self;
+    }
 }
 
 impl Model for Link {

@@ -6,7 +6,6 @@ use lat_queue::Services16;
 
 /// What a node is made of. Valid where it has 1 to 64 lines, its timer is at least 1, the mask has at most 32 bytes, and the
 /// timing is valid.
-#[derive(Drop)]
 pub struct NodeConfig {
     /// Its address.
     pub own: Addr,
@@ -22,4 +21,19 @@ pub struct NodeConfig {
     /// The mask of its announcements: bit g mod 8 of byte g / 8 is that of group g. An empty one is for every server.
     pub groups: Bytes,
     pub timing: Timing,
+}
+
+impl Drop for NodeConfig {
+    fn drop(self) {
+        let Self {
+            own,
+            name,
+            incarnation,
+            lines,
+            services,
+            timer,
+            groups,
+            timing,
+        } = self;
+    }
 }

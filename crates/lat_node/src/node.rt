@@ -29,7 +29,6 @@ use std::marker::Model;
 /// A service node: its lines with their sessions and circuits, the services that it offers with the rule of their ratings, and
 /// its requests. Contracts say for every state of the node machine that it stands for what it stands for afterwards. See
 /// "Cores" in docs/PROTOCOL.md.
-#[derive(Drop)]
 pub struct NodeCore<H> {
     pub(crate) lines: Lines,
     pub(crate) services: Services16,
@@ -42,6 +41,21 @@ pub struct NodeCore<H> {
     /// How many asked sessions became free without a line.
     pub(crate) turned_away: u32,
     pub(crate) rule: H,
+}
+
+impl<H: Drop> Drop for NodeCore<H> {
+    fn drop(self) {
+        let Self {
+            lines,
+            services,
+            incarnation,
+            timer,
+            groups,
+            requests,
+            turned_away,
+            rule,
+        } = self;
+    }
 }
 
 impl<H> Model for NodeCore<H> {

@@ -7,7 +7,7 @@ use crate::services::Services;
 use lat_base::{Bytes, Kept, Name};
 
 /// A node tells everyone its services.
-#[derive(Debug, Drop)]
+#[derive(Debug)]
 pub struct Announcement {
     /// After how many seconds the next one is due, 1 to 255.
     pub timer: u8,
@@ -19,6 +19,19 @@ pub struct Announcement {
     pub node: Name,
     pub description: Bytes,
     pub services: Services,
+}
+
+impl Drop for Announcement {
+    fn drop(self) {
+        let Self {
+            timer,
+            incarnation,
+            groups,
+            node,
+            description,
+            services,
+        } = self;
+    }
 }
 
 /// What a node wants of its request.

@@ -7,7 +7,7 @@ use std::alloc::Global;
 use std::marker::Model;
 
 /// A service of an announcement.
-#[derive(Debug, Drop)]
+#[derive(Debug)]
 pub struct Service {
     /// How well the node can take a session, 0 for not at all.
     pub rating: u8,
@@ -15,10 +15,26 @@ pub struct Service {
     pub description: Bytes,
 }
 
+impl Drop for Service {
+    fn drop(self) {
+        let Self {
+            rating,
+            name,
+            description,
+        } = self;
+    }
+}
+
 /// A list of services. Contracts see the list.
-#[derive(Debug, Drop)]
+#[derive(Debug)]
 pub struct Services {
     services: Vec<Service>,
+}
+
+impl Drop for Services {
+    fn drop(self) {
+        let Self { services } = self;
+    }
 }
 
 impl Model for Services {

@@ -38,12 +38,17 @@ const NONE: Ways = Ways {
 
 /// The frames that were sent, with what was delivered of them. Contracts say for all frames of two machines that they stand
 /// for what they stand for afterwards.
-#[derive(Drop)]
 pub struct Posts {
     frames: Vec<Sent>,
     /// The first frame that is still to be delivered, or the number of all frames.
     next: usize,
     ways: Ways,
+}
+
+impl Drop for Posts {
+    fn drop(self) {
+        let Self { frames, next, ways } = self;
+    }
 }
 
 impl Model for Posts {

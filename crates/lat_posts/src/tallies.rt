@@ -25,9 +25,14 @@ const NOTHING: Tally = Tally {
 };
 
 /// The tallies of one end, each found by the id of its circuit.
-#[derive(Drop)]
 pub struct Tallies {
     table: Vec<Tally>,
+}
+
+impl Drop for Tallies {
+    fn drop(self) {
+        let Self { table } = self;
+    }
 }
 
 impl Model for Tallies {

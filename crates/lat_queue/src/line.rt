@@ -13,9 +13,14 @@ use std::marker::Model;
 pub(crate) const LINE: usize = 64;
 
 /// At most 64 that wait, in the order of their first commands. Contracts see the list.
-#[derive(Drop)]
 pub(crate) struct Line {
     waiters: Vec<Waiter>,
+}
+
+impl Drop for Line {
+    fn drop(self) {
+        let Self { waiters } = self;
+    }
 }
 
 impl Model for Line {

@@ -26,12 +26,22 @@ const RECORDS: usize = 65536;
 /// of those that wait. Contracts see a table; `Stands` says for which lists of events (asks with their answers, cancels,
 /// grants, ends) it stands, and what is asked of it follows from such a list alone. Each call but a first `ask` costs
 /// look-ups and the length of one line, and takes no memory.
-#[derive(Drop)]
 pub struct Queue {
     offered: Services16,
     entries: IndexMap<Key, Entry>,
     lines: Vec<Line>,
     granted: u32,
+}
+
+impl Drop for Queue {
+    fn drop(self) {
+        let Self {
+            offered,
+            entries,
+            lines,
+            granted,
+        } = self;
+    }
 }
 
 impl Model for Queue {

@@ -8,9 +8,14 @@ use std::alloc::Global;
 use std::marker::Model;
 
 /// A list of at most 32 names of services. Contracts see the list of the names, in order.
-#[derive(Drop)]
 pub struct Services16 {
     names: Vec<Name>,
+}
+
+impl Drop for Services16 {
+    fn drop(self) {
+        let Self { names } = self;
+    }
 }
 
 impl Model for Services16 {

@@ -31,13 +31,23 @@ use std::marker::Model;
 /// A server core and a node core that are told the events of a schedule, all frames that either ever sent, and a row of the
 /// report for each session of the server. Contracts say for every world of the two machines that it stands for what it stands
 /// for afterwards. See "The world of a schedule" in docs/PROTOCOL.md.
-#[derive(Drop)]
 pub struct World<H: RatingRule> {
     pub(crate) wire: Wire<H>,
     pub(crate) roster: Roster,
     /// How many lines each end has.
     pub(crate) server_lines: u8,
     pub(crate) node_lines: u8,
+}
+
+impl<H: RatingRule> Drop for World<H> {
+    fn drop(self) {
+        let Self {
+            wire,
+            roster,
+            server_lines,
+            node_lines,
+        } = self;
+    }
 }
 
 impl<H: RatingRule> Model for World<H> {

@@ -10,9 +10,14 @@ use std::marker::Model;
 
 /// For each circuit and session id of the server the place, from 1 on, of the last row that has them. Contracts see the places
 /// as a function of the ids, and for how many more there is room.
-#[derive(Drop)]
 pub(crate) struct Names {
     places: IndexMap<u32, usize>,
+}
+
+impl Drop for Names {
+    fn drop(self) {
+        let Self { places } = self;
+    }
 }
 
 impl Model for Names {

@@ -20,12 +20,22 @@ use std::marker::Model;
 
 /// A row for each session of the server, in the order in which they were connected, and for each line of both ends the place
 /// of the row of its newest session.
-#[derive(Drop)]
 pub struct Roster {
     rows: Vec<Row>,
     server_lines: Vec<usize>,
     node_lines: Vec<usize>,
     names: Names,
+}
+
+impl Drop for Roster {
+    fn drop(self) {
+        let Self {
+            rows,
+            server_lines,
+            node_lines,
+            names,
+        } = self;
+    }
 }
 
 impl Model for Roster {

@@ -14,15 +14,21 @@ use lat_base::{Item, Memory};
 use std::alloc::Global;
 
 /// The items that went one way: those that the sending end put, and those that the other end's Takes gave.
-#[derive(Debug, Drop)]
+#[derive(Debug)]
 pub struct Way {
     pub put: Vec<Item>,
     pub taken: Vec<Item>,
 }
 
+impl Drop for Way {
+    fn drop(self) {
+        let Self { put, taken } = self;
+    }
+}
+
 /// What is kept of one session of the server. `node_line` is the line that the node gave it, 0 while it gave none. The
 /// figures are those that were written down when the line of that end got another session.
-#[derive(Debug, Drop)]
+#[derive(Debug)]
 pub struct Row {
     pub line: u8,
     /// The server's ids of circuit and session.
@@ -35,6 +41,21 @@ pub struct Row {
     pub down: Way,
     pub server: Figures,
     pub node: Figures,
+}
+
+impl Drop for Row {
+    fn drop(self) {
+        let Self {
+            line,
+            circuit,
+            id,
+            node_line,
+            up,
+            down,
+            server,
+            node,
+        } = self;
+    }
 }
 
 impl Way {

@@ -28,9 +28,15 @@ pub enum WorldEvent {
 }
 
 /// A list of events. Contracts see the list.
-#[derive(Debug, Drop)]
+#[derive(Debug)]
 pub struct WorldEvents {
     events: Vec<WorldEvent>,
+}
+
+impl Drop for WorldEvents {
+    fn drop(self) {
+        let Self { events } = self;
+    }
 }
 
 impl Model for WorldEvents {

@@ -16,9 +16,15 @@ pub struct Offer {
 }
 
 /// A list of offers. Contracts see the list.
-#[derive(Debug, Drop)]
+#[derive(Debug)]
 pub struct Offers {
     offers: Vec<Offer>,
+}
+
+impl Drop for Offers {
+    fn drop(self) {
+        let Self { offers } = self;
+    }
 }
 
 impl Model for Offers {
@@ -59,7 +65,7 @@ impl Offers {
 
 /// What a server is made of. Valid where it has 1 to 32 lines, each offer names one of them, no line is in two offers, and
 /// the timing is valid.
-#[derive(Debug, Drop)]
+#[derive(Debug)]
 pub struct ServerConfig {
     /// Its address.
     pub own: Addr,
@@ -70,4 +76,17 @@ pub struct ServerConfig {
     /// The mask of the groups that it listens to: bit g mod 8 of byte g / 8 is that of group g.
     pub groups: [u8; 32],
     pub timing: Timing,
+}
+
+impl Drop for ServerConfig {
+    fn drop(self) {
+        let Self {
+            own,
+            name,
+            lines,
+            offers,
+            groups,
+            timing,
+        } = self;
+    }
 }

@@ -28,7 +28,6 @@ use std::marker::Model;
 /// A terminal server: its lines with their sessions and circuits, the services that it knows of, and the requests of nodes.
 /// Contracts say for every state of the server machine that it stands for what it stands for afterwards. See "Cores" in
 /// docs/PROTOCOL.md.
-#[derive(Drop)]
 pub struct ServerCore {
     pub(crate) lines: Lines,
     pub(crate) offers: Offers,
@@ -36,6 +35,18 @@ pub struct ServerCore {
     pub(crate) queue: Queue,
     /// The last Solicit id drawn.
     pub(crate) solicits: u16,
+}
+
+impl Drop for ServerCore {
+    fn drop(self) {
+        let Self {
+            lines,
+            offers,
+            directory,
+            queue,
+            solicits,
+        } = self;
+    }
 }
 
 impl Model for ServerCore {

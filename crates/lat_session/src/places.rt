@@ -14,10 +14,15 @@ use std::ops::{Index, IndexMut};
 
 /// A place for the session of each id, from 1 on. The least free id comes into use first: so a walk over all sessions ends at
 /// the last place that was reached, as behind it all are free. Contracts see the list of all places.
-#[derive(Drop)]
 pub(crate) struct Places {
     all: Vec<Stream>,
     reached: usize,
+}
+
+impl Drop for Places {
+    fn drop(self) {
+        let Self { all, reached } = self;
+    }
 }
 
 impl Model for Places {

@@ -18,7 +18,6 @@ pub(crate) const OPEN_ASKS: usize = 255;
 /// The sessions of one end of a circuit. They stand for the sessions of the model, which forget nothing: contracts say for
 /// every state that they stand for (`Stands`) what it is afterwards. Only `make` takes memory.
 /// See "Sessions", "Packing" and "Bad slots" in docs/PROTOCOL.md.
-#[derive(Drop)]
 pub struct Sessions {
     pub(crate) master: bool,
     pub(crate) agreed: u8,
@@ -26,6 +25,19 @@ pub struct Sessions {
     pub(crate) served: u8,
     pub(crate) sessions: Places,
     pub(crate) asks: Vec<Ask>,
+}
+
+impl Drop for Sessions {
+    fn drop(self) {
+        let Self {
+            master,
+            agreed,
+            ceiling,
+            served,
+            sessions,
+            asks,
+        } = self;
+    }
 }
 
 impl Model for Sessions {

@@ -29,7 +29,6 @@ pub const HELD_SLOTS: usize = 15;
 /// One session, as one end keeps it. It stands for a session of the model, which forgets nothing: contracts say for every
 /// session that it stands for (`kept_of`) what it stands for afterwards. All memory is taken when it is made.
 /// See "Sessions" in docs/PROTOCOL.md.
-#[derive(Drop)]
 pub struct Stream {
     pub(crate) state: SessionState,
     pub(crate) closed: bool,
@@ -48,6 +47,30 @@ pub struct Stream {
     pub(crate) heard: HeapCircularBuffer<Item>,
     pub(crate) held: HeapCircularBuffer<u8>,
     pub(crate) end: Option<SessionEnd>,
+}
+
+impl Drop for Stream {
+    fn drop(self) {
+        let Self {
+            state,
+            closed,
+            stop_formed,
+            stop_heard,
+            peer,
+            size,
+            start,
+            attention,
+            mark,
+            ceiling,
+            credits,
+            given,
+            used,
+            unframed,
+            heard,
+            held,
+            end,
+        } = self;
+    }
 }
 
 impl Model for Stream {

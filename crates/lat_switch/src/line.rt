@@ -14,7 +14,7 @@ use std::marker::Model;
 pub(crate) const INNER: u8 = 4;
 
 /// A line of a switch.
-#[derive(Debug, Drop)]
+#[derive(Debug)]
 pub(crate) struct Line {
     /// The least of its four inner lines.
     first: u8,
@@ -22,6 +22,16 @@ pub(crate) struct Line {
     shown: u8,
     /// The service that it was connected to last.
     service: Option<Name>,
+}
+
+impl Drop for Line {
+    fn drop(self) {
+        let Self {
+            first,
+            shown,
+            service,
+        } = self;
+    }
 }
 
 impl Model for Line {

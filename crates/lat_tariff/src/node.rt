@@ -15,7 +15,6 @@ use std::marker::Model;
 
 /// A service node that rates each service by the service's own rule. In all else it is the node in it. Contracts say for every
 /// state of its machine that it stands for what it stands for afterwards. See "Tariffs" in docs/PROTOCOL.md.
-#[derive(Drop)]
 pub struct TariffCore<H, R> {
     /// The ratings of its own rule never go out.
     pub(crate) node: NodeCore<H>,
@@ -26,6 +25,20 @@ pub struct TariffCore<H, R> {
     pub(crate) timer: u8,
     pub(crate) lines: u8,
     pub(crate) groups: Bytes,
+}
+
+impl<H: Drop, R: Drop> Drop for TariffCore<H, R> {
+    fn drop(self) {
+        let Self {
+            node,
+            tariff,
+            name,
+            incarnation,
+            timer,
+            lines,
+            groups,
+        } = self;
+    }
 }
 
 impl<H, R> Model for TariffCore<H, R> {

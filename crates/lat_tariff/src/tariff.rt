@@ -14,17 +14,27 @@ use std::marker::Model;
 
 /// A service, and the rule by which it is rated. Where rules of several types are to stand in one tariff each is put into a
 /// box, as `Box<dyn SteadyRule + Send>`.
-#[derive(Drop)]
 pub struct Rule<R> {
     /// The service.
     pub name: Name,
     pub rule: R,
 }
 
+impl<R: Drop> Drop for Rule<R> {
+    fn drop(self) {
+        let Self { name, rule } = self;
+    }
+}
+
 /// The rules of 1 to 32 services, no two with the same name. Contracts see their list. Once it is made it takes no memory.
-#[derive(Drop)]
 pub struct Tariff<R> {
     pub(crate) rules: Vec<Rule<R>>,
+}
+
+impl<R: Drop> Drop for Tariff<R> {
+    fn drop(self) {
+        let Self { rules } = self;
+    }
 }
 
 impl<R> Model for Tariff<R> {

@@ -21,11 +21,16 @@ use std::alloc::Global;
 use std::marker::Model;
 
 /// The server core and the node core, with the frames of the last event.
-#[derive(Drop)]
 pub(crate) struct Ends<H: RatingRule> {
     pub(crate) server: ServerCore,
     pub(crate) node: NodeCore<H>,
     pub(crate) out: OutBox,
+}
+
+impl<H: RatingRule> Drop for Ends<H> {
+    fn drop(self) {
+        let Self { server, node, out } = self;
+    }
 }
 
 impl<H: RatingRule> Model for Ends<H> {

@@ -26,7 +26,6 @@ use std::marker::Model;
 /// A server core and a node core with all frames that either ever sent. A frame is heard where it is delivered, at any time
 /// and any number of times; one that never is delivered is lost. Contracts say for every world of the two machines that it
 /// stands for what it stands for afterwards. See "The world of a schedule" in docs/PROTOCOL.md.
-#[derive(Drop)]
 pub struct Wire<H: RatingRule> {
     pub(crate) ends: Ends<H>,
     pub(crate) server_own: Addr,
@@ -39,6 +38,21 @@ pub struct Wire<H: RatingRule> {
     pub(crate) moment: u64,
     /// Ten times the circuit timer, in milliseconds.
     pub(crate) timer: u64,
+}
+
+impl<H: RatingRule> Drop for Wire<H> {
+    fn drop(self) {
+        let Self {
+            ends,
+            server_own,
+            node_own,
+            ledger,
+            notes,
+            count,
+            moment,
+            timer,
+        } = self;
+    }
 }
 
 impl<H: RatingRule> Model for Wire<H> {

@@ -15,7 +15,6 @@ pub enum Role {
 }
 
 /// How it stands on the carrier.
-#[derive(Drop)]
 pub struct Station {
     pub name: Name,
     pub address: Addr,
@@ -24,8 +23,18 @@ pub struct Station {
     pub peers: Peers,
 }
 
+impl Drop for Station {
+    fn drop(self) {
+        let Self {
+            name,
+            address,
+            port,
+            peers,
+        } = self;
+    }
+}
+
 /// Its lines.
-#[derive(Drop)]
 pub struct Lines {
     /// A server has 1 to 32, a switch 1 to 8, a node or a tariff node 1 to 64.
     pub count: u8,
@@ -38,10 +47,30 @@ pub struct Lines {
     pub sessions: u32,
 }
 
+impl Drop for Lines {
+    fn drop(self) {
+        let Self {
+            count,
+            port,
+            service,
+            sessions,
+        } = self;
+    }
+}
+
 /// All that the words say.
-#[derive(Drop)]
 pub struct Config {
     pub role: Role,
     pub station: Station,
     pub lines: Lines,
+}
+
+impl Drop for Config {
+    fn drop(self) {
+        let Self {
+            role,
+            station,
+            lines,
+        } = self;
+    }
 }

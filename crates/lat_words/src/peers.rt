@@ -5,10 +5,16 @@ ghost use Rattle.std.specs.Prelude.{◌≡◌, ◌<◌, ◌≤◌, ◌++◌, ◌
 use std::marker::Model;
 
 /// At most eight ports. Contracts see their list.
-#[derive(Debug, Drop)]
+#[derive(Debug)]
 pub struct Peers {
     ports: [u16; 8],
     count: usize,
+}
+
+impl Drop for Peers {
+    fn drop(self) {
+        let Self { ports, count } = self;
+    }
 }
 
 impl Model for Peers {
