@@ -9,7 +9,7 @@ use crate::item::{Items, ItemsRoom};
 use crate::kept::Kept;
 
 /// What a core answers to an event. `docs/PROTOCOL.md`, "Cores" and what follows there, says when each comes.
-#[derive(Debug, Drop)]
+#[derive(Drop)]
 pub enum Answer {
     /// Heard: a circuit message, and what its circuit answered.
     Circuit(Heard),

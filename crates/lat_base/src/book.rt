@@ -4,7 +4,7 @@ use crate::addr::Addr;
 use crate::state::SessionEnd;
 
 /// One session of a line. `docs/PROTOCOL.md`, "Lines and their sessions", has the rules.
-#[derive(Clone, Copy, Debug, PartialEq, Eq)]
+#[derive(Clone, Copy, PartialEq, Eq)]
 pub struct LineSession {
     /// Its number among all line sessions of the core, from 1 in the order of connecting or accepting.
     pub number: u64,
@@ -24,7 +24,7 @@ pub struct LineSession {
 }
 
 /// The last two sessions of a line.
-#[derive(Clone, Copy, Debug, PartialEq, Eq)]
+#[derive(Clone, Copy, PartialEq, Eq)]
 pub struct LineBook {
     /// The session that the line has. `None` exactly where it has none.
     pub present: Option<LineSession>,

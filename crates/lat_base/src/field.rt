@@ -4,7 +4,7 @@ ghost use Rattle.std.specs.Prelude.{◌≡◌};
 ghost use Rattle.lat_base.specs.FieldWords.{field_word};
 
 /// A field of a layout. `docs/FORMATS.md`, "Fields and their words", has them all.
-#[derive(Clone, Copy, Debug, PartialEq, Eq)]
+#[derive(Clone, Copy, PartialEq, Eq)]
 pub enum Field {
     Size,
     Kind,
@@ -57,7 +57,7 @@ pub enum Field {
 
 /// Why a payload has no layout: its first field, in the order of the layout, that isn't all there or breaks its
 /// condition, and the place of that field's first byte in the payload.
-#[derive(Clone, Copy, Debug, PartialEq, Eq)]
+#[derive(Clone, Copy, PartialEq, Eq)]
 pub struct Bad {
     pub field: Field,
     pub at: u16,

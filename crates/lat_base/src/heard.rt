@@ -1,7 +1,7 @@
 //! What a circuit answers to a message.
 
 /// What a circuit answers to a message that it heard. `docs/PROTOCOL.md` says when each comes.
-#[derive(Clone, Copy, Debug, PartialEq, Eq)]
+#[derive(Clone, Copy, PartialEq, Eq)]
 pub enum Heard {
     /// It was the first reply to this end's START, and the circuit runs now.
     Running,

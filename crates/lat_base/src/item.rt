@@ -7,7 +7,7 @@ use std::alloc::Global;
 use std::marker::Model;
 
 /// One item of a session, in either direction.
-#[derive(Clone, Copy, Debug, PartialEq, Eq)]
+#[derive(Clone, Copy, PartialEq, Eq)]
 pub enum Item {
     /// A byte of a terminal.
     Byte(u8),
@@ -16,7 +16,6 @@ pub enum Item {
 }
 
 /// A list of items, of any length. Contracts see the list.
-#[derive(Debug)]
 pub struct Items {
     items: Vec<Item>,
 }

@@ -1,7 +1,7 @@
 //! What a node's request was answered.
 
 /// What the server keeps of a request, and answers to its command.
-#[derive(Clone, Copy, Debug, PartialEq, Eq)]
+#[derive(Clone, Copy, PartialEq, Eq)]
 pub enum Kept {
     /// It waits at this place of its service's queue, counted from 1.
     Waiting(u16),

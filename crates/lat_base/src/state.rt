@@ -2,7 +2,7 @@
 //! they change.
 
 /// The state of a session at one end.
-#[derive(Clone, Copy, Debug, PartialEq, Eq)]
+#[derive(Clone, Copy, PartialEq, Eq)]
 pub enum SessionState {
     /// There is none: it never began, or it is over.
     Free,
@@ -19,7 +19,7 @@ pub enum SessionState {
 }
 
 /// How a session ended.
-#[derive(Clone, Copy, Debug, PartialEq, Eq)]
+#[derive(Clone, Copy, PartialEq, Eq)]
 pub enum SessionEnd {
     /// It became free after both stops.
     Closed,

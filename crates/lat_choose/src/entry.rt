@@ -11,7 +11,7 @@ use lat_text::{LineFault, address_of, first_word, moment_of, name_of, payload_of
 use std::alloc::Global;
 
 /// What a line says.
-#[derive(Debug, Drop)]
+#[derive(Drop)]
 pub enum Entry {
     /// At a moment, a payload is heard from a station: an announcement, or what its first bad field is.
     Hear {

@@ -16,7 +16,7 @@ use lat_seq::Span;
 use lat_session::Sessions;
 
 /// What a START tells of its end, and both ends then agree on. See "What both ends agree on" in docs/PROTOCOL.md.
-#[derive(Clone, Copy, Debug)]
+#[derive(Clone, Copy)]
 pub(crate) struct Agreed {
     /// How many sessions the peer holds.
     pub(crate) sessions: u8,

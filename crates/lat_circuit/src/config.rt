@@ -4,7 +4,7 @@ use lat_base::{Addr, Name};
 
 /// The numbers that an end states in its STARTs. Valid where the timer is 1 to 100, the keep-alive at least 1, the sessions
 /// 1 to 64 and the ceiling 1 to 15. See "Circuits" in docs/PROTOCOL.md.
-#[derive(Clone, Copy, Debug, PartialEq, Eq)]
+#[derive(Clone, Copy, PartialEq, Eq)]
 pub struct Timing {
     /// The circuit timer in 10 ms.
     pub timer: u8,
@@ -21,7 +21,7 @@ pub struct Timing {
 }
 
 /// The two ends of a circuit, by address and name, and the numbers of its own end.
-#[derive(Clone, Copy, Debug)]
+#[derive(Clone, Copy)]
 pub struct CircuitConfig {
     /// The addresses of this end and of the other.
     pub own: Addr,

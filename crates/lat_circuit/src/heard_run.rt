@@ -28,7 +28,7 @@ use lat_session::Sessions;
 use lat_slots::Slot;
 
 /// A RUN that breaks the circuit: it acknowledges what was never sent, or has a bad slot.
-#[derive(Clone, Copy, Debug)]
+#[derive(Clone, Copy)]
 pub(crate) struct Broken;
 
 impl Circuit {

@@ -3,7 +3,7 @@
 ghost use Rattle.std.specs.Prelude.{◌≡◌};
 
 /// Moments of one end of a circuit, in milliseconds. None is later than `now`, the latest that it was given.
-#[derive(Clone, Copy, Debug)]
+#[derive(Clone, Copy)]
 pub struct Moments {
     pub now: u64,
     /// When the timer was last due.

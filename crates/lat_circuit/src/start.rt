@@ -36,7 +36,7 @@ pub(crate) const SPAN: u8 = 200;
 pub(crate) const WIDE: u8 = 2;
 
 /// A START of this program: what it states beside the size, the version and what is always 0.
-#[derive(Clone, Copy, Debug)]
+#[derive(Clone, Copy)]
 pub(crate) struct Start {
     pub(crate) master: bool,
     /// The circuit's id at the peer, 0 where it isn't known.

@@ -3,7 +3,7 @@
 use lat_base::{Addr, SessionEnd};
 
 /// The present or last session of an id of a circuit, as the circuit knows it.
-#[derive(Clone, Copy, Debug)]
+#[derive(Clone, Copy)]
 pub struct Told {
     /// The station at the other end.
     pub peer: Addr,

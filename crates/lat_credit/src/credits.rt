@@ -6,16 +6,16 @@ ghost use Rattle.lat_credit.specs.Account.{Account, Keeps, due, none, given_more
 use std::marker::Model;
 
 /// No credit is left for this slot.
-#[derive(Clone, Copy, Debug, PartialEq, Eq)]
+#[derive(Clone, Copy, PartialEq, Eq)]
 pub struct NoCredit;
 
 /// More than 255 credits would be unused.
-#[derive(Clone, Copy, Debug, PartialEq, Eq)]
+#[derive(Clone, Copy, PartialEq, Eq)]
 pub struct TooMany;
 
 /// The account of one session: what this end gives, and what was given to it. It stands for an account of totals, by the
 /// relation `Keeps`. See "Items and credits" in docs/PROTOCOL.md.
-#[derive(Clone, Copy, Debug)]
+#[derive(Clone, Copy)]
 pub struct Credits {
     ceiling: u8,
     outstanding: u8,

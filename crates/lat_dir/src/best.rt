@@ -8,7 +8,7 @@ ghost use Rattle.lat_dir.specs.Words.{best_shown, better_of};
 use lat_base::{Addr, Name};
 
 /// The node that was chosen for a service.
-#[derive(Clone, Copy, Debug)]
+#[derive(Clone, Copy)]
 pub struct Best {
     /// Its address.
     pub from: Addr,

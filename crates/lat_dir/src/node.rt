@@ -10,7 +10,6 @@ use lat_notices::Announcement;
 use std::alloc::Global;
 
 /// The last announcement of a node, as far as a choice needs it.
-#[derive(Debug)]
 pub struct Node {
     pub from: Addr,
     pub name: Name,

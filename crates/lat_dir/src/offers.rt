@@ -9,14 +9,13 @@ use std::alloc::Global;
 use std::marker::Model;
 
 /// A service with its rating. Its name is in upper case.
-#[derive(Clone, Copy, Debug)]
+#[derive(Clone, Copy)]
 pub struct Offer {
     pub service: Name,
     pub rating: u8,
 }
 
 /// The services of one announcement, in its order. Contracts see the list.
-#[derive(Debug)]
 pub struct Offers {
     offers: Vec<Offer>,
 }

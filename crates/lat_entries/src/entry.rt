@@ -3,7 +3,6 @@
 use lat_base::Bytes;
 
 /// A payload of a capture, of any length.
-#[derive(Debug)]
 pub struct Entry {
     /// Whether the circuit's master sent it.
     pub by_master: bool,

@@ -7,7 +7,6 @@ use std::alloc::Global;
 use std::marker::Model;
 
 /// A parameter: a code from 1 to 255, and at most 255 bytes.
-#[derive(Debug)]
 pub struct Param {
     pub code: u8,
     pub bytes: Bytes,
@@ -20,7 +19,6 @@ impl Drop for Param {
 }
 
 /// A list of parameters. Contracts see the list.
-#[derive(Debug)]
 pub struct Params {
     entries: Vec<Param>,
 }

@@ -4,7 +4,7 @@ ghost use Rattle.std.specs.Prelude.{◌≡◌, ◌<◌};
 ghost use Rattle.lat_frames.specs.Kinds.{bits_of, kind_of};
 
 /// The type of a circuit message.
-#[derive(Clone, Copy, Debug, PartialEq, Eq)]
+#[derive(Clone, Copy, PartialEq, Eq)]
 pub enum MessageKind {
     /// Carries slots.
     Run,

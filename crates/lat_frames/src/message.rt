@@ -5,7 +5,7 @@ use lat_base::{Bytes, Name};
 use lat_fields::Params;
 
 /// The head of a RUN message.
-#[derive(Clone, Copy, Debug, PartialEq, Eq)]
+#[derive(Clone, Copy, PartialEq, Eq)]
 pub struct Head {
     /// Whether the circuit's master sent it.
     pub master: bool,
@@ -21,7 +21,7 @@ pub struct Head {
 }
 
 /// The head of a wide RUN message, whose numbers have two bytes.
-#[derive(Clone, Copy, Debug, PartialEq, Eq)]
+#[derive(Clone, Copy, PartialEq, Eq)]
 pub struct WideHead {
     /// Whether the circuit's master sent it.
     pub master: bool,
@@ -37,7 +37,6 @@ pub struct WideHead {
 }
 
 /// What a START message tells of its sender.
-#[derive(Debug)]
 pub struct StartInfo {
     /// The greatest frame that it takes, 576 to 1,518 bytes.
     pub size: u16,
@@ -83,7 +82,7 @@ impl Drop for StartInfo {
 }
 
 /// A message of a circuit. `master` and `ask` are the two low bits of its first byte.
-#[derive(Debug, Drop)]
+#[derive(Drop)]
 pub enum Message {
     /// Carries slots.
     Run {

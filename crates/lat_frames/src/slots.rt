@@ -8,7 +8,6 @@ use std::alloc::Global;
 use std::marker::Model;
 
 /// The slots of a message, in order. Contracts see the list.
-#[derive(Debug)]
 pub struct Slots {
     slots: Vec<Slot>,
 }

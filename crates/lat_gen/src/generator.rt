@@ -11,7 +11,7 @@ const FACTOR: u64 = 6_364_136_223_846_793_005;
 const SUMMAND: u64 = 1_442_695_040_888_963_407;
 
 /// What makes the events of a schedule, turn by turn.
-#[derive(Clone, Copy, Debug)]
+#[derive(Clone, Copy)]
 pub struct Generator {
     /// What the next draw goes on from.
     pub drawn: u64,

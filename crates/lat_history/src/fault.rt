@@ -3,7 +3,7 @@
 use lat_base::{Answer, Memory};
 
 /// What was kept when an event found no room: events, the bytes in them, and the bytes of the event that was refused.
-#[derive(Clone, Copy, Debug, PartialEq, Eq)]
+#[derive(Clone, Copy, PartialEq, Eq)]
 pub struct FullAt {
     pub events: u64,
     pub bytes: u64,
@@ -11,7 +11,7 @@ pub struct FullAt {
 }
 
 /// Why an event wasn't applied.
-#[derive(Clone, Copy, Debug, PartialEq, Eq)]
+#[derive(Clone, Copy, PartialEq, Eq)]
 pub enum CellFault {
     /// The history keeps as many events, or as many bytes, as it can.
     Full(FullAt),
@@ -31,14 +31,14 @@ impl From<Memory> for CellFault {
 }
 
 /// Where an event stands in the history, counted from 0, and what it was answered.
-#[derive(Debug, Drop)]
+#[derive(Drop)]
 pub struct Receipt {
     pub place: u64,
     pub answer: Answer,
 }
 
 /// A seat whose count in the history differs from its share: its events, or else its bytes put.
-#[derive(Clone, Copy, Debug, PartialEq, Eq)]
+#[derive(Clone, Copy, PartialEq, Eq)]
 pub struct SeatFault {
     pub seat: u8,
     pub kept: u64,

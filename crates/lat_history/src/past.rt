@@ -6,7 +6,6 @@ ghost use Rattle.lat_history.specs.Counts.{seat_of, bytes_in, put_of};
 use lat_base::{Answer, Event};
 
 /// An event and what it was answered.
-#[derive(Debug)]
 pub struct Past {
     pub event: Event,
     pub answer: Answer,

@@ -4,7 +4,7 @@ use lat_base::LineSession;
 use lat_queue::Key;
 
 /// A session that a line has.
-#[derive(Clone, Copy, Debug)]
+#[derive(Clone, Copy)]
 pub(crate) struct Seat {
     pub(crate) line: u8,
     /// Of the request that it was granted for.

@@ -8,7 +8,7 @@ use std::alloc::Global;
 use std::marker::Model;
 
 /// How the workers of the lines ended, by rising number of the line. Contracts see the list.
-#[derive(Debug, Drop)]
+#[derive(Drop)]
 pub struct Ends {
     ends: Vec<LineDone>,
 }

@@ -25,7 +25,7 @@ use lat_payload::{command_frame, is_same};
 use std::alloc::Global;
 
 /// A request, as it was first made.
-#[derive(Clone, Copy, Debug)]
+#[derive(Clone, Copy)]
 pub(crate) struct Request {
     /// The server.
     pub(crate) to: Addr,

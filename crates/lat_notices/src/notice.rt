@@ -7,7 +7,6 @@ use crate::services::Services;
 use lat_base::{Bytes, Kept, Name};
 
 /// A node tells everyone its services.
-#[derive(Debug)]
 pub struct Announcement {
     /// After how many seconds the next one is due, 1 to 255.
     pub timer: u8,
@@ -35,7 +34,7 @@ impl Drop for Announcement {
 }
 
 /// What a node wants of its request.
-#[derive(Clone, Copy, Debug, PartialEq, Eq)]
+#[derive(Clone, Copy, PartialEq, Eq)]
 pub enum Action {
     /// For a session.
     Ask,
@@ -56,7 +55,7 @@ impl Action {
 }
 
 /// A node asks a server for a session with a service of the server's, or withdraws the request.
-#[derive(Clone, Copy, Debug)]
+#[derive(Clone, Copy)]
 pub struct Command {
     /// Which run of the node it is.
     pub incarnation: u16,
@@ -68,7 +67,7 @@ pub struct Command {
 }
 
 /// What a server answers to a command.
-#[derive(Clone, Copy, Debug, PartialEq, Eq)]
+#[derive(Clone, Copy, PartialEq, Eq)]
 pub enum Outcome {
     /// What it keeps of the request.
     Kept(Kept),
@@ -105,7 +104,7 @@ impl Outcome {
 }
 
 /// A server tells a node what became of its request.
-#[derive(Clone, Copy, Debug)]
+#[derive(Clone, Copy)]
 pub struct Status {
     /// Which run of the node it was.
     pub incarnation: u16,
@@ -116,7 +115,7 @@ pub struct Status {
 }
 
 /// A server asks who offers a service.
-#[derive(Clone, Copy, Debug)]
+#[derive(Clone, Copy)]
 pub struct Solicit {
     /// The server's number for the question.
     pub id: u16,
@@ -125,7 +124,7 @@ pub struct Solicit {
 }
 
 /// A node answers who asked for a service.
-#[derive(Clone, Copy, Debug)]
+#[derive(Clone, Copy)]
 pub struct Response {
     /// The number of the question.
     pub id: u16,
@@ -138,7 +137,7 @@ pub struct Response {
 }
 
 /// A notice.
-#[derive(Debug, Drop)]
+#[derive(Drop)]
 pub enum Notice {
     Announcement(Announcement),
     Command(Command),

@@ -7,7 +7,6 @@ use std::alloc::Global;
 use std::marker::Model;
 
 /// A service of an announcement.
-#[derive(Debug)]
 pub struct Service {
     /// How well the node can take a session, 0 for not at all.
     pub rating: u8,
@@ -26,7 +25,6 @@ impl Drop for Service {
 }
 
 /// A list of services. Contracts see the list.
-#[derive(Debug)]
 pub struct Services {
     services: Vec<Service>,
 }

@@ -6,7 +6,7 @@ use crate::key::Key;
 use lat_base::{Addr, Name};
 
 /// How a request stands.
-#[derive(Clone, Copy, Debug)]
+#[derive(Clone, Copy)]
 pub(crate) enum Standing {
     /// It waits in the line of the service at this place of the list of services.
     Waits(u8),
@@ -37,7 +37,7 @@ impl Standing {
 }
 
 /// A request: from where it first came, the service that it named then, and how it stands.
-#[derive(Clone, Copy, Debug)]
+#[derive(Clone, Copy)]
 pub(crate) struct Entry {
     pub(crate) from: Addr,
     pub(crate) service: Name,
@@ -45,7 +45,7 @@ pub(crate) struct Entry {
 }
 
 /// One that waits.
-#[derive(Clone, Copy, Debug)]
+#[derive(Clone, Copy)]
 pub(crate) struct Waiter {
     pub(crate) key: Key,
     pub(crate) from: Addr,

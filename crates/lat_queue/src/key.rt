@@ -7,7 +7,7 @@ use std::hash::{Hash, Hasher};
 
 /// The key of a request: the node that asks, its incarnation, and the number that it gave the request. Two keys are
 /// one where the names agree without regard to case and both numbers agree; `==` and the hash say so too.
-#[derive(Clone, Copy, Debug)]
+#[derive(Clone, Copy)]
 pub struct Key {
     pub node: Name,
     pub incarnation: u16,

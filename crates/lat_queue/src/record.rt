@@ -5,7 +5,7 @@ use lat_base::{Kept, Name};
 
 /// The record of a request: its key and service as first heard, what is kept of it now, and the number of its grant,
 /// counted from 1 over all services (None where it was never granted).
-#[derive(Clone, Copy, Debug)]
+#[derive(Clone, Copy)]
 pub struct Record {
     pub key: Key,
     pub service: Name,

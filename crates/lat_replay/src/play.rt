@@ -13,7 +13,7 @@ use lat_wire::EventFault;
 use std::alloc::Global;
 
 /// The event that was refused, and why.
-#[derive(Debug, Drop, PartialEq, Eq)]
+#[derive(Drop, PartialEq, Eq)]
 pub struct Stopped {
     /// How many events were played before it.
     pub index: usize,

@@ -10,7 +10,7 @@ use lat_base::{Answer, Bad, Heard, Kept};
 use std::alloc::AllocError;
 
 /// Why what was asked of a core wasn't done.
-#[derive(Clone, Copy, Debug, PartialEq, Eq)]
+#[derive(Clone, Copy, PartialEq, Eq)]
 pub enum Refusal {
     NoLine,
     Busy,
@@ -27,7 +27,7 @@ pub enum Refusal {
 }
 
 /// What a report notes of an answer.
-#[derive(Clone, Copy, Debug)]
+#[derive(Clone, Copy)]
 pub enum Noted {
     /// The payload has no layout; its first bad field.
     Bad(Bad),

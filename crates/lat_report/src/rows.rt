@@ -28,7 +28,7 @@ use lat_text::{byte_onto, hex_onto, name_onto};
 use std::alloc::{AllocError, Global};
 
 /// One direction of a session.
-#[derive(Clone, Copy, Debug)]
+#[derive(Clone, Copy)]
 pub struct Flow<'a> {
     /// The items that the sending end took in.
     pub put: &'a [Item],
@@ -41,7 +41,7 @@ pub struct Flow<'a> {
 }
 
 /// A session of a report.
-#[derive(Clone, Copy, Debug)]
+#[derive(Clone, Copy)]
 pub struct SessionRow<'a> {
     /// The server's line.
     pub line: u8,

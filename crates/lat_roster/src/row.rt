@@ -14,7 +14,6 @@ use lat_base::{Item, Memory};
 use std::alloc::Global;
 
 /// The items that went one way: those that the sending end put, and those that the other end's Takes gave.
-#[derive(Debug)]
 pub struct Way {
     pub put: Vec<Item>,
     pub taken: Vec<Item>,
@@ -28,7 +27,6 @@ impl Drop for Way {
 
 /// What is kept of one session of the server. `node_line` is the line that the node gave it, 0 while it gave none. The
 /// figures are those that were written down when the line of that end got another session.
-#[derive(Debug)]
 pub struct Row {
     pub line: u8,
     /// The server's ids of circuit and session.

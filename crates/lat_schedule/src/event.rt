@@ -7,7 +7,7 @@ use std::alloc::Global;
 use std::marker::Model;
 
 /// An event of a schedule.
-#[derive(Debug, Drop)]
+#[derive(Drop)]
 pub enum WorldEvent {
     /// One end, the server or the node, is told this event of its own. It is never `Heard`.
     Local {
@@ -28,7 +28,6 @@ pub enum WorldEvent {
 }
 
 /// A list of events. Contracts see the list.
-#[derive(Debug)]
 pub struct WorldEvents {
     events: Vec<WorldEvent>,
 }

@@ -11,7 +11,7 @@ use crate::setup_line::{
 };
 
 /// What they say.
-#[derive(Clone, Copy, Debug)]
+#[derive(Clone, Copy)]
 pub struct Front {
     pub version: Version,
     pub server: ServerLine,

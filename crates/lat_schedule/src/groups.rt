@@ -14,7 +14,7 @@ use std::alloc::Global;
 const ALL: [u8; 32] = [255; 32];
 
 /// The masks of both ends.
-#[derive(Debug, Drop)]
+#[derive(Drop)]
 pub struct Groups {
     pub server: [u8; 32],
     pub node: Bytes,

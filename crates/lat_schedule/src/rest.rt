@@ -5,7 +5,7 @@ ghost use Rattle.std.specs.Prelude.{◌+◌, ◌<◌, ◌^◌, length};
 use lat_text::first_line;
 
 /// What is left of a text: its lines, of which the first has this number.
-#[derive(Clone, Copy, Debug)]
+#[derive(Clone, Copy)]
 pub struct Rest<'a> {
     pub number: usize,
     pub text: &'a [u8],

@@ -35,7 +35,7 @@ use lat_text::{LineFault, address_of, behind_word, bytes_of, first_word, mask_of
 use std::alloc::Global;
 
 /// The version of a schedule's text.
-#[derive(Clone, Copy, Debug, PartialEq, Eq)]
+#[derive(Clone, Copy, PartialEq, Eq)]
 pub enum Version {
     One,
     /// Spans and groups may be told.
@@ -43,7 +43,7 @@ pub enum Version {
 }
 
 /// What the line of the server says.
-#[derive(Clone, Copy, Debug)]
+#[derive(Clone, Copy)]
 pub struct ServerLine {
     pub own: Addr,
     pub name: Name,
@@ -51,7 +51,7 @@ pub struct ServerLine {
 }
 
 /// What the line of the node says.
-#[derive(Clone, Copy, Debug)]
+#[derive(Clone, Copy)]
 pub struct NodeLine {
     pub own: Addr,
     pub name: Name,
@@ -61,14 +61,14 @@ pub struct NodeLine {
 }
 
 /// What the line of the circuits says.
-#[derive(Clone, Copy, Debug)]
+#[derive(Clone, Copy)]
 pub struct CircuitLine {
     pub server: Timing,
     pub node: Timing,
 }
 
 /// The first four numbers of that line.
-#[derive(Clone, Copy, Debug)]
+#[derive(Clone, Copy)]
 pub struct Numbers {
     pub timer: u8,
     pub keepalive: u8,

@@ -4,7 +4,7 @@ ghost use Rattle.std.specs.Prelude.{◌≡◌};
 ghost use Rattle.lat_schedule.specs.Verbs.{verb_of, may_say, verb_word};
 
 /// What an end is told: the word behind its letter, where something stands behind that word.
-#[derive(Clone, Copy, Debug)]
+#[derive(Clone, Copy)]
 pub enum Verb {
     Connect,
     Put,

@@ -7,7 +7,7 @@ use crate::words::word;
 use std::alloc::AllocError;
 
 /// Lines of a script that stand one behind another, and the number of the first of them in the script, counted from 1.
-#[derive(Clone, Copy, Debug)]
+#[derive(Clone, Copy)]
 pub struct Part<'a> {
     pub first: u64,
     pub text: &'a str,

@@ -10,7 +10,7 @@ use std::marker::Model;
 
 /// The side that takes messages: the field of the last one taken. It stands for a number of messages taken, by the relation
 /// `Takes`. See "Messages and numbers" in docs/PROTOCOL.md.
-#[derive(Clone, Copy, Debug)]
+#[derive(Clone, Copy)]
 pub struct RecvSide {
     span: Span,
     last: u16,

@@ -10,7 +10,7 @@ use crate::span::Span;
 use std::marker::Model;
 
 /// What an acknowledgement says.
-#[derive(Clone, Copy, Debug, PartialEq, Eq)]
+#[derive(Clone, Copy, PartialEq, Eq)]
 pub enum AckFact {
     /// So many more messages are taken, at least one.
     New(u8),
@@ -23,7 +23,7 @@ pub enum AckFact {
 /// The side that forms messages: the field of the last one known to be taken, and how many came behind it. It stands for two
 /// numbers, of the messages formed and of those known to be taken, by the relation `Sends`. The window is kept for life: an
 /// end that agrees on another one makes a new side. See "Messages and numbers" in docs/PROTOCOL.md.
-#[derive(Clone, Copy, Debug)]
+#[derive(Clone, Copy)]
 pub struct SendSide {
     span: Span,
     window: u8,

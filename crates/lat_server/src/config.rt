@@ -8,7 +8,7 @@ use std::alloc::Global;
 use std::marker::Model;
 
 /// A line offers a service to the requests of nodes.
-#[derive(Clone, Copy, Debug)]
+#[derive(Clone, Copy)]
 pub struct Offer {
     /// From 1 on.
     pub line: u8,
@@ -16,7 +16,6 @@ pub struct Offer {
 }
 
 /// A list of offers. Contracts see the list.
-#[derive(Debug)]
 pub struct Offers {
     offers: Vec<Offer>,
 }
@@ -65,7 +64,6 @@ impl Offers {
 
 /// What a server is made of. Valid where it has 1 to 32 lines, each offer names one of them, no line is in two offers, and
 /// the timing is valid.
-#[derive(Debug)]
 pub struct ServerConfig {
     /// Its address.
     pub own: Addr,

@@ -1,7 +1,7 @@
 //! What a session's user asks of it.
 
 /// What a session's user asks of it, but for a take. After a refusal nothing has changed.
-#[derive(Clone, Copy, Debug)]
+#[derive(Clone, Copy)]
 pub enum SessionCall<'a> {
     /// Bytes for the peer. The first ones are taken, as many as there is room for: 4,096 items wait to be framed at most.
     /// `Closed` exactly where the session is neither calling nor live, or was closed.

@@ -19,7 +19,7 @@ use lat_base::{Name, SessionEnd, SessionState};
 use lat_stream::Stream;
 
 /// A session that the peer asks for.
-#[derive(Clone, Copy, Debug)]
+#[derive(Clone, Copy)]
 pub struct Asked {
     /// This end's id of it.
     pub id: u8,

@@ -25,7 +25,7 @@ use lat_stream::Formed;
 const REJECT_BYTES: u16 = 4;
 
 /// How far the packing of a message has come.
-#[derive(Clone, Copy, Debug)]
+#[derive(Clone, Copy)]
 pub(crate) struct Progress {
     /// How many bytes may still be added.
     pub(crate) room: u16,

@@ -4,7 +4,7 @@ use lat_base::{Addr, Name};
 use lat_lines::Timing;
 
 /// What a switch is made of. Valid where it has 1 to 8 lines and the timing is valid. It has no offers.
-#[derive(Clone, Copy, Debug)]
+#[derive(Clone, Copy)]
 pub struct SwitchConfig {
     /// Its address.
     pub own: Addr,

@@ -14,7 +14,6 @@ use std::marker::Model;
 pub(crate) const INNER: u8 = 4;
 
 /// A line of a switch.
-#[derive(Debug)]
 pub(crate) struct Line {
     /// The least of its four inner lines.
     first: u8,

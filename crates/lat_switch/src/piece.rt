@@ -14,7 +14,7 @@ const CONNECT_KEY: u8 = 0x1c;
 const NEXT_KEY: u8 = 0x1d;
 
 /// A part of the bytes of a put.
-#[derive(Debug, Drop)]
+#[derive(Drop)]
 pub(crate) enum Piece {
     /// Bytes that aren't keys, as many as stand together.
     Run(Bytes),

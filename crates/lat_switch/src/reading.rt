@@ -18,7 +18,7 @@ use lat_base::{Answer, Bytes, Event, OutBox};
 use std::collections::VecDeque;
 
 /// How far the bytes of a put were read.
-#[derive(Clone, Copy, Debug)]
+#[derive(Clone, Copy)]
 pub(crate) struct Progress {
     /// How many bytes.
     count: u16,

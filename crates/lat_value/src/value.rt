@@ -4,7 +4,7 @@ use lat_frames::Message;
 use lat_notices::Notice;
 
 /// What a payload is.
-#[derive(Debug, Drop)]
+#[derive(Drop)]
 pub enum Value {
     /// A message of a circuit.
     Circuit(Message),

@@ -7,7 +7,7 @@ ghost use Rattle.lat_wire.specs.Notes.{noted_answer, noted_of};
 use lat_base::{Answer, Bad, Heard, Kept};
 
 /// Why an event was answered with a refusal.
-#[derive(Clone, Copy, Debug, PartialEq, Eq)]
+#[derive(Clone, Copy, PartialEq, Eq)]
 pub enum Refusal {
     NoLine,
     Busy,
@@ -25,7 +25,7 @@ pub enum Refusal {
 }
 
 /// What is noted of an event.
-#[derive(Clone, Copy, Debug)]
+#[derive(Clone, Copy)]
 pub enum Noted {
     /// It brought a payload of no layout, and this is its first bad field.
     Bad(Bad),
@@ -35,7 +35,7 @@ pub enum Noted {
 }
 
 /// An event that was noted, counted from 1.
-#[derive(Clone, Copy, Debug)]
+#[derive(Clone, Copy)]
 pub struct Note {
     pub event: u64,
     pub noted: Noted,

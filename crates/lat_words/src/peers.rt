@@ -5,7 +5,6 @@ ghost use Rattle.std.specs.Prelude.{◌≡◌, ◌<◌, ◌≤◌, ◌++◌, ◌
 use std::marker::Model;
 
 /// At most eight ports. Contracts see their list.
-#[derive(Debug)]
 pub struct Peers {
     ports: [u16; 8],
     count: usize,
