@@ -18,8 +18,6 @@ mod name;
 mod outbox;
 mod payload;
 mod state;
-#[cfg(test)]
-mod tests;
 
 pub use addr::{Addr, EVERYONE};
 pub use answer::Answer;

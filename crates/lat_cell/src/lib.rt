@@ -5,8 +5,6 @@
 mod clock;
 mod desk;
 mod seat;
-#[cfg(test)]
-mod tests;
 mod wire;
 mod write;
 

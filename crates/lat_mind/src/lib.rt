@@ -2,7 +2,5 @@
 #![tactic(auto)]
 
 mod mind;
-#[cfg(test)]
-mod tests;
 
 pub use mind::{Fact, LineMind, Move, Seen};

@@ -7,8 +7,6 @@ mod datagram;
 mod fault;
 mod line;
 mod opener;
-#[cfg(test)]
-mod tests;
 mod udp;
 
 pub use clock::RealClock;

@@ -5,8 +5,6 @@ mod config;
 mod peers;
 mod read;
 mod taken;
-#[cfg(test)]
-mod tests;
 
 pub use config::{Config, Lines, Role, Station};
 pub use peers::Peers;

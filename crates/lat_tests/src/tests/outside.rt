@@ -1,8 +1,10 @@
-use crate::{
+//! A carrier, a line and an opener in memory, and the ends over a reader and a writer, whose reads fail.
+
+use lat_base::{Bytes, EVERYONE, Payload};
+use lat_outside::{
     Failed, Got, HeardFrame, LineEnd, LineGot, MemLine, MemOpener, MemRx, MemTx, Opener, Rx, Sink,
     Source, StdSink, StdSource, Tx, read_all, write_all,
 };
-use lat_base::{Bytes, EVERYONE, Payload};
 use std::io::{self, Read};
 use std::test::Fail;
 

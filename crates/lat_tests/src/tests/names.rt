@@ -1,4 +1,6 @@
-use crate::{Name, NameFault};
+//! Each way in which bytes are no name, and a name whose case is folded.
+
+use lat_base::{Name, NameFault};
 
 #[test]
 fn names(rt: HostRuntime) {

@@ -1,8 +1,8 @@
-//! On the loopback address.
+//! The carrier, a line with its opener, and the clock, on the loopback address.
 
-use crate::{NetOpener, RealClock};
 use lat_base::Addr;
 use lat_outside::{Clock, Failed, Got, LineEnd, LineGot, Opener, Rx, Tx};
+use lat_udp::{NetOpener, RealClock};
 use std::io::{Read, Write};
 use std::net::{Ipv4Addr, TcpStream, UdpSocket};
 use std::test::Fail;

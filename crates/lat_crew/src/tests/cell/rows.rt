@@ -4,10 +4,10 @@ ghost use Rattle.std.specs.Prelude.{◌≡◌};
 
 use super::echo::Echo;
 use super::outside::FailingTx;
-use crate::{
+use lat_base::{Bytes, Core, Event};
+use lat_cell::{
     Blanks, Cell, CellFault, FullAt, LineDone, LineShare, Receipt, SeatFault, line_worker,
 };
-use lat_base::{Bytes, Core, Event};
 use lat_history::{MOST, kept_events, seat};
 use lat_outside::{FreeGate, MemLine, MemTx, Tx};
 use std::alloc::Global;

@@ -1,4 +1,6 @@
-use crate::{Config, Role, config_of};
+//! A table of a daemon's words, right and wrong ones.
+
+use lat_words::{Config, Role, config_of};
 use std::alloc::{AllocError, Global};
 use std::test::Fail;
 
