@@ -76,7 +76,7 @@ fn event_of(
             Ok(Some(Event::Put { line, bytes }))
         }
         Move::Close => Ok(Some(Event::Close { line })),
-        _ => Ok(None),
+        Move::Read | Move::Rest | Move::Finish => Ok(None),
     }
 }
 
@@ -107,7 +107,7 @@ fn tell(desk: &mut Desk, go: Move, answer: &Answer, moment: u64)
             desk.at = (desk.at.min(1024)) + n as usize;
         }
         Move::Close => desk.mind.told(Fact::Closed),
-        _ => {}
+        Move::Take | Move::Read | Move::Rest | Move::Finish => {}
     }
 }
 
@@ -162,14 +162,15 @@ pub fn hold<C: Core, T: Tx, E: Ledger, B: Ledger, F: Ledger>(
     }
     let go = desk.mind.next(&see);
     match go {
-        Move::Finish => return Held::Finish,
-        Move::Read => return Held::Read,
-        Move::Rest => return Held::Rest,
-        _ => {}
-    }
-    match event_of(alloc, desk, line, service, go) {
-        Ok(Some(event)) => applied(desk, alloc, cell, share, event, go, see.moment),
-        Ok(None) => Held::Rest,
-        Err(Memory) => Held::Memory,
+        Move::Finish => Held::Finish,
+        Move::Read => Held::Read,
+        Move::Rest => Held::Rest,
+        Move::Connect | Move::Take | Move::Put | Move::Close => {
+            match event_of(alloc, desk, line, service, go) {
+                Ok(Some(event)) => applied(desk, alloc, cell, share, event, go, see.moment),
+                Ok(None) => Held::Rest,
+                Err(Memory) => Held::Memory,
+            }
+        }
     }
 }

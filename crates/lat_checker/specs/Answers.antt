@@ -32,7 +32,8 @@ pub record IsRun (tell : List ℕ → List Slot) (slots : List Slot) (facts : Li
   pub low : Each (λ x. credits_of x ≤ 255) slots
 
 -- an entry that keeps the rules behind what was seen is taken: the checker stands for what is seen with it
-pub record TakesRun (tell : List ℕ → List Slot) (t : Title) (b : Both) (x : Texts) (e : Entry) (wide : Bool) (h : Head) (slots : List Slot) (d : Checker) : Type 0 where
+pub record TakesRun (tell : List ℕ → List Slot) (t : Title) (b : Both) (x : Texts) (e : Entry)
+    (wide : Bool) (h : Head) (slots : List Slot) (d : Checker) : Type 0 where
   pub number : ℕ
   pub ack : ℕ
   pub test : run_test (title_shown t) b x e wide h slots ≡ Passes number ack
@@ -49,4 +50,6 @@ AnswersRunBy by_master c head facts text d result =
     (tell : List ℕ → List Slot) (ask : Bool) (b : Both) (x : Texts) (xs : List Slot) (r : Reading)
     → Stands tell c b x
     → IsRun tell xs facts text
-    → IfOk result (λ broken. AnswersRun tell (title_of c) b x (record { by_master = by_master; reading = r; text = text }) head.wide (head_shown ask head) xs d broken)
+    → IfOk result (λ broken. AnswersRun tell (title_of c) b x
+    (record { by_master = by_master; reading = r; text = text })
+    head.wide (head_shown ask head) xs d broken)

@@ -39,8 +39,14 @@ pub record Under (w : Slot → ℕ) (xs : List Slot) (o : Owned) : Type 0 where
 -- master has sent the slots os and the slave has taken the first of them, ts
 pub record Holds (b : Both) (xs ys : List Slot) (os ts : List Owned) (s : Sums) : Type 0 where
   pub asked : (x : ℕ) → s.asked x ≡ last_ask x ts
-  pub slave : (y : ℕ) → AccountOf (s.slave y) (session_under b y xs) (λ r. ask_credits b r + credits (of_session r ts)) (λ r. costs (of_session r (slave_owned b [] xs)))
-  pub master : (y : ℕ) → AccountOf (s.master y) (session_under b y ys) (λ r. credits (of_session r (slave_owned b [] ys))) (λ r. costs (of_session r os))
+  pub slave : (y : ℕ) →
+      AccountOf (s.slave y) (session_under b y xs)
+      (λ r. ask_credits b r + credits (of_session r ts))
+      (λ r. costs (of_session r (slave_owned b [] xs)))
+  pub master : (y : ℕ) →
+      AccountOf (s.master y) (session_under b y ys)
+      (λ r. credits (of_session r (slave_owned b [] ys)))
+      (λ r. costs (of_session r os))
   pub sent : Each (Under destination ys) os
   pub taken : Each (Under destination ys) ts
   pub first : IsPrefixOf ys xs

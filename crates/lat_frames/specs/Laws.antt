@@ -53,12 +53,18 @@ OneOutcome = (payload : List ℕ) → ((i : ℕ) → get_or payload i 0 < 256) �
 -- of the RUN with this acknowledgement.
 pub record RunIsAcknowledged (head : Head) (slots : List Slot) (ack : ℕ) : Type 0 where
   pub placed : slice_set (padded (message_text (Run head slots))) 7 ack ≡ padded (message_text (Run (record head { ack = ack }) slots))
-  pub joined : take 7 (padded (message_text (Run head slots))) ++ ack ∷ drop 8 (padded (message_text (Run head slots))) ≡ padded (message_text (Run (record head { ack = ack }) slots))
+  pub joined :
+      take 7 (padded (message_text (Run head slots))) ++ ack ∷ drop 8 (padded (message_text (Run head slots)))
+      ≡ padded (message_text (Run (record head { ack = ack }) slots))
 
 -- the same of a wide RUN, the two bytes at place 8
 pub record WideIsAcknowledged (head : WideHead) (slots : List Slot) (ack : ℕ) : Type 0 where
-  pub placed : slice_set (slice_set (padded (message_text (Wide head slots))) 8 (ack % 256)) 9 (ack / 256) ≡ padded (message_text (Wide (record head { ack = ack }) slots))
-  pub joined : take 8 (padded (message_text (Wide head slots))) ++ number ack ++ drop 10 (padded (message_text (Wide head slots))) ≡ padded (message_text (Wide (record head { ack = ack }) slots))
+  pub placed :
+      slice_set (slice_set (padded (message_text (Wide head slots))) 8 (ack % 256)) 9 (ack / 256)
+      ≡ padded (message_text (Wide (record head { ack = ack }) slots))
+  pub joined :
+      take 8 (padded (message_text (Wide head slots))) ++ number ack ++ drop 10 (padded (message_text (Wide head slots)))
+      ≡ padded (message_text (Wide (record head { ack = ack }) slots))
 
 abbrev pub RunsAreAcknowledged : Type 0
 RunsAreAcknowledged = (head : Head) (slots : List Slot) (ack : ℕ) → RunIsAcknowledged head slots ack

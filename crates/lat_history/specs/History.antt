@@ -17,7 +17,8 @@ IsLegal next answer s [] = Unit {0}
 IsLegal next answer s (p ∷ ps) = (p.answer ≡ answer s p.event) × IsLegal next answer (next s p.event) ps
 
 -- the core is the run of the history, from the opening that it was made in, with the answers that stand there
-pub record IsRun {C S : Type 0} (made : S → Type 0) (opening : C → S) (stands : C → S → Type 0) (next : S → Event → S) (answer : S → Event → Answer) (core : C) (history : List Past) : Type 0 where
+pub record IsRun {C S : Type 0} (made : S → Type 0) (opening : C → S) (stands : C → S → Type 0)
+    (next : S → Event → S) (answer : S → Event → Answer) (core : C) (history : List Past) : Type 0 where
   pub as_made : made (opening core)
   pub run : stands core (run_of next (opening core) history)
   pub legal : IsLegal next answer (opening core) history

@@ -52,7 +52,11 @@ Fits (notices.Response r) = IsResponse r
 -- The five layouts behind their first byte. Each has the version 5.
 abbrev pub announcement_text : Announcement → List ℕ
 announcement_text a =
-    a.timer ∷ 5 ∷ number a.incarnation ++ (counted a.groups ++ (counted a.node ++ (counted a.description ++ (length a.services ∷ flat_map service_text a.services))))
+    a.timer ∷ 5 ∷ number a.incarnation
+    ++ (counted a.groups
+    ++ (counted a.node
+    ++ (counted a.description
+    ++ (length a.services ∷ flat_map service_text a.services))))
 
 abbrev pub command_text : Command → List ℕ
 command_text c = 5 ∷ number c.incarnation ++ (number c.request ++ (action_number c.action ∷ counted c.node ++ counted c.service))

@@ -93,7 +93,10 @@ line_of offered service = position_or_len (λ n. same service n) offered
 
 abbrev pub standing_in : List Name → List QueueEvent → Request → Standing
 standing_in offered h r =
-    cond (is_waiting r.answer) (waited (grant_of r.key h) (list_any (cancels r.key) r.later) (list_any (finishes r.key) r.later) (stands.Waits (line_of offered r.service))) (turned_away r.answer)
+    cond (is_waiting r.answer)
+    (waited (grant_of r.key h) (list_any (cancels r.key) r.later) (list_any (finishes r.key) r.later)
+    (stands.Waits (line_of offered r.service)))
+    (turned_away r.answer)
 
 abbrev pub noted_in : List Name → List QueueEvent → Request → Noted
 noted_in offered h r = record { key = r.key; from = r.from; service = r.service; standing = standing_in offered h r }

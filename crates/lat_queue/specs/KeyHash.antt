@@ -17,7 +17,7 @@ one_key a b = pointwise ◌==◌ (folded a.node) (folded b.node) && (a.incarnati
 
 pub same_writes : (x y : Key) → IsTrue (one_key x y) → key_writes x ≡ key_writes y
 same_writes x y h =
-    let p : (pointwise ◌==◌ (folded x.node) (folded y.node) ≡ true) × ((x.incarnation == y.incarnation && x.request == y.request) ≡ true) = and_parts (pointwise ◌==◌ (folded x.node) (folded y.node)) (x.incarnation == y.incarnation && x.request == y.request) h in
-    let q : (x.incarnation == y.incarnation ≡ true) × (x.request == y.request ≡ true) = and_parts (x.incarnation == y.incarnation) (x.request == y.request) p.1 in
+    let p = and_parts (pointwise ◌==◌ (folded x.node) (folded y.node)) (x.incarnation == y.incarnation && x.request == y.request) h in
+    let q = and_parts (x.incarnation == y.incarnation) (x.request == y.request) p.1 in
     ap₂ (λ a b. a ∷ b) ((bytes_eq-Decides (folded x.node) (folded y.node)).0 p.0)
     (ap₂ (λ a b. fed.u16 a ++ fed.u16 b) (eqb-true x.incarnation y.incarnation q.0) (eqb-true x.request y.request q.1))

@@ -71,15 +71,21 @@ connects_all c before (s ∷ ss) k = connects_all c (before ++ s ∷ []) ss (con
 
 abbrev pub accepts_all : Setups → Machines → List Seat → List Seat → KeptRows → KeptRows
 accepts_all u w before [] k = k
-accepts_all u w before (t ∷ ts) k = accepts_all u w (before ++ t ∷ []) ts (accepts t.line (mate_by_ids u w t) (figures_of w.node.core (last_on t.line no_seat before)) k)
+accepts_all u w before (t ∷ ts) k =
+    accepts_all u w (before ++ t ∷ []) ts
+    (accepts t.line (mate_by_ids u w t) (figures_of w.node.core (last_on t.line no_seat before)) k)
 
 abbrev pub new_seats : Core → Core → List Seat
 new_seats c d = drop (length c.seats) d.seats
 
 -- one event of one of the two, between two worlds
 abbrev pub kept_by : Setups → Machines → Machines → Bool → Event → Answer → KeptRows → KeptRows
-kept_by u w x true e a k = connects_all x.server.core w.server.core.seats (new_seats w.server.core x.server.core) (adds true (line_of e) (put_by e a) (taken_by e a) k)
-kept_by u w x false e a k = accepts_all u x w.node.core.seats (new_seats w.node.core x.node.core) (adds false (line_of e) (put_by e a) (taken_by e a) k)
+kept_by u w x true e a k =
+    connects_all x.server.core w.server.core.seats (new_seats w.server.core x.server.core)
+    (adds true (line_of e) (put_by e a) (taken_by e a) k)
+kept_by u w x false e a k =
+    accepts_all u x w.node.core.seats (new_seats w.node.core x.node.core)
+    (adds false (line_of e) (put_by e a) (taken_by e a) k)
 
 abbrev pub answer_to : Setups → Machines → Bool → Event → List ℕ → Answer
 answer_to u w true e rates = (server_step u.server w.server e).answer

@@ -56,9 +56,21 @@ abbrev pub sent_frame : Side → Core → Wired → OutFrame
 sent_frame k c w = go w.sent
   where
     go : Sent → OutFrame
-    go (Run m ask f) = record { to = w.to; circuit = w.circuit; mark = OfRun m; number = f.number; acknowledgement = f.acknowledgement; value = OfCircuit (run_message w.by_server (c.circuits.circuit_at w.circuit).end.wide ask w.destination w.source f) }
-    go CallStart = plain w.to w.circuit (OfCircuit (StartMessage true false w.destination w.source (call_info k.timing k.name (c.names w.circuit))))
-    go ReplyStart = plain w.to w.circuit (OfCircuit (StartMessage false false w.destination w.source (reply_info k.timing (c.circuits.circuit_at w.circuit).end.wide k.name (c.names w.circuit))))
+    go (Run m ask f) = record {
+      to = w.to;
+      circuit = w.circuit;
+      mark = OfRun m;
+      number = f.number;
+      acknowledgement = f.acknowledgement;
+      value = OfCircuit (run_message w.by_server (c.circuits.circuit_at w.circuit).end.wide ask w.destination w.source f);
+    }
+    go CallStart =
+        plain w.to w.circuit
+        (OfCircuit (StartMessage true false w.destination w.source (call_info k.timing k.name (c.names w.circuit))))
+    go ReplyStart =
+        plain w.to w.circuit
+        (OfCircuit (StartMessage false false w.destination w.source
+        (reply_info k.timing (c.circuits.circuit_at w.circuit).end.wide k.name (c.names w.circuit))))
     go (Stopped r) = plain w.to w.circuit (OfCircuit (StopMessage w.by_server false w.destination w.source r []))
 
 -- a core with the frames that it made so far in this event

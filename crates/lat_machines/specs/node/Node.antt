@@ -116,7 +116,15 @@ judged config state x id request (Rejects reason) = record state {
 judged config state x id request (Accepts line) =
     let c : Core = local_call config x (Calls.Answer id) state.core in
     record state {
-      core = record c { seats = c.seats ++ record { line = line; circuit = x; id = id; serial = (c.circuits.circuit_at x).end.half.sessions.at_id id; key = None } ∷ [] };
+      core = record c {
+        seats = c.seats ++ record {
+          line = line;
+          circuit = x;
+          id = id;
+          serial = (c.circuits.circuit_at x).end.half.sessions.at_id id;
+          key = None;
+        } ∷ [];
+      };
       accepted = accepted_too request state.accepted;
     }
 
@@ -153,7 +161,14 @@ rated (s ∷ ss) (r ∷ rs) = record { rating = r; name = s; description = [] } 
 
 abbrev pub announcement : NodeConfig → List ℕ → OutFrame
 announcement config rates =
-    plain everyone 0 (OfNotice (AnnouncementNotice (record { timer = config.timer; incarnation = config.incarnation; groups = config.groups; node = config.name; description = []; services = rated config.services rates })))
+    plain everyone 0 (OfNotice (AnnouncementNotice (record {
+      timer = config.timer;
+      incarnation = config.incarnation;
+      groups = config.groups;
+      node = config.name;
+      description = [];
+      services = rated config.services rates;
+    })))
 
 abbrev pub first_rate : List ℕ → ℕ
 first_rate [] = 0
@@ -180,7 +195,8 @@ then_answers config named x s = record {
 
 abbrev pub hears_run : NodeConfig → Node → ℕ → Bool → Head → List Slot → Option Numbers → NodeStep
 hears_run config state from wide h slots k =
-    then_answers config (names state.core.circuits from h.to h.from) h.to (heard_at config state (hear_run false state.core.circuits from wide h slots k state.core.moment))
+    then_answers config (names state.core.circuits from h.to h.from) h.to
+    (heard_at config state (hear_run false state.core.circuits from wide h slots k state.core.moment))
 
 abbrev pub names_for : StartFact → Name → Core → Core
 names_for (Makes k) name c = record c { names = updated c.names k name }
@@ -195,7 +211,9 @@ start_answer Refuses = StartRefused
 abbrev pub hears_start : NodeConfig → Node → ℕ → ℕ → StartInfo → StartFact → NodeStep
 hears_start config state from source info fact =
     let c : Core = names_for fact info.name state.core in
-    does state (start_answer fact) (acts (node_side config) c (start_at (setup_of config.timing) c.circuits from source c.moment (agreed_by config.timing info) fact))
+    does state (start_answer fact)
+    (acts (node_side config) c
+    (start_at (setup_of config.timing) c.circuits from source c.moment (agreed_by config.timing info) fact))
 
 abbrev pub hears_message : NodeConfig → Node → ℕ → Message → Option Numbers → NodeStep
 hears_message config state from (RunMessage h slots) k = hears_run config state from false h slots k

@@ -131,7 +131,10 @@ abbrev pub connect_event : ServerConfig → Server → ℕ → Name → ServerSt
 connect_event config state line service =
     cond (line_exists config.lines line)
     (cond (holds state.core line) (tells state Busy)
-    (elim (best config.groups service state.core.moment state.heard) [ None ↦ solicits_for config state service | Some b ↦ connects_to config state line service b ]))
+    (elim (best config.groups service state.core.moment state.heard) [
+      | None ↦ solicits_for config state service
+      | Some b ↦ connects_to config state line service b
+    ]))
     (tells state NoLine)
 
 abbrev pub heard_at : ServerConfig → Server → HeardAct → ServerStep

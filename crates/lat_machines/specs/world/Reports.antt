@@ -42,7 +42,12 @@ pub record Report : Type 0 where
 abbrev pub is_partner : Setups → Machines → Seat → Seat → Bool
 is_partner u w s t =
     let m : End = end_of w.server.core s in
-    nat_eq t.circuit m.peer && (m.running && (nat_eq (w.server.core.circuits.circuit_at s.circuit).address u.node.own && (nat_eq (w.node.core.circuits.circuit_at t.circuit).address u.server.own && (nat_eq (end_of w.node.core t).peer s.circuit && nat_eq (session_of w.node.core t).generation (session_of w.server.core s).generation))))
+    nat_eq t.circuit m.peer
+    && (m.running
+    && (nat_eq (w.server.core.circuits.circuit_at s.circuit).address u.node.own
+    && (nat_eq (w.node.core.circuits.circuit_at t.circuit).address u.server.own
+    && (nat_eq (end_of w.node.core t).peer s.circuit
+    && nat_eq (session_of w.node.core t).generation (session_of w.server.core s).generation))))
 
 abbrev pub partner_in : Setups → Machines → Seat → List Seat → Seat
 partner_in u w s [] = no_seat

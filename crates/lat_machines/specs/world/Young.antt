@@ -23,7 +23,10 @@ link_of w b x = ((core_of w b).circuits.circuit_at x).end.half.link
 abbrev pub YoungAt : Setups → Machines → Posted → Head → Type 0
 YoungAt u w p h =
     names (core_of w (not p.by_server)).circuits (own_of u p.by_server) h.to h.from ≡ true →
-    Young (List Slot) (half_range ((core_of w (not p.by_server)).circuits.circuit_at h.to).end.wide) (link_of w p.by_server p.frame.circuit) (record { number = p.frame.number; acknowledgement = p.frame.acknowledgement; body = None })
+    Young (List Slot)
+    (half_range ((core_of w (not p.by_server)).circuits.circuit_at h.to).end.wide)
+    (link_of w p.by_server p.frame.circuit)
+    (record { number = p.frame.number; acknowledgement = p.frame.acknowledgement; body = None })
 
 abbrev pub YoungOf : Setups → Machines → Posted → Option Head → Type 0
 YoungOf u w p None = Unit {0}
