@@ -19,13 +19,13 @@ abbrev pub bears : Bool → ℕ → ℕ → Bool
 bears wide field n = nat_eq field (n % (2 * half_range wide))
 
 -- a RUN without slots has the number of the newest of so many messages; one with slots that of one of the last eight, or the next
-abbrev pub number_told : Bool → ℕ → ℕ → Bool → Option ℕ
-number_told wide count seq bare =
+abbrev pub number_near : Bool → ℕ → ℕ → Bool → Option ℕ
+number_near wide count seq bare =
     cond bare (cond (bears wide seq count) (Some count) None) (find_from (λ n. bears wide seq n && nat_le 0 n) (count - 8 + 1) (min (count + 1) 9))
 
 -- an acknowledgement that isn't below one that was sent, of one of the last of so many messages
-abbrev pub ack_told : Bool → ℕ → ℕ → ℕ → Option ℕ
-ack_told wide acknowledged count ack = find_from (λ a. bears wide ack a && nat_le acknowledged a) (count - 8) (min (count + 1) 9)
+abbrev pub ack_near : Bool → ℕ → ℕ → ℕ → Option ℕ
+ack_near wide acknowledged count ack = find_from (λ a. bears wide ack a && nat_le acknowledged a) (count - 8) (min (count + 1) 9)
 
 -- a message that was sent before has the text that it had
 abbrev pub repeats : Side → ℕ → List ℕ → Bool
@@ -41,9 +41,9 @@ after_ack own other n (Some a) = cond (in_window own other n) (Ok (record { numb
 abbrev pub after_number : Title → Side → Side → RunHead → Bool → List ℕ → Option ℕ → Result Told Rule
 after_number t own other h bare text None = Err Number
 after_number t own other h bare text (Some n) =
-    cond (not bare && not (repeats own n text)) (Err Slots) (after_ack own other n (ack_told t.wide own.acknowledged other.count h.ack))
+    cond (not bare && not (repeats own n text)) (Err Slots) (after_ack own other n (ack_near t.wide own.acknowledged other.count h.ack))
 
 -- in the order of the rules, up to that on the window
 abbrev pub tests_kept : Title → Side → Side → Bool → RunHead → Bool → List ℕ → Result Told Rule
 tests_kept t own other m h bare text =
-    cond (ids_kept t m h) (after_number t own other h bare text (number_told t.wide own.count h.seq bare)) (Err Ids)
+    cond (ids_kept t m h) (after_number t own other h bare text (number_near t.wide own.count h.seq bare)) (Err Ids)

@@ -81,9 +81,9 @@ ready k x id = ready_in (held_circuit k x) id
 abbrev pub is_of_circuit : circuit.Kept → ℕ → ℕ → Bool
 is_of_circuit q from source = nat_eq (address q.facts.config.peer.0) from && nat_eq q.facts.peer source
 
-abbrev pub span_told : Option Bool → Option Span
-span_told None = None
-span_told (Some wide) = Some (span_of wide)
+abbrev pub some_span : Option Bool → Option Span
+some_span None = None
+some_span (Some wide) = Some (span_of wide)
 
 -- the session of the id waits for this end's answer
 abbrev pub asks_in : Option circuit.Kept → ℕ → Bool

@@ -18,7 +18,7 @@ ghost use Rattle.lat_circuit.specs.Told.{session_state};
 ghost use Rattle.lat_circuits.specs.Kept.{has_id, IsOwn};
 ghost use Rattle.lat_circuits.specs.Stands.{Stands, IsCircuit};
 ghost use Rattle.lat_circuits.specs.Told.{sessions_at, session_at, held_circuit, is_of_circuit};
-ghost use Rattle.lat_circuits.specs.Told.{telling, telling_of, ready, span_told, is_asked_at};
+ghost use Rattle.lat_circuits.specs.Told.{telling, telling_of, ready, some_span, is_asked_at};
 
 use crate::circuits::Circuits;
 use crate::hearing::is_to;
@@ -139,7 +139,7 @@ impl Circuits {
 
     /// How far the message numbers of a circuit count, `None` exactly where no circuit of this id lives.
     pub fn span(&self, circuit: u16) -> Option<Span>
-        ensures { (c : Core) → Stands self.now c → result ≡ span_told (span c circuit) }
+        ensures { (c : Core) → Stands self.now c → result ≡ some_span (span c circuit) }
     {
         let held = self.circuit(circuit)?;
         if held.lives() {

@@ -9,7 +9,7 @@ use Rattle.lat_machines.specs.world.Machines.{Setups, Machines}
 use Rattle.lat_roster.specs.Roster as rosters
 use Rattle.lat_roster.specs.Roster.{Shows}
 use Rattle.lat_roster.proofs.Found.{found_accepts}
-use Rattle.lat_tales.specs.Books.{newest_of, newest_told}
+use Rattle.lat_tales.specs.Books.{newest_of, newest_info}
 use Rattle.lat_tales.specs.Keeping.{connects, accepts}
 use Rattle.lat_tales.specs.Mates.{mate_by_ids}
 use Rattle.lat_tales.specs.Rows.{KeptRows, figures_of, newest_place}
@@ -50,7 +50,7 @@ accepted u x front rest t k target old new h shows = record {
 
 -- a present session is the one of its number
 
-told_present : (o l : Option LineSession) (s : LineSession) → o ≡ Some s → newest_told (record { present = o; last = l }) ≡ Some s
+told_present : (o l : Option LineSession) (s : LineSession) → o ≡ Some s → newest_info (record { present = o; last = l }) ≡ Some s
 told_present None l s q = let z : ⊥ = cc in absurd z
 told_present (Some y) l s q = q
 

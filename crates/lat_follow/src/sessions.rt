@@ -5,7 +5,7 @@ ghost use Rattle.lat_machines.specs.cores.Cores.{Seat, no_seat, Core};
 ghost use Rattle.lat_machines.specs.cores.Lines.{last_on};
 ghost use Rattle.lat_machines.specs.cores.Books.{line_session};
 ghost use Rattle.lat_machines.specs.world.Machines.{Setups, Machines, Move, core_of, happens};
-ghost use Rattle.lat_lines.specs.Stands.{session_shown, session_told};
+ghost use Rattle.lat_lines.specs.Stands.{session_shown, session_info};
 ghost use Rattle.lat_tales.specs.Books.{lines_at};
 ghost use Rattle.lat_tales.specs.Keeping.{kept_after, connects, accepts};
 ghost use Rattle.lat_tales.specs.Mates.{last_named, mate_by_ids};
@@ -149,7 +149,7 @@ fn mate_of<H: RatingRule>(wire: &Wire<H>, session: LineSession, roster: &Roster)
     ensures within { result ≤ length roster.now.rows }
     ensures is { (u : Setups) (x : Machines) (number : ℕ) (t : Seat) (k : KeptRows) →
         setups_of wire.now ≡ u →
-        session_shown session ≡ session_told (line_session x.node.core number t) →
+        session_shown session ≡ session_info (line_session x.node.core number t) →
         Shows roster.now k →
         ((circuit id : ℕ) → last_row circuit id 0 0 k.rows ≡ last_named circuit id 0 0 x.server.core.seats) →
         result ≡ mate_by_ids u x t }
@@ -165,7 +165,7 @@ fn mate_of<H: RatingRule>(wire: &Wire<H>, session: LineSession, roster: &Roster)
 // The figures of a session, as its line tells them.
 fn figures_of(session: Option<LineSession>) -> Figures
     ensures { (c : Core) (number : ℕ) (s : Seat) →
-        option_map session_shown session ≡ Some (session_told (line_session c number s)) →
+        option_map session_shown session ≡ Some (session_info (line_session c number s)) →
         ShowsFigures result (figures_of c s) }
 {
     match session {

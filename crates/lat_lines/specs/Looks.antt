@@ -4,7 +4,7 @@ use Rattle.std.specs.Option.{is_some}
 use Rattle.lat_base.specs.declared.book.LineSession as base
 use Rattle.lat_machines.specs.cores.Books.{LineSession, EndedClosed}
 use Rattle.lat_machines.specs.cores.Cores.{Core}
-use Rattle.lat_machines.specs.cores.Lines.{told_count}
+use Rattle.lat_machines.specs.cores.Lines.{saturated_count}
 use Rattle.lat_queue.specs.declared.key.Key.{Key}
 use Rattle.lat_circuits.specs.Kept as circuits
 use Rattle.lat_circuits.specs.Stands as stands
@@ -49,7 +49,7 @@ last_after (s ∷ ss) ls = last_after ss (cond (is_over s) (slice_set ls (s.line
 
 abbrev pub finished_after : List Seat → ℕ → ℕ
 finished_after [] n = n
-finished_after (s ∷ ss) n = finished_after ss (cond (is_over s) (told_count (suc n)) n)
+finished_after (s ∷ ss) n = finished_after ss (cond (is_over s) (saturated_count (suc n)) n)
 
 abbrev pub key_after : Option Key → List Key → List Key
 key_after None ks = ks

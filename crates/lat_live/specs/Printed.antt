@@ -15,8 +15,8 @@ pub record Told : Type 0 where
 abbrev pub told : {C T : Type 0} → CellView C T → Told
 told cell = record { history = cell.history; full = cell.full }
 
-abbrev pub told_in : {C T : Type 0} → Option (CellView C T) → Option Told
-told_in ran = option_map told ran
+abbrev pub printed_in : {C T : Type 0} → Option (CellView C T) → Option Told
+printed_in ran = option_map told ran
 
 -- the statuses that neither words nor outside are to blame for: all went well, the cell is full, the audit is refused, no memory
 abbrev pub IsOwn : ℕ → Type 0

@@ -22,7 +22,7 @@ use Rattle.lat_queue.specs.declared.entry.Entry.{Entry}
 use Rattle.lat_queue.specs.declared.entry.Standing.{Standing}
 use Rattle.lat_queue.specs.declared.entry.Standing.TheVariants as stands
 use Rattle.lat_queue.specs.KeyHash.{one_key}
-use Rattle.lat_queue.specs.Tables.{Table, waits_somewhere, waiters, told_of, told_entry, told, standing_at, new_standing, new_told, added, with_standing, restood, waiting_entry, waiting_found, cancelled_by, cancelled, given_by, given, finished_entry, finished_by, finished, first_of}
+use Rattle.lat_queue.specs.Tables.{Table, waits_somewhere, waiters, told_of, entry_info, told, standing_at, new_standing, new_info, added, with_standing, restood, waiting_entry, waiting_found, cancelled_by, cancelled, given_by, given, finished_entry, finished_by, finished, first_of}
 use Rattle.lat_queue.specs.Histories.{Noted, noted, key_in, address_in, kept_in, some_kept, some_first, some_request, request_key, waited, turned_away, line_of, standing_in, noted_in, is_first_answer, IsFirst, Stands, finish_history}
 use Rattle.lat_queue.proofs.KeyLemmas.{key_self, key_turn, key_right}
 use Rattle.lat_queue.proofs.EventLemmas.{extend, Grows, grows_cancel, grows_grant, grows_finish, grows_again, full_asks, grows_new, grants_more, place_other, place_same}
@@ -59,7 +59,7 @@ stands_again t h k from s a st q = by (lookup (one_key k) t.entries) refl q
     e : QueueEvent
     e = Asks (key_in k) (address_in from) s (kept_in a)
 
-    by : (o : Option Entry) → lookup (one_key k) t.entries ≡ o → told_entry t.entries k o ≡ Some a → Stands t (h ++ e ∷ [])
+    by : (o : Option Entry) → lookup (one_key k) t.entries ≡ o → entry_info t.entries k o ≡ Some a → Stands t (h ++ e ∷ [])
     by None l q = let z : ⊥ = cc in absurd z
     by (Some x) l q =
         let f : Found (noted_in t.offered h) (records h) k x = told_known t h k x st l in
@@ -83,26 +83,26 @@ record NewStands (o : List Name) (s : Name) (a : Kept) (standing : Standing) : T
   pub stands : standing ≡ cond (is_waiting a) (stands.Waits (line_of o s)) (turned_away a)
   pub offered : is_waiting a ≡ true → line_of o s < length o
 
-new_stands : (t : Table) (s : Name) → NewStands t.offered s (kept_in (new_told t (new_standing t s))) (new_standing t s)
+new_stands : (t : Table) (s : Name) → NewStands t.offered s (kept_in (new_info t (new_standing t s))) (new_standing t s)
 new_stands t s = by (position (λ n. same s n) t.offered) refl
   where
-    at : (i : ℕ) → line_of t.offered s ≡ i → i < length t.offered → (b : Bool) → NewStands t.offered s (kept_in (new_told t (cond b stands.QueueFull (stands.Waits i)))) (cond b stands.QueueFull (stands.Waits i))
+    at : (i : ℕ) → line_of t.offered s ≡ i → i < length t.offered → (b : Bool) → NewStands t.offered s (kept_in (new_info t (cond b stands.QueueFull (stands.Waits i)))) (cond b stands.QueueFull (stands.Waits i))
     at i l w true = record { not_full = refl; answered = refl; stands = refl; offered = λ q. absurd (true≢false (sym q)) }
     at i l w false = record { not_full = refl; answered = refl; stands = ap stands.Waits (sym l); offered = λ q. subst (λ z. z < length t.offered) (sym l) w }
 
-    by : (p : Option ℕ) → position (λ n. same s n) t.offered ≡ p → NewStands t.offered s (kept_in (new_told t (standing_at t.entries p))) (standing_at t.entries p)
+    by : (p : Option ℕ) → position (λ n. same s n) t.offered ≡ p → NewStands t.offered s (kept_in (new_info t (standing_at t.entries p))) (standing_at t.entries p)
     by None q = record { not_full = refl; answered = refl; stands = refl; offered = λ m. absurd (true≢false (sym m)) }
     by (Some i) q = let p : Stood t.offered s (position (λ n. same s n) t.offered) i = stood t.offered s i q in at i p.line p.within (nat_le 64 (length (waiters i t.entries)))
 
 pub stands_new : (t : Table) (h : List QueueEvent) (k : Key) (from : Addr) (s : Name) → Stands t h → lookup (one_key k) t.entries ≡ None → length t.entries < 65536
-    → Stands (added t k (record { from = from; service = s; standing = new_standing t s })) (h ++ Asks (key_in k) (address_in from) s (kept_in (new_told t (new_standing t s))) ∷ [])
+    → Stands (added t k (record { from = from; service = s; standing = new_standing t s })) (h ++ Asks (key_in k) (address_in from) s (kept_in (new_info t (new_standing t s))) ∷ [])
 stands_new t h k from s st l n =
     stands_quiet t (t.entries ++ (k, entry) ∷ []) h e (new ∷ []) st refl (λ j. refl) (λ r m. refl) grown.are (rooms t h e (new ∷ []) st grown) (first, tt)
     (map-append noted t.entries ((k, entry) ∷ []) ∙ ap₂ (λ a b. a ++ b ∷ []) (st.entries ∙ asks_stay t.offered h (key_in k) (address_in from) s answer (records h) ∙ sym (map_twice (noted_in t.offered (h ++ e ∷ [])) (extend e) (records h))) one ∙ sym (map-append (noted_in t.offered (h ++ e ∷ [])) (map (extend e) (records h)) (new ∷ [])))
     (legal_ask h (key_in k) (address_in from) s answer st.legal)
   where
     answer : Kept
-    answer = kept_in (new_told t (new_standing t s))
+    answer = kept_in (new_info t (new_standing t s))
 
     e : QueueEvent
     e = Asks (key_in k) (address_in from) s answer
@@ -208,8 +208,8 @@ stands_finished t h k st = by (lookup (one_key k) t.entries) refl (told_right t 
     at x stands.NoService q l r = idle (sym (ap is_granted r))
 
     by : (o : Option Entry) → lookup (one_key k) t.entries ≡ o → some_kept (told t k) ≡ kept_of (key_in k) h → Stands (finished_by t k o) (finish_history (key_in k) h)
-    by None l r = idle (sym (ap is_granted (sym (ap (λ o. some_kept (told_entry t.entries k o)) l) ∙ r)))
-    by (Some x) l r = at x x.standing refl l (sym (ap (λ o. some_kept (told_entry t.entries k o)) l) ∙ r)
+    by None l r = idle (sym (ap is_granted (sym (ap (λ o. some_kept (entry_info t.entries k o)) l) ∙ r)))
+    by (Some x) l r = at x x.standing refl l (sym (ap (λ o. some_kept (entry_info t.entries k o)) l) ∙ r)
 
 -- a grant
 
@@ -325,7 +325,7 @@ stands_given t h s k from st q = by (next_request s h) refl (sym (ap some_first 
 pub stands_none : (o : List Name) → Stands (record { offered = o; entries = []; granted = 0 }) []
 stands_none o = record { entries = refl; granted = refl; firsts = tt; known = λ k n. refl; room = λ l. refl; legal = legal_none }
 
-pub told_none : (es : List (Key × Entry)) (k : Key) (o : Option Entry) → told_entry es k o ≡ None → o ≡ None
+pub told_none : (es : List (Key × Entry)) (k : Key) (o : Option Entry) → entry_info es k o ≡ None → o ≡ None
 told_none es k None q = refl
 told_none es k (Some e) q = let z : ⊥ = cc in absurd z
 

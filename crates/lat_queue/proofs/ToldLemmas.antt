@@ -20,7 +20,7 @@ use Rattle.lat_base.specs.declared.kept.Kept as base
 use Rattle.lat_queue.specs.KeyHash.{one_key}
 use Rattle.lat_queue.specs.Lines.{place_of}
 use Rattle.lat_queue.specs.Tables as tables
-use Rattle.lat_queue.specs.Tables.{Table, waiters, told_of, told_entry, told, grant_told, shown_entry, standing_at, new_standing, new_told}
+use Rattle.lat_queue.specs.Tables.{Table, waiters, told_of, entry_info, told, grant_info, shown_entry, standing_at, new_standing, new_info}
 use Rattle.lat_queue.specs.Histories.{Noted, noted, key_in, kept_in, record_in, some_kept, some_record, waited, turned_away, line_of, standing_in, noted_in, is_first_answer, IsFirst, Stands}
 use Rattle.lat_queue.proofs.KeyLemmas.{key_self}
 use Rattle.lat_queue.proofs.RecordLemmas.{Found, look_found, look_none}
@@ -72,7 +72,7 @@ found_told t h k e st f = record_told t h k f.request e.standing st (each_found 
 pub told_right : (t : Table) (h : List QueueEvent) (k : Key) → Stands t h → some_kept (told t k) ≡ kept_of (key_in k) h
 told_right t h k st = by (lookup (one_key k) t.entries) refl
   where
-    by : (o : Option Entry) → lookup (one_key k) t.entries ≡ o → some_kept (told_entry t.entries k o) ≡ kept_found h (record_of (key_in k) h)
+    by : (o : Option Entry) → lookup (one_key k) t.entries ≡ o → some_kept (entry_info t.entries k o) ≡ kept_found h (record_of (key_in k) h)
     by None l = sym (ap (kept_found h) (unknown t h k st l))
     by (Some e) l =
         let f : Found (noted_in t.offered h) (records h) k e = told_known t h k e st l in
@@ -86,7 +86,7 @@ answer_found o s h r = elim r [ None ↦ new_answer o s h | Some x ↦ kept_now 
 pub known_answer : (t : Table) (h : List QueueEvent) (k : Key) (s : Name) (a : base.Kept) → Stands t h → told t k ≡ Some a → kept_in a ≡ ask_answer t.offered (key_in k) s h
 known_answer t h k s a st q = by (lookup (one_key k) t.entries) refl q
   where
-    by : (o : Option Entry) → lookup (one_key k) t.entries ≡ o → told_entry t.entries k o ≡ Some a → kept_in a ≡ answer_found t.offered s h (record_of (key_in k) h)
+    by : (o : Option Entry) → lookup (one_key k) t.entries ≡ o → entry_info t.entries k o ≡ Some a → kept_in a ≡ answer_found t.offered s h (record_of (key_in k) h)
     by None l q = let z : ⊥ = cc in absurd z
     by (Some e) l q =
         let f : Found (noted_in t.offered h) (records h) k e = told_known t h k e st l in
@@ -105,18 +105,18 @@ full_answer t h k s st l n =
     let full : nat_le 65536 (length (records h)) ≡ true = grind (arith, nat_tests) in
     sym (ap (answer_found t.offered s h) (unknown t h k st l) ∙ ap (λ z. cond z answers.RecordsFull (cond (not (list_any (same s) t.offered)) answers.NoService (cond (nat_le 64 (length (waiting s h))) answers.QueueFull (answers.Waiting (suc (length (waiting s h))))))) full)
 
-pub new_right : (t : Table) (h : List QueueEvent) (k : Key) (s : Name) → Stands t h → lookup (one_key k) t.entries ≡ None → length t.entries < 65536 → kept_in (new_told t (new_standing t s)) ≡ ask_answer t.offered (key_in k) s h
+pub new_right : (t : Table) (h : List QueueEvent) (k : Key) (s : Name) → Stands t h → lookup (one_key k) t.entries ≡ None → length t.entries < 65536 → kept_in (new_info t (new_standing t s)) ≡ ask_answer t.offered (key_in k) s h
 new_right t h k s st l n =
     let c : length t.entries ≡ length (records h) = count_is t h st in
     let room : nat_le 65536 (length (records h)) ≡ false = grind (arith, nat_tests) in
     by (position (λ n. same s n) t.offered) refl
     ∙ sym (ap (answer_found t.offered s h) (unknown t h k st l) ∙ ap (λ z. cond z answers.RecordsFull (cond (not (list_any (same s) t.offered)) answers.NoService (cond (nat_le 64 (length (waiting s h))) answers.QueueFull (answers.Waiting (suc (length (waiting s h))))))) room)
   where
-    at : (i : ℕ) (b : Bool) → length (waiters i t.entries) ≡ length (waiting s h) → kept_in (new_told t (cond b stands.QueueFull (stands.Waits i))) ≡ cond b answers.QueueFull (answers.Waiting (suc (length (waiting s h))))
+    at : (i : ℕ) (b : Bool) → length (waiters i t.entries) ≡ length (waiting s h) → kept_in (new_info t (cond b stands.QueueFull (stands.Waits i))) ≡ cond b answers.QueueFull (answers.Waiting (suc (length (waiting s h))))
     at i true e = refl
     at i false e = ap answers.Waiting (let x : length (waiters i t.entries) + 1 ≡ suc (length (waiting s h)) = omega (arith, e) in x)
 
-    by : (p : Option ℕ) → position (λ n. same s n) t.offered ≡ p → kept_in (new_told t (standing_at t.entries p)) ≡ cond (not (list_any (same s) t.offered)) answers.NoService (cond (nat_le 64 (length (waiting s h))) answers.QueueFull (answers.Waiting (suc (length (waiting s h)))))
+    by : (p : Option ℕ) → position (λ n. same s n) t.offered ≡ p → kept_in (new_info t (standing_at t.entries p)) ≡ cond (not (list_any (same s) t.offered)) answers.NoService (cond (nat_le 64 (length (waiting s h))) answers.QueueFull (answers.Waiting (suc (length (waiting s h)))))
     by None q = sym (ap (λ z. cond (not z) answers.NoService (cond (nat_le 64 (length (waiting s h))) answers.QueueFull (answers.Waiting (suc (length (waiting s h)))))) (any_line t.offered s ∙ not_stood t.offered s q))
     by (Some i) q =
         let p : Stood t.offered s (position (λ n. same s n) t.offered) i = stood t.offered s i q in
@@ -126,7 +126,7 @@ new_right t h k s st l n =
 
 -- what is shown
 
-grant_is : (a : Bool) (g : Option ℕ) (c f : Bool) (l : ℕ) (ans : Kept) → (a ≡ false → g ≡ None) → grant_told (cond a (waited g c f (stands.Waits l)) (turned_away ans)) ≡ g
+grant_is : (a : Bool) (g : Option ℕ) (c f : Bool) (l : ℕ) (ans : Kept) → (a ≡ false → g ≡ None) → grant_info (cond a (waited g c f (stands.Waits l)) (turned_away ans)) ≡ g
 grant_is true None true f l ans m = refl
 grant_is true None false f l ans m = refl
 grant_is true (Some n) c true l ans m = refl
@@ -139,12 +139,12 @@ grant_is false g c f l answers.Cancelled m = sym (m refl)
 grant_is false g c f l answers.RecordsFull m = sym (m refl)
 grant_is false g c f l answers.Done m = sym (m refl)
 
-record_right : (t : Table) (h : List QueueEvent) (x : Key × Entry) (r : Request) → Stands t h → IsFirst t.offered h r → noted x ≡ noted_in t.offered h r → record_in (record { key = x.0; service = x.1.service; kept = told_of t.entries x.0 x.1.standing; grant = grant_told x.1.standing }) ≡ shown h r
+record_right : (t : Table) (h : List QueueEvent) (x : Key × Entry) (r : Request) → Stands t h → IsFirst t.offered h r → noted x ≡ noted_in t.offered h r → record_in (record { key = x.0; service = x.1.service; kept = told_of t.entries x.0 x.1.standing; grant = grant_info x.1.standing }) ≡ shown h r
 record_right t h x r st first q =
     let k : key_in x.0 ≡ r.key = ap (λ (z : Noted). z.key) q in
     let s : x.1.standing ≡ standing_in t.offered h r = ap (λ (z : Noted). z.standing) q in
     let kept : kept_in (told_of t.entries x.0 x.1.standing) ≡ kept_now h r = record_told t h x.0 r x.1.standing st first (subst (λ z. same_key r.key z ≡ true) (sym k) (key_self r.key)) (sym s) in
-    let grant : grant_told x.1.standing ≡ grant_of r.key h = ap grant_told s ∙ grant_is (is_waiting r.answer) (grant_of r.key h) (list_any (cancels r.key) r.later) (list_any (finishes r.key) r.later) (line_of t.offered r.service) r.answer first.asked_then in
+    let grant : grant_info x.1.standing ≡ grant_of r.key h = ap grant_info s ∙ grant_is (is_waiting r.answer) (grant_of r.key h) (list_any (cancels r.key) r.later) (list_any (finishes r.key) r.later) (line_of t.offered r.service) r.answer first.asked_then in
     λ i. record { key = k i; service = ap (λ (z : Noted). z.service) q i; kept = kept i; grant = grant i }
 
 abbrev shown_found : List QueueEvent → Option Request → Option Record

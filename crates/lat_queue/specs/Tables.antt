@@ -80,23 +80,23 @@ abbrev pub IsShort : Kept → Type 0
 IsShort (kept.Waiting place) = place ≤ 64
 IsShort _ = Unit {0}
 
-abbrev pub told_entry : List (Key × Entry) → Key → Option Entry → Option Kept
-told_entry es k None = None
-told_entry es k (Some e) = Some (told_of es k e.standing)
+abbrev pub entry_info : List (Key × Entry) → Key → Option Entry → Option Kept
+entry_info es k None = None
+entry_info es k (Some e) = Some (told_of es k e.standing)
 
 -- what is kept of a key
 abbrev pub told : Table → Key → Option Kept
-told t k = told_entry t.entries k (lookup (one_key k) t.entries)
+told t k = entry_info t.entries k (lookup (one_key k) t.entries)
 
 -- the number of its grant
-abbrev pub grant_told : Standing → Option ℕ
-grant_told (Granted n) = Some n
-grant_told (Done n) = Some n
-grant_told _ = None
+abbrev pub grant_info : Standing → Option ℕ
+grant_info (Granted n) = Some n
+grant_info (Done n) = Some n
+grant_info _ = None
 
 abbrev pub shown_entry : List (Key × Entry) → Option (Key × Entry) → Option Record
 shown_entry es None = None
-shown_entry es (Some e) = Some (record { key = e.0; service = e.1.service; kept = told_of es e.0 e.1.standing; grant = grant_told e.1.standing })
+shown_entry es (Some e) = Some (record { key = e.0; service = e.1.service; kept = told_of es e.0 e.1.standing; grant = grant_info e.1.standing })
 
 -- the record at a place of the order of first commands
 abbrev pub shown : Table → ℕ → Option Record
@@ -106,13 +106,13 @@ abbrev pub first_waiter : List (Key × Entry) → Option ℕ → Option Waiter
 first_waiter es None = None
 first_waiter es (Some i) = slice_get (waiters i es) 0
 
-abbrev pub waiter_told : Option Waiter → Option (Key × Addr)
-waiter_told None = None
-waiter_told (Some w) = Some (w.key, w.from)
+abbrev pub waiter_info : Option Waiter → Option (Key × Addr)
+waiter_info None = None
+waiter_info (Some w) = Some (w.key, w.from)
 
 -- the first that waits for a service
 abbrev pub first_of : Table → List ℕ → Option (Key × Addr)
-first_of t service = waiter_told (first_waiter t.entries (position (λ n. same service n) t.offered))
+first_of t service = waiter_info (first_waiter t.entries (position (λ n. same service n) t.offered))
 
 -- a new request
 
@@ -125,10 +125,10 @@ abbrev pub new_standing : Table → List ℕ → Standing
 new_standing t service = standing_at t.entries (position (λ n. same service n) t.offered)
 
 -- what a new request that stands so is told
-abbrev pub new_told : Table → Standing → Kept
-new_told t (Waits i) = kept.Waiting (length (waiters i t.entries) + 1)
-new_told t QueueFull = kept.QueueFull
-new_told t _ = kept.NoService
+abbrev pub new_info : Table → Standing → Kept
+new_info t (Waits i) = kept.Waiting (length (waiters i t.entries) + 1)
+new_info t QueueFull = kept.QueueFull
+new_info t _ = kept.NoService
 
 -- its line has room for one that waits
 abbrev pub HasRoom : Table → Standing → Type 0

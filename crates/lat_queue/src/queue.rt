@@ -7,7 +7,7 @@ ghost use Rattle.lat_queue.specs.Histories.{Stands, key_in, address_in, kept_in,
 ghost use Rattle.std.specs.Map.{lookup};
 ghost use Rattle.lat_queue.specs.KeyHash.{one_key};
 ghost use Rattle.indexmap.specs.IndexMap.{insert_entry};
-ghost use Rattle.lat_queue.specs.Tables.{waiters, OnLine, HasRoom, HasPlace, IsShort, told, told_of, new_told, new_standing, added, shown, first_of, waiting_of, cancelled, given, finished};
+ghost use Rattle.lat_queue.specs.Tables.{waiters, OnLine, HasRoom, HasPlace, IsShort, told, told_of, new_info, new_standing, added, shown, first_of, waiting_of, cancelled, given, finished};
 
 use crate::entry::{Entry, Standing, Waiter};
 use crate::key::Key;
@@ -181,7 +181,7 @@ impl Queue {
     fn admit(&mut self, key: &Key, from: Addr, service: &Name) -> Result<Kept, Memory>
         requires new { lookup (one_key key.now) self.old.entries ≡ None }
         requires few { length self.old.entries < 65536 }
-        ensures answer { IfOk result (λ a. a ≡ new_told self.old (new_standing self.old service.now)) }
+        ensures answer { IfOk result (λ a. a ≡ new_info self.old (new_standing self.old service.now)) }
         ensures place { IfOk result HasPlace }
         ensures ok { OnOk result (self.new ≡ added self.old key.now (record {
           from = from;
@@ -191,7 +191,7 @@ impl Queue {
         ensures err { OnErr result (self.new ≡ self.old) }
     {
         let standing = self.new_standing(service);
-        let kept = self.new_told(standing);
+        let kept = self.new_info(standing);
         let service = *service;
         self.add(
             key,
@@ -242,9 +242,9 @@ impl Queue {
     }
 
     // What a new request that stands so is told.
-    fn new_told(&self, standing: Standing) -> Kept
+    fn new_info(&self, standing: Standing) -> Kept
         requires { HasRoom self.now standing }
-        ensures value { result ≡ new_told self.now standing }
+        ensures value { result ≡ new_info self.now standing }
         ensures place { HasPlace result }
     {
         match standing {

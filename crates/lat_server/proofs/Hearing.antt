@@ -35,7 +35,7 @@ use Rattle.lat_lines.specs.Stands as stands
 use Rattle.lat_lines.specs.Stands.{freed_key, freed_from}
 use Rattle.lat_server.specs.declared.config.Offer.{Offer}
 use Rattle.lat_server.specs.Config.{offer_shown}
-use Rattle.lat_server.specs.Commands.{Noted, noted, HasNoted, answer_told, outcome_told, announced_answer}
+use Rattle.lat_server.specs.Commands.{Noted, noted, HasNoted, kept_answer, kept_outcome, announced_answer}
 use Rattle.lat_server.specs.Kept.{Kept, config_of, AtRest}
 use Rattle.lat_server.specs.Settled.{Settled}
 use Rattle.lat_server.specs.Stands.{Stands}
@@ -162,25 +162,25 @@ noted_settled : (c : Core) (names : List Name) (from : ℕ) (m : Command) (a : A
 noted_settled c names from m Ask q p = settled_more c q (Asks (key_of m) from m.service (ask_answer names (key_of m) m.service q)) c.seats (λ j. refl) p
 noted_settled c names from m Cancel q p = settled_more c q (Cancels (key_of m)) c.seats (λ j. refl) p
 
-answer_is : (o : Option base_kept.Kept) → answer_shown (answer_told o) ≡ answer_of (some_kept o)
+answer_is : (o : Option base_kept.Kept) → answer_shown (kept_answer o) ≡ answer_of (some_kept o)
 answer_is None = refl
 answer_is (Some k) = refl
 
-outcome_is : (o : Option base_kept.Kept) → outcome_shown (outcome_told o) ≡ outcome_of (some_kept o)
+outcome_is : (o : Option base_kept.Kept) → outcome_shown (kept_outcome o) ≡ outcome_of (some_kept o)
 outcome_is None = refl
 outcome_is (Some k) = refl
 
-pub told_place : (o : Option base_kept.Kept) → IfSome o HasPlace → IsTold (outcome_told o)
+pub told_place : (o : Option base_kept.Kept) → IfSome o HasPlace → IsTold (kept_outcome o)
 told_place None p = tt
 told_place (Some k) p = p
 
 pub did_command : (k : Kept) (s : Server) (now from : ℕ) (m : Command) (a : Action) (l : lines.Kept) (t : Table) (o : Option base_kept.Kept) (f : OutFrame) (before after : List OutFrame) → AtRest k → Stands k s → offered (config_of k) ≡ k.queue.offered
-    → HasNoted (noted k.queue.offered from m a s.queue) t o → GoesOutAs f (status_frame from m (outcome_shown (outcome_told o))) → after ≡ before ++ f ∷ [] → stands.Stands l (at_moment now s.core) → l.freed ≡ k.lines.freed
-    → HasDone s (hears_command (config_of k) (at now s) from m a) (record k { lines = l; queue = t }) (answer_told o) before after
+    → HasNoted (noted k.queue.offered from m a s.queue) t o → GoesOutAs f (status_frame from m (outcome_shown (kept_outcome o))) → after ≡ before ++ f ∷ [] → stands.Stands l (at_moment now s.core) → l.freed ≡ k.lines.freed
+    → HasDone s (hears_command (config_of k) (at now s) from m a) (record k { lines = l; queue = t }) (kept_answer o) before after
 did_command k s now from m a l t o f before after rest st same n e p c g =
     let x : Noted = noted k.queue.offered from m a s.queue in
-    let told : outcome_shown (outcome_told o) ≡ outcome_of x.kept = outcome_is o ∙ ap outcome_of n.told in
-    subst (λ z. HasDone s z (record k { lines = l; queue = t }) (answer_told o) before after) (sym (command_is (config_of k) (at now s) from m a ∙ ap (λ ns. noting (at now s) from m (noted ns from m a s.queue)) same))
+    let told : outcome_shown (kept_outcome o) ≡ outcome_of x.kept = outcome_is o ∙ ap outcome_of n.told in
+    subst (λ z. HasDone s z (record k { lines = l; queue = t }) (kept_answer o) before after) (sym (command_is (config_of k) (at now s) from m a ∙ ap (λ ns. noting (at now s) from m (noted ns from m a s.queue)) same))
     (record {
       state = record {
         core = c;

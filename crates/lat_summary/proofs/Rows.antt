@@ -9,7 +9,7 @@ use Rattle.lat_machines.specs.world.Reports.{is_partner, partner, partner_in, Ro
 use Rattle.lat_tales.specs.Keeping.{no_figures}
 use Rattle.lat_tales.specs.Rows as rows
 use Rattle.lat_tales.specs.Rows.{KeptRow, KeptRows, Keeps, KeepsRow, Pairs, figures_of, newest_place}
-use Rattle.lat_tales.specs.Told.{server_figures, node_figures, told_row, told_from}
+use Rattle.lat_tales.specs.Told.{server_figures, node_figures, report_row, report_rows_from}
 use Rattle.lat_roster.specs.declared.figures.Figures.{Figures}
 use Rattle.lat_roster.specs.declared.row.Row as own
 use Rattle.lat_roster.specs.Rows.{ShowsFigures, ShowsRow}
@@ -27,26 +27,26 @@ take_length [] i x q = let z : ⊥ = cc in absurd z
 take_length (y ∷ xs) zero x q = refl
 take_length (y ∷ xs) (suc i) x q = ap suc (take_length xs i x q)
 
-told_behind : (w : Machines) (k : KeptRows) (p : ℕ) (rs : List KeptRow) (r : KeptRow) → told_from w k p (rs ++ r ∷ []) ≡ told_from w k p rs ++ told_row w k (suc (p + length rs)) r ∷ []
-told_behind w k p [] r = ap (λ z. told_row w k (suc z) r ∷ []) plus
+told_behind : (w : Machines) (k : KeptRows) (p : ℕ) (rs : List KeptRow) (r : KeptRow) → report_rows_from w k p (rs ++ r ∷ []) ≡ report_rows_from w k p rs ++ report_row w k (suc (p + length rs)) r ∷ []
+told_behind w k p [] r = ap (λ z. report_row w k (suc z) r ∷ []) plus
   where
     plus : p ≡ p + 0
     plus = omega arith
-told_behind w k p (x ∷ rs) r = ap (λ z. told_row w k (suc p) x ∷ z) (told_behind w k (suc p) rs r ∙ ap (λ z. told_from w k (suc p) rs ++ told_row w k (suc z) r ∷ []) plus)
+told_behind w k p (x ∷ rs) r = ap (λ z. report_row w k (suc p) x ∷ z) (told_behind w k (suc p) rs r ∙ ap (λ z. report_rows_from w k (suc p) rs ++ report_row w k (suc z) r ∷ []) plus)
   where
     plus : suc p + length rs ≡ p + suc (length rs)
     plus = omega arith
 
 -- the first rows with one more
-pub told_more : (w : Machines) (k : KeptRows) (i : ℕ) (r : KeptRow) → slice_get k.rows i ≡ Some r → told_from w k 0 (take (suc i) k.rows) ≡ told_from w k 0 (take i k.rows) ++ told_row w k (suc i) r ∷ []
+pub told_more : (w : Machines) (k : KeptRows) (i : ℕ) (r : KeptRow) → slice_get k.rows i ≡ Some r → report_rows_from w k 0 (take (suc i) k.rows) ≡ report_rows_from w k 0 (take i k.rows) ++ report_row w k (suc i) r ∷ []
 told_more w k i r q =
-    ap (told_from w k 0) (take_more k.rows i r q)
-    ∙ (told_behind w k 0 (take i k.rows) r ∙ ap (λ z. told_from w k 0 (take i k.rows) ++ told_row w k (suc z) r ∷ []) plus)
+    ap (report_rows_from w k 0) (take_more k.rows i r q)
+    ∙ (told_behind w k 0 (take i k.rows) r ∙ ap (λ z. report_rows_from w k 0 (take i k.rows) ++ report_row w k (suc z) r ∷ []) plus)
   where
     plus : 0 + length (take i k.rows) ≡ i
     plus = let e : length (take i k.rows) ≡ i = take_length k.rows i r q in omega (arith, e)
 
-pub told_length : (w : Machines) (k : KeptRows) (p : ℕ) (rs : List KeptRow) → length (told_from w k p rs) ≡ length rs
+pub told_length : (w : Machines) (k : KeptRows) (p : ℕ) (rs : List KeptRow) → length (report_rows_from w k p rs) ≡ length rs
 told_length w k p [] = refl
 told_length w k p (r ∷ rs) = ap suc (told_length w k (suc p) rs)
 

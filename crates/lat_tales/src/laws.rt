@@ -6,7 +6,7 @@ ghost use Rattle.lat_machines.specs.world.Safe.{Fit};
 ghost use Rattle.lat_machines.specs.world.Reports.{report};
 ghost use Rattle.lat_tales.specs.Rows.{KeptRows, Keeps};
 ghost use Rattle.lat_tales.specs.Keeping.{no_rows, kept_after, kept_all};
-ghost use Rattle.lat_tales.specs.Told.{told_rows};
+ghost use Rattle.lat_tales.specs.Told.{report_rows};
 ghost use Rattle.lat_tales.specs.Books.{Comes, lines_at};
 
 /// In every run of the two machines what is kept by the answers and by the newest sessions of the lines are the rows of the
@@ -26,7 +26,7 @@ pub fn kept_rows_are_the_report()
     ensures { (u : Setups) (moves : List Move) (k : KeptRows) →
         Fit u →
         Keeps u (run u moves (open_machines u)) k →
-        told_rows (run u moves (open_machines u)) k ≡ (report u (run u moves (open_machines u))).sessions }
+        report_rows (run u moves (open_machines u)) k ≡ (report u (run u moves (open_machines u))).sessions }
 {}
 
 /// A move makes at each end at most as many sessions as it has lines, behind those that were there. The book of the line of

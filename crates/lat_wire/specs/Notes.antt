@@ -61,8 +61,8 @@ pub record Told : Type 0 where
 abbrev pub note_shown : Note → Told
 note_shown n = record { event = n.event; answer = noted_answer n.noted }
 
-abbrev pub noted_told : NotedEvent → Told
-noted_told n = record { event = n.event; answer = answer_of n.answer }
+abbrev pub noted_info : NotedEvent → Told
+noted_info n = record { event = n.event; answer = answer_of n.answer }
 
 -- the notes behind an event that was answered so
 abbrev pub NotesOn : List Told → ℕ → base.Answer → List Told → Type 0

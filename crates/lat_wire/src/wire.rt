@@ -9,7 +9,7 @@ ghost use Rattle.lat_node.specs.Config as nodes;
 ghost use Rattle.lat_wire.specs.Kept.{setups_of};
 ghost use Rattle.lat_rounds.specs.Lossless.{Lossless};
 ghost use Rattle.lat_rounds.specs.Rounds.{undelivered};
-ghost use Rattle.lat_wire.specs.Notes.{note_shown, noted_told};
+ghost use Rattle.lat_wire.specs.Notes.{note_shown, noted_info};
 ghost use Rattle.lat_wire.specs.Rates.{RatesWhatIsLeft};
 ghost use Rattle.lat_wire.specs.Stands.{Stands};
 ghost use Rattle.lat_wire.specs.Told.{ShowsPost};
@@ -179,7 +179,7 @@ impl<H: RatingRule> Wire<H> {
 
     /// The events that were noted, in order.
     pub fn notes(&self) -> &[Note]
-        ensures { (w : Machines) → Stands self.now w → map note_shown result.now ≡ map noted_told w.noted }
+        ensures { (w : Machines) → Stands self.now w → map note_shown result.now ≡ map noted_info w.noted }
     {
         self.notes.as_slice()
     }

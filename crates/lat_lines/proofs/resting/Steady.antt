@@ -4,7 +4,7 @@ use Rattle.lat_model.specs.Lists.{Each}
 use Rattle.lat_machines.specs.cores.Books.{LineSession, line_session, line_history, book_of, book}
 use Rattle.lat_machines.specs.cores.Cores.{Seat, no_seat, Core}
 use Rattle.lat_machines.specs.cores.Lines.{over, last_on, holds, ended}
-use Rattle.lat_lines.specs.Stands.{Present, session_told, present, freed_key, freed_from}
+use Rattle.lat_lines.specs.Stands.{Present, session_info, present, freed_key, freed_from}
 
 -- what its line knows of it
 pub record IsSteady (c d : Core) (s : Seat) : Type 0 where
@@ -15,7 +15,7 @@ abbrev pub AllSteady : Core → Core → List Seat → Type 0
 AllSteady c d ss = Each (IsSteady c d) ss
 
 abbrev told_as : Seat → LineSession → Present
-told_as s l = record { line = s.line; key = s.key; session = session_told l }
+told_as s l = record { line = s.line; key = s.key; session = session_info l }
 
 pub present_steady : (c d : Core) (n : ℕ) (ss : List Seat) → AllSteady c d ss → present d n ss ≡ present c n ss
 present_steady c d n [] e = refl

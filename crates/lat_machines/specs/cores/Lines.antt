@@ -40,8 +40,8 @@ abbrev pub ended : Core → ℕ
 ended c = length (filter (over c) c.seats)
 
 -- a count as it is told: it stops at the greatest number of 32 bits
-abbrev pub told_count : ℕ → ℕ
-told_count n = min 4294967295 n
+abbrev pub saturated_count : ℕ → ℕ
+saturated_count n = min 4294967295 n
 
 abbrev pub line_exists : ℕ → ℕ → Bool
 line_exists lines line = nat_lt 0 line && nat_le line lines

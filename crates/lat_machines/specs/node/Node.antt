@@ -19,7 +19,7 @@ use Rattle.lat_machines.specs.values.Answers.{Again, Foreign, Answer, Circuit, S
 use Rattle.lat_machines.specs.cores.Hearing.{HeardAct, names, hear_run, hear_stop_at, StartFact, Repeats, Makes, Refuses, start_fact, start_at}
 use Rattle.lat_machines.specs.cores.Acts.{local_at}
 use Rattle.lat_machines.specs.cores.Cores.{Core, Side, setup_of, open_core, Doing, acts, at_moment, passes_time}
-use Rattle.lat_machines.specs.cores.Lines.{holds, used, ended, told_count}
+use Rattle.lat_machines.specs.cores.Lines.{holds, used, ended, saturated_count}
 use Rattle.lat_machines.specs.cores.LineCalls.{Said, put_on, set_on, attend_on, take_on, close_on, on_line}
 use Rattle.lat_model.specs.sessions.Calls as Calls
 
@@ -291,7 +291,7 @@ pub record SameButFrames (a : NodeStep) (b : NodeStep) : Type 0 where
 
 -- the sessions that have become free, in any way
 abbrev pub finished : Node → ℕ
-finished state = told_count (ended state.core + state.turned_away)
+finished state = saturated_count (ended state.core + state.turned_away)
 
 -- the ratings of one event: as many as it asks for, each one that the hook allows at the lines then held
 

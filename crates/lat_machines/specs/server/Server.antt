@@ -19,7 +19,7 @@ use Rattle.lat_machines.specs.values.Answers.{Foreign, Answer, Circuit, Announce
 use Rattle.lat_machines.specs.cores.Hearing.{HeardAct, hear_run, hear_stop_at, hear_reply_at}
 use Rattle.lat_machines.specs.cores.Acts.{call_at, local_at}
 use Rattle.lat_machines.specs.cores.Cores.{Seat, Core, Side, setup_of, open_core, Doing, rests, then_doing, acts, at_moment, passes_time, circuit_to}
-use Rattle.lat_machines.specs.cores.Lines.{over, holds, line_exists, ended, told_count}
+use Rattle.lat_machines.specs.cores.Lines.{over, holds, line_exists, ended, saturated_count}
 use Rattle.lat_machines.specs.cores.LineCalls.{Said, put_on, set_on, attend_on, take_on, close_on, on_line}
 
 pub record Offer : Type 0 where
@@ -288,4 +288,4 @@ server_step config state e = passed config (server_event config state e)
 
 -- the sessions that have become free, in any way
 abbrev pub finished : Server → ℕ
-finished state = told_count (ended state.core)
+finished state = saturated_count (ended state.core)

@@ -1,7 +1,7 @@
 use Rattle.std.proofs.Common.{is_ok, map, sym, ap, subst, ◌∙◌}
 use Rattle.std.proofs.lemmas.Result.{err_from_is_err_and}
 use Rattle.lat_stream.specs.Wire.{told}
-use Rattle.lat_circuit.specs.Applies.{answer_told}
+use Rattle.lat_circuit.specs.Applies.{some_answer}
 use Rattle.lat_circuit.specs.Kept.{Kept}
 use Rattle.lat_circuit.specs.Stands.{Stands}
 use Rattle.lat_circuit.proofs.HeardParts.{slots_bad, slots_good}
@@ -14,7 +14,7 @@ returns-in_err-hear_slots-clause-applies c = λ e st.
     slots_bad c.self.inside c.hear_slots.new.sessions (map told c.args.slots.now) c.from_residual.result e here
     (c.hear_slots.ensures.state e.half.sessions here.sessions)
     (sym (c.hear_slots.ensures.answer e.half.sessions here.sessions) ∙ ap is_ok c.in_err-hear_slots.was)
-    (ap answer_told p.1)
+    (ap some_answer p.1)
 
 pub returns-clause-applies : goal.returns-clause-applies
 returns-clause-applies c = λ e st.
