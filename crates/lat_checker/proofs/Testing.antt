@@ -20,7 +20,7 @@ use Rattle.lat_checker.specs.declared.head.RunHead.{RunHead}
 use Rattle.lat_checker.specs.declared.rule.Rule.{Rule}
 use Rattle.lat_checker.specs.declared.rule.Rule.TheVariants.{Ids, Slots, Window}
 use Rattle.lat_checker.specs.declared.side.Side.{Side}
-use Rattle.lat_checker.specs.declared.side.Told.{Told}
+use Rattle.lat_checker.specs.declared.side.Near.{Near}
 use Rattle.lat_checker.specs.Rules.{title_shown, head_shown, rule_shown}
 use Rattle.lat_checker.specs.Recent.{Message, no_message, has_text, has_back}
 use Rattle.lat_checker.specs.Stands.{SideStands}
@@ -166,15 +166,15 @@ window_is s o seen other n e a high fit = go (nat_eq n (suc (length seen.message
 
 -- all of them
 
-pub record ToldAs (t : Title) (b : Both) (x : Texts) (e : Entry) (wide : Bool) (h : Head) (xs : List Slot) (told : Told) : Type 0 where
+pub record NearAs (t : Title) (b : Both) (x : Texts) (e : Entry) (wide : Bool) (h : Head) (xs : List Slot) (told : Near) : Type 0 where
   pub test : run_test (title_shown t) b x e wide h xs ≡ cond (credit_test b e.by_master told.number told.ack xs) (Passes told.number told.ack) (Fails CreditRule)
   pub number : NumberFits (own b e.by_master) told.number xs
   pub acks : AcknowledgementFits (own b e.by_master) (own b (not e.by_master)) told.ack
   pub window : told.number ≡ suc (length (own b e.by_master).messages) → told.number ≤ (own b (not e.by_master)).acknowledged + 8
 
-abbrev pub TestsAs : Title → Both → Texts → Entry → Bool → Head → List Slot → Result Told Rule → Type 0
+abbrev pub TestsAs : Title → Both → Texts → Entry → Bool → Head → List Slot → Result Near Rule → Type 0
 TestsAs t b x e wide h xs (Err rule) = run_test (title_shown t) b x e wide h xs ≡ Fails (rule_shown rule)
-TestsAs t b x e wide h xs (Ok told) = ToldAs t b x e wide h xs told
+TestsAs t b x e wide h xs (Ok told) = NearAs t b x e wide h xs told
 
 number_high : (seen : Seen) (n : ℕ) (xs : List Slot) → NumberFits seen n xs → n ≤ suc (length seen.messages)
 number_high seen n [] f = omega (arith, f)

@@ -7,7 +7,7 @@ use Rattle.lat_checker.specs.declared.head.RunHead.{RunHead}
 use Rattle.lat_checker.specs.declared.rule.Rule.{Rule}
 use Rattle.lat_checker.specs.declared.rule.Rule.TheVariants.{Ids, Number, Slots, Acknowledgement, Window}
 use Rattle.lat_checker.specs.declared.side.Side.{Side}
-use Rattle.lat_checker.specs.declared.side.Told.{Told}
+use Rattle.lat_checker.specs.declared.side.Near.{Near}
 use Rattle.lat_checker.specs.Recent.{has_back}
 
 abbrev pub ids_kept : Title → Bool → RunHead → Bool
@@ -34,16 +34,16 @@ repeats own n text = nat_lt own.count n || has_back own.recent (own.count - n) t
 abbrev pub in_window : Side → Side → ℕ → Bool
 in_window own other n = not (nat_lt own.count n && nat_lt (min (other.acknowledged + 8) (2 ^ 64 - 1)) n)
 
-abbrev pub after_ack : Side → Side → ℕ → Option ℕ → Result Told Rule
+abbrev pub after_ack : Side → Side → ℕ → Option ℕ → Result Near Rule
 after_ack own other n None = Err Acknowledgement
 after_ack own other n (Some a) = cond (in_window own other n) (Ok (record { number = n; ack = a })) (Err Window)
 
-abbrev pub after_number : Title → Side → Side → RunHead → Bool → List ℕ → Option ℕ → Result Told Rule
+abbrev pub after_number : Title → Side → Side → RunHead → Bool → List ℕ → Option ℕ → Result Near Rule
 after_number t own other h bare text None = Err Number
 after_number t own other h bare text (Some n) =
     cond (not bare && not (repeats own n text)) (Err Slots) (after_ack own other n (ack_near t.wide own.acknowledged other.count h.ack))
 
 -- in the order of the rules, up to that on the window
-abbrev pub tests_kept : Title → Side → Side → Bool → RunHead → Bool → List ℕ → Result Told Rule
+abbrev pub tests_kept : Title → Side → Side → Bool → RunHead → Bool → List ℕ → Result Near Rule
 tests_kept t own other m h bare text =
     cond (ids_kept t m h) (after_number t own other h bare text (number_near t.wide own.count h.seq bare)) (Err Ids)

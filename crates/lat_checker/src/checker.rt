@@ -193,7 +193,7 @@ impl Checker {
         ensures title { IfOk result (λ broken. broken ≡ None → title_of self.new ≡ title_of self.old) }
     {
         let bare = slots.is_empty();
-        let told = match tests(
+        let near = match tests(
             &self.title,
             &self.master,
             &self.slave,
@@ -202,11 +202,11 @@ impl Checker {
             bare,
             text,
         ) {
-            Ok(told) => told,
+            Ok(near) => near,
             Err(rule) => return Ok(Some(rule)),
         };
-        let is_new = told.number > self.master.count;
-        self.master_acknowledges(told.ack);
+        let is_new = near.number > self.master.count;
+        self.master_acknowledges(near.ack);
         if !is_new {
             self.counts();
             return Ok(None);
@@ -231,7 +231,7 @@ impl Checker {
         ensures title { IfOk result (λ broken. broken ≡ None → title_of self.new ≡ title_of self.old) }
     {
         let bare = slots.is_empty();
-        let told = match tests(
+        let near = match tests(
             &self.title,
             &self.slave,
             &self.master,
@@ -240,11 +240,11 @@ impl Checker {
             bare,
             text,
         ) {
-            Ok(told) => told,
+            Ok(near) => near,
             Err(rule) => return Ok(Some(rule)),
         };
-        let is_new = told.number > self.slave.count;
-        self.slave_acknowledges(told.ack);
+        let is_new = near.number > self.slave.count;
+        self.slave_acknowledges(near.ack);
         if !is_new {
             self.counts();
             return Ok(None);

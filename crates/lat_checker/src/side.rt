@@ -27,9 +27,9 @@ impl Drop for Side {
     }
 }
 
-/// The number and the acknowledgement of a RUN, told from their fields.
+/// The number and the acknowledgement of a RUN, those that their fields mean.
 #[derive(Clone, Copy)]
-pub struct Told {
+pub struct Near {
     pub number: u64,
     pub ack: u64,
 }
@@ -107,7 +107,7 @@ pub fn tests(
     head: &RunHead,
     bare: bool,
     text: &[u8],
-) -> Result<Told, Rule>
+) -> Result<Near, Rule>
     requires { (own.now.count + 2 < 2 ^ 64) × (other.now.count + 2 < 2 ^ 64) }
     ensures { result ≡ tests_kept title.now own.now other.now by_master head.now bare text.now }
 {
@@ -126,5 +126,5 @@ pub fn tests(
     if number > own.count && number > other.acknowledged.saturating_add(8) {
         return Err(Rule::Window);
     }
-    Ok(Told { number, ack })
+    Ok(Near { number, ack })
 }

@@ -7,9 +7,9 @@ mod getters;
 mod hearing;
 mod opening;
 mod time;
-mod told;
+mod info;
 
 pub use circuits::Circuits;
 pub use hearing::Hearing;
 pub use lat_circuit::{Asked, SessionCall, SessionFault, Timing};
-pub use told::Told;
+pub use info::Info;

@@ -16,7 +16,7 @@ ghost use Rattle.lat_circuit.specs.Kept.{Kept};
 ghost use Rattle.lat_circuit.specs.Stands as circuit_stands;
 ghost use Rattle.lat_circuits.specs.Kept.{side_of, SameCore, SameCircuits, has_id, IsClear};
 ghost use Rattle.lat_circuits.specs.Stands.{Stands, Simulates, calling};
-ghost use Rattle.lat_circuits.specs.Told.{sessions_at};
+ghost use Rattle.lat_circuits.specs.Info.{sessions_at};
 ghost use Rattle.lat_circuits.specs.Opens.{id_or_zero, called_core};
 
 use crate::circuits::Circuits;

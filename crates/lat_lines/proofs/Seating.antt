@@ -25,7 +25,7 @@ use Rattle.lat_lines.specs.Kept.{Kept, Holds, Apart, IsLine}
 use Rattle.lat_lines.specs.Stands.{Present, IsSeat, NoneOn, Latest, Stands, present, seat_shown, seat_info, session_shown, session_info}
 use Rattle.lat_lines.specs.Opens.{seated_core, session_begun}
 use Rattle.lat_lines.specs.Later.{Leads}
-use Rattle.lat_circuits.specs.Told.{telling_of}
+use Rattle.lat_circuits.specs.Info.{telling_of}
 use Rattle.lat_lines.proofs.OnLines.{none_last}
 
 abbrev with_seats : Core → List Seat → Core

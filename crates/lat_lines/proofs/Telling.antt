@@ -14,7 +14,7 @@ use Rattle.lat_machines.specs.cores.Books.{LineSession, LineBook, book_of, book,
 use Rattle.lat_machines.specs.cores.Cores.{Core}
 use Rattle.lat_machines.specs.cores.Lines.{session_of, seat_at, holds, line_state, waiting_at}
 use Rattle.lat_stream.specs.Kept.{state_shown}
-use Rattle.lat_circuit.specs.Told.{session_state}
+use Rattle.lat_circuit.specs.Info.{session_state}
 use Rattle.lat_lines.specs.declared.seat.Seat as own
 use Rattle.lat_lines.specs.Kept.{Kept, IsLine, side_of}
 use Rattle.lat_lines.specs.Stands.{Stands, session_shown, session_info, last_shown}

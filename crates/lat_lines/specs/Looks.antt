@@ -8,7 +8,7 @@ use Rattle.lat_machines.specs.cores.Lines.{saturated_count}
 use Rattle.lat_queue.specs.declared.key.Key.{Key}
 use Rattle.lat_circuits.specs.Kept as circuits
 use Rattle.lat_circuits.specs.Stands as stands
-use Rattle.lat_circuits.specs.Told.{Telling, telling_of}
+use Rattle.lat_circuits.specs.Info.{Telling, telling_of}
 use Rattle.lat_lines.specs.declared.seat.Seat.{Seat}
 use Rattle.lat_lines.specs.Stands.{Present, end_shown, seat_shown}
 

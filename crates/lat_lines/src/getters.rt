@@ -13,7 +13,7 @@ ghost use Rattle.lat_machines.specs.cores.Lines.{holds, used, ended, saturated_c
 ghost use Rattle.lat_session.specs.States.{asked_at};
 ghost use Rattle.lat_stream.specs.Kept.{state_shown, saturated};
 ghost use Rattle.lat_circuits.specs.Kept.{has_id};
-ghost use Rattle.lat_circuits.specs.Told.{sessions_at, session_at, some_span};
+ghost use Rattle.lat_circuits.specs.Info.{sessions_at, session_at, some_span};
 ghost use Rattle.lat_circuits.specs.Opens.{id_or_zero};
 ghost use Rattle.lat_lines.specs.Kept.{side_of, IsLine};
 ghost use Rattle.lat_lines.specs.Answers.{ready};

@@ -14,7 +14,7 @@ ghost use Rattle.lat_payload.specs.Frames.{Emits};
 ghost use Rattle.lat_circuit.specs.Agrees.{IsTiming};
 ghost use Rattle.lat_circuits.specs.Kept.{side_of as circuits_side, IsClear, SameCore, SameCircuits, has_id};
 ghost use Rattle.lat_circuits.specs.Stands.{calling, Simulates, Stands as CircuitsStand};
-ghost use Rattle.lat_circuits.specs.Told.{telling};
+ghost use Rattle.lat_circuits.specs.Info.{telling};
 ghost use Rattle.lat_lines.specs.Later.{Leads};
 ghost use Rattle.lat_lines.specs.Kept.{side_of, SameLines, IsLine};
 ghost use Rattle.lat_lines.specs.Stands.{Stands, freed_between, session_shown};
@@ -24,7 +24,7 @@ use crate::getters::seat_of;
 use crate::lines::Lines;
 use crate::seat::Seat;
 use lat_base::{Addr, LineSession, Name, OutBox};
-use lat_circuits::{Circuits, Told};
+use lat_circuits::{Circuits, Info};
 use lat_queue::Key;
 
 /// Why no session can be had with a station.
@@ -163,9 +163,9 @@ impl Lines {
         if seat_of(self.seats.as_slice(), line).is_some() {
             return;
         }
-        if let Some(told) = self.circuits.told(circuit, session) {
+        if let Some(info) = self.circuits.info(circuit, session) {
             self.made = self.made.saturating_add(1);
-            let session = begun(self.made, circuit, session, told);
+            let session = begun(self.made, circuit, session, info);
             self.seats.push_reserved(Seat { line, key, session });
         }
     }
@@ -217,19 +217,19 @@ fn connect(circuits: &mut Circuits, circuit: u16, service: &Name, request: Optio
 }
 
 // What is known of a line session at its beginning.
-fn begun(number: u64, circuit: u16, session: u8, told: Told) -> LineSession
-    ensures value { session_shown result ≡ session_begun number circuit session (telling told) }
+fn begun(number: u64, circuit: u16, session: u8, info: Info) -> LineSession
+    ensures value { session_shown result ≡ session_begun number circuit session (telling info) }
     ensures unended { result.end ≡ None }
 {
     LineSession {
         number,
-        peer: told.peer,
+        peer: info.peer,
         circuit,
         session,
-        peer_circuit: told.peer_circuit,
-        peer_session: told.peer_session,
-        given: told.given,
-        used: told.used,
+        peer_circuit: info.peer_circuit,
+        peer_session: info.peer_session,
+        given: info.given,
+        used: info.used,
         end: None,
     }
 }

@@ -62,13 +62,13 @@ pub record Holds (t : Table) (lines : List (List Waiter)) : Type 0 where
 -- what is told
 
 -- what a key is told that stands so
-abbrev pub told_of : List (Key × Entry) → Key → Standing → Kept
-told_of es k (Waits i) = kept.Waiting (place_of k (waiters i es))
-told_of es k (Granted n) = kept.Granted
-told_of es k (Done n) = kept.Done
-told_of es k Cancelled = kept.Cancelled
-told_of es k QueueFull = kept.QueueFull
-told_of es k NoService = kept.NoService
+abbrev pub info_of : List (Key × Entry) → Key → Standing → Kept
+info_of es k (Waits i) = kept.Waiting (place_of k (waiters i es))
+info_of es k (Granted n) = kept.Granted
+info_of es k (Done n) = kept.Done
+info_of es k Cancelled = kept.Cancelled
+info_of es k QueueFull = kept.QueueFull
+info_of es k NoService = kept.NoService
 
 -- where it tells a place, that is 1 to 64
 abbrev pub HasPlace : Kept → Type 0
@@ -82,11 +82,11 @@ IsShort _ = Unit {0}
 
 abbrev pub entry_info : List (Key × Entry) → Key → Option Entry → Option Kept
 entry_info es k None = None
-entry_info es k (Some e) = Some (told_of es k e.standing)
+entry_info es k (Some e) = Some (info_of es k e.standing)
 
 -- what is kept of a key
-abbrev pub told : Table → Key → Option Kept
-told t k = entry_info t.entries k (lookup (one_key k) t.entries)
+abbrev pub info : Table → Key → Option Kept
+info t k = entry_info t.entries k (lookup (one_key k) t.entries)
 
 -- the number of its grant
 abbrev pub grant_info : Standing → Option ℕ
@@ -96,7 +96,7 @@ grant_info _ = None
 
 abbrev pub shown_entry : List (Key × Entry) → Option (Key × Entry) → Option Record
 shown_entry es None = None
-shown_entry es (Some e) = Some (record { key = e.0; service = e.1.service; kept = told_of es e.0 e.1.standing; grant = grant_info e.1.standing })
+shown_entry es (Some e) = Some (record { key = e.0; service = e.1.service; kept = info_of es e.0 e.1.standing; grant = grant_info e.1.standing })
 
 -- the record at a place of the order of first commands
 abbrev pub shown : Table → ℕ → Option Record

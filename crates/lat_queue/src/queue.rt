@@ -7,7 +7,7 @@ ghost use Rattle.lat_queue.specs.Histories.{Stands, key_in, address_in, kept_in,
 ghost use Rattle.std.specs.Map.{lookup};
 ghost use Rattle.lat_queue.specs.KeyHash.{one_key};
 ghost use Rattle.indexmap.specs.IndexMap.{insert_entry};
-ghost use Rattle.lat_queue.specs.Tables.{waiters, OnLine, HasRoom, HasPlace, IsShort, told, told_of, new_info, new_standing, added, shown, first_of, waiting_of, cancelled, given, finished};
+ghost use Rattle.lat_queue.specs.Tables.{waiters, OnLine, HasRoom, HasPlace, IsShort, info, info_of, new_info, new_standing, added, shown, first_of, waiting_of, cancelled, given, finished};
 
 use crate::entry::{Entry, Standing, Waiter};
 use crate::key::Key;
@@ -118,7 +118,7 @@ impl Queue {
         ensures offered { self.new.offered ≡ self.old.offered }
         ensures err { OnErr result (self.new ≡ self.old) }
     {
-        if let Some(kept) = self.told(key) {
+        if let Some(kept) = self.info(key) {
             return Ok(kept);
         }
         if self.entries.len() >= RECORDS {
@@ -136,7 +136,7 @@ impl Queue {
         ensures offered { self.new.offered ≡ self.old.offered }
     {
         self.withdraw(key);
-        self.told(key)
+        self.info(key)
     }
 
     /// The key of the first that waits for the service, and the address that its first command came from. None where
@@ -205,9 +205,9 @@ impl Queue {
     }
 
     // What a key of this standing is told.
-    fn told_of(&self, key: &Key, standing: Standing) -> Kept
+    fn info_of(&self, key: &Key, standing: Standing) -> Kept
         requires { OnLine (length self.now.offered) standing }
-        ensures value { result ≡ told_of self.now.entries key.now standing }
+        ensures value { result ≡ info_of self.now.entries key.now standing }
         ensures most { IsShort result }
     {
         match standing {
@@ -221,12 +221,12 @@ impl Queue {
     }
 
     // What is kept of the key.
-    fn told(&self, key: &Key) -> Option<Kept>
-        ensures value { result ≡ told self.now key.now }
+    fn info(&self, key: &Key) -> Option<Kept>
+        ensures value { result ≡ info self.now key.now }
         ensures place { IfSome result HasPlace }
     {
         let entry = self.entries.get(key)?;
-        Some(self.told_of(key, entry.standing))
+        Some(self.info_of(key, entry.standing))
     }
 
     // How a new request for the service stands.
@@ -347,7 +347,7 @@ impl Queue {
         Some(Record {
             key: *key,
             service: entry.service,
-            kept: self.told_of(key, entry.standing),
+            kept: self.info_of(key, entry.standing),
             grant: entry.standing.grant(),
         })
     }

@@ -17,7 +17,7 @@ use Rattle.lat_queue.specs.Histories.{IsFirst}
 use Rattle.lat_queue.proofs.KeyLemmas.{key_self, key_turn}
 use Rattle.lat_queue.proofs.RecordLemmas.{Distinct, distinct_records}
 use Rattle.lat_queue.proofs.StandLemmas.{each_append}
-use Rattle.lat_queue.proofs.ToldLemmas.{each_found}
+use Rattle.lat_queue.proofs.InfoLemmas.{each_found}
 use Rattle.lat_queue.proofs.WaitLemmas.{any_either}
 use Rattle.lat_lines.specs.Stands.{IsSeat}
 use Rattle.lat_server.specs.Settled.{IsSettled, AreSettled, Settled}

@@ -1,7 +1,7 @@
 use Rattle.std.proofs.Common.{◌∙◌, sym, ap, cond, Some, None}
 use Rattle.lat_model.specs.ends.End.{End}
 use Rattle.lat_circuit.specs.Agrees.{span_of}
-use Rattle.lat_circuits.specs.Told.{some_span}
+use Rattle.lat_circuits.specs.Info.{some_span}
 use Rattle.lat_circuits.proofs.Found.{found_is, none_lives}
 use Rattle.lat_circuits.proofs.circuits.Circuits.span.Goals as goal
 
