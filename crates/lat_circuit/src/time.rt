@@ -46,11 +46,11 @@ impl Circuit {
         self.act(out);
         self.note_empty(was_held);
         let frames = out.len().saturating_sub(before) as u8;
-        self.told(frames)
+        self.due_sent(frames)
     }
 
     // What it tells, where it has made so many frames.
-    fn told(&self, frames: u8) -> Due
+    fn due_sent(&self, frames: u8) -> Due
         ensures { result ≡ due_sent self.now.ended frames }
     {
         match self.ended {

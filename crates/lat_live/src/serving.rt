@@ -3,7 +3,7 @@
 ghost use Rattle.std.specs.Prelude.{◌≡◌, ◌≢◌, ◌⊎◌, ◌+◌, ◌-◌, ◌<◌, ◌≤◌, map, length, vec_len, vec_capacity, IfSome, IfOk, [], None, Err};
 ghost use Rattle.lat_outside.specs.Causes.{Rose};
 ghost use Rattle.lat_history.specs.Seats.{fresh, seats_from};
-ghost use Rattle.lat_live.specs.Printed.{told, printed_in, IsPrinted, IsOwn, RoseIn};
+ghost use Rattle.lat_live.specs.Printed.{printed, printed_in, IsPrinted, IsOwn, RoseIn};
 ghost use Rattle.lat_live.specs.Seating.{GivenBack, share_of};
 
 use crate::opening::{OpenFault, open_lines};
@@ -117,7 +117,7 @@ fn printed<C: Core, T: Tx, S: Sink, E: Ledger, B: Ledger, F: Ledger>(
     out: &mut S,
 ) -> u8
     requires { length ends.now ≤ 64 }
-    ensures text { IsPrinted S.written S.faults out.old out.new (told cell.now) shares.now ends.now result }
+    ensures text { IsPrinted S.written S.faults out.old out.new (printed cell.now) shares.now ends.now result }
     ensures own { IsOwn result ⊎ (result ≡ 5) }
     ensures other { result ≢ 4 }
     ensures sink { result ≡ 5 → RoseIn S.faults out.old out.new }

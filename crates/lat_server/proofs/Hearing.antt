@@ -17,7 +17,7 @@ use Rattle.lat_machines.specs.cores.Lines.{over}
 use Rattle.lat_machines.specs.cores.LineCalls.{Said}
 use Rattle.lat_machines.specs.server.Server.{ServerConfig, Server, ServerStep, server_side, offered, tells, with_core, does, said, hears_message, hears_announcement, status_frame, key_of, hears_command}
 use Rattle.lat_payload.specs.Frames.{GoesOutAs, Emits}
-use Rattle.lat_payload.specs.NoticesOf.{IsTold}
+use Rattle.lat_payload.specs.NoticesOf.{IsSendable}
 use Rattle.lat_payload.specs.Shown.{outcome_shown}
 use Rattle.lat_payload.proofs.Frames.{adds_none, adds_one}
 use Rattle.lat_dir.specs.declared.directory.DirFault.{DirFault}
@@ -170,9 +170,9 @@ outcome_is : (o : Option base_kept.Kept) → outcome_shown (kept_outcome o) ≡ 
 outcome_is None = refl
 outcome_is (Some k) = refl
 
-pub told_place : (o : Option base_kept.Kept) → IfSome o HasPlace → IsTold (kept_outcome o)
-told_place None p = tt
-told_place (Some k) p = p
+pub place_sendable : (o : Option base_kept.Kept) → IfSome o HasPlace → IsSendable (kept_outcome o)
+place_sendable None p = tt
+place_sendable (Some k) p = p
 
 pub did_command : (k : Kept) (s : Server) (now from : ℕ) (m : Command) (a : Action) (l : lines.Kept) (t : Table) (o : Option base_kept.Kept) (f : OutFrame) (before after : List OutFrame) → AtRest k → Stands k s → offered (config_of k) ≡ k.queue.offered
     → HasNoted (noted k.queue.offered from m a s.queue) t o → GoesOutAs f (status_frame from m (outcome_shown (kept_outcome o))) → after ≡ before ++ f ∷ [] → stands.Stands l (at_moment now s.core) → l.freed ≡ k.lines.freed
