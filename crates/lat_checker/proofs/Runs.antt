@@ -10,7 +10,7 @@ use Rattle.lat_captures.specs.Belonging.{all_slots, master_owned}
 use Rattle.lat_captures.specs.Legal.{NumberFits, AcknowledgementFits, CreditRule, frame_told}
 use Rattle.lat_captures.specs.Audit.{Passes, Fails, run_test, spend_test, credit_test}
 use Rattle.lat_checker.specs.declared.slot.SlotFacts.{SlotFacts}
-use Rattle.lat_checker.specs.declared.slot.KeptSlot.{KeptSlot}
+use Rattle.lat_checker.specs.declared.slot.OwnedSlot.{OwnedSlot}
 use Rattle.lat_checker.specs.declared.head.Title.{Title}
 use Rattle.lat_checker.specs.declared.side.Near.{Near}
 use Rattle.lat_checker.specs.declared.checker.Checker.{Checker}
@@ -194,7 +194,7 @@ master_goes_on tell t c c1 d b x e wide h xs facts told sent m stands fit r w ne
           (subst (λ z. Stands tell d z (texts_after b x (seen_by true b x told.number told.ack xs e.text))) (sym same.0) (subst (Stands tell d b2) (sym same.1) s));
     }
 
-    go : (sent : Bool) (q : Option (Sums × List KeptSlot)) → MasterSent c1 d e.text q sent → MasterSentAs tell c1 b1 x e.text xs q → NewAs tell t b x e wide h xs d sent
+    go : (sent : Bool) (q : Option (Sums × List OwnedSlot)) → MasterSent c1 d e.text q sent → MasterSentAs tell c1 b1 x e.text xs q → NewAs tell t b x e wide h xs d sent
     go true None k s = absurd (let z : true ≡ false = k in cc)
     go false None k s = tested false s
     go true (Some q) k s = takes s.0 (s.1 d k.1)

@@ -24,7 +24,7 @@ use Rattle.lat_checker.specs.declared.side.Near.{Near}
 use Rattle.lat_checker.specs.Rules.{title_shown, head_shown, rule_shown}
 use Rattle.lat_checker.specs.Recent.{Message, no_message, has_text, has_back}
 use Rattle.lat_checker.specs.Stands.{SideStands}
-use Rattle.lat_checker.specs.Tests.{bears, ids_kept, number_near, ack_near, repeats, in_window, after_ack, after_number, tests_kept}
+use Rattle.lat_checker.specs.Tests.{bears, ids_hold, number_near, ack_near, repeats, in_window, after_ack, after_number, tests_hold}
 use Rattle.lat_checker.proofs.Finding.{finds_same, no_floor}
 
 -- numbers
@@ -182,8 +182,8 @@ number_high seen n (x ∷ xs) f = f.2
 
 pub tests_as : (tell : List ℕ → List Slot) (t : Title) (s o : Side) (b : Both) (x : Texts) (e : Entry) (ask : Bool) (h : RunHead) (xs : List Slot) (lists : List (List Owned))
     → SideStands tell s (own b e.by_master) (own_texts x e.by_master) lists → o.count ≡ length (own b (not e.by_master)).messages → o.acknowledged ≡ (own b (not e.by_master)).acknowledged
-    → tell e.text ≡ xs → suc (length (own b e.by_master).messages) < 2 ^ 64 → TestsAs t b x e h.wide (head_shown ask h) xs (tests_kept t s o e.by_master h (is_empty xs) e.text)
-tests_as tell t s o b x e ask h xs lists stands count acknowledged told fit = by_ids (ids_kept t e.by_master h) refl
+    → tell e.text ≡ xs → suc (length (own b e.by_master).messages) < 2 ^ 64 → TestsAs t b x e h.wide (head_shown ask h) xs (tests_hold t s o e.by_master h (is_empty xs) e.text)
+tests_as tell t s o b x e ask h xs lists stands count acknowledged told fit = by_ids (ids_hold t e.by_master h) refl
   where
     m : Bool
     m = e.by_master
@@ -241,7 +241,7 @@ tests_as tell t s o b x e ask h xs lists stands count acknowledged told fit = by
     by_number None q r = r
     by_number (Some n) q r = by_slots n (number_sound (title_shown t) seen hd xs n q).1 (not bare && not (repeats s n e.text)) refl r
 
-    by_ids : (c : Bool) → ids_kept t m h ≡ c → TestsAs t b x e h.wide hd xs (cond c (after_number t s o h bare e.text (number_near t.wide s.count h.seq bare)) (Err Ids))
+    by_ids : (c : Bool) → ids_hold t m h ≡ c → TestsAs t b x e h.wide hd xs (cond c (after_number t s o h bare e.text (number_near t.wide s.count h.seq bare)) (Err Ids))
     by_ids true q =
         subst (λ z. TestsAs t b x e h.wide hd xs (after_number t s o h bare e.text z)) (sym (number_is t s seen ask h xs stands.count))
         (by_number (number_found (title_shown t) seen hd xs) refl (ap (λ c. cond c (audits.after_number (title_shown t) b x e hd xs (number_found (title_shown t) seen hd xs)) (Fails IdsRule)) q))

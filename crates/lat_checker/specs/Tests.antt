@@ -10,8 +10,8 @@ use Rattle.lat_checker.specs.declared.side.Side.{Side}
 use Rattle.lat_checker.specs.declared.side.Near.{Near}
 use Rattle.lat_checker.specs.Recent.{has_back}
 
-abbrev pub ids_kept : Title → Bool → RunHead → Bool
-ids_kept t m h =
+abbrev pub ids_hold : Title → Bool → RunHead → Bool
+ids_hold t m h =
     same_bool h.wide t.wide && (same_bool h.master m && (nat_eq h.to (cond m t.slave t.master) && nat_eq h.from (cond m t.master t.slave)))
 
 -- a number field bears this number
@@ -44,6 +44,6 @@ after_number t own other h bare text (Some n) =
     cond (not bare && not (repeats own n text)) (Err Slots) (after_ack own other n (ack_near t.wide own.acknowledged other.count h.ack))
 
 -- in the order of the rules, up to that on the window
-abbrev pub tests_kept : Title → Side → Side → Bool → RunHead → Bool → List ℕ → Result Near Rule
-tests_kept t own other m h bare text =
-    cond (ids_kept t m h) (after_number t own other h bare text (number_near t.wide own.count h.seq bare)) (Err Ids)
+abbrev pub tests_hold : Title → Side → Side → Bool → RunHead → Bool → List ℕ → Result Near Rule
+tests_hold t own other m h bare text =
+    cond (ids_hold t m h) (after_number t own other h bare text (number_near t.wide own.count h.seq bare)) (Err Ids)

@@ -102,10 +102,10 @@ impl Checker {
         requires { self.old.runs + 1 < 2 ^ 64 }
         ensures { IfOk result (λ sent. MasterSent self.old self.new text.now (master_forms_all (sums_of self.old.accounts) slots.now) sent) }
     {
-        let Some(kept) = self.accounts.master_forms_all(alloc, slots)? else {
+        let Some(owned) = self.accounts.master_forms_all(alloc, slots)? else {
             return Ok(false);
         };
-        let message = SentMessage::make(alloc, text, kept)?;
+        let message = SentMessage::make(alloc, text, owned)?;
         self.master.recent.push(message)?;
         self.runs += 1;
         self.master.count += 1;
@@ -122,11 +122,11 @@ impl Checker {
         requires { self.old.runs + 1 < 2 ^ 64 }
         ensures { IfOk result (λ sent. SlaveSent self.old self.new text.now (slave_forms_all self.old.places (sums_of self.old.accounts) slots.now) sent) }
     {
-        let Some(kept) = self.accounts.slave_forms_all(alloc, self.places, slots)? else {
+        let Some(owned) = self.accounts.slave_forms_all(alloc, self.places, slots)? else {
             return Ok(false);
         };
-        self.places = self.places.saturating_add(kept.len() as u128);
-        let message = SentMessage::make(alloc, text, kept)?;
+        self.places = self.places.saturating_add(owned.len() as u128);
+        let message = SentMessage::make(alloc, text, owned)?;
         self.slave.recent.push(message)?;
         self.runs += 1;
         self.slave.count += 1;

@@ -2,7 +2,7 @@
 
 ghost use Rattle.std.specs.Prelude.{◌≡◌, ◌+◌, ◌^◌, ◌<◌, ◌&&◌, nat_le};
 ghost use Rattle.lat_captures.specs.Audit.{find_from};
-ghost use Rattle.lat_checker.specs.Tests.{bears, number_near, ack_near, repeats, tests_kept};
+ghost use Rattle.lat_checker.specs.Tests.{bears, number_near, ack_near, repeats, tests_hold};
 
 use crate::head::{RunHead, Title};
 use crate::recent::Recent;
@@ -109,7 +109,7 @@ pub fn tests(
     text: &[u8],
 ) -> Result<Near, Rule>
     requires { (own.now.count + 2 < 2 ^ 64) × (other.now.count + 2 < 2 ^ 64) }
-    ensures { result ≡ tests_kept title.now own.now other.now by_master head.now bare text.now }
+    ensures { result ≡ tests_hold title.now own.now other.now by_master head.now bare text.now }
 {
     if !title.has(by_master, head) {
         return Err(Rule::Ids);

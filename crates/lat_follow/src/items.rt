@@ -7,7 +7,7 @@ ghost use Rattle.lat_lines.specs.Back.{answer_of};
 ghost use Rattle.lat_lines.specs.Events.{event_shown};
 ghost use Rattle.lat_tales.specs.Items.{line_of, put_by, taken_by, accepted_bytes, accepted_setting, taken_items};
 ghost use Rattle.lat_tales.specs.Keeping.{adds};
-ghost use Rattle.lat_tales.specs.Rows.{KeptRows};
+ghost use Rattle.lat_tales.specs.Rows.{RowsAfter};
 ghost use Rattle.lat_roster.specs.Roster.{Shows, RoomAt};
 ghost use Rattle.lat_follow.specs.Adding.{HasAdded};
 ghost use Rattle.lat_follow.specs.Room.{place_of, FitsIn, HasPlaces};
@@ -18,7 +18,7 @@ use lat_roster::Roster;
 /// What an event adds to the items of its line's session, by its answer. There is room for them.
 pub fn add_items(server: bool, event: &Event, answer: &Answer, roster: &mut Roster)
     requires { FitsIn roster.old server event.now answer.now }
-    ensures shows { (a : machines.Answer) (k : KeptRows) →
+    ensures shows { (a : machines.Answer) (k : RowsAfter) →
         answer.now ≡ answer_of a →
         Shows roster.old k →
         Shows roster.new (adds server (line_of (event_shown event.now))

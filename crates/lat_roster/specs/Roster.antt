@@ -13,17 +13,17 @@ pub record Kept : Type 0 where
   pub room : ℕ  -- for how many more rows
 
 -- each row shows the one beside it
-abbrev pub ShowsRows : List Row → List rows.KeptRow → Type 0
+abbrev pub ShowsRows : List Row → List rows.RowAfter → Type 0
 ShowsRows [] rs = rs ≡ []
 ShowsRows (k ∷ ks) [] = ⊥
 ShowsRows (k ∷ ks) (r ∷ rs) = ShowsRow k r × ShowsRows ks rs
 
 -- the place of the last row with these ids; `found` where none follows
-abbrev pub last_row : ℕ → ℕ → ℕ → ℕ → List rows.KeptRow → ℕ
+abbrev pub last_row : ℕ → ℕ → ℕ → ℕ → List rows.RowAfter → ℕ
 last_row circuit id place found [] = found
 last_row circuit id place found (r ∷ rs) = last_row circuit id (suc place) (cond (nat_eq r.circuit circuit && nat_eq r.id id) (suc place) found) rs
 
-pub record Shows (k : Kept) (r : rows.KeptRows) : Type 0 where
+pub record Shows (k : Kept) (r : rows.RowsAfter) : Type 0 where
   pub rows : ShowsRows k.rows r.rows
   pub server_lines : (line : ℕ) → line < 256 → slice_index k.server_lines line ≡ r.server_lines line
   pub node_lines : (line : ℕ) → line < 256 → slice_index k.node_lines line ≡ r.node_lines line

@@ -12,7 +12,7 @@ pub record ShowsFigures (f : Figures) (r : rows.Figures) : Type 0 where
   pub used_up : f.used ≡ saturated r.used_up
   pub end : option_map end_shown f.end ≡ r.end
 
-pub record ShowsRow (k : Row) (r : rows.KeptRow) : Type 0 where
+pub record ShowsRow (k : Row) (r : rows.RowAfter) : Type 0 where
   pub line : k.line ≡ r.line
   pub circuit : k.circuit ≡ r.circuit
   pub id : k.id ≡ r.id

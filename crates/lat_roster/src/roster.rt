@@ -90,7 +90,7 @@ impl Roster {
 
     /// Takes room for `n` sessions more. `Memory` where none is found; the rows stay.
     pub fn reserve(&mut self, n: usize) -> Result<(), Memory>
-        ensures same { (r : rows.KeptRows) → Shows self.old r → Shows self.new r }
+        ensures same { (r : rows.RowsAfter) → Shows self.old r → Shows self.new r }
         ensures rows { OnOk result (n ≤ self.new.room) }
         ensures names { OnOk result (n ≤ self.new.names.room) }
     {
@@ -100,7 +100,7 @@ impl Roster {
 
     /// The place, from 1 on, of the last row with these ids of the server; 0 where there is none.
     pub fn named(&self, circuit: u16, id: u8) -> usize
-        ensures is { (r : rows.KeptRows) → Shows self.now r → result ≡ last_row circuit id 0 0 r.rows }
+        ensures is { (r : rows.RowsAfter) → Shows self.now r → result ≡ last_row circuit id 0 0 r.rows }
         ensures within { result ≤ length self.now.rows }
     {
         self.names.get(circuit, id)
@@ -133,7 +133,7 @@ impl Roster {
         put: usize,
         taken: usize,
     ) -> Result<(), Memory>
-        ensures same { (r : rows.KeptRows) → Shows self.old r → Shows self.new r }
+        ensures same { (r : rows.RowsAfter) → Shows self.old r → Shows self.new r }
         ensures items { OnOk result (RoomAt self.new.rows (slice_index (if server then self.new.server_lines else self.new.node_lines) line) server put taken) }
         ensures rows { self.old.room ≡ self.new.room }
         ensures names { self.new.names ≡ self.old.names }
@@ -145,7 +145,7 @@ impl Roster {
     /// The newest session of a line has put bytes more, for which there is room.
     pub fn puts(&mut self, server: bool, line: u8, bytes: &[u8])
         requires { RoomAt self.old.rows (slice_index (if server then self.old.server_lines else self.old.node_lines) line) server (length bytes.now) 0 }
-        ensures shows { (r : rows.KeptRows) → Shows self.old r → Shows self.new (adds server line (map slots.Byte bytes.now) [] r) }
+        ensures shows { (r : rows.RowsAfter) → Shows self.old r → Shows self.new (adds server line (map slots.Byte bytes.now) [] r) }
         ensures rows { self.old.room ≡ self.new.room }
         ensures names { self.new.names ≡ self.old.names }
     {
@@ -157,7 +157,7 @@ impl Roster {
     pub fn adds(&mut self, server: bool, line: u8, put: &[Item], taken: &[Item])
         requires { RoomAt self.old.rows (slice_index (if server then self.old.server_lines else self.old.node_lines) line) server
             (length put.now) (length taken.now) }
-        ensures shows { (r : rows.KeptRows) (ps ts : List slots.Item) →
+        ensures shows { (r : rows.RowsAfter) (ps ts : List slots.Item) →
             put.now ≡ map item_shown ps →
             taken.now ≡ map item_shown ts →
             Shows self.old r →
@@ -174,7 +174,7 @@ impl Roster {
     pub fn connects(&mut self, alloc: Global, line: u8, circuit: u16, id: u8, before: Figures)
         requires rows { 0 < self.old.room }
         requires names { 0 < self.old.names.room }
-        ensures shows { (r : rows.KeptRows) (s : Seat) (f : rows.Figures) →
+        ensures shows { (r : rows.RowsAfter) (s : Seat) (f : rows.Figures) →
             Shows self.old r →
             IsSeat s line circuit id →
             (slice_index self.old.server_lines line ≢ 0 → ShowsFigures before f) →
@@ -197,7 +197,7 @@ impl Roster {
     /// session before are written down, where it had a row.
     pub fn accepts(&mut self, line: u8, place: usize, before: Figures)
         requires { place ≤ length self.old.rows }
-        ensures shows { (r : rows.KeptRows) (f : rows.Figures) →
+        ensures shows { (r : rows.RowsAfter) (f : rows.Figures) →
             Shows self.old r →
             (slice_index self.old.node_lines line ≢ 0 → ShowsFigures before f) →
             Shows self.new (accepts line place f r) }

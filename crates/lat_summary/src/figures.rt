@@ -91,7 +91,7 @@ pub(crate) fn server_figures<H: RatingRule>(
     written: Figures,
 ) -> Figures
     requires { 0 < place }
-    ensures { (w : Machines) (k : rows.KeptRows) (r : rows.KeptRow) →
+    ensures { (w : Machines) (k : rows.RowsAfter) (r : rows.RowAfter) →
         StandsFor wire.now roster.now w k →
         r.line ≡ line →
         ShowsFigures written r.server →
@@ -114,7 +114,7 @@ pub(crate) fn node_figures<H: RatingRule>(
     written: Figures,
 ) -> Figures
     requires { 0 < place }
-    ensures { (w : Machines) (k : rows.KeptRows) (r : rows.KeptRow) →
+    ensures { (w : Machines) (k : rows.RowsAfter) (r : rows.RowAfter) →
         StandsFor wire.now roster.now w k →
         RowAt k place r →
         r.node_line ≡ line →

@@ -26,7 +26,7 @@ fn some_line(line: u8) -> Option<u8>
 
 // The session of a row, with its figures at both ends.
 fn told(row: &Row, server: Figures, node: Figures) -> SessionRow<'_>
-    ensures { (r : rows.KeptRow) → ShowsRow row.now r → row_in result ≡ told_with r (figures_shown server) (figures_shown node) }
+    ensures { (r : rows.RowAfter) → ShowsRow row.now r → row_in result ≡ told_with r (figures_shown server) (figures_shown node) }
 {
     SessionRow {
         line: row.line,
@@ -57,7 +57,7 @@ fn row_onto<H: RatingRule>(
     out: &mut String,
 ) -> Result<(), Memory>
     requires { 0 < place }
-    ensures { OnOk result ((w : Machines) (k : rows.KeptRows) (r : rows.KeptRow) →
+    ensures { OnOk result ((w : Machines) (k : rows.RowsAfter) (r : rows.RowAfter) →
         StandsFor wire.now roster.now w k →
         RowAt k place r →
         ShowsRow row.now r →
@@ -76,7 +76,7 @@ pub(crate) fn sessions_onto<H: RatingRule>(
     roster: &Roster,
     out: &mut String,
 ) -> Result<(), Memory>
-    ensures { OnOk result ((w : Machines) (k : rows.KeptRows) →
+    ensures { OnOk result ((w : Machines) (k : rows.RowsAfter) →
         StandsFor wire.now roster.now w k →
         string_bytes out.new ≡ string_bytes out.old ++ rows_text 1 (report_rows w k)) }
 {
