@@ -39,7 +39,7 @@ idle k s a out rest st = record {
   directory = st.directory;
   waiting = st.queue;
   solicits = st.solicits;
-  settled = st.settled;
+  concluded = st.concluded;
   freed = ap (map key_in) rest.freed ∙ sym (none_between s.core s.core.seats);
   frames = adds_none out;
 }
@@ -103,7 +103,7 @@ did_connect k s line service b l r before after rest st e o f n = subst (λ t. H
         directory = st.directory;
         waiting = st.queue;
         solicits = st.solicits;
-        settled = st.settled;
+        concluded = st.concluded;
         freed = ap (map key_in) f ∙ sym (opening_frees_none k.lines.lines s.core (opens (config_of k) line b.from b.node service None None s.core).core None (opening_of (config_of k) line b.from b.node service None None s.core) st.lines.seated.each);
         frames = o.1;
       };
@@ -124,7 +124,7 @@ did_solicit k s service asker f before after rest st a e n = record {
     directory = st.directory;
     waiting = st.queue;
     solicits = ap (λ z. (z + 1) % 65536) st.solicits;
-    settled = st.settled;
+    concluded = st.concluded;
     freed = ap (map key_in) rest.freed ∙ sym (none_between s.core s.core.seats);
     frames = subst (Emits (solicits_for (config_of k) s service).frames before) (sym n)
         (adds_one (plain everyone 0 (OfNotice (SolicitNotice (record { id = (s.solicits + 1) % 65536; asker = k.lines.circuits.name; service = service })))) f before

@@ -27,7 +27,7 @@ use Rattle.lat_server.specs.declared.config.Offer.{Offer}
 use Rattle.lat_server.specs.Kept.{Kept, config_of}
 use Rattle.lat_server.specs.Events.{HasPassed}
 use Rattle.lat_server.proofs.Openings.{opening_of}
-use Rattle.lat_server.proofs.GrantLemmas.{granted_then, grant_settled}
+use Rattle.lat_server.proofs.GrantLemmas.{granted_then, grant_concluded}
 
 -- where a session can be had, one is opened
 opening_ok : (c : Core) (x : ℕ) → can_open c x ≡ true → (ids : ℕ × ℕ) × (opening c x ≡ Ok ids)
@@ -72,7 +72,7 @@ has_granted k p start before middle after line service r m x l t g f o h n key f
         directory = h.state.directory;
         queue = queue_granted t p.state.queue service r.key g (answer ∙ ap request_key n) gives;
         solicits = h.state.solicits;
-        settled = grant_settled k.lines.lines l.lines c d.core p.state.queue r.key service (opening_of (config_of k) line r.from r.key.node service (Some r.key) (Some r.key.request) c) h.state.lines.seated.each core.seated.each (granted_then k.queue p.state.queue service r h.state.queue n) h.state.settled;
+        concluded = grant_concluded k.lines.lines l.lines c d.core p.state.queue r.key service (opening_of (config_of k) line r.from r.key.node service (Some r.key) (Some r.key.request) c) h.state.lines.seated.each core.seated.each (granted_then k.queue p.state.queue service r h.state.queue n) h.state.concluded;
       };
       frames = adds_then p.frames (grant_frame r ∷ d.frames) start before after h.frames (adds_then (grant_frame r ∷ []) d.frames before middle after told sent);
     }

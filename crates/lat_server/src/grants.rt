@@ -12,7 +12,7 @@ ghost use Rattle.lat_lines.specs.Kept.{IsLine};
 ghost use Rattle.lat_server.specs.declared.config.Offer.{Offer};
 ghost use Rattle.lat_server.specs.Events.{HasPassed, Passes, all_lines};
 ghost use Rattle.lat_server.specs.Kept.{config_of, AtRest, SameConfig, with_queue};
-ghost use Rattle.lat_server.specs.Settled.{finish_each};
+ghost use Rattle.lat_server.specs.Concluded.{finish_each};
 
 use crate::server::ServerCore;
 use lat_base::{Addr, Kept, Name, OutBox};
