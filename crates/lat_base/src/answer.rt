@@ -5,7 +5,7 @@ ghost use Rattle.lat_base.specs.Answers.{items_given};
 
 use crate::field::Bad;
 use crate::heard::Heard;
-use crate::item::{Items, ItemsRoom};
+use crate::item::{Items, ItemsMemory};
 use crate::kept::Kept;
 
 /// What a core answers to an event. `docs/PROTOCOL.md`, "Cores" and what follows there, says when each comes.
@@ -68,7 +68,7 @@ pub enum Answer {
 
 impl Answer {
     /// The same answer, its items in this room, which must have room for them. It takes no memory.
-    pub fn copy_in(&self, room: ItemsRoom) -> Answer
+    pub fn copy_in(&self, room: ItemsMemory) -> Answer
         requires { items_given self.now ≤ room }
         ensures { result ≡ self.now }
     {

@@ -28,7 +28,7 @@ pub use bytes::Bytes;
 pub use event::Event;
 pub use field::{Bad, Field};
 pub use heard::Heard;
-pub use item::{Item, Items, ItemsRoom};
+pub use item::{Item, Items, ItemsMemory};
 pub use kept::Kept;
 pub use machine::Core;
 pub use memory::Memory;

@@ -23,14 +23,14 @@ use Rattle.lat_stream.specs.Kept.{item_shown}
 use Rattle.lat_lines.specs.Back.{answer_of}
 use Rattle.lat_lines.specs.Events.{event_shown}
 use Rattle.lat_roster.specs.declared.row.Row.{Row}
-use Rattle.lat_roster.specs.Rows.{HasRoom}
-use Rattle.lat_roster.specs.Roster.{RoomAt}
+use Rattle.lat_roster.specs.Rows.{HasReserved}
+use Rattle.lat_roster.specs.Roster.{ReservedAt}
 use Rattle.lat_tales.proofs.seats.Calls.{seat_or_none}
 use Rattle.lat_tales.proofs.mates.Reach.{Reach, reach_run}
 use Rattle.lat_wire.specs.Kept as wires
 use Rattle.lat_wire.specs.Stands.{Stands}
 use Rattle.lat_wire.specs.Told.{answered}
-use Rattle.lat_follow.specs.Room.{line_in, taken_count}
+use Rattle.lat_follow.specs.Reserved.{line_in, taken_count}
 
 -- the session of a line that has one is found under its id
 held_named : (m : Bool) (lines : ℕ) (c : Core) (line : ℕ) → Seated m lines c → over c (seat_at c line) ≡ false → named (sessions_of c (seat_at c line)) (seat_at c line).id ≡ session_of c (seat_at c line)
@@ -100,11 +100,11 @@ took_most k w b line n h = go b
 
 -- room for more is room for fewer
 
-has_less : (b : Bool) (p q s t : ℕ) (k : Row) → s ≤ p → t ≤ q → HasRoom b p q k → HasRoom b s t k
+has_less : (b : Bool) (p q s t : ℕ) (k : Row) → s ≤ p → t ≤ q → HasReserved b p q k → HasReserved b s t k
 has_less true p q s t k x y h = (omega (arith, x, h.0), omega (arith, y, h.1))
 has_less false p q s t k x y h = (omega (arith, x, h.0), omega (arith, y, h.1))
 
-pub room_less : (ks : List Row) (place : ℕ) (b : Bool) (p q s t : ℕ) → s ≤ p → t ≤ q → RoomAt ks place b p q → RoomAt ks place b s t
+pub room_less : (ks : List Row) (place : ℕ) (b : Bool) (p q s t : ℕ) → s ≤ p → t ≤ q → ReservedAt ks place b p q → ReservedAt ks place b s t
 room_less ks place b p q s t x y h i k e g = has_less b p q s t k x y (h i k e g)
 
 pub asked_most : {H : Type 0} (k : wires.Kept H) (w : Machines) (b : Bool) (e : Event) → Stands k w → taken_count e (answered (wires.setups_of k) w b (event_shown e)) ≤ min (items_asked e) (waiting_at (core_of w b) (line_in e))

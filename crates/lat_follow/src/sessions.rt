@@ -17,7 +17,7 @@ ghost use Rattle.lat_wire.specs.Stands.{Stands};
 ghost use Rattle.lat_follow.specs.Following.{Stage, LeadsTo};
 ghost use Rattle.lat_follow.specs.Moves.{IsReached, end_told, items_added};
 ghost use Rattle.lat_follow.specs.Present.{IsNewcomer};
-ghost use Rattle.lat_follow.specs.Room.{HasPlaces};
+ghost use Rattle.lat_follow.specs.Reserved.{HasPlaces};
 
 use crate::books::{made, newcomer_of};
 use crate::newcomer::Newcomer;

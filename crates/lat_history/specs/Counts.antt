@@ -54,7 +54,7 @@ abbrev pub ShowsLimit : Option FullAt → Type 0
 ShowsLimit full = IfSome full (λ at. (at.events ≡ 1000000) ⊎ (268435456 < at.bytes + at.more))
 
 -- a history has room for an event
-pub record HasRoom (history : List Past) (event : Event) : Type 0 where
+pub record MayAdd (history : List Past) (event : Event) : Type 0 where
   pub events : length history < 1000000
   pub bytes : history_bytes history + bytes_in event ≤ 268435456
 

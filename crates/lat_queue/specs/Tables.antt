@@ -131,9 +131,9 @@ new_info t QueueFull = kept.QueueFull
 new_info t _ = kept.NoService
 
 -- its line has room for one that waits
-abbrev pub HasRoom : Table → Standing → Type 0
-HasRoom t (Waits i) = (i < length t.offered) × (length (waiters i t.entries) < 64)
-HasRoom t _ = Unit {0}
+abbrev pub MayWait : Table → Standing → Type 0
+MayWait t (Waits i) = (i < length t.offered) × (length (waiters i t.entries) < 64)
+MayWait t _ = Unit {0}
 
 -- one record more
 abbrev pub added : Table → Key → Entry → Table

@@ -7,7 +7,7 @@ ghost use Rattle.lat_queue.specs.Histories.{Stands, key_in, address_in, kept_in,
 ghost use Rattle.std.specs.Map.{lookup};
 ghost use Rattle.lat_queue.specs.KeyHash.{one_key};
 ghost use Rattle.indexmap.specs.IndexMap.{insert_entry};
-ghost use Rattle.lat_queue.specs.Tables.{waiters, OnLine, HasRoom, HasPlace, IsShort, info, info_of, new_info, new_standing, added, shown, first_of, waiting_of, cancelled, given, finished};
+ghost use Rattle.lat_queue.specs.Tables.{waiters, OnLine, MayWait, HasPlace, IsShort, info, info_of, new_info, new_standing, added, shown, first_of, waiting_of, cancelled, given, finished};
 
 use crate::entry::{Entry, Standing, Waiter};
 use crate::key::Key;
@@ -232,7 +232,7 @@ impl Queue {
     // How a new request for the service stands.
     fn new_standing(&self, service: &Name) -> Standing
         ensures value { result ≡ new_standing self.now service.now }
-        ensures room { HasRoom self.now result }
+        ensures room { MayWait self.now result }
     {
         match self.offered.place_of(service) {
             Some(line) if self.lines[line].len() >= LINE => Standing::QueueFull,
@@ -243,7 +243,7 @@ impl Queue {
 
     // What a new request that stands so is told.
     fn new_info(&self, standing: Standing) -> Kept
-        requires { HasRoom self.now standing }
+        requires { MayWait self.now standing }
         ensures value { result ≡ new_info self.now standing }
         ensures place { HasPlace result }
     {
@@ -258,7 +258,7 @@ impl Queue {
     fn add(&mut self, key: &Key, entry: Entry) -> Result<(), Memory>
         requires new { lookup (one_key key.now) self.old.entries ≡ None }
         requires few { length self.old.entries < 65536 }
-        requires room { HasRoom self.old entry.standing }
+        requires room { MayWait self.old entry.standing }
         ensures ok { OnOk result (self.new ≡ added self.old key.now entry) }
         ensures err { OnErr result (self.new ≡ self.old) }
     {

@@ -25,7 +25,7 @@ use Rattle.lat_wire.specs.Refusals.{RefusedAs, first_of, full, inject_refusal}
 use Rattle.lat_wire.specs.Stands as wire_stands
 use Rattle.lat_wire.specs.Told.{answered, answered_to, ShowsPost}
 use Rattle.lat_follow.specs.Moves.{IsReached, end_told, hearer, items_added}
-use Rattle.lat_follow.specs.Room.{FitsIn}
+use Rattle.lat_follow.specs.Reserved.{FitsIn}
 use Rattle.lat_schedule.specs.declared.event.WorldEvent.{WorldEvent}
 use Rattle.lat_replay.specs.Moves.{move_of, refusal_of}
 use Rattle.lat_replay.specs.Kept.{Kept, setups_of, moment_of}

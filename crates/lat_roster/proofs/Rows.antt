@@ -15,7 +15,7 @@ use Rattle.lat_roster.specs.declared.figures.Figures.{Figures}
 use Rattle.lat_machines.specs.cores.Cores.{Seat}
 use Rattle.lat_tales.specs.Keeping.{change, new_row, connects, accepts}
 use Rattle.lat_roster.specs.declared.row.Row.{Row}
-use Rattle.lat_roster.specs.Rows.{ShowsFigures, ShowsRow, IsSeat, HasRoom}
+use Rattle.lat_roster.specs.Rows.{ShowsFigures, ShowsRow, IsSeat, HasReserved}
 use Rattle.lat_roster.specs.Roster.{Kept, ShowsRows, Shows, last_row}
 use Rattle.lat_roster.specs.Names.{key_of, place_of}
 
@@ -216,5 +216,5 @@ got_set [] i x k h = let z : ⊥ = cc in absurd z
 got_set (y ∷ ks) zero x k h = cc
 got_set (y ∷ ks) (suc i) x k h = got_set ks i x k h
 
-pub room_set : (ks : List Row) (place i : ℕ) (b : Bool) (put taken : ℕ) (x k : Row) → place ≡ suc i → slice_get (slice_set ks (place - 1) x) i ≡ Some k → HasRoom b put taken x → HasRoom b put taken k
-room_set ks place i b put taken x k e h r = let j : place - 1 ≡ i = omega (arith, e) in subst (λ z. HasRoom b put taken z) (got_set ks i x k (subst (λ z. slice_get (slice_set ks z x) i ≡ Some k) j h)) r
+pub room_set : (ks : List Row) (place i : ℕ) (b : Bool) (put taken : ℕ) (x k : Row) → place ≡ suc i → slice_get (slice_set ks (place - 1) x) i ≡ Some k → HasReserved b put taken x → HasReserved b put taken k
+room_set ks place i b put taken x k e h r = let j : place - 1 ≡ i = omega (arith, e) in subst (λ z. HasReserved b put taken z) (got_set ks i x k (subst (λ z. slice_get (slice_set ks z x) i ≡ Some k) j h)) r

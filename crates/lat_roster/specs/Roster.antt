@@ -3,14 +3,14 @@ use Rattle.std.specs.Prelude.{◌≡◌, ℕ, suc, ◌<◌, ◌≤◌, ◌&&◌,
 use Rattle.lat_tales.specs.Rows as rows
 use Rattle.lat_roster.specs.declared.row.Row.{Row}
 use Rattle.lat_roster.specs.Names.{Names, key_of, place_of}
-use Rattle.lat_roster.specs.Rows.{ShowsRow, HasRoom}
+use Rattle.lat_roster.specs.Rows.{ShowsRow, HasReserved}
 
 pub record Kept : Type 0 where
   pub rows : List Row
   pub server_lines : List ℕ  -- by line, the place of the row of its newest session, from 1 on
   pub node_lines : List ℕ
   pub names : Names
-  pub room : ℕ  -- for how many more rows
+  pub reserved : ℕ  -- for how many more rows
 
 -- each row shows the one beside it
 abbrev pub ShowsRows : List Row → List rows.RowAfter → Type 0
@@ -38,5 +38,5 @@ pub record Holds (k : Kept) : Type 0 where
   pub name_places : (key : ℕ) → place_of k.names key ≤ length k.rows
 
 -- the row at this place, if it is one, has room for so many items more
-abbrev pub RoomAt : List Row → ℕ → Bool → ℕ → ℕ → Type 0
-RoomAt ks place b put taken = (i : ℕ) (k : Row) → place ≡ suc i → slice_get ks i ≡ Some k → HasRoom b put taken k
+abbrev pub ReservedAt : List Row → ℕ → Bool → ℕ → ℕ → Type 0
+ReservedAt ks place b put taken = (i : ℕ) (k : Row) → place ≡ suc i → slice_get ks i ≡ Some k → HasReserved b put taken k

@@ -4,9 +4,9 @@ ghost use Rattle.std.specs.Prelude.{◌≡◌, ◌≢◌, ◌+◌, ◌-◌, ◌�
 ghost use Rattle.lat_model.specs.sessions.Slots as slots;
 ghost use Rattle.lat_tales.specs.Rows as rows;
 ghost use Rattle.lat_tales.specs.Keeping.{change, with_items};
-ghost use Rattle.lat_roster.specs.Rows.{ShowsFigures, HasRoom};
+ghost use Rattle.lat_roster.specs.Rows.{ShowsFigures, HasReserved};
 ghost use Rattle.lat_roster.specs.Shown.{item_shown};
-ghost use Rattle.lat_roster.specs.Roster.{ShowsRows, RoomAt};
+ghost use Rattle.lat_roster.specs.Roster.{ShowsRows, ReservedAt};
 
 use crate::figures::Figures;
 use crate::row::Row;
@@ -64,7 +64,7 @@ pub(crate) fn hand_over(list: &mut [Row], left: usize, figures: Figures, place: 
 // The row at this place has more bytes put; nothing at 0.
 pub(crate) fn put_at(list: &mut [Row], place: usize, server: bool, bytes: &[u8])
     requires place { place ≤ length list.old }
-    requires room { RoomAt list.old place server (length bytes.now) 0 }
+    requires reserved { ReservedAt list.old place server (length bytes.now) 0 }
     ensures { (rs : List rows.RowAfter) → ShowsRows list.old rs → ShowsRows list.new (change place (with_items server (map slots.Byte bytes.now) []) rs) }
 {
     if place > 0 {
@@ -75,7 +75,7 @@ pub(crate) fn put_at(list: &mut [Row], place: usize, server: bool, bytes: &[u8])
 // The row at this place has more items put and taken; nothing at 0.
 pub(crate) fn add_at(list: &mut [Row], place: usize, server: bool, put: &[Item], taken: &[Item])
     requires place { place ≤ length list.old }
-    requires room { RoomAt list.old place server (length put.now) (length taken.now) }
+    requires reserved { ReservedAt list.old place server (length put.now) (length taken.now) }
     ensures { (rs : List rows.RowAfter) (ps ts : List slots.Item) →
         put.now ≡ map item_shown ps →
         taken.now ≡ map item_shown ts →
@@ -97,7 +97,7 @@ pub(crate) fn reserve_at(
 ) -> Result<(), Memory>
     requires { place ≤ length list.old }
     ensures same { (rs : List rows.RowAfter) → ShowsRows list.old rs → ShowsRows list.new rs }
-    ensures room { OnOk result (RoomAt list.new place server put taken) }
+    ensures reserved { OnOk result (ReservedAt list.new place server put taken) }
 {
     if place > 0 {
         list[place - 1].reserve(server, put, taken)?;

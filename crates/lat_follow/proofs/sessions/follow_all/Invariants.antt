@@ -4,7 +4,7 @@ use Rattle.lat_tales.specs.Rows.{RowsAfter}
 use Rattle.lat_wire.specs.Kept.{setups_of}
 use Rattle.lat_wire.specs.Stands.{Stands}
 use Rattle.lat_follow.specs.Following.{LeadsTo}
-use Rattle.lat_follow.specs.Room.{HasPlaces}
+use Rattle.lat_follow.specs.Reserved.{HasPlaces}
 use Rattle.lat_follow.proofs.sessions.follow_all.Given as goal
 
 abbrev pub invariant-loop-turn : goal.invariant-loop-turn

@@ -8,7 +8,7 @@ ghost use Rattle.lat_roster.specs.Roster.{Shows};
 ghost use Rattle.lat_wire.specs.Kept.{setups_of};
 ghost use Rattle.lat_wire.specs.Stands.{Stands};
 ghost use Rattle.lat_wire.specs.Told.{answered};
-ghost use Rattle.lat_follow.specs.Room.{line_in, put_count, taken_count, FitsIn, HasPlaces};
+ghost use Rattle.lat_follow.specs.Reserved.{line_in, put_count, taken_count, FitsIn, HasPlaces};
 
 use crate::books::made;
 use lat_base::{Event, Memory};
