@@ -12,7 +12,7 @@ use Rattle.lat_model.specs.sessions.Calls.{take_count, took}
 use Rattle.lat_machines.specs.values.Answers.{Took, NoLine, Closed}
 use Rattle.lat_machines.specs.values.Events.{Takes}
 use Rattle.lat_machines.specs.cores.Cores.{Seat, no_seat, Core, Side}
-use Rattle.lat_machines.specs.cores.Lines.{over, session_of, sessions_of, seat_at, holds, line_exists, waiting_at}
+use Rattle.lat_machines.specs.cores.Lines.{over, session_of, sessions_of, seat_at, has_session, line_exists, waiting_at}
 use Rattle.lat_machines.specs.cores.LineCalls.{Said, says, calls_on, take_on, on_line}
 use Rattle.lat_machines.specs.server.Server.{server_side}
 use Rattle.lat_machines.specs.node.Node.{node_side}
@@ -84,7 +84,7 @@ line_took m lines many k c line n h = exists (line_exists many line)
     held true o = omega arith
     held false o = opens (take_open (session_of c (seat_at c line))) o
 
-    exists : (b : Bool) → given (cond b (cond (holds c line) (take_on k c s n) (says c Closed)) (says c NoLine)) ≤ min n (waiting_at c line)
+    exists : (b : Bool) → given (cond b (cond (has_session c line) (take_on k c s n) (says c Closed)) (says c NoLine)) ≤ min n (waiting_at c line)
     exists false = omega arith
     exists true = held (over c (seat_at c line)) refl
 

@@ -6,7 +6,7 @@ use Rattle.std.proofs.lemmas.List.{length-map}
 use Rattle.std.proofs.lemmas.Option.{none-some, same_Some}
 use Rattle.lat_model.specs.sessions.Session.{free}
 use Rattle.lat_machines.specs.cores.Cores.{Seat, no_seat, Core}
-use Rattle.lat_machines.specs.cores.Lines.{session_of, over, last_on, seat_at, holds, used}
+use Rattle.lat_machines.specs.cores.Lines.{session_of, over, last_on, seat_at, has_session, used}
 use Rattle.lat_machines.specs.cores.Books.{LineSession, line_session, line_history}
 use Rattle.lat_lines.specs.declared.seat.Seat as own
 use Rattle.lat_lines.specs.Kept.{Kept}
@@ -124,14 +124,14 @@ find_shown line (s ∷ ss) = by (nat_eq s.line line) (find_shown line ss)
 
 -- This is kept of the session that a line has
 pub record HasSeat (c : Core) (line : ℕ) (s : own.Seat) : Type 0 where
-  pub holds : holds c line ≡ true
+  pub holds : has_session c line ≡ true
   pub number : ℕ
   pub shown : seat_shown s ≡ seat_info c number (seat_at c line)
   pub before : List LineSession
   pub history : line_history c line 0 c.seats ≡ line_session c number (seat_at c line) ∷ before
 
 abbrev pub Found : Core → ℕ → Option own.Seat → Type 0
-Found c line None = holds c line ≡ false
+Found c line None = has_session c line ≡ false
 Found c line (Some s) = HasSeat c line s
 
 -- no line has the session that isn't one
@@ -154,7 +154,7 @@ found k c line st o is = by (over c (seat_at c line)) refl o shown
         let r = last_present c line 0 no_seat c.seats st.seated.latest (no_seat_over k c st) e in
         record { holds = ap not e; number = r.number; shown = same_Some (seat_shown s) (seat_info c r.number (seat_at c line)) (f ∙ r.is); before = r.before; history = r.history }
 
-pub found_holds : (c : Core) (line : ℕ) (o : Option own.Seat) → Found c line o → is_some o ≡ holds c line
+pub found_holds : (c : Core) (line : ℕ) (o : Option own.Seat) → Found c line o → is_some o ≡ has_session c line
 found_holds c line None f = sym f
 found_holds c line (Some s) f = sym f.holds
 

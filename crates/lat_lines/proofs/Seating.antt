@@ -13,7 +13,7 @@ use Rattle.lat_queue.specs.Histories.{some_key}
 use Rattle.lat_queue.specs.declared.key.Key.{Key}
 use Rattle.lat_machines.specs.values.Keys as keys
 use Rattle.lat_machines.specs.cores.Cores.{Seat, no_seat, Core}
-use Rattle.lat_machines.specs.cores.Lines.{end_of, sessions_of, session_of, over, last_on, seat_at, holds, saturated_count}
+use Rattle.lat_machines.specs.cores.Lines.{end_of, sessions_of, session_of, over, last_on, seat_at, has_session, saturated_count}
 use Rattle.lat_machines.specs.cores.Books.{SessionEnd, EndedClosed, EndedRejected, EndedCircuit, reject_reason, end_reason, seat_end, LineSession, line_session, line_history, book_of, book}
 use Rattle.lat_circuit.specs.Kept as circuit
 use Rattle.lat_circuits.specs.Kept as circuits
@@ -81,7 +81,7 @@ last_before : (x : LineSession) (xs : List LineSession) → (book_of true (x ∷
 last_before x [] = refl
 last_before x (y ∷ ys) = refl
 
-book_push : (c : Core) (line : ℕ) (t : Seat) → over c t ≡ false → holds c t.line ≡ false → (book (seated_core c t) line).last ≡ (book c line).last
+book_push : (c : Core) (line : ℕ) (t : Seat) → over c t ≡ false → has_session c t.line ≡ false → (book (seated_core c t) line).last ≡ (book c line).last
 book_push c line t o h = by (nat_eq t.line line) refl
   where
     d : Core
@@ -93,13 +93,13 @@ book_push c line t o h = by (nat_eq t.line line) refl
     past : line_history d line 0 d.seats ≡ cond (nat_eq t.line line) (new ∷ []) [] ++ line_history c line 0 c.seats
     past = history_push c (c.seats ++ t ∷ []) line 0 c.seats t ∙ ap (λ m. cond (nat_eq t.line line) (line_session c (suc m) t ∷ []) [] ++ line_history c line 0 c.seats) (omega arith)
 
-    held : holds d line ≡ not (over c (cond (nat_eq t.line line) t (seat_at c line)))
+    held : has_session d line ≡ not (over c (cond (nat_eq t.line line) t (seat_at c line)))
     held = ap (λ s. not (over c s)) (last_push line no_seat c.seats t)
 
     by : (b : Bool) → nat_eq t.line line ≡ b → (book d line).last ≡ (book c line).last
     by true e =
-        let mine : holds d line ≡ true = held ∙ ap (λ b. not (over c (cond b t (seat_at c line)))) e ∙ ap not o in
-        let none : holds c line ≡ false = subst (λ z. holds c z ≡ false) (eqb-true t.line line e) h in
+        let mine : has_session d line ≡ true = held ∙ ap (λ b. not (over c (cond b t (seat_at c line)))) e ∙ ap not o in
+        let none : has_session c line ≡ false = subst (λ z. has_session c z ≡ false) (eqb-true t.line line e) h in
         ap₂ (λ b hs. (book_of b hs).last) mine (past ∙ ap (λ b. cond b (new ∷ []) [] ++ line_history c line 0 c.seats) e)
         ∙ last_before new (line_history c line 0 c.seats)
         ∙ sym (ap (λ b. (book_of b (line_history c line 0 c.seats)).last) none)
@@ -135,7 +135,7 @@ stands_seated k c ts st = record { own = st.own; moment = st.moment; drawn = st.
 
 -- The line of t has the session t from now on, and s is kept of it
 pub record Begins (k : Kept) (c : Core) (t : Seat) (s : own.Seat) : Type 0 where
-  pub none : holds c t.line ≡ false
+  pub none : has_session c t.line ≡ false
   pub going : over c t ≡ false
   pub seat : IsSeat k.lines c t
   pub shown : seat_shown s ≡ seat_info c (suc (length c.seats)) t
@@ -218,7 +218,7 @@ told_of c n t s end = record {
   end = end;
 }
 
-pub begins : (k : Kept) (c : Core) (t : Seat) (key : Option Key) (u : base.LineSession) → Stands k c → holds c t.line ≡ false → IsLine k.lines t.line → lives (end_of c t) ≡ true → Leads (sessions_of c t) t.id t.serial
+pub begins : (k : Kept) (c : Core) (t : Seat) (key : Option Key) (u : base.LineSession) → Stands k c → has_session c t.line ≡ false → IsLine k.lines t.line → lives (end_of c t) ≡ true → Leads (sessions_of c t) t.id t.serial
     → (1 ≤ t.circuit) × (t.circuit ≤ c.circuits.drawn) → t.key ≡ some_key key
     → session_shown u ≡ session_begun (saturated (suc (length c.seats))) t.circuit t.id (telling_of c t.circuit t.id)
     → Begins k c t (record { line = t.line; key = key; session = u })

@@ -12,7 +12,7 @@ use Rattle.lat_model.specs.sessions.Slots.{items}
 use Rattle.lat_model.specs.ends.End.{End, lives}
 use Rattle.lat_machines.specs.cores.Books.{LineSession, LineBook, book_of, book, line_history}
 use Rattle.lat_machines.specs.cores.Cores.{Core}
-use Rattle.lat_machines.specs.cores.Lines.{session_of, seat_at, holds, line_state, waiting_at}
+use Rattle.lat_machines.specs.cores.Lines.{session_of, seat_at, has_session, line_state, waiting_at}
 use Rattle.lat_stream.specs.Kept.{state_shown}
 use Rattle.lat_circuit.specs.Info.{session_state}
 use Rattle.lat_lines.specs.declared.seat.Seat as own
@@ -67,7 +67,7 @@ state_told k c line s st f side =
     ∙ ap₂ (λ m t. state_shown (state m t)) master h.named
     ∙ ap (λ b. state_shown (cond b (state k.circuits.server (session_of c (seat_at c line))) Free)) (sym f.holds)
 
-pub state_none : (k : Kept) (c : Core) (line : ℕ) → holds c line ≡ false → states.Free ≡ state_shown (line_state (side_of k) c line)
+pub state_none : (k : Kept) (c : Core) (line : ℕ) → has_session c line ≡ false → states.Free ≡ state_shown (line_state (side_of k) c line)
 state_none k c line f = ap (λ b. state_shown (cond b (state k.circuits.server (session_of c (seat_at c line))) Free)) (sym f)
 
 -- the items that a take could give
@@ -85,7 +85,7 @@ waiting_told k c line s st f =
     ∙ ap₂ (λ b (u : Session). cond (b && take_open u) (length (items u.came) - u.taken) 0) h.lives h.named
     ∙ ap (λ b. cond (b && take_open t) (length (items t.came) - t.taken) 0) (sym f.holds)
 
-pub waiting_none : (c : Core) (line : ℕ) → holds c line ≡ false → 0 ≡ waiting_at c line
+pub waiting_none : (c : Core) (line : ℕ) → has_session c line ≡ false → 0 ≡ waiting_at c line
 waiting_none c line f =
     let t : Session = session_of c (seat_at c line) in
     ap (λ b. cond (b && take_open t) (length (items t.came) - t.taken) 0) (sym f)

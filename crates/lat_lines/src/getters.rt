@@ -9,7 +9,7 @@ ghost use Rattle.lat_machines.specs.values.Addresses.{address};
 ghost use Rattle.lat_machines.specs.cores.Books.{book};
 ghost use Rattle.lat_machines.specs.cores.Cores.{Core, span};
 ghost use Rattle.lat_machines.specs.cores.Hearing.{names};
-ghost use Rattle.lat_machines.specs.cores.Lines.{holds, used, ended, saturated_count, line_exists, line_state, waiting_at};
+ghost use Rattle.lat_machines.specs.cores.Lines.{has_session, used, ended, saturated_count, line_exists, line_state, waiting_at};
 ghost use Rattle.lat_session.specs.States.{asked_at};
 ghost use Rattle.lat_stream.specs.Kept.{state_shown, saturated};
 ghost use Rattle.lat_circuits.specs.Kept.{has_id};
@@ -58,8 +58,8 @@ impl Lines {
     }
 
     /// Whether the line has a session.
-    pub fn holds(&self, line: u8) -> bool
-        ensures { (c : Core) → Stands self.now c → result ≡ holds c line }
+    pub fn has_session(&self, line: u8) -> bool
+        ensures { (c : Core) → Stands self.now c → result ≡ has_session c line }
     {
         seat_of(self.seats.as_slice(), line).is_some()
     }
@@ -126,10 +126,10 @@ impl Lines {
     pub fn free_line(&self) -> Option<u8>
         ensures model { (c : Core) →
             Stands self.now c →
-            id_or_zero result ≡ least (λ line. not (holds c line)) (upwards 0 self.now.lines) }
+            id_or_zero result ≡ least (λ line. not (has_session c line)) (upwards 0 self.now.lines) }
         ensures line { IfSome result (λ line. IsLine self.now.lines line) }
     {
-        (1..self.count + 1).find(|line| !self.holds(*line))
+        (1..self.count + 1).find(|line| !self.has_session(*line))
     }
 
     /// Whether a RUN from a station with these ids names a living circuit whose reply was heard.

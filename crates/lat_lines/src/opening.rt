@@ -7,7 +7,7 @@ ghost use Rattle.lat_model.specs.sessions.Session.{waits};
 ghost use Rattle.lat_model.specs.sessions.Sessions.{named, least_free};
 ghost use Rattle.lat_machines.specs.values.Addresses.{address};
 ghost use Rattle.lat_machines.specs.cores.Cores.{Core};
-ghost use Rattle.lat_machines.specs.cores.Lines.{holds};
+ghost use Rattle.lat_machines.specs.cores.Lines.{has_session};
 ghost use Rattle.lat_machines.specs.server.Server.{ServerConfig, server_side, has_room, can_open, opens};
 ghost use Rattle.lat_queue.specs.Histories.{key_in, some_key};
 ghost use Rattle.lat_payload.specs.Frames.{Emits};
@@ -79,7 +79,7 @@ impl Lines {
         ensures opened { (config : ServerConfig) (c : Core) →
             server_side config ≡ side_of self.old →
             Stands self.old c →
-            holds c line ≡ false →
+            has_session c line ≡ false →
             OnOk result (Stands self.new (opens config line (address peer.0) node.now service.now (some_key key) (request_of key) c).core
             × Emits (opens config line (address peer.0) node.now service.now (some_key key) (request_of key) c).frames out.old out.new) }
         ensures answer { (c : Core) → Stands self.old c → result ≡ opening c (address peer.0) }
@@ -107,7 +107,7 @@ impl Lines {
         requires line { IsLine self.old.lines line }
         ensures state { (c : Core) →
             Stands self.old c →
-            holds c line ≡ false →
+            has_session c line ≡ false →
             lives (c.circuits.circuit_at circuit).end ≡ true →
             waits (named (c.circuits.circuit_at circuit).end.half.sessions id) ≡ true →
             Stands self.new (accepted_core (side_of self.old) line circuit id c) }
@@ -141,7 +141,7 @@ impl Lines {
         requires line { IsLine self.old.lines line }
         ensures state { (c : Core) (serial : ℕ) →
             Stands self.old c →
-            holds c line ≡ false →
+            has_session c line ≡ false →
             lives (c.circuits.circuit_at circuit).end ≡ true →
             Leads (c.circuits.circuit_at circuit).end.half.sessions session serial →
             Stands self.new (seated_core c (record {
@@ -153,7 +153,7 @@ impl Lines {
             })) }
         ensures side { (c : Core) →
             Stands self.old c →
-            holds c line ≡ false →
+            has_session c line ≡ false →
             lives (c.circuits.circuit_at circuit).end ≡ true →
             (c.circuits.circuit_at circuit).end.half.sessions.master ≡ self.old.circuits.server }
         ensures lines { self.new.lines ≡ self.old.lines }

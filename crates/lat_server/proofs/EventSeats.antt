@@ -18,7 +18,7 @@ use Rattle.lat_machines.specs.server.Queue.{QueueEvent, Cancels}
 use Rattle.lat_machines.specs.server.Records.{kept_of}
 use Rattle.lat_machines.specs.cores.Acts.{time_at}
 use Rattle.lat_machines.specs.cores.Cores.{Seat, Core, Side, Doing, rests, then_doing, acts, at_moment, time_each, circuit_to}
-use Rattle.lat_machines.specs.cores.Lines.{sessions_of, session_of, seat_at, holds, line_exists}
+use Rattle.lat_machines.specs.cores.Lines.{sessions_of, session_of, seat_at, has_session, line_exists}
 use Rattle.lat_machines.specs.cores.LineCalls.{Said, says, calls_on, put_on, set_on, attend_on, take_on, close_on, on_line}
 use Rattle.lat_machines.specs.server.Server.{ServerConfig, Server, ServerStep, server_side, tells, does, has_room, opens, connects_to, solicits_for, connect_event, status_frame, key_of, hears_message, hears_command, hears_value, hears, server_event}
 use Rattle.lat_server.specs.Concluded as concluded
@@ -41,7 +41,7 @@ said_cond c true s t p q = p
 said_cond c false s t p q = q
 
 line_same : (lines : ℕ) (c : Core) (line : ℕ) (f : Seat → Said) → ((s : Seat) → Same c (f s).core) → Same c (on_line lines c line f).core
-line_same lines c line f p = said_cond c (line_exists lines line) (cond (holds c line) (f (seat_at c line)) (says c Closed)) (says c NoLine) (said_cond c (holds c line) (f (seat_at c line)) (says c Closed) (p (seat_at c line)) refl) refl
+line_same lines c line f p = said_cond c (line_exists lines line) (cond (has_session c line) (f (seat_at c line)) (says c Closed)) (says c NoLine) (said_cond c (has_session c line) (f (seat_at c line)) (says c Closed) (p (seat_at c line)) refl) refl
 
 put_same : (k : Side) (c : Core) (bytes : List ℕ) (s : Seat) → Same c (put_on k c s bytes).core
 put_same k c bytes s = said_cond c (put_open (session_of c s)) (says (calls_on k c s (Put s.id bytes)) (Accepted (put_count (session_of c s) (length bytes)))) (says c Closed) refl refl
@@ -105,7 +105,7 @@ hears_same config st from (Whole v) k = step_cond st.core (nat_eq from everyone)
 -- a line that is connected
 
 connect_seats : (config : ServerConfig) (st : Server) (line : ℕ) (service : Name) → concluded.Connects st.core (connect_event config st line service).state.core
-connect_seats config st line service = by (line_exists config.lines line) (holds st.core line) (best config.groups service st.core.moment st.heard)
+connect_seats config st line service = by (line_exists config.lines line) (has_session st.core line) (best config.groups service st.core.moment st.heard)
   where
     none : concluded.Connects st.core st.core
     none = same st.core st.core refl

@@ -8,7 +8,7 @@ use Rattle.lat_model.specs.Lists.{upwards}
 use Rattle.lat_machines.specs.values.Names.{Name}
 use Rattle.lat_machines.specs.values.Keys.{Key}
 use Rattle.lat_machines.specs.cores.Cores.{Core, Doing, circuit_to}
-use Rattle.lat_machines.specs.cores.Lines.{holds}
+use Rattle.lat_machines.specs.cores.Lines.{has_session}
 use Rattle.lat_machines.specs.server.Queue.{QueueEvent, Grants, Request, next_request}
 use Rattle.lat_machines.specs.server.Server.{ServerConfig, Passing, has_room, can_open, opens, offer_on, grant_frame, granting, fitting, grants_by, grant_line, grant_lines}
 use Rattle.lat_payload.specs.Frames.{GoesOutAs, Emits}
@@ -120,10 +120,10 @@ lines_more config n p =
     let e : 0 + n ≡ n = omega arith in
     ap (λ z. grant_lines config z p) (upwards_more 0 n ∙ ap (λ z. upwards 0 n ++ suc z ∷ []) e) ∙ lines_then config (upwards 0 n) (suc n) p
 
-pub at_offer : (config : ServerConfig) (p : Passing) (line : ℕ) (service : Name) → offer_on line config.offers ≡ Some service → holds p.state.core line ≡ false → grant_line config p line ≡ grants_by config line (Some service) (fitting p.state.core (next_request service p.state.queue)) p
+pub at_offer : (config : ServerConfig) (p : Passing) (line : ℕ) (service : Name) → offer_on line config.offers ≡ Some service → has_session p.state.core line ≡ false → grant_line config p line ≡ grants_by config line (Some service) (fitting p.state.core (next_request service p.state.queue)) p
 at_offer config p line service e h = rw (e, h)
 
-pub at_held : (config : ServerConfig) (p : Passing) (line : ℕ) (service : Name) → offer_on line config.offers ≡ Some service → holds p.state.core line ≡ true → grant_line config p line ≡ p
+pub at_held : (config : ServerConfig) (p : Passing) (line : ℕ) (service : Name) → offer_on line config.offers ≡ Some service → has_session p.state.core line ≡ true → grant_line config p line ≡ p
 at_held config p line service e h = rw (e, h)
 
 pub at_no_offer : (config : ServerConfig) (p : Passing) (line : ℕ) → offer_on line config.offers ≡ None → grant_line config p line ≡ p

@@ -8,7 +8,7 @@ use Rattle.lat_model.specs.ends.End.{lives}
 use Rattle.lat_machines.specs.values.Timing.{half_range}
 use Rattle.lat_machines.specs.cores.Cores.{Core, Side, span}
 use Rattle.lat_machines.specs.cores.Hearing.{names}
-use Rattle.lat_machines.specs.cores.Lines.{end_of, session_of, seat_at, holds, line_state}
+use Rattle.lat_machines.specs.cores.Lines.{end_of, session_of, seat_at, has_session, line_state}
 use Rattle.lat_seq.specs.declared.span.Span.{Span}
 use Rattle.lat_stream.specs.Kept.{state_shown}
 use Rattle.lat_circuits.specs.Info.{some_span}
@@ -45,7 +45,7 @@ shown_held true false false true false master = refl
 shown_held true false false false closed true = refl
 shown_held true false false false closed false = refl
 
-pub held_is : (k : Side) (c : Core) (line : ℕ) (state : base.SessionState) (r : Bool) → r ≡ is_held state → state ≡ state_shown (line_state k c line) → r ≡ holds c line
+pub held_is : (k : Side) (c : Core) (line : ℕ) (state : base.SessionState) (r : Bool) → r ≡ is_held state → state ≡ state_shown (line_state k c line) → r ≡ has_session c line
 held_is k c line state r e h =
     e ∙ (ap is_held h ∙ shown_held (lives (end_of c (seat_at c line))) (free s) (gone s) (answered s) (s.closed || has_stop s.came) k.server)
   where

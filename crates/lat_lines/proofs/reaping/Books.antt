@@ -6,7 +6,7 @@ use Rattle.lat_base.specs.declared.book.LineSession as base
 use Rattle.lat_model.specs.Lists.{Each}
 use Rattle.lat_machines.specs.cores.Books.{LineSession, line_session, line_history, book_of, book}
 use Rattle.lat_machines.specs.cores.Cores.{Seat, no_seat, Core}
-use Rattle.lat_machines.specs.cores.Lines.{over, last_on, holds}
+use Rattle.lat_machines.specs.cores.Lines.{over, last_on, has_session}
 use Rattle.lat_circuits.specs.Kept as circuits
 use Rattle.lat_lines.specs.declared.seat.Seat as own
 use Rattle.lat_lines.specs.Kept.{IsLine}
@@ -82,7 +82,7 @@ book_last c line n (t ∷ ts) s xs x l h = by (nat_eq t.line line) refl (over c 
 
 pub last_booked : (c : Core) (line : ℕ) → Latest c c.seats → (book c line).last ≡ last_over c line 0 c.seats None
 last_booked c line l =
-    ap (last_of_book (holds c line)) (sym (append-nil (line_history c line 0 c.seats)))
+    ap (last_of_book (has_session c line)) (sym (append-nil (line_history c line 0 c.seats)))
     ∙ book_last c line 0 c.seats no_seat [] None l (record { last = none (not (over c no_seat)); alone = λ p q. absurd (q refl) })
   where
     none : (b : Bool) → last_of_book b [] ≡ None
