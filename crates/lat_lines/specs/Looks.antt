@@ -17,8 +17,8 @@ use Rattle.lat_lines.specs.Stands.{Present, end_shown, seat_shown}
 abbrev pub session_closed : Telling → LineSession → LineSession
 session_closed t s = record s { peer_address = t.peer; peer_circuit = t.peer_circuit; end = Some EndedClosed }
 
-abbrev pub session_seen : Telling → LineSession → LineSession
-session_seen t s = record s {
+abbrev pub session_reviewed : Telling → LineSession → LineSession
+session_reviewed t s = record s {
   peer_address = t.peer;
   peer_circuit = t.peer_circuit;
   peer_session = t.peer_session;
@@ -28,7 +28,7 @@ session_seen t s = record s {
 }
 
 abbrev pub session_after : Telling → LineSession → LineSession
-session_after t s = cond t.is_asked (session_closed t s) (session_seen t s)
+session_after t s = cond t.is_asked (session_closed t s) (session_reviewed t s)
 
 abbrev pub present_after : Core → Present → Present
 present_after d p = record p { session = session_after (telling_of d p.session.circuit p.session.session) p.session }

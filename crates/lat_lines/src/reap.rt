@@ -10,7 +10,7 @@ ghost use Rattle.lat_lines.specs.Kept.{SameLines, IsLine};
 ghost use Rattle.lat_lines.specs.Stands.{Seated, freed_between, session_shown};
 ghost use Rattle.lat_lines.specs.Calm.{CoreCalm};
 ghost use Rattle.lat_lines.specs.Cores.{CoreLater, Covers};
-ghost use Rattle.lat_lines.specs.Looks.{Looks, session_closed, session_seen, last_after, finished_after, freed_after};
+ghost use Rattle.lat_lines.specs.Looks.{Looks, session_closed, session_reviewed, last_after, finished_after, freed_after};
 ghost use Rattle.lat_circuits.specs.Info.{telling};
 ghost use Rattle.lat_queue.specs.Histories.{key_in};
 ghost use Rattle.lat_lines.specs.declared.seat.Seat.{Seat};
@@ -92,7 +92,7 @@ impl Seat {
             self.session = if info.is_asked {
                 closed(self.session, info)
             } else {
-                seen(self.session, info)
+                reviewed(self.session, info)
             };
         }
     }
@@ -110,8 +110,8 @@ fn closed(session: LineSession, info: Info) -> LineSession
     }
 }
 
-fn seen(session: LineSession, info: Info) -> LineSession
-    ensures { session_shown result ≡ session_seen (telling info) (session_shown session) }
+fn reviewed(session: LineSession, info: Info) -> LineSession
+    ensures { session_shown result ≡ session_reviewed (telling info) (session_shown session) }
 {
     LineSession {
         number: session.number,

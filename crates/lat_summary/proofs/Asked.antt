@@ -11,7 +11,7 @@ use Rattle.lat_machines.specs.world.Reports.{RecordRow, report}
 use Rattle.lat_queue.specs.Histories as queues
 use Rattle.lat_queue.specs.declared.record.Record.{Record}
 use Rattle.lat_tales.specs.Rows.{RowAfter, RowsAfter, Keeps}
-use Rattle.lat_tales.specs.Told.{report_row, report_rows, report_rows_from}
+use Rattle.lat_tales.specs.Reported.{report_row, report_rows, report_rows_from}
 use Rattle.lat_roster.specs.declared.row.Row.{Row}
 use Rattle.lat_roster.specs.Rows.{ShowsRow}
 use Rattle.lat_roster.specs.Roster.{ShowsRows}

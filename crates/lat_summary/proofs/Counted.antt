@@ -5,7 +5,7 @@ use Rattle.lat_base.specs.declared.item.Item as base
 use Rattle.lat_model.specs.sessions.Slots.{Item}
 use Rattle.lat_machines.specs.world.Machines.{Machines}
 use Rattle.lat_tales.specs.Rows.{RowAfter, RowsAfter}
-use Rattle.lat_tales.specs.Told.{report_rows_from}
+use Rattle.lat_tales.specs.Reported.{report_rows_from}
 use Rattle.lat_roster.specs.Shown.{item_shown}
 use Rattle.lat_roster.specs.declared.row.Row.{Row}
 use Rattle.lat_roster.specs.Roster.{ShowsRows}

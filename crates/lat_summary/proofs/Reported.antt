@@ -4,7 +4,7 @@ use Rattle.std.specs.List.{sum_by}
 use Rattle.lat_machines.specs.world.Machines.{Machines}
 use Rattle.lat_machines.specs.world.Reports.{Report, report}
 use Rattle.lat_tales.specs.Rows.{RowsAfter, Keeps}
-use Rattle.lat_tales.specs.Told.{report_rows}
+use Rattle.lat_tales.specs.Reported.{report_rows}
 use Rattle.lat_tales.proofs.rows.Told.{run_told}
 use Rattle.lat_roster.specs.Shown.{saturated}
 use Rattle.lat_roster.specs.declared.row.Row.{Row}

@@ -9,7 +9,7 @@ use Rattle.lat_machines.specs.world.Reports.{is_partner, partner, partner_in, Ro
 use Rattle.lat_tales.specs.Keeping.{no_figures}
 use Rattle.lat_tales.specs.Rows as rows
 use Rattle.lat_tales.specs.Rows.{RowAfter, RowsAfter, Keeps, KeepsRow, Pairs, figures_of, newest_place}
-use Rattle.lat_tales.specs.Told.{server_figures, node_figures, report_row, report_rows_from}
+use Rattle.lat_tales.specs.Reported.{server_figures, node_figures, report_row, report_rows_from}
 use Rattle.lat_roster.specs.declared.figures.Figures.{Figures}
 use Rattle.lat_roster.specs.declared.row.Row as own
 use Rattle.lat_roster.specs.Rows.{ShowsFigures, ShowsRow}

@@ -5,7 +5,7 @@ use Rattle.lat_model.specs.sessions.Slots.{Item}
 use Rattle.lat_machines.specs.world.Machines.{Machines}
 use Rattle.lat_machines.specs.world.Reports as reports
 use Rattle.lat_tales.specs.Rows.{Figures, RowAfter, RowsAfter}
-use Rattle.lat_tales.specs.Told.{server_figures, node_figures, report_row}
+use Rattle.lat_tales.specs.Reported.{server_figures, node_figures, report_row}
 use Rattle.lat_roster.specs.Shown.{item_shown}
 use Rattle.lat_report.specs.ReportText.{row_text}
 use Rattle.lat_report.specs.Rows.{items_in}

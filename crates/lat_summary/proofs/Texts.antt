@@ -9,7 +9,7 @@ use Rattle.lat_machines.specs.world.Reports.{Row}
 use Rattle.lat_lines.specs.Answers.{item_in}
 use Rattle.lat_tales.specs.Rows as rows
 use Rattle.lat_tales.specs.Rows.{RowAfter, RowsAfter}
-use Rattle.lat_tales.specs.Told.{report_row, report_rows_from}
+use Rattle.lat_tales.specs.Reported.{report_row, report_rows_from}
 use Rattle.lat_roster.specs.Shown.{item_shown}
 use Rattle.lat_report.specs.ReportText.{row_text, rows_text}
 use Rattle.lat_report.specs.Rows.{items_in}

@@ -12,7 +12,7 @@ ghost use Rattle.lat_server.specs.Stands as servers;
 ghost use Rattle.lat_node.specs.Stands as nodes;
 ghost use Rattle.lat_tales.specs.Books.{newest_info};
 ghost use Rattle.lat_tales.specs.Rows as rows;
-ghost use Rattle.lat_tales.specs.Told.{server_figures, node_figures};
+ghost use Rattle.lat_tales.specs.Reported.{server_figures, node_figures};
 ghost use Rattle.lat_roster.specs.Rows.{ShowsFigures};
 ghost use Rattle.lat_summary.specs.Rows.{figures_shown};
 ghost use Rattle.lat_summary.specs.Standing.{StandsFor, HasHad, RowAt};

@@ -5,7 +5,7 @@ ghost use Rattle.lat_machines.specs.world.Machines.{Machines};
 ghost use Rattle.lat_report.specs.ReportText.{row_text, rows_text};
 ghost use Rattle.lat_report.specs.Rows.{row_in};
 ghost use Rattle.lat_tales.specs.Rows as rows;
-ghost use Rattle.lat_tales.specs.Told.{report_row, report_rows};
+ghost use Rattle.lat_tales.specs.Reported.{report_row, report_rows};
 ghost use Rattle.lat_roster.specs.Rows.{ShowsRow};
 ghost use Rattle.lat_summary.specs.Rows.{figures_shown, told_with};
 ghost use Rattle.lat_summary.specs.Standing.{StandsFor, RowAt};

@@ -6,7 +6,7 @@ ghost use Rattle.lat_machines.specs.world.Safe.{Fit};
 ghost use Rattle.lat_machines.specs.world.Reports.{report};
 ghost use Rattle.lat_tales.specs.Rows.{RowsAfter, Keeps};
 ghost use Rattle.lat_tales.specs.Keeping.{no_rows, rows_after, rows_after_all};
-ghost use Rattle.lat_tales.specs.Told.{report_rows};
+ghost use Rattle.lat_tales.specs.Reported.{report_rows};
 ghost use Rattle.lat_tales.specs.Books.{Comes, lines_at};
 
 /// In every run of the two machines what is kept by the answers and by the newest sessions of the lines are the rows of the

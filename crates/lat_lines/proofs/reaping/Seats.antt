@@ -15,7 +15,7 @@ use Rattle.lat_circuits.specs.Info.{telling_of, asks}
 use Rattle.lat_lines.specs.Later.{IsAccepted, Replaced, SessionLater, Unheard}
 use Rattle.lat_lines.specs.Cores.{CoreLater}
 use Rattle.lat_lines.specs.Stands.{Present, IsSeat, session_info, seat_info}
-use Rattle.lat_lines.specs.Looks.{session_closed, session_seen, session_after, present_after}
+use Rattle.lat_lines.specs.Looks.{session_closed, session_reviewed, session_after, present_after}
 use Rattle.lat_lines.proofs.reaping.Held.{IsStood, stood_at}
 use Rattle.lat_lines.proofs.reaping.Ends.{ended, end_told, ended_over, ended_stays, ended_closed, waits_asked, answered_told}
 
@@ -148,10 +148,10 @@ told_as d n s z end = record {
 }
 
 -- under its id
-seen_told : (c d : Core) (n : ℕ) (s : Seat) → IsStood (end_of d s) → (session_of d s).id ≢ 0 → named (sessions_of d s) s.id ≡ session_of d s
-    → session_seen (telling_of d s.circuit s.id) (session_info (line_session c n s)) ≡ session_info (line_session d n s)
-seen_told c d n s st some e =
-    ap (λ z. told_as d n s z (session_seen (telling_of d s.circuit s.id) (session_info (line_session c n s))).end) e
+reviewed_info : (c d : Core) (n : ℕ) (s : Seat) → IsStood (end_of d s) → (session_of d s).id ≢ 0 → named (sessions_of d s) s.id ≡ session_of d s
+    → session_reviewed (telling_of d s.circuit s.id) (session_info (line_session c n s)) ≡ session_info (line_session d n s)
+reviewed_info c d n s st some e =
+    ap (λ z. told_as d n s z (session_reviewed (telling_of d s.circuit s.id) (session_info (line_session c n s))).end) e
     ∙ ap (told_as d n s (session_of d s)) (end_told (end_of d s) s.id st.exists (λ z. some (ap (λ (y : Session). y.id) (sym e) ∙ z)) ∙ ap (ended (end_of d s)) e)
 
 not_asked : (d : Core) (s : Seat) → IsStood (end_of d s) → IsAccepted (sessions_of d s) s.serial → named (sessions_of d s) s.id ≡ session_of d s → asks (sessions_of d s) s.id ≡ false
@@ -163,14 +163,14 @@ not_asked d s st a e = answered_told (sessions_of d s).master (named (sessions_o
 found_told : (c d : Core) (n : ℕ) (s : Seat) → IsStood (end_of d s) → IsAccepted (sessions_of d s) s.serial → named (sessions_of d s) s.id ≡ session_of d s
     → session_after (telling_of d s.circuit s.id) (session_info (line_session c n s)) ≡ session_info (line_session d n s)
 found_told c d n s st a e =
-    ap (λ b. cond b (session_closed (telling_of d s.circuit s.id) (session_info (line_session c n s))) (session_seen (telling_of d s.circuit s.id) (session_info (line_session c n s)))) (not_asked d s st a e)
-    ∙ seen_told c d n s st ((st.good.each s.serial).id_some a.kept) e
+    ap (λ b. cond b (session_closed (telling_of d s.circuit s.id) (session_info (line_session c n s))) (session_reviewed (telling_of d s.circuit s.id) (session_info (line_session c n s)))) (not_asked d s st a e)
+    ∙ reviewed_info c d n s st ((st.good.each s.serial).id_some a.kept) e
 
 -- replaced under its id
 replaced_told : (c d : Core) (n : ℕ) (s : Seat) → (sessions_of d s).master ≡ (sessions_of c s).master → (session_of c s).id ≡ s.id → Replaced (sessions_of c s) (sessions_of d s) s.serial
     → session_after (telling_of d s.circuit s.id) (session_info (line_session c n s)) ≡ session_info (line_session d n s)
 replaced_told c d n s m i r =
-    ap (λ b. cond b (session_closed (telling_of d s.circuit s.id) (session_info (line_session c n s))) (session_seen (telling_of d s.circuit s.id) (session_info (line_session c n s)))) (waits_asked (sessions_of d s).master (named (sessions_of d s) s.id) (m ∙ r.slave) (subst (λ z. waits (named (sessions_of d s) z) ≡ true) i r.waits))
+    ap (λ b. cond b (session_closed (telling_of d s.circuit s.id) (session_info (line_session c n s))) (session_reviewed (telling_of d s.circuit s.id) (session_info (line_session c n s)))) (waits_asked (sessions_of d s).master (named (sessions_of d s) s.id) (m ∙ r.slave) (subst (λ z. waits (named (sessions_of d s) z) ≡ true) i r.waits))
     ∙ ap (λ z. record (closed z (session_of c s).out) { end = Some EndedClosed }) (sym r.peer)
     ∙ ap (λ z. record (closed (peer (session_of d s)) z) { end = Some EndedClosed }) (sym r.out)
     ∙ ap (told_as d n s (session_of d s)) (sym (ended_closed (end_of d s) (session_of d s) r.free r.closed))

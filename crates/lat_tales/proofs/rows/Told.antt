@@ -12,7 +12,7 @@ use Rattle.lat_rounds.specs.Seated.{IsSeat}
 use Rattle.lat_tales.specs.Mates.{mate}
 use Rattle.lat_tales.specs.Rows.{Figures, figures_of, RowAfter, RowsAfter, KeepsRow, Pairs, Keeps}
 use Rattle.lat_tales.specs.Keeping.{no_figures}
-use Rattle.lat_tales.specs.Told.{server_figures, node_figures, report_row, report_rows_from, report_rows}
+use Rattle.lat_tales.specs.Reported.{server_figures, node_figures, report_row, report_rows_from, report_rows}
 use Rattle.lat_tales.proofs.mates.Reach.{Reach, reach_run}
 use Rattle.lat_tales.proofs.mates.Partners.{one_server, one_node, none_partner}
 use Rattle.lat_tales.proofs.mates.Places.{IsAt, at_seat, at_above, one_seat, mate_at, mate_none, MateFound, mate_found, PartnerFound, partner_found}

@@ -1,7 +1,7 @@
 use Rattle.std.proofs.Common.{◌≡◌, ◌+◌, ◌-◌, sym, subst, ap, ◌∙◌, refl, length, ◌++◌, string_bytes, arith}
 use Rattle.std.specs.Prelude.{slice_get}
 use Rattle.std.proofs.lemmas.Option.{slice_get_read}
-use Rattle.lat_tales.specs.Told.{report_rows_from}
+use Rattle.lat_tales.specs.Reported.{report_rows_from}
 use Rattle.lat_report.specs.ReportText.{rows_text}
 use Rattle.lat_roster.specs.Roster.{ShowsRows}
 use Rattle.lat_roster.proofs.Rows.{shows_length}

@@ -1,7 +1,7 @@
 use Rattle.std.proofs.Common.{◌≡◌, ◌++◌, string_bytes, take}
 use Rattle.lat_machines.specs.world.Machines.{Machines}
 use Rattle.lat_tales.specs.Rows.{RowsAfter}
-use Rattle.lat_tales.specs.Told.{report_rows_from}
+use Rattle.lat_tales.specs.Reported.{report_rows_from}
 use Rattle.lat_report.specs.ReportText.{rows_text}
 use Rattle.lat_summary.specs.Standing.{StandsFor}
 use Rattle.lat_summary.proofs.sessions.sessions_onto.Given as goal
