@@ -5,10 +5,10 @@ use Rattle.lat_slots.specs.declared.slot.Slot.{Slot}
 use Rattle.lat_slots.specs.declared.slot.Slot.TheVariants.{Start, DataA, DataB, Attention, Reject, Stop}
 use Rattle.lat_slots.specs.Layout.{SlotText, IsWritable}
 use Rattle.lat_frames.specs.MessageText.{SlotsText}
-use Rattle.lat_stream.specs.Wire.{told, formed_as, request_in}
+use Rattle.lat_stream.specs.Wire.{slot_heard, formed_as, request_in}
 use Rattle.lat_stream.proofs.FormsWritable.{start_formed, bytes_formed, setting_formed, attention_formed, reject_formed, stop_formed}
 
-slot_formed : (s : Slot) (text : List ℕ) → SlotText s text → IsWritable (formed_as (told s))
+slot_formed : (s : Slot) (text : List ℕ) → SlotText s text → IsWritable (formed_as (slot_heard s))
 slot_formed (Start to from credits attention size service subject params) text t =
     let low : credits < 16 = omega (arith, t.low_is, t.nibble) in
     (start_formed to from credits size service (request_in params) t.fits.0 t.fits.1 low t.fits.2).writable
@@ -26,6 +26,6 @@ slot_formed (Stop to from reason) text t =
     let low : reason < 16 = omega (arith, t.low_is, t.nibble) in
     (stop_formed to from reason t.fits low).writable
 
-pub slots_formed : (ss : List Slot) (body : List ℕ) → SlotsText ss body → AllByRecursion IsWritable (map formed_as (map told ss))
+pub slots_formed : (ss : List Slot) (body : List ℕ) → SlotsText ss body → AllByRecursion IsWritable (map formed_as (map slot_heard ss))
 slots_formed [] body t = tt
 slots_formed (s ∷ ss) body t = (slot_formed s t.0 t.3, slots_formed ss t.1 t.4)

@@ -23,7 +23,7 @@ use Rattle.lat_notices.specs.Reading.{notice_read}
 use Rattle.lat_model.specs.sessions.Slots as sessions
 use Rattle.lat_machines.specs.values.Messages as model
 use Rattle.lat_machines.specs.values.Frames.{Value, OfCircuit, OfNotice, Whole}
-use Rattle.lat_stream.specs.Wire.{told, formed_as}
+use Rattle.lat_stream.specs.Wire.{slot_heard, formed_as}
 use Rattle.lat_link.specs.Payloads.{head_of, wide_head_of, slots_as_text}
 use Rattle.lat_circuit.specs.Frames.{head_shown, wide_head_shown, message_shown}
 use Rattle.lat_value.specs.declared.value.Value.TheVariants as values
@@ -58,9 +58,9 @@ record SlotsRead (slots : List sessions.Slot) : Type 0 where
   pub few : length (map formed_as slots) < 256
   pub ok : AllByRecursion SlotIsWritable (map formed_as slots)
 
-read_slots : (ss : List Slot) (body : List ℕ) (slots : List sessions.Slot) → map told ss ≡ slots → length ss < 256 → SlotsText ss body → SlotsRead slots
+read_slots : (ss : List Slot) (body : List ℕ) (slots : List sessions.Slot) → map slot_heard ss ≡ slots → length ss < 256 → SlotsText ss body → SlotsRead slots
 read_slots ss body slots are few t =
-    subst SlotsRead are (record { few = omega (arith, length-map (map told ss) formed_as, length-map ss told, few); ok = slots_formed ss body t })
+    subst SlotsRead are (record { few = omega (arith, length-map (map slot_heard ss) formed_as, length-map ss slot_heard, few); ok = slots_formed ss body t })
 
 -- ids that fit two bytes
 pub record IdsFit (h : model.Head) : Type 0 where
@@ -89,7 +89,7 @@ narrow h slots (frames.Wide head ss) bytes t shown = cc
 narrow h slots (frames.Start master ask to from info) bytes t shown = cc
 narrow h slots (frames.Stop master ask to from reason text) bytes t shown = cc
 narrow h slots (frames.Run head ss) bytes t shown =
-    let are : map told ss ≡ slots = cc in
+    let are : map slot_heard ss ≡ slots = cc in
     let same : head_shown head ≡ h = cc in
     let to : head.to ≡ h.to = ap (λ (z : model.Head). z.to) same in
     let from : head.from ≡ h.from = ap (λ (z : model.Head). z.from) same in
@@ -115,7 +115,7 @@ wide h slots (frames.Run head ss) bytes t shown = cc
 wide h slots (frames.Start master ask to from info) bytes t shown = cc
 wide h slots (frames.Stop master ask to from reason text) bytes t shown = cc
 wide h slots (frames.Wide head ss) bytes t shown =
-    let are : map told ss ≡ slots = cc in
+    let are : map slot_heard ss ≡ slots = cc in
     let same : wide_head_shown head ≡ h = cc in
     let to : head.to ≡ h.to = ap (λ (z : model.Head). z.to) same in
     let from : head.from ≡ h.from = ap (λ (z : model.Head). z.from) same in

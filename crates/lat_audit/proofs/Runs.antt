@@ -7,7 +7,7 @@ use Rattle.lat_model.specs.sessions.Slots.{Slot}
 use Rattle.lat_slots.specs.declared.slot.Slot.{Slot as ReadSlot}
 use Rattle.lat_slots.specs.Layout.{IsWritable as SlotIsWritable}
 use Rattle.lat_frames.specs.Written.{slots_text}
-use Rattle.lat_stream.specs.Wire.{told}
+use Rattle.lat_stream.specs.Wire.{slot_heard}
 use Rattle.lat_machines.specs.values.Messages.{Head}
 use Rattle.lat_machines.specs.values.Frames.{Reading}
 use Rattle.lat_captures.specs.Entries.{Entry}
@@ -21,7 +21,7 @@ use Rattle.lat_checker.specs.declared.checker.Checker.{Checker}
 use Rattle.lat_checker.specs.Rules.{title_shown, head_shown}
 use Rattle.lat_checker.specs.Stands.{Stands}
 use Rattle.lat_checker.specs.Answers.{runs_of, title_of, IsRun, AnswersRun}
-use Rattle.lat_audit.specs.Told.{tell, facts_in}
+use Rattle.lat_audit.specs.Tells.{tell, facts_in}
 use Rattle.lat_audit.specs.Steps.{after_test, run_outcome, Knows, OutcomeIs, ChecksRun}
 use Rattle.lat_audit.proofs.Telling.{is_run}
 
@@ -51,7 +51,7 @@ pub run_checks : (result : Result (Option Rule) Memory) (c d : Checker) (by_mast
     → ChecksRun c by_master head ss d result
 run_checks result c d by_master head ss facts text ok few same is answer runs p ask r knows =
     let entry : List ℕ → Entry = λ (words : List ℕ). record { by_master = by_master; reading = r; text = words } in
-    let P : List ℕ → Type 0 = λ (words : List ℕ). IfOk result (λ broken. OutcomeIs (run_outcome (title_shown (title_of c)) p (entry words) head.wide (head_shown ask head) (map told ss)) d broken) in
+    let P : List ℕ → Type 0 = λ (words : List ℕ). IfOk result (λ broken. OutcomeIs (run_outcome (title_shown (title_of c)) p (entry words) head.wide (head_shown ask head) (map slot_heard ss)) d broken) in
     subst P is
-    (run_answers result c d (title_of c) p (entry text) head.wide (head_shown ask head) (map told ss) knows
-    (answer tell ask p.seen p.texts (map told ss) r knows.stands (is_run ss facts text ok few same is)) runs)
+    (run_answers result c d (title_of c) p (entry text) head.wide (head_shown ask head) (map slot_heard ss) knows
+    (answer tell ask p.seen p.texts (map slot_heard ss) r knows.stands (is_run ss facts text ok few same is)) runs)

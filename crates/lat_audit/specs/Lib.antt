@@ -1,5 +1,5 @@
 pub mod Shown
-pub mod Told
+pub mod Tells
 pub mod Steps
 pub mod AuditOf
 pub mod Follows

@@ -3,7 +3,7 @@ use Rattle.std.specs.Prelude.{◌≡◌, ℕ, suc, Bool, true, false, List, [], 
 use Rattle.lat_base.specs.declared.memory.Memory.{Memory}
 use Rattle.lat_slots.specs.declared.slot.Slot.{Slot as ReadSlot}
 use Rattle.lat_frames.specs.Written.{slots_text}
-use Rattle.lat_stream.specs.Wire.{told}
+use Rattle.lat_stream.specs.Wire.{slot_heard}
 use Rattle.lat_model.specs.sessions.Slots.{Slot}
 use Rattle.lat_machines.specs.values.Messages.{Head, RunMessage, WideMessage, StartMessage, StopMessage}
 use Rattle.lat_machines.specs.values.Frames.{OfCircuit, OfNotice, Reading, Whole, Malformed}
@@ -17,7 +17,7 @@ use Rattle.lat_checker.specs.declared.checker.Checker.{Checker}
 use Rattle.lat_checker.specs.Rules.{title_shown, head_shown, rule_shown}
 use Rattle.lat_checker.specs.Answers.{runs_of, title_of}
 use Rattle.lat_checker.specs.Stands.{Stands}
-use Rattle.lat_audit.specs.Told.{tell}
+use Rattle.lat_audit.specs.Tells.{tell}
 
 -- what is known behind a RUN that passes
 abbrev pub after_test : Place → Entry → List Slot → Tested → Result Place legal.Rule
@@ -82,4 +82,4 @@ run_entry by_master r slots = record { by_master = by_master; reading = r; text 
 abbrev pub ChecksRun : Checker → Bool → RunHead → List ReadSlot → Checker → Result (Option Rule) Memory → Type 0
 ChecksRun c by_master head slots d result =
     (p : Place) (ask : Bool) (r : Reading) → Knows c p → IfOk result (λ broken.
-    OutcomeIs (run_outcome (title_shown (title_of c)) p (run_entry by_master r slots) head.wide (head_shown ask head) (map told slots)) d broken)
+    OutcomeIs (run_outcome (title_shown (title_of c)) p (run_entry by_master r slots) head.wide (head_shown ask head) (map slot_heard slots)) d broken)

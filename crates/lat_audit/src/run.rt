@@ -4,10 +4,10 @@ ghost use Rattle.std.specs.Prelude.{◌≡◌, ◌+◌, ◌^◌, ◌<◌, ◌≤
 ghost use Rattle.std.specs.List.{AllByRecursion};
 ghost use Rattle.lat_slots.specs.Layout.{IsWritable as SlotIsWritable};
 ghost use Rattle.lat_frames.specs.Written.{slots_text};
-ghost use Rattle.lat_stream.specs.Wire.{told};
+ghost use Rattle.lat_stream.specs.Wire.{slot_heard};
 ghost use Rattle.lat_checker.specs.Facts.{facts_of};
 ghost use Rattle.lat_checker.specs.Answers.{runs_of, title_of};
-ghost use Rattle.lat_audit.specs.Told.{facts_in};
+ghost use Rattle.lat_audit.specs.Tells.{facts_in};
 ghost use Rattle.lat_audit.specs.Steps.{ChecksRun};
 
 use lat_base::{Memory, Payload};
@@ -45,7 +45,7 @@ fn slot_facts(to: u8, from: u8, credits: u8, cost: u8) -> SlotFacts
 
 // What the rules look at in a slot.
 fn facts_of(slot: &Slot) -> SlotFacts
-    ensures { result ≡ facts_of (told slot.now) }
+    ensures { result ≡ facts_of (slot_heard slot.now) }
 {
     match slot {
         Slot::Start {

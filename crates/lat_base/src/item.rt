@@ -70,17 +70,17 @@ impl Items {
 }
 
 /// Room for a list of items that isn't known yet. Contracts see how many items it has room for.
-pub struct ItemsRoom {
+pub struct ItemsMemory {
     items: Vec<Item>,
 }
 
-impl Drop for ItemsRoom {
+impl Drop for ItemsMemory {
     fn drop(self) {
         let Self { items } = self;
     }
 }
 
-impl Model for ItemsRoom {
+impl Model for ItemsMemory {
     ghost use Rattle.std.specs.Prelude.{◌≡◌, ℕ, [], vec_capacity};
 
     ghost Value = { ℕ };
@@ -90,12 +90,12 @@ impl Model for ItemsRoom {
     ghost invariant = { λ a. a.items.items ≡ [] };
 }
 
-impl ItemsRoom {
+impl ItemsMemory {
     /// Takes room for at least `n` items. `Memory` where none is found.
-    pub fn take(alloc: Global, n: usize) -> Result<ItemsRoom, Memory>
+    pub fn take(alloc: Global, n: usize) -> Result<ItemsMemory, Memory>
         ensures { IfOk result (λ room. n ≤ room) }
     {
-        Ok(ItemsRoom {
+        Ok(ItemsMemory {
             items: Vec::with_capacity(alloc, n)?,
         })
     }
@@ -105,7 +105,7 @@ impl ItemsRoom {
         requires { length from.now ≤ self }
         ensures { result ≡ from.now }
     {
-        let ItemsRoom { items } = self;
+        let ItemsMemory { items } = self;
         Items {
             items: filled(items, from),
         }

@@ -66,7 +66,7 @@ pub trait Core: Drop {
         ensures frames { OnOk result ((s : State) → stands self.old s → frames s event.now out.new) }
         ensures put { IfOk result (λ a. PutFits a event.now) }
         ensures took { IfOk result (λ a. TookFits (ready self.old) a event.now) }
-        ensures kept { OnErr result (self.new ≡ self.old) }
+        ensures unchanged { OnErr result (self.new ≡ self.old) }
         ensures silent { OnErr result (out.new ≡ []) };
 
     /// The state of the line's session. `Free` where the line has none, or where there is no such line.

@@ -6,7 +6,7 @@ use Rattle.lat_model.specs.sessions.Slots.{Slot, destination, credits_of, credit
 use Rattle.lat_captures.specs.Seen.{Seen, Both, Texts}
 use Rattle.lat_captures.specs.Belonging.{all_slots, last_place, replies_as, session_at, word_at, Owned, of_session, slave_owned, message_owned, master_owned, ask_credits, ask_of}
 use Rattle.lat_captures.proofs.Growing.{all_slots-append, InReach}
-use Rattle.lat_checker.specs.declared.slot.KeptSlot.{KeptSlot}
+use Rattle.lat_checker.specs.declared.slot.OwnedSlot.{OwnedSlot}
 use Rattle.lat_checker.specs.declared.side.Side.{Side}
 use Rattle.lat_checker.specs.declared.checker.Checker.{Checker}
 use Rattle.lat_checker.specs.Facts.{kept_of}
@@ -42,11 +42,11 @@ keeps_ack false b a = record { sessions = λ r l. refl; asks = λ r n l. refl; s
 
 -- messages one after another are all their slots in a row
 
-slave_takes_on : (ks js : List KeptSlot) (s : Sums) → slave_takes_all s (ks ++ js) ≡ slave_takes_all (slave_takes_all s ks) js
+slave_takes_on : (ks js : List OwnedSlot) (s : Sums) → slave_takes_all s (ks ++ js) ≡ slave_takes_all (slave_takes_all s ks) js
 slave_takes_on [] js s = refl
 slave_takes_on (k ∷ ks) js s = slave_takes_on ks js (slave_takes s k)
 
-master_takes_on : (ks js : List KeptSlot) (s : Sums) → master_takes_all s (ks ++ js) ≡ master_takes_all (master_takes_all s ks) js
+master_takes_on : (ks js : List OwnedSlot) (s : Sums) → master_takes_all s (ks ++ js) ≡ master_takes_all (master_takes_all s ks) js
 master_takes_on [] js s = refl
 master_takes_on (k ∷ ks) js s = master_takes_on ks js (master_takes s k)
 

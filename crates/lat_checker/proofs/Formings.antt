@@ -7,7 +7,7 @@ use Rattle.lat_model.specs.sessions.Slots.{Slot, Start, DataA, DataB, Attention,
 use Rattle.lat_captures.specs.Seen.{Both}
 use Rattle.lat_captures.specs.Belonging.{word_at, session_at, slave_session, Owned, of_session, slave_owned, ask_credits}
 use Rattle.lat_checker.specs.declared.accounts.Account.{Account}
-use Rattle.lat_checker.specs.declared.slot.KeptSlot.{KeptSlot}
+use Rattle.lat_checker.specs.declared.slot.OwnedSlot.{OwnedSlot}
 use Rattle.lat_checker.specs.Facts.{is_reply, facts_of, kept_of}
 use Rattle.lat_checker.specs.Sums.{Sums, pays, opening, slave_account, slave_forms, master_forms}
 use Rattle.lat_checker.specs.Stands.{Under, session_under, AccountOf, Holds}
@@ -69,7 +69,7 @@ pub record Opens (b : Both) (place : ℕ) (a : Account) : Type 0 where
   pub spent : session_at b place ≢ 0 → a.spent ≡ 0
 
 -- a slot is formed where it is covered, with its session
-abbrev pub SlaveFormsAs : Both → List Slot → List Slot → List Owned → List Owned → Slot → Option (Sums × KeptSlot) → Type 0
+abbrev pub SlaveFormsAs : Both → List Slot → List Slot → List Owned → List Owned → Slot → Option (Sums × OwnedSlot) → Type 0
 SlaveFormsAs b F TM MO TS x None = covered (λ r. ask_credits b r + credits (of_session r TS)) (slave_owned b [] F) (record { session = slave_session b F x; slot = x }) ≡ false
 SlaveFormsAs b F TM MO TS x (Some r) =
     (covered (λ r. ask_credits b r + credits (of_session r TS)) (slave_owned b [] F) (record { session = slave_session b F x; slot = x }) ≡ true)
@@ -156,7 +156,7 @@ holds_slave_forms b F TM MO TS s x h opens = by (pays a (cost_of x)) (pays_as a 
 abbrev pub sent_as : Both → List Slot → Slot → Owned
 sent_as b TM x = record { session = cond (is_ask x) 0 (session_under b (destination x) TM); slot = x }
 
-abbrev pub MasterFormsAs : Both → List Slot → List Slot → List Owned → List Owned → Slot → Option (Sums × KeptSlot) → Type 0
+abbrev pub MasterFormsAs : Both → List Slot → List Slot → List Owned → List Owned → Slot → Option (Sums × OwnedSlot) → Type 0
 MasterFormsAs b F TM MO TS x None = covered (λ r. credits (of_session r (slave_owned b [] TM))) MO (sent_as b TM x) ≡ false
 MasterFormsAs b F TM MO TS x (Some r) =
     (covered (λ r. credits (of_session r (slave_owned b [] TM))) MO (sent_as b TM x) ≡ true)

@@ -8,7 +8,7 @@ use Rattle.lat_captures.specs.Seen.{Both}
 use Rattle.lat_captures.specs.Belonging.{Owned, of_session, slave_owned, slave_session, ask_credits}
 use Rattle.lat_captures.specs.Audit.{paid_test}
 use Rattle.lat_captures.proofs.Growing.{of_session-append}
-use Rattle.lat_checker.specs.declared.slot.KeptSlot.{KeptSlot}
+use Rattle.lat_checker.specs.declared.slot.OwnedSlot.{OwnedSlot}
 use Rattle.lat_checker.specs.Facts.{is_reply, facts_of, kept_of}
 use Rattle.lat_checker.specs.Sums.{Sums, greatest, opening, slave_takes, slave_takes_all, master_takes_all, kept_before, next_place, slave_forms, slave_forms_all, master_forms, master_forms_all}
 use Rattle.lat_checker.specs.Stands.{last_ask, Under, Holds}
@@ -51,7 +51,7 @@ holds_master_takes_all b F TM MO TS (x ∷ xs) s h p l =
 abbrev pub slave_gives : Both → List Owned → ℕ → ℕ
 slave_gives b TS r = ask_credits b r + credits (of_session r TS)
 
-abbrev pub SlaveFormsAll : Both → List Slot → List Slot → List Owned → List Owned → List Slot → Option (Sums × List KeptSlot) → Type 0
+abbrev pub SlaveFormsAll : Both → List Slot → List Slot → List Owned → List Owned → List Slot → Option (Sums × List OwnedSlot) → Type 0
 SlaveFormsAll b F TM MO TS xs None = paid_test (slave_gives b TS) (slave_owned b [] F) (slave_owned b F xs) ≡ false
 SlaveFormsAll b F TM MO TS xs (Some r) =
     (paid_test (slave_gives b TS) (slave_owned b [] F) (slave_owned b F xs) ≡ true)
@@ -92,13 +92,13 @@ holds_slave_forms_all b F TM MO TS (x ∷ xs) places s h e l w =
     here c d p q =
         ap₂ (λ u v. u && v) p (ap (λ z. paid_test (slave_gives b TS) z (slave_owned b (F ++ x ∷ []) xs)) (sym (owned_push b F x)) ∙ q)
 
-    behind : (r : Sums × KeptSlot) → covered (slave_gives b TS) (slave_owned b [] F) o ≡ true → r.1 ≡ kept_of o → (q : Option (Sums × List KeptSlot))
+    behind : (r : Sums × OwnedSlot) → covered (slave_gives b TS) (slave_owned b [] F) o ≡ true → r.1 ≡ kept_of o → (q : Option (Sums × List OwnedSlot))
         → SlaveFormsAll b (F ++ x ∷ []) TM MO TS xs q → SlaveFormsAll b F TM MO TS (x ∷ xs) (kept_before r.1 q)
     behind r c k None v = here true false c v
     behind r c k (Some q) v =
         (here true true c v.0, ap₂ (λ y ys. y ∷ ys) k v.1, subst (λ z. Holds b z TM MO TS q.0) (append_assoc F (x ∷ []) xs) v.2)
 
-    go : (q : Option (Sums × KeptSlot)) → SlaveFormsAs b F TM MO TS x q
+    go : (q : Option (Sums × OwnedSlot)) → SlaveFormsAs b F TM MO TS x q
         → ((t : Sums) → Holds b (F ++ x ∷ []) TM MO TS t → SlaveFormsAll b (F ++ x ∷ []) TM MO TS xs (slave_forms_all (next_place places) t (map facts_of xs)))
         → SlaveFormsAll b F TM MO TS (x ∷ xs) (option_and_then (λ r. kept_before r.1 (slave_forms_all (next_place places) r.0 (map facts_of xs))) q)
     go None v ih = ap (λ c. c && paid_test (slave_gives b TS) (slave_owned b [] F ++ o ∷ []) (slave_owned b (F ++ x ∷ []) xs)) v
@@ -112,7 +112,7 @@ master_gives b TM r = credits (of_session r (slave_owned b [] TM))
 abbrev pub all_sent : Both → List Slot → List Slot → List Owned
 all_sent b TM xs = map (sent_as b TM) xs
 
-abbrev pub MasterFormsAll : Both → List Slot → List Slot → List Owned → List Owned → List Slot → Option (Sums × List KeptSlot) → Type 0
+abbrev pub MasterFormsAll : Both → List Slot → List Slot → List Owned → List Owned → List Slot → Option (Sums × List OwnedSlot) → Type 0
 MasterFormsAll b F TM MO TS xs None = paid_test (master_gives b TM) MO (all_sent b TM xs) ≡ false
 MasterFormsAll b F TM MO TS xs (Some r) =
     (paid_test (master_gives b TM) MO (all_sent b TM xs) ≡ true) × (r.1 ≡ map kept_of (all_sent b TM xs)) × Holds b F TM (MO ++ all_sent b TM xs) TS r.0
@@ -125,12 +125,12 @@ holds_master_forms_all b F TM MO TS (x ∷ xs) s h =
     o : Owned
     o = sent_as b TM x
 
-    behind : (r : Sums × KeptSlot) → covered (master_gives b TM) MO o ≡ true → r.1 ≡ kept_of o → (q : Option (Sums × List KeptSlot))
+    behind : (r : Sums × OwnedSlot) → covered (master_gives b TM) MO o ≡ true → r.1 ≡ kept_of o → (q : Option (Sums × List OwnedSlot))
         → MasterFormsAll b F TM (MO ++ o ∷ []) TS xs q → MasterFormsAll b F TM MO TS (x ∷ xs) (kept_before r.1 q)
     behind r c k None v = ap₂ (λ u v. u && v) c v
     behind r c k (Some q) v = (ap₂ (λ u v. u && v) c v.0, ap₂ (λ y ys. y ∷ ys) k v.1, subst (λ z. Holds b F TM z TS q.0) (append_assoc MO (o ∷ []) (all_sent b TM xs)) v.2)
 
-    go : (q : Option (Sums × KeptSlot)) → MasterFormsAs b F TM MO TS x q
+    go : (q : Option (Sums × OwnedSlot)) → MasterFormsAs b F TM MO TS x q
         → ((t : Sums) → Holds b F TM (MO ++ o ∷ []) TS t → MasterFormsAll b F TM (MO ++ o ∷ []) TS xs (master_forms_all t (map facts_of xs)))
         → MasterFormsAll b F TM MO TS (x ∷ xs) (option_and_then (λ r. kept_before r.1 (master_forms_all r.0 (map facts_of xs))) q)
     go None v ih = ap (λ c. c && paid_test (master_gives b TM) (MO ++ o ∷ []) (all_sent b TM xs)) v

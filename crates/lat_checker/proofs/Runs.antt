@@ -10,9 +10,9 @@ use Rattle.lat_captures.specs.Belonging.{all_slots, master_owned}
 use Rattle.lat_captures.specs.Legal.{NumberFits, AcknowledgementFits, CreditRule, frame_told}
 use Rattle.lat_captures.specs.Audit.{Passes, Fails, run_test, spend_test, credit_test}
 use Rattle.lat_checker.specs.declared.slot.SlotFacts.{SlotFacts}
-use Rattle.lat_checker.specs.declared.slot.KeptSlot.{KeptSlot}
+use Rattle.lat_checker.specs.declared.slot.OwnedSlot.{OwnedSlot}
 use Rattle.lat_checker.specs.declared.head.Title.{Title}
-use Rattle.lat_checker.specs.declared.side.Told.{Told}
+use Rattle.lat_checker.specs.declared.side.Near.{Near}
 use Rattle.lat_checker.specs.declared.checker.Checker.{Checker}
 use Rattle.lat_checker.specs.Facts.{facts_of}
 use Rattle.lat_checker.specs.Rules.{title_shown}
@@ -24,7 +24,7 @@ use Rattle.lat_checker.proofs.Holding.{same_true, differ_false}
 use Rattle.lat_checker.proofs.Growth.{with_ack, with_message}
 use Rattle.lat_checker.proofs.Acks.{runs_fit, master_acks}
 use Rattle.lat_checker.proofs.Sends.{bounded_later, MasterSentAs, master_sends}
-use Rattle.lat_checker.proofs.Testing.{ToldAs}
+use Rattle.lat_checker.proofs.Testing.{NearAs}
 
 -- what is seen with a frame
 
@@ -101,8 +101,8 @@ next_is s n (x ∷ xs) f l = omega (arith, f.2, l)
 
 -- the master's
 
-pub master_repeats : (tell : List ℕ → List Slot) (t : Title) (c c1 c2 : Checker) (b : Both) (x : Texts) (e : Entry) (wide : Bool) (h : Head) (xs : List Slot) (told : Told) → e.by_master ≡ true → Stands tell c b x → runs_fit c
-    → ToldAs t b x e wide h xs told → told.number ≤ c.master.count → MasterAcknowledges c c1 told.ack → Counts c1 c2 → TakesRun tell t b x e wide h xs c2
+pub master_repeats : (tell : List ℕ → List Slot) (t : Title) (c c1 c2 : Checker) (b : Both) (x : Texts) (e : Entry) (wide : Bool) (h : Head) (xs : List Slot) (told : Near) → e.by_master ≡ true → Stands tell c b x → runs_fit c
+    → NearAs t b x e wide h xs told → told.number ≤ c.master.count → MasterAcknowledges c c1 told.ack → Counts c1 c2 → TakesRun tell t b x e wide h xs c2
 master_repeats tell t c c1 c2 b x e wide h xs told m stands fit w old acks k = record {
   number = told.number;
   ack = told.ack;
@@ -135,8 +135,8 @@ abbrev pub NewAs : (List ℕ → List Slot) → Title → Both → Texts → Ent
 NewAs tell t b x e wide h xs d true = TakesRun tell t b x e wide h xs d
 NewAs tell t b x e wide h xs d false = run_test (title_shown t) b x e wide h xs ≡ Fails CreditRule
 
-pub master_goes_on : (tell : List ℕ → List Slot) (t : Title) (c c1 d : Checker) (b : Both) (x : Texts) (e : Entry) (wide : Bool) (h : Head) (xs : List Slot) (facts : List SlotFacts) (told : Told) (sent : Bool) → e.by_master ≡ true
-    → Stands tell c b x → runs_fit c → IsRun tell xs facts e.text → ToldAs t b x e wide h xs told → c.master.count < told.number → MasterAcknowledges c c1 told.ack
+pub master_goes_on : (tell : List ℕ → List Slot) (t : Title) (c c1 d : Checker) (b : Both) (x : Texts) (e : Entry) (wide : Bool) (h : Head) (xs : List Slot) (facts : List SlotFacts) (told : Near) (sent : Bool) → e.by_master ≡ true
+    → Stands tell c b x → runs_fit c → IsRun tell xs facts e.text → NearAs t b x e wide h xs told → c.master.count < told.number → MasterAcknowledges c c1 told.ack
     → MasterSent c1 d e.text (master_forms_all (sums_of c1.accounts) facts) sent → NewAs tell t b x e wide h xs d sent
 master_goes_on tell t c c1 d b x e wide h xs facts told sent m stands fit r w new acks k =
     go sent (master_forms_all (sums_of c1.accounts) (map facts_of xs)) (subst (λ z. MasterSent c1 d e.text (master_forms_all (sums_of c1.accounts) z) sent) r.facts_are k) sends
@@ -194,7 +194,7 @@ master_goes_on tell t c c1 d b x e wide h xs facts told sent m stands fit r w ne
           (subst (λ z. Stands tell d z (texts_after b x (seen_by true b x told.number told.ack xs e.text))) (sym same.0) (subst (Stands tell d b2) (sym same.1) s));
     }
 
-    go : (sent : Bool) (q : Option (Sums × List KeptSlot)) → MasterSent c1 d e.text q sent → MasterSentAs tell c1 b1 x e.text xs q → NewAs tell t b x e wide h xs d sent
+    go : (sent : Bool) (q : Option (Sums × List OwnedSlot)) → MasterSent c1 d e.text q sent → MasterSentAs tell c1 b1 x e.text xs q → NewAs tell t b x e wide h xs d sent
     go true None k s = absurd (let z : true ≡ false = k in cc)
     go false None k s = tested false s
     go true (Some q) k s = takes s.0 (s.1 d k.1)

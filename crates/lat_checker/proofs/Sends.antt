@@ -11,7 +11,7 @@ use Rattle.lat_captures.specs.Belonging.{all_slots, Owned, message_owned, master
 use Rattle.lat_captures.specs.Legal.{given_to_master}
 use Rattle.lat_captures.specs.Audit.{paid_test}
 use Rattle.lat_captures.proofs.Growing.{all_slots-append, master_owned-append, InReach}
-use Rattle.lat_checker.specs.declared.slot.KeptSlot.{KeptSlot}
+use Rattle.lat_checker.specs.declared.slot.OwnedSlot.{OwnedSlot}
 use Rattle.lat_checker.specs.declared.side.Side.{Side}
 use Rattle.lat_checker.specs.declared.checker.Checker.{Checker}
 use Rattle.lat_checker.specs.Facts.{facts_of, kept_of}
@@ -59,7 +59,7 @@ map_pushed f xs x = map-append f (cond (nat_le 8 (length xs)) (drop 1 xs) xs) (x
 
 -- a side that sent a message
 
-pub side_sends : (tell : List ℕ → List Slot) (s : Side) (seen : Seen) (texts : List (List ℕ)) (lists more : List (List Owned)) (text : List ℕ) (xs : List Slot) (kept : List KeptSlot) (os : List Owned) (bs : List ℕ)
+pub side_sends : (tell : List ℕ → List Slot) (s : Side) (seen : Seen) (texts : List (List ℕ)) (lists more : List (List Owned)) (text : List ℕ) (xs : List Slot) (kept : List OwnedSlot) (os : List Owned) (bs : List ℕ)
     → more ≡ lists ++ os ∷ [] → kept ≡ map kept_of os → tell text ≡ xs → SideStands tell s seen texts lists
     → SideStands tell (sending s text kept) (record { messages = seen.messages ++ xs ∷ []; beside = bs; acknowledged = seen.acknowledged }) (texts ++ text ∷ []) more
 side_sends tell s seen texts lists more text xs kept os bs e k t h = record {
@@ -108,13 +108,13 @@ bounded_later seen runs h = record { messages = omega (arith, h.messages); slots
 
 -- the master sends
 
-abbrev pub MasterSentAs : (List ℕ → List Slot) → Checker → Both → Texts → List ℕ → List Slot → Option (Sums × List KeptSlot) → Type 0
+abbrev pub MasterSentAs : (List ℕ → List Slot) → Checker → Both → Texts → List ℕ → List Slot → Option (Sums × List OwnedSlot) → Type 0
 MasterSentAs tell c b x text xs q =
     let b2 : Both = with_message true b xs b.master.acknowledged in
     let test : Bool = paid_test (given_to_master b2 b.master.acknowledged) (master_owned b2 b.master.messages b.master.beside) (message_owned b2 b.master.acknowledged xs) in
     Sent q test (λ d r. MasterSends c d text r.0 r.1 → Stands tell d b2 (record { master = x.master ++ text ∷ []; slave = x.slave }))
   where
-    Sent : Option (Sums × List KeptSlot) → Bool → (Checker → Sums × List KeptSlot → Type 0) → Type 0
+    Sent : Option (Sums × List OwnedSlot) → Bool → (Checker → Sums × List OwnedSlot → Type 0) → Type 0
     Sent None test P = test ≡ false
     Sent (Some r) test P = (test ≡ true) × ((d : Checker) → P d r)
 
@@ -177,7 +177,7 @@ master_sends tell c b x text xs h told small window = go (master_forms_all (sums
     lists : master_lists b2 (ms ++ xs ∷ []) (bs ++ a ∷ []) ≡ master_lists b ms bs ++ message_owned b2 a xs ∷ []
     lists = master_lists_push b2 ms bs xs a h.master_shows.each ∙ ap (λ z. z ++ message_owned b2 a xs ∷ []) (master_lists_again b b2 ms bs keep reach.near_master)
 
-    stands : (r : Sums × List KeptSlot) → r.1 ≡ map kept_of (all_sent b2 ys xs) → Holds b2 (all_slots ss) ys (os ++ all_sent b2 ys xs) ts r.0 → (d : Checker) → MasterSends c d text r.0 r.1
+    stands : (r : Sums × List OwnedSlot) → r.1 ≡ map kept_of (all_sent b2 ys xs) → Holds b2 (all_slots ss) ys (os ++ all_sent b2 ys xs) ts r.0 → (d : Checker) → MasterSends c d text r.0 r.1
         → Stands tell d b2 (record { master = x.master ++ text ∷ []; slave = x.slave })
     stands r kept sums d k = record {
       master = subst (λ s. SideStands tell s b2.master (x.master ++ text ∷ []) (master_lists b2 (ms ++ xs ∷ []) (bs ++ a ∷ []))) (sym k.master)
@@ -202,6 +202,6 @@ master_sends tell c b x text xs h told small window = go (master_forms_all (sums
       slave_bounded = subst (Bounded b2.slave) (sym k.runs) (bounded_later b.slave c.runs h.slave_bounded);
     }
 
-    go : (q : Option (Sums × List KeptSlot)) → MasterFormsAll b2 (all_slots ss) ys os ts xs q → MasterSentAs tell c b x text xs q
+    go : (q : Option (Sums × List OwnedSlot)) → MasterFormsAll b2 (all_slots ss) ys os ts xs q → MasterSentAs tell c b x text xs q
     go None w = test ∙ w
     go (Some r) w = (test ∙ w.0, stands r w.1 w.2)

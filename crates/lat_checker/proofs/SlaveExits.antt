@@ -9,13 +9,13 @@ use Rattle.lat_captures.specs.Seen.{Both, Texts}
 use Rattle.lat_checker.specs.declared.slot.SlotFacts.{SlotFacts}
 use Rattle.lat_checker.specs.declared.head.RunHead.{RunHead}
 use Rattle.lat_checker.specs.declared.rule.Rule.{Rule}
-use Rattle.lat_checker.specs.declared.side.Told.{Told}
+use Rattle.lat_checker.specs.declared.side.Near.{Near}
 use Rattle.lat_checker.specs.declared.checker.Checker.{Checker}
 use Rattle.lat_checker.specs.Rules.{head_shown}
 use Rattle.lat_checker.specs.Sums.{sums_of, slave_forms_all}
 use Rattle.lat_checker.specs.Stands.{Stands}
 use Rattle.lat_checker.specs.Steps.{Counts, SlaveAcknowledges, SlaveSent}
-use Rattle.lat_checker.specs.Tests.{tests_kept}
+use Rattle.lat_checker.specs.Tests.{tests_hold}
 use Rattle.lat_checker.specs.Answers.{IsRun, AnswersRun}
 use Rattle.lat_checker.proofs.Testing.{TestsAs, tests_as}
 use Rattle.lat_checker.proofs.Runs.{NewAs}
@@ -31,23 +31,23 @@ SlaveAnswers c h facts text d broken =
     (tell : List ℕ → List Slot) (ask : Bool) (b : Both) (x : Texts) (xs : List Slot) (r : Reading) → Stands tell c b x → IsRun tell xs facts text
     → AnswersRun tell c.title b x (run_of_slave r text) h.wide (head_shown ask h) xs d broken
 
-slave_tests : (c : Checker) (h : RunHead) (facts : List SlotFacts) (text : List ℕ) (bare : Bool) (q : Result Told Rule) → bare ≡ (length facts == 0) → q ≡ tests_kept c.title c.slave c.master false h bare text → c.runs + 3 < 2 ^ 64
+slave_tests : (c : Checker) (h : RunHead) (facts : List SlotFacts) (text : List ℕ) (bare : Bool) (q : Result Near Rule) → bare ≡ (length facts == 0) → q ≡ tests_hold c.title c.slave c.master false h bare text → c.runs + 3 < 2 ^ 64
     → (tell : List ℕ → List Slot) (ask : Bool) (b : Both) (x : Texts) (xs : List Slot) (r : Reading) → Stands tell c b x → IsRun tell xs facts text → TestsAs c.title b x (run_of_slave r text) h.wide (head_shown ask h) xs q
 slave_tests c h facts text bare q e t fit tell ask b x xs r s i =
     let same : bare ≡ is_empty xs = e ∙ ap (λ z. length z == 0) i.facts_are ∙ bare_is xs in
-    subst (TestsAs c.title b x (run_of_slave r text) h.wide (head_shown ask h) xs) (sym (t ∙ ap (λ z. tests_kept c.title c.slave c.master false h z text) same))
+    subst (TestsAs c.title b x (run_of_slave r text) h.wide (head_shown ask h) xs) (sym (t ∙ ap (λ z. tests_hold c.title c.slave c.master false h z text) same))
     (tests_as tell c.title c.slave c.master b x (run_of_slave r text) ask h xs _ s.slave s.master.count s.master.acknowledged i.told (omega (arith, s.slave_bounded.messages, fit)))
 
-pub slave_refused : (c d : Checker) (h : RunHead) (facts : List SlotFacts) (text : List ℕ) (bare : Bool) (rule : Rule) → bare ≡ (length facts == 0) → Err rule ≡ tests_kept c.title c.slave c.master false h bare text → c.runs + 3 < 2 ^ 64
+pub slave_refused : (c d : Checker) (h : RunHead) (facts : List SlotFacts) (text : List ℕ) (bare : Bool) (rule : Rule) → bare ≡ (length facts == 0) → Err rule ≡ tests_hold c.title c.slave c.master false h bare text → c.runs + 3 < 2 ^ 64
     → SlaveAnswers c h facts text d (Some rule)
 slave_refused c d h facts text bare rule e t fit = λ tell ask b x xs r s i. slave_tests c h facts text bare (Err rule) e t fit tell ask b x xs r s i
 
-pub slave_repeated : (c c1 c2 : Checker) (h : RunHead) (facts : List SlotFacts) (text : List ℕ) (bare : Bool) (told : Told) → bare ≡ (length facts == 0) → Ok told ≡ tests_kept c.title c.slave c.master false h bare text → c.runs + 3 < 2 ^ 64
+pub slave_repeated : (c c1 c2 : Checker) (h : RunHead) (facts : List SlotFacts) (text : List ℕ) (bare : Bool) (told : Near) → bare ≡ (length facts == 0) → Ok told ≡ tests_hold c.title c.slave c.master false h bare text → c.runs + 3 < 2 ^ 64
     → told.number ≤ c.slave.count → SlaveAcknowledges c c1 told.ack → Counts c1 c2 → SlaveAnswers c h facts text c2 None
 slave_repeated c c1 c2 h facts text bare told e t fit old acks k = λ tell ask b x xs r s i.
     slave_repeats tell c.title c c1 c2 b x (run_of_slave r text) h.wide (head_shown ask h) xs told refl s (omega (arith, fit)) (slave_tests c h facts text bare (Ok told) e t fit tell ask b x xs r s i) old acks k
 
-pub slave_went_on : (c c1 d : Checker) (h : RunHead) (facts : List SlotFacts) (text : List ℕ) (bare : Bool) (told : Told) (sent : Bool) → bare ≡ (length facts == 0) → Ok told ≡ tests_kept c.title c.slave c.master false h bare text → c.runs + 3 < 2 ^ 64
+pub slave_went_on : (c c1 d : Checker) (h : RunHead) (facts : List SlotFacts) (text : List ℕ) (bare : Bool) (told : Near) (sent : Bool) → bare ≡ (length facts == 0) → Ok told ≡ tests_hold c.title c.slave c.master false h bare text → c.runs + 3 < 2 ^ 64
     → c.slave.count < told.number → SlaveAcknowledges c c1 told.ack → SlaveSent c1 d text (slave_forms_all c1.places (sums_of c1.accounts) facts) sent → SlaveAnswers c h facts text d (broken_by sent)
 slave_went_on c c1 d h facts text bare told sent e t fit new acks k = λ tell ask b x xs r s i.
     answer sent tell ask b x xs r

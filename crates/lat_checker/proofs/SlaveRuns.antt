@@ -9,9 +9,9 @@ use Rattle.lat_captures.specs.Seen.{Both, own, Texts, after, texts_after}
 use Rattle.lat_captures.specs.Legal.{NumberFits, AcknowledgementFits, CreditRule, frame_told}
 use Rattle.lat_captures.specs.Audit.{Passes, Fails, run_test, spend_test, credit_test}
 use Rattle.lat_checker.specs.declared.slot.SlotFacts.{SlotFacts}
-use Rattle.lat_checker.specs.declared.slot.KeptSlot.{KeptSlot}
+use Rattle.lat_checker.specs.declared.slot.OwnedSlot.{OwnedSlot}
 use Rattle.lat_checker.specs.declared.head.Title.{Title}
-use Rattle.lat_checker.specs.declared.side.Told.{Told}
+use Rattle.lat_checker.specs.declared.side.Near.{Near}
 use Rattle.lat_checker.specs.declared.checker.Checker.{Checker}
 use Rattle.lat_checker.specs.Facts.{facts_of}
 use Rattle.lat_checker.specs.Rules.{title_shown}
@@ -23,13 +23,13 @@ use Rattle.lat_checker.proofs.Holding.{same_true, differ_false}
 use Rattle.lat_checker.proofs.Growth.{with_ack, with_message}
 use Rattle.lat_checker.proofs.Acks.{runs_fit, slave_acks}
 use Rattle.lat_checker.proofs.SlaveSends.{SlaveSentAs, slave_sends}
-use Rattle.lat_checker.proofs.Testing.{ToldAs}
+use Rattle.lat_checker.proofs.Testing.{NearAs}
 use Rattle.lat_checker.proofs.Runs.{seen_by, slave_old, slave_new, runs_on, next_is, not_empty, NewAs}
 
 -- the slave's
 
-pub slave_repeats : (tell : List ℕ → List Slot) (t : Title) (c c1 c2 : Checker) (b : Both) (x : Texts) (e : Entry) (wide : Bool) (h : Head) (xs : List Slot) (told : Told) → e.by_master ≡ false → Stands tell c b x → runs_fit c
-    → ToldAs t b x e wide h xs told → told.number ≤ c.slave.count → SlaveAcknowledges c c1 told.ack → Counts c1 c2 → TakesRun tell t b x e wide h xs c2
+pub slave_repeats : (tell : List ℕ → List Slot) (t : Title) (c c1 c2 : Checker) (b : Both) (x : Texts) (e : Entry) (wide : Bool) (h : Head) (xs : List Slot) (told : Near) → e.by_master ≡ false → Stands tell c b x → runs_fit c
+    → NearAs t b x e wide h xs told → told.number ≤ c.slave.count → SlaveAcknowledges c c1 told.ack → Counts c1 c2 → TakesRun tell t b x e wide h xs c2
 slave_repeats tell t c c1 c2 b x e wide h xs told m stands fit w old acks k = record {
   number = told.number;
   ack = told.ack;
@@ -57,8 +57,8 @@ slave_repeats tell t c c1 c2 b x e wide h xs told m stands fit w old acks k = re
     here : Stands tell c2 (with_ack false b told.ack) x
     here = runs_on tell c1 c2 (with_ack false b told.ack) x (slave_acks tell c c1 b x told.ack stands fit a.rising a.sent a.near acks) k
 
-pub slave_goes_on : (tell : List ℕ → List Slot) (t : Title) (c c1 d : Checker) (b : Both) (x : Texts) (e : Entry) (wide : Bool) (h : Head) (xs : List Slot) (facts : List SlotFacts) (told : Told) (sent : Bool) → e.by_master ≡ false
-    → Stands tell c b x → runs_fit c → IsRun tell xs facts e.text → ToldAs t b x e wide h xs told → c.slave.count < told.number → SlaveAcknowledges c c1 told.ack
+pub slave_goes_on : (tell : List ℕ → List Slot) (t : Title) (c c1 d : Checker) (b : Both) (x : Texts) (e : Entry) (wide : Bool) (h : Head) (xs : List Slot) (facts : List SlotFacts) (told : Near) (sent : Bool) → e.by_master ≡ false
+    → Stands tell c b x → runs_fit c → IsRun tell xs facts e.text → NearAs t b x e wide h xs told → c.slave.count < told.number → SlaveAcknowledges c c1 told.ack
     → SlaveSent c1 d e.text (slave_forms_all c1.places (sums_of c1.accounts) facts) sent → NewAs tell t b x e wide h xs d sent
 slave_goes_on tell t c c1 d b x e wide h xs facts told sent m stands fit r w new acks k =
     go sent (slave_forms_all c1.places (sums_of c1.accounts) (map facts_of xs)) (subst (λ z. SlaveSent c1 d e.text (slave_forms_all c1.places (sums_of c1.accounts) z) sent) r.facts_are k) sends
@@ -119,7 +119,7 @@ slave_goes_on tell t c c1 d b x e wide h xs facts told sent m stands fit r w new
           (subst (λ z. Stands tell d z (texts_after b x (seen_by false b x told.number told.ack xs e.text))) (sym same.0) (subst (Stands tell d b2) (sym same.1) s));
     }
 
-    go : (sent : Bool) (q : Option (Sums × List KeptSlot)) → SlaveSent c1 d e.text q sent → SlaveSentAs tell c1 b1 x e.text xs q → NewAs tell t b x e wide h xs d sent
+    go : (sent : Bool) (q : Option (Sums × List OwnedSlot)) → SlaveSent c1 d e.text q sent → SlaveSentAs tell c1 b1 x e.text xs q → NewAs tell t b x e wide h xs d sent
     go true None k s = absurd (let z : true ≡ false = k in cc)
     go false None k s = tested false s
     go true (Some q) k s = takes s.0 (s.1 d k.1)

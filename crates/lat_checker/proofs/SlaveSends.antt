@@ -9,7 +9,7 @@ use Rattle.lat_captures.specs.Belonging.{all_slots, place_on, last_place, word_a
 use Rattle.lat_captures.specs.Legal.{given_to_slave}
 use Rattle.lat_captures.specs.Audit.{paid_test}
 use Rattle.lat_captures.proofs.Growing.{all_slots-append, word_more, place_bound, InReach}
-use Rattle.lat_checker.specs.declared.slot.KeptSlot.{KeptSlot}
+use Rattle.lat_checker.specs.declared.slot.OwnedSlot.{OwnedSlot}
 use Rattle.lat_checker.specs.declared.checker.Checker.{Checker}
 use Rattle.lat_checker.specs.Facts.{facts_of, kept_of}
 use Rattle.lat_checker.specs.Sums.{Sums, greatest, opening, sums_of, slave_forms_all}
@@ -93,13 +93,13 @@ length_kept b front (x ∷ xs) = ap suc (length_kept b (front ++ x ∷ []) xs)
 
 -- the slave sends
 
-abbrev pub SlaveSentAs : (List ℕ → List Slot) → Checker → Both → Texts → List ℕ → List Slot → Option (Sums × List KeptSlot) → Type 0
+abbrev pub SlaveSentAs : (List ℕ → List Slot) → Checker → Both → Texts → List ℕ → List Slot → Option (Sums × List OwnedSlot) → Type 0
 SlaveSentAs tell c b x text xs q =
     let b2 : Both = with_message false b xs b.slave.acknowledged in
     let test : Bool = paid_test (given_to_slave b2 b.slave.acknowledged) (slave_owned b2 [] (all_slots b.slave.messages)) (slave_owned b2 (all_slots b.slave.messages) xs) in
     Sent q test (λ d r. SlaveSends c d text r.0 r.1 → Stands tell d b2 (record { master = x.master; slave = x.slave ++ text ∷ [] }))
   where
-    Sent : Option (Sums × List KeptSlot) → Bool → (Checker → Sums × List KeptSlot → Type 0) → Type 0
+    Sent : Option (Sums × List OwnedSlot) → Bool → (Checker → Sums × List OwnedSlot → Type 0) → Type 0
     Sent None test P = test ≡ false
     Sent (Some r) test P = (test ≡ true) × ((d : Checker) → P d r)
 
@@ -193,7 +193,7 @@ slave_sends tell c b x text xs h fit told small window =
     lists : slave_lists b2 [] (ss ++ xs ∷ []) ≡ slave_lists b [] ss ++ slave_owned b2 front xs ∷ []
     lists = slave_lists_push b2 [] ss xs ∙ ap (λ z. z ++ slave_owned b2 front xs ∷ []) (slave_lists_again b b2 [] ss keep (omega arith))
 
-    stands : (r : Sums × List KeptSlot) → r.1 ≡ map kept_of (slave_owned b2 front xs) → Holds b2 (front ++ xs) ys os ts r.0 → (d : Checker) → SlaveSends c d text r.0 r.1
+    stands : (r : Sums × List OwnedSlot) → r.1 ≡ map kept_of (slave_owned b2 front xs) → Holds b2 (front ++ xs) ys os ts r.0 → (d : Checker) → SlaveSends c d text r.0 r.1
         → Stands tell d b2 (record { master = x.master; slave = x.slave ++ text ∷ [] })
     stands r kept sums d k = record {
       master = subst (λ s. SideStands tell s b.master x.master (master_lists b2 ms bs)) (sym k.master) (subst (SideStands tell c.master b.master x.master) (sym (master_lists_again b b2 ms bs keep reach.near_master)) h.master);
@@ -220,6 +220,6 @@ slave_sends tell c b x text xs h fit told small window =
       slave_bounded = subst (Bounded b2.slave) (sym k.runs) (bounded_more b.slave c.runs xs (b.slave.beside ++ a ∷ []) a small h.slave_bounded);
     }
 
-    go : (q : Option (Sums × List KeptSlot)) → SlaveFormsAll b2 front ys os ts xs q → SlaveSentAs tell c b x text xs q
+    go : (q : Option (Sums × List OwnedSlot)) → SlaveFormsAll b2 front ys os ts xs q → SlaveSentAs tell c b x text xs q
     go None w = test ∙ w
     go (Some r) w = (test ∙ w.0, stands r w.1 w.2)

@@ -20,11 +20,11 @@ use Rattle.lat_checker.specs.declared.head.RunHead.{RunHead}
 use Rattle.lat_checker.specs.declared.rule.Rule.{Rule}
 use Rattle.lat_checker.specs.declared.rule.Rule.TheVariants.{Ids, Slots, Window}
 use Rattle.lat_checker.specs.declared.side.Side.{Side}
-use Rattle.lat_checker.specs.declared.side.Told.{Told}
+use Rattle.lat_checker.specs.declared.side.Near.{Near}
 use Rattle.lat_checker.specs.Rules.{title_shown, head_shown, rule_shown}
 use Rattle.lat_checker.specs.Recent.{Message, no_message, has_text, has_back}
 use Rattle.lat_checker.specs.Stands.{SideStands}
-use Rattle.lat_checker.specs.Tests.{bears, ids_kept, number_told, ack_told, repeats, in_window, after_ack, after_number, tests_kept}
+use Rattle.lat_checker.specs.Tests.{bears, ids_hold, number_near, ack_near, repeats, in_window, after_ack, after_number, tests_hold}
 use Rattle.lat_checker.proofs.Finding.{finds_same, no_floor}
 
 -- numbers
@@ -35,7 +35,7 @@ not_below n m l = grind (arith, nat_tests)
 is_below : (n m : ℕ) → m < n → nat_lt m n ≡ true
 is_below n m l = grind (arith, nat_tests)
 
-number_is : (t : Title) (s : Side) (seen : Seen) (ask : Bool) (h : RunHead) (xs : List Slot) → s.count ≡ length seen.messages → number_told t.wide s.count h.seq (is_empty xs) ≡ number_found (title_shown t) seen (head_shown ask h) xs
+number_is : (t : Title) (s : Side) (seen : Seen) (ask : Bool) (h : RunHead) (xs : List Slot) → s.count ≡ length seen.messages → number_near t.wide s.count h.seq (is_empty xs) ≡ number_found (title_shown t) seen (head_shown ask h) xs
 number_is t s seen ask h [] e = ap (λ n. cond (bears t.wide h.seq n) (Some n) None) e
 number_is t s seen ask h (x ∷ xs) e =
     let n : ℕ = length seen.messages in
@@ -45,7 +45,7 @@ number_is t s seen ask h (x ∷ xs) e =
     ∙ ap₂ (find_from (bears t.wide h.seq)) least many
 
 ack_is : (t : Title) (s o : Side) (seen other : Seen) (ask : Bool) (h : RunHead) → s.acknowledged ≡ seen.acknowledged → o.count ≡ length other.messages
-    → ack_told t.wide s.acknowledged o.count h.ack ≡ acknowledgement_found (title_shown t) seen other (head_shown ask h)
+    → ack_near t.wide s.acknowledged o.count h.ack ≡ acknowledgement_found (title_shown t) seen other (head_shown ask h)
 ack_is t s o seen other ask h a e =
     let n : ℕ = length other.messages in
     let least : o.count - 8 ≡ n - 8 = omega (arith, e) in
@@ -166,15 +166,15 @@ window_is s o seen other n e a high fit = go (nat_eq n (suc (length seen.message
 
 -- all of them
 
-pub record ToldAs (t : Title) (b : Both) (x : Texts) (e : Entry) (wide : Bool) (h : Head) (xs : List Slot) (told : Told) : Type 0 where
+pub record NearAs (t : Title) (b : Both) (x : Texts) (e : Entry) (wide : Bool) (h : Head) (xs : List Slot) (told : Near) : Type 0 where
   pub test : run_test (title_shown t) b x e wide h xs ≡ cond (credit_test b e.by_master told.number told.ack xs) (Passes told.number told.ack) (Fails CreditRule)
   pub number : NumberFits (own b e.by_master) told.number xs
   pub acks : AcknowledgementFits (own b e.by_master) (own b (not e.by_master)) told.ack
   pub window : told.number ≡ suc (length (own b e.by_master).messages) → told.number ≤ (own b (not e.by_master)).acknowledged + 8
 
-abbrev pub TestsAs : Title → Both → Texts → Entry → Bool → Head → List Slot → Result Told Rule → Type 0
+abbrev pub TestsAs : Title → Both → Texts → Entry → Bool → Head → List Slot → Result Near Rule → Type 0
 TestsAs t b x e wide h xs (Err rule) = run_test (title_shown t) b x e wide h xs ≡ Fails (rule_shown rule)
-TestsAs t b x e wide h xs (Ok told) = ToldAs t b x e wide h xs told
+TestsAs t b x e wide h xs (Ok told) = NearAs t b x e wide h xs told
 
 number_high : (seen : Seen) (n : ℕ) (xs : List Slot) → NumberFits seen n xs → n ≤ suc (length seen.messages)
 number_high seen n [] f = omega (arith, f)
@@ -182,8 +182,8 @@ number_high seen n (x ∷ xs) f = f.2
 
 pub tests_as : (tell : List ℕ → List Slot) (t : Title) (s o : Side) (b : Both) (x : Texts) (e : Entry) (ask : Bool) (h : RunHead) (xs : List Slot) (lists : List (List Owned))
     → SideStands tell s (own b e.by_master) (own_texts x e.by_master) lists → o.count ≡ length (own b (not e.by_master)).messages → o.acknowledged ≡ (own b (not e.by_master)).acknowledged
-    → tell e.text ≡ xs → suc (length (own b e.by_master).messages) < 2 ^ 64 → TestsAs t b x e h.wide (head_shown ask h) xs (tests_kept t s o e.by_master h (is_empty xs) e.text)
-tests_as tell t s o b x e ask h xs lists stands count acknowledged told fit = by_ids (ids_kept t e.by_master h) refl
+    → tell e.text ≡ xs → suc (length (own b e.by_master).messages) < 2 ^ 64 → TestsAs t b x e h.wide (head_shown ask h) xs (tests_hold t s o e.by_master h (is_empty xs) e.text)
+tests_as tell t s o b x e ask h xs lists stands count acknowledged told fit = by_ids (ids_hold t e.by_master h) refl
   where
     m : Bool
     m = e.by_master
@@ -224,14 +224,14 @@ tests_as tell t s o b x e ask h xs lists stands count acknowledged told fit = by
 
     by_slots : (n : ℕ) → NumberFits seen n xs → (c : Bool) → (not bare && not (repeats s n e.text)) ≡ c
         → run ≡ cond (slots_test seen (own_texts x m) n xs e.text) (audits.after_acknowledgement b m xs n (acknowledgement_found (title_shown t) seen other hd)) (Fails SlotsRule)
-        → TestsAs t b x e h.wide hd xs (cond c (Err Slots) (after_ack s o n (ack_told t.wide s.acknowledged o.count h.ack)))
+        → TestsAs t b x e h.wide hd xs (cond c (Err Slots) (after_ack s o n (ack_near t.wide s.acknowledged o.count h.ack)))
     by_slots n f c q r = at c q
       where
         tested : (c : Bool) → (not bare && not (repeats s n e.text)) ≡ c → run ≡ cond (not c) (audits.after_acknowledgement b m xs n (acknowledgement_found (title_shown t) seen other hd)) (Fails SlotsRule)
         tested c q = r ∙ ap (λ c. cond c (audits.after_acknowledgement b m xs n (acknowledgement_found (title_shown t) seen other hd)) (Fails SlotsRule))
             (slots_are tell s seen (own_texts x m) lists n xs e.text stands f told ∙ ap not q)
 
-        at : (c : Bool) → (not bare && not (repeats s n e.text)) ≡ c → TestsAs t b x e h.wide hd xs (cond c (Err Slots) (after_ack s o n (ack_told t.wide s.acknowledged o.count h.ack)))
+        at : (c : Bool) → (not bare && not (repeats s n e.text)) ≡ c → TestsAs t b x e h.wide hd xs (cond c (Err Slots) (after_ack s o n (ack_near t.wide s.acknowledged o.count h.ack)))
         at true q = tested true q
         at false q =
             subst (λ z. TestsAs t b x e h.wide hd xs (after_ack s o n z)) (sym (ack_is t s o seen other ask h stands.acknowledged count))
@@ -241,7 +241,7 @@ tests_as tell t s o b x e ask h xs lists stands count acknowledged told fit = by
     by_number None q r = r
     by_number (Some n) q r = by_slots n (number_sound (title_shown t) seen hd xs n q).1 (not bare && not (repeats s n e.text)) refl r
 
-    by_ids : (c : Bool) → ids_kept t m h ≡ c → TestsAs t b x e h.wide hd xs (cond c (after_number t s o h bare e.text (number_told t.wide s.count h.seq bare)) (Err Ids))
+    by_ids : (c : Bool) → ids_hold t m h ≡ c → TestsAs t b x e h.wide hd xs (cond c (after_number t s o h bare e.text (number_near t.wide s.count h.seq bare)) (Err Ids))
     by_ids true q =
         subst (λ z. TestsAs t b x e h.wide hd xs (after_number t s o h bare e.text z)) (sym (number_is t s seen ask h xs stands.count))
         (by_number (number_found (title_shown t) seen hd xs) refl (ap (λ c. cond c (audits.after_number (title_shown t) b x e hd xs (number_found (title_shown t) seen hd xs)) (Fails IdsRule)) q))

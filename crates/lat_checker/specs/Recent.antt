@@ -1,12 +1,12 @@
 -- The last messages of one end.
 use Rattle.std.specs.Prelude.{ℕ, ◌-◌, Bool, false, cond, List, [], ◌∷◌, ◌++◌, length, take, drop, nat_le, nat_lt, get_or}
 use Rattle.std.specs.Str.{bytes_eq}
-use Rattle.lat_checker.specs.declared.slot.KeptSlot.{KeptSlot}
+use Rattle.lat_checker.specs.declared.slot.OwnedSlot.{OwnedSlot}
 
 -- a message that was sent: the text of its slots, and its slots with their sessions
 pub record Message : Type 0 where
   pub text : List ℕ
-  pub slots : List KeptSlot
+  pub slots : List OwnedSlot
 
 abbrev pub no_message : Message
 no_message = record { text = []; slots = [] }

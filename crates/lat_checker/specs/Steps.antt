@@ -1,6 +1,6 @@
 -- What the checker does as a RUN is taken.
 use Rattle.std.specs.Prelude.{◌≡◌, ℕ, ◌+◌, ◌-◌, Bool, true, false, List, length, Option, Some, None, min}
-use Rattle.lat_checker.specs.declared.slot.KeptSlot.{KeptSlot}
+use Rattle.lat_checker.specs.declared.slot.OwnedSlot.{OwnedSlot}
 use Rattle.lat_checker.specs.declared.side.Side.{Side}
 use Rattle.lat_checker.specs.declared.checker.Checker.{Checker}
 use Rattle.lat_checker.specs.Recent.{Message, pushed, between}
@@ -31,10 +31,10 @@ pub record SlaveAcknowledges (c d : Checker) (a : ℕ) : Type 0 where
   pub places : d.places ≡ c.places
   pub runs : d.runs ≡ c.runs
 
-abbrev pub sending : Side → List ℕ → List KeptSlot → Side
+abbrev pub sending : Side → List ℕ → List OwnedSlot → Side
 sending s text slots = record s { count = s.count + 1; recent = pushed s.recent (record { text = text; slots = slots }) }
 
-pub record MasterSends (c d : Checker) (text : List ℕ) (sums : Sums) (slots : List KeptSlot) : Type 0 where
+pub record MasterSends (c d : Checker) (text : List ℕ) (sums : Sums) (slots : List OwnedSlot) : Type 0 where
   pub title : d.title ≡ c.title
   pub master : d.master ≡ sending c.master text slots
   pub slave : d.slave ≡ c.slave
@@ -42,7 +42,7 @@ pub record MasterSends (c d : Checker) (text : List ℕ) (sums : Sums) (slots : 
   pub places : d.places ≡ c.places
   pub runs : d.runs ≡ c.runs + 1
 
-pub record SlaveSends (c d : Checker) (text : List ℕ) (sums : Sums) (slots : List KeptSlot) : Type 0 where
+pub record SlaveSends (c d : Checker) (text : List ℕ) (sums : Sums) (slots : List OwnedSlot) : Type 0 where
   pub title : d.title ≡ c.title
   pub master : d.master ≡ c.master
   pub slave : d.slave ≡ sending c.slave text slots
@@ -51,11 +51,11 @@ pub record SlaveSends (c d : Checker) (text : List ℕ) (sums : Sums) (slots : L
   pub runs : d.runs ≡ c.runs + 1
 
 -- a message is sent where its slots could be formed
-abbrev pub MasterSent : Checker → Checker → List ℕ → Option (Sums × List KeptSlot) → Bool → Type 0
+abbrev pub MasterSent : Checker → Checker → List ℕ → Option (Sums × List OwnedSlot) → Bool → Type 0
 MasterSent c d text None sent = sent ≡ false
 MasterSent c d text (Some r) sent = (sent ≡ true) × MasterSends c d text r.0 r.1
 
-abbrev pub SlaveSent : Checker → Checker → List ℕ → Option (Sums × List KeptSlot) → Bool → Type 0
+abbrev pub SlaveSent : Checker → Checker → List ℕ → Option (Sums × List OwnedSlot) → Bool → Type 0
 SlaveSent c d text None sent = sent ≡ false
 SlaveSent c d text (Some r) sent = (sent ≡ true) × SlaveSends c d text r.0 r.1
 

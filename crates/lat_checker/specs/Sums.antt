@@ -3,7 +3,7 @@
 use Rattle.std.specs.Prelude.{ℕ, ◌+◌, ◌-◌, ◌^◌, min, not, cond, ◌&&◌, List, [], ◌∷◌, Option, Some, None, option_map, option_and_then, nat_eq, nat_le, get_or}
 use Rattle.lat_model.specs.Lists.{updated}
 use Rattle.lat_checker.specs.declared.slot.SlotFacts.{SlotFacts}
-use Rattle.lat_checker.specs.declared.slot.KeptSlot.{KeptSlot}
+use Rattle.lat_checker.specs.declared.slot.OwnedSlot.{OwnedSlot}
 use Rattle.lat_checker.specs.declared.accounts.Account.{Account}
 use Rattle.lat_checker.specs.declared.accounts.Accounts.{Accounts}
 use Rattle.lat_checker.specs.Recent.{Message}
@@ -27,21 +27,21 @@ abbrev pub greatest : ℕ
 greatest = 2 ^ 128 - 1
 
 -- an account once a slot is acknowledged that gives credits to its session
-abbrev pub credited : Account → KeptSlot → Account
+abbrev pub credited : Account → OwnedSlot → Account
 credited a k = cond (nat_eq k.session a.session) (record a { given = min (a.given + k.slot.credits) greatest }) a
 
 -- the slave acknowledges a slot of the master
-abbrev pub slave_takes : Sums → KeptSlot → Sums
+abbrev pub slave_takes : Sums → OwnedSlot → Sums
 slave_takes s k =
     cond k.slot.asks
     (record s { asked = updated s.asked k.slot.from (Some k.slot.credits) })
     (record s { slave = updated s.slave k.slot.to (credited (s.slave k.slot.to) k) })
 
 -- the master acknowledges a slot of the slave, which may be the reply of its session
-abbrev pub taken_account : Account → KeptSlot → Account
+abbrev pub taken_account : Account → OwnedSlot → Account
 taken_account a k = cond k.slot.replies (record { session = k.session; given = k.slot.credits; spent = 0 }) (credited a k)
 
-abbrev pub master_takes : Sums → KeptSlot → Sums
+abbrev pub master_takes : Sums → OwnedSlot → Sums
 master_takes s k = record s { master = updated s.master k.slot.from (taken_account (s.master k.slot.from) k) }
 
 -- an account that is left after a cost, where it covers it
@@ -60,28 +60,28 @@ abbrev pub slave_account : ℕ → Sums → SlotFacts → Account
 slave_account place s x = cond x.replies (opening place (s.asked x.to)) (s.slave x.from)
 
 -- a slot is formed: what is kept then, and the slot with its session; none where the session hasn't its credit
-abbrev pub slave_forms : ℕ → Sums → SlotFacts → Option (Sums × KeptSlot)
+abbrev pub slave_forms : ℕ → Sums → SlotFacts → Option (Sums × OwnedSlot)
 slave_forms place s x =
     option_map
     (λ a. (record s { slave = updated s.slave x.from a }, record { session = a.session; slot = x }))
     (pays (slave_account place s x) x.cost)
 
-abbrev pub master_forms : Sums → SlotFacts → Option (Sums × KeptSlot)
+abbrev pub master_forms : Sums → SlotFacts → Option (Sums × OwnedSlot)
 master_forms s x =
     option_map
     (λ a. (record s { master = updated s.master x.to a }, record { session = cond x.asks 0 a.session; slot = x }))
     (pays (s.master x.to) x.cost)
 
 -- slots in order
-abbrev pub slave_takes_all : Sums → List KeptSlot → Sums
+abbrev pub slave_takes_all : Sums → List OwnedSlot → Sums
 slave_takes_all s [] = s
 slave_takes_all s (k ∷ ks) = slave_takes_all (slave_takes s k) ks
 
-abbrev pub master_takes_all : Sums → List KeptSlot → Sums
+abbrev pub master_takes_all : Sums → List OwnedSlot → Sums
 master_takes_all s [] = s
 master_takes_all s (k ∷ ks) = master_takes_all (master_takes s k) ks
 
-abbrev pub kept_before : KeptSlot → Option (Sums × List KeptSlot) → Option (Sums × List KeptSlot)
+abbrev pub kept_before : OwnedSlot → Option (Sums × List OwnedSlot) → Option (Sums × List OwnedSlot)
 kept_before k rest = option_map (λ r. (r.0, k ∷ r.1)) rest
 
 -- messages in order
@@ -98,11 +98,11 @@ abbrev pub next_place : ℕ → ℕ
 next_place places = min (places + 1) greatest
 
 -- the slots of a message, behind so many slots of the slave
-abbrev pub slave_forms_all : ℕ → Sums → List SlotFacts → Option (Sums × List KeptSlot)
+abbrev pub slave_forms_all : ℕ → Sums → List SlotFacts → Option (Sums × List OwnedSlot)
 slave_forms_all places s [] = Some (s, [])
 slave_forms_all places s (x ∷ xs) =
     option_and_then (λ r. kept_before r.1 (slave_forms_all (next_place places) r.0 xs)) (slave_forms (next_place places) s x)
 
-abbrev pub master_forms_all : Sums → List SlotFacts → Option (Sums × List KeptSlot)
+abbrev pub master_forms_all : Sums → List SlotFacts → Option (Sums × List OwnedSlot)
 master_forms_all s [] = Some (s, [])
 master_forms_all s (x ∷ xs) = option_and_then (λ r. kept_before r.1 (master_forms_all r.0 xs)) (master_forms s x)

@@ -20,7 +20,7 @@ ghost use Rattle.lat_checker.specs.Sums.{
 };
 
 use crate::recent::SentMessage;
-use crate::slot::{KeptSlot, SlotFacts};
+use crate::slot::{OwnedSlot, SlotFacts};
 use lat_base::Memory;
 use std::alloc::Global;
 
@@ -62,11 +62,11 @@ impl Drop for Accounts {
 }
 
 // The session is given what a slot of it gives.
-fn credit(account: &mut Account, kept: &KeptSlot)
-    ensures { account.new ≡ credited account.old kept.now }
+fn credit(account: &mut Account, owned: &OwnedSlot)
+    ensures { account.new ≡ credited account.old owned.now }
 {
-    if kept.session == account.session {
-        account.given = account.given.saturating_add(u128::from(kept.slot.credits));
+    if owned.session == account.session {
+        account.given = account.given.saturating_add(u128::from(owned.slot.credits));
     }
 }
 
@@ -112,35 +112,35 @@ impl Accounts {
     }
 
     /// The slave acknowledges a slot of the master.
-    pub fn slave_takes(&mut self, kept: &KeptSlot)
-        ensures { sums_of self.new ≡ slave_takes (sums_of self.old) kept.now }
+    pub fn slave_takes(&mut self, owned: &OwnedSlot)
+        ensures { sums_of self.new ≡ slave_takes (sums_of self.old) owned.now }
     {
-        if kept.slot.asks {
-            self.asked[kept.slot.from as usize] = Some(kept.slot.credits);
+        if owned.slot.asks {
+            self.asked[owned.slot.from as usize] = Some(owned.slot.credits);
         } else {
-            credit(&mut self.slave[kept.slot.to as usize], kept);
+            credit(&mut self.slave[owned.slot.to as usize], owned);
         }
     }
 
     /// The master acknowledges a slot of the slave.
-    pub fn master_takes(&mut self, kept: &KeptSlot)
-        ensures { sums_of self.new ≡ master_takes (sums_of self.old) kept.now }
+    pub fn master_takes(&mut self, owned: &OwnedSlot)
+        ensures { sums_of self.new ≡ master_takes (sums_of self.old) owned.now }
     {
-        let account = &mut self.master[kept.slot.from as usize];
-        if kept.slot.replies {
+        let account = &mut self.master[owned.slot.from as usize];
+        if owned.slot.replies {
             *account = Account {
-                session: kept.session,
-                given: u128::from(kept.slot.credits),
+                session: owned.session,
+                given: u128::from(owned.slot.credits),
                 spent: 0,
             };
         } else {
-            credit(account, kept);
+            credit(account, owned);
         }
     }
 
     /// The slave forms a slot, which is that of this place. None where its session hasn't the credit.
-    pub fn slave_forms(&mut self, place: u128, slot: &SlotFacts) -> Option<KeptSlot>
-        ensures { slave_forms place (sums_of self.old) slot.now ≡ option_map (λ kept. (sums_of self.new, kept)) result }
+    pub fn slave_forms(&mut self, place: u128, slot: &SlotFacts) -> Option<OwnedSlot>
+        ensures { slave_forms place (sums_of self.old) slot.now ≡ option_map (λ owned. (sums_of self.new, owned)) result }
     {
         let mut account = self.slave[slot.from as usize];
         if slot.replies {
@@ -150,40 +150,40 @@ impl Accounts {
             return None;
         }
         self.slave[slot.from as usize] = account;
-        Some(KeptSlot {
+        Some(OwnedSlot {
             session: account.session,
             slot: *slot,
         })
     }
 
     /// The master forms a slot. None where its session hasn't the credit.
-    pub fn master_forms(&mut self, slot: &SlotFacts) -> Option<KeptSlot>
-        ensures { master_forms (sums_of self.old) slot.now ≡ option_map (λ kept. (sums_of self.new, kept)) result }
+    pub fn master_forms(&mut self, slot: &SlotFacts) -> Option<OwnedSlot>
+        ensures { master_forms (sums_of self.old) slot.now ≡ option_map (λ owned. (sums_of self.new, owned)) result }
     {
         let account = &mut self.master[slot.to as usize];
         if !pay(account, slot.cost) {
             return None;
         }
         let session = if slot.asks { 0 } else { account.session };
-        Some(KeptSlot {
+        Some(OwnedSlot {
             session,
             slot: *slot,
         })
     }
 
-    fn slave_takes_all(&mut self, slots: &[KeptSlot])
+    fn slave_takes_all(&mut self, slots: &[OwnedSlot])
         ensures { sums_of self.new ≡ slave_takes_all (sums_of self.old) slots.now }
     {
-        for kept in slots {
-            self.slave_takes(kept);
+        for owned in slots {
+            self.slave_takes(owned);
         }
     }
 
-    fn master_takes_all(&mut self, slots: &[KeptSlot])
+    fn master_takes_all(&mut self, slots: &[OwnedSlot])
         ensures { sums_of self.new ≡ master_takes_all (sums_of self.old) slots.now }
     {
-        for kept in slots {
-            self.master_takes(kept);
+        for owned in slots {
+            self.master_takes(owned);
         }
     }
 
@@ -212,17 +212,17 @@ impl Accounts {
         alloc: Global,
         places: u128,
         slots: &[SlotFacts],
-    ) -> Result<Option<Vec<KeptSlot>>, Memory>
-        ensures { IfOk result (λ formed. slave_forms_all places (sums_of self.old) slots.now ≡ option_map (λ kept. (sums_of self.new, kept.items)) formed) }
+    ) -> Result<Option<Vec<OwnedSlot>>, Memory>
+        ensures { IfOk result (λ formed. slave_forms_all places (sums_of self.old) slots.now ≡ option_map (λ owned. (sums_of self.new, owned.items)) formed) }
     {
         let mut formed = Vec::with_capacity(alloc, slots.len())?;
         let mut place = places;
         for slot in slots {
             place = place.saturating_add(1);
-            let Some(kept) = self.slave_forms(place, slot) else {
+            let Some(owned) = self.slave_forms(place, slot) else {
                 return Ok(None);
             };
-            formed.push(kept)?;
+            formed.push(owned)?;
         }
         Ok(Some(formed))
     }
@@ -233,15 +233,15 @@ impl Accounts {
         &mut self,
         alloc: Global,
         slots: &[SlotFacts],
-    ) -> Result<Option<Vec<KeptSlot>>, Memory>
-        ensures { IfOk result (λ formed. master_forms_all (sums_of self.old) slots.now ≡ option_map (λ kept. (sums_of self.new, kept.items)) formed) }
+    ) -> Result<Option<Vec<OwnedSlot>>, Memory>
+        ensures { IfOk result (λ formed. master_forms_all (sums_of self.old) slots.now ≡ option_map (λ owned. (sums_of self.new, owned.items)) formed) }
     {
         let mut formed = Vec::with_capacity(alloc, slots.len())?;
         for slot in slots {
-            let Some(kept) = self.master_forms(slot) else {
+            let Some(owned) = self.master_forms(slot) else {
                 return Ok(None);
             };
-            formed.push(kept)?;
+            formed.push(owned)?;
         }
         Ok(Some(formed))
     }

@@ -102,10 +102,10 @@ impl Checker {
         requires { self.old.runs + 1 < 2 ^ 64 }
         ensures { IfOk result (λ sent. MasterSent self.old self.new text.now (master_forms_all (sums_of self.old.accounts) slots.now) sent) }
     {
-        let Some(kept) = self.accounts.master_forms_all(alloc, slots)? else {
+        let Some(owned) = self.accounts.master_forms_all(alloc, slots)? else {
             return Ok(false);
         };
-        let message = SentMessage::make(alloc, text, kept)?;
+        let message = SentMessage::make(alloc, text, owned)?;
         self.master.recent.push(message)?;
         self.runs += 1;
         self.master.count += 1;
@@ -122,11 +122,11 @@ impl Checker {
         requires { self.old.runs + 1 < 2 ^ 64 }
         ensures { IfOk result (λ sent. SlaveSent self.old self.new text.now (slave_forms_all self.old.places (sums_of self.old.accounts) slots.now) sent) }
     {
-        let Some(kept) = self.accounts.slave_forms_all(alloc, self.places, slots)? else {
+        let Some(owned) = self.accounts.slave_forms_all(alloc, self.places, slots)? else {
             return Ok(false);
         };
-        self.places = self.places.saturating_add(kept.len() as u128);
-        let message = SentMessage::make(alloc, text, kept)?;
+        self.places = self.places.saturating_add(owned.len() as u128);
+        let message = SentMessage::make(alloc, text, owned)?;
         self.slave.recent.push(message)?;
         self.runs += 1;
         self.slave.count += 1;
@@ -193,7 +193,7 @@ impl Checker {
         ensures title { IfOk result (λ broken. broken ≡ None → title_of self.new ≡ title_of self.old) }
     {
         let bare = slots.is_empty();
-        let told = match tests(
+        let near = match tests(
             &self.title,
             &self.master,
             &self.slave,
@@ -202,11 +202,11 @@ impl Checker {
             bare,
             text,
         ) {
-            Ok(told) => told,
+            Ok(near) => near,
             Err(rule) => return Ok(Some(rule)),
         };
-        let is_new = told.number > self.master.count;
-        self.master_acknowledges(told.ack);
+        let is_new = near.number > self.master.count;
+        self.master_acknowledges(near.ack);
         if !is_new {
             self.counts();
             return Ok(None);
@@ -231,7 +231,7 @@ impl Checker {
         ensures title { IfOk result (λ broken. broken ≡ None → title_of self.new ≡ title_of self.old) }
     {
         let bare = slots.is_empty();
-        let told = match tests(
+        let near = match tests(
             &self.title,
             &self.slave,
             &self.master,
@@ -240,11 +240,11 @@ impl Checker {
             bare,
             text,
         ) {
-            Ok(told) => told,
+            Ok(near) => near,
             Err(rule) => return Ok(Some(rule)),
         };
-        let is_new = told.number > self.slave.count;
-        self.slave_acknowledges(told.ack);
+        let is_new = near.number > self.slave.count;
+        self.slave_acknowledges(near.ack);
         if !is_new {
             self.counts();
             return Ok(None);

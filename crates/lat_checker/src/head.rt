@@ -1,7 +1,7 @@
 //! What a capture says of its circuit, and what a RUN says of itself.
 
 ghost use Rattle.std.specs.Prelude.{◌≡◌};
-ghost use Rattle.lat_checker.specs.Tests.{ids_kept};
+ghost use Rattle.lat_checker.specs.Tests.{ids_hold};
 
 /// The circuit of a capture.
 #[derive(Clone, Copy, PartialEq, Eq)]
@@ -31,7 +31,7 @@ pub struct RunHead {
 impl Title {
     /// Whether a RUN that this end sent has the span, the ids and the master bit that it has to have.
     pub fn has(&self, by_master: bool, head: &RunHead) -> bool
-        ensures { result ≡ ids_kept self.now by_master head.now }
+        ensures { result ≡ ids_hold self.now by_master head.now }
     {
         let (to, from) = if by_master {
             (self.slave, self.master)

@@ -3,7 +3,7 @@
 ghost use Rattle.std.specs.Prelude.{◌≡◌, [], OnOk, IfOk};
 ghost use Rattle.lat_checker.specs.Recent.{pushed, has_text, has_back};
 
-use crate::slot::KeptSlot;
+use crate::slot::OwnedSlot;
 use lat_base::Memory;
 use std::alloc::Global;
 use std::marker::Model;
@@ -14,7 +14,7 @@ const MESSAGES: usize = 8;
 /// A message: the text of its slots, and its slots with their sessions. Contracts see both.
 pub struct SentMessage {
     text: Vec<u8>,
-    slots: Vec<KeptSlot>,
+    slots: Vec<OwnedSlot>,
 }
 
 impl Drop for SentMessage {
@@ -33,7 +33,7 @@ impl Model for SentMessage {
 
 impl SentMessage {
     /// A message with this text and these slots. Takes memory for its text.
-    pub fn make(alloc: Global, text: &[u8], slots: Vec<KeptSlot>) -> Result<SentMessage, Memory>
+    pub fn make(alloc: Global, text: &[u8], slots: Vec<OwnedSlot>) -> Result<SentMessage, Memory>
         ensures { IfOk result (λ message. message ≡ record { text = text.now; slots = slots.items }) }
     {
         let text = Vec::from_slice(alloc, text)?;
@@ -41,7 +41,7 @@ impl SentMessage {
     }
 
     /// Its slots, in order.
-    pub fn slots(&self) -> &[KeptSlot]
+    pub fn slots(&self) -> &[OwnedSlot]
         ensures { result.now ≡ self.now.slots }
     {
         self.slots.as_slice()

@@ -2,7 +2,7 @@
 
 ghost use Rattle.std.specs.Prelude.{◌≡◌, ◌+◌, ◌^◌, ◌<◌, ◌&&◌, nat_le};
 ghost use Rattle.lat_captures.specs.Audit.{find_from};
-ghost use Rattle.lat_checker.specs.Tests.{bears, number_told, ack_told, repeats, tests_kept};
+ghost use Rattle.lat_checker.specs.Tests.{bears, number_near, ack_near, repeats, tests_hold};
 
 use crate::head::{RunHead, Title};
 use crate::recent::Recent;
@@ -27,9 +27,9 @@ impl Drop for Side {
     }
 }
 
-/// The number and the acknowledgement of a RUN, told from their fields.
+/// The number and the acknowledgement of a RUN, those that their fields mean.
 #[derive(Clone, Copy)]
-pub struct Told {
+pub struct Near {
     pub number: u64,
     pub ack: u64,
 }
@@ -46,7 +46,7 @@ fn bears(wide: bool, field: u16, number: u64) -> bool
 }
 
 // The first of so many numbers, from the least on, that the field bears and that isn't below the floor.
-fn first_told(wide: bool, field: u16, floor: u64, least: u64, count: u64) -> Option<u64>
+fn first_near(wide: bool, field: u16, floor: u64, least: u64, count: u64) -> Option<u64>
     requires { least + count < 2 ^ 64 }
     ensures { result ≡ find_from (λ n. bears wide field n && nat_le floor n) least count }
 {
@@ -60,9 +60,9 @@ fn first_told(wide: bool, field: u16, floor: u64, least: u64, count: u64) -> Opt
 
 impl Side {
     // The number of a RUN of this end, with slots or without.
-    fn number_told(&self, wide: bool, seq: u16, bare: bool) -> Option<u64>
+    fn number_near(&self, wide: bool, seq: u16, bare: bool) -> Option<u64>
         requires { self.now.count + 2 < 2 ^ 64 }
-        ensures { result ≡ number_told wide self.now.count seq bare }
+        ensures { result ≡ number_near wide self.now.count seq bare }
     {
         if bare {
             return if bears(wide, seq, self.count) {
@@ -72,16 +72,16 @@ impl Side {
             };
         }
         let least = self.count.saturating_sub(8) + 1;
-        first_told(wide, seq, 0, least, (self.count + 1).min(9))
+        first_near(wide, seq, 0, least, (self.count + 1).min(9))
     }
 
     // The acknowledgement of a RUN of this end.
-    fn ack_told(&self, other: &Side, wide: bool, ack: u16) -> Option<u64>
+    fn ack_near(&self, other: &Side, wide: bool, ack: u16) -> Option<u64>
         requires { other.now.count + 2 < 2 ^ 64 }
-        ensures { result ≡ ack_told wide self.now.acknowledged other.now.count ack }
+        ensures { result ≡ ack_near wide self.now.acknowledged other.now.count ack }
     {
         let least = other.count.saturating_sub(8);
-        first_told(
+        first_near(
             wide,
             ack,
             self.acknowledged,
@@ -107,24 +107,24 @@ pub fn tests(
     head: &RunHead,
     bare: bool,
     text: &[u8],
-) -> Result<Told, Rule>
+) -> Result<Near, Rule>
     requires { (own.now.count + 2 < 2 ^ 64) × (other.now.count + 2 < 2 ^ 64) }
-    ensures { result ≡ tests_kept title.now own.now other.now by_master head.now bare text.now }
+    ensures { result ≡ tests_hold title.now own.now other.now by_master head.now bare text.now }
 {
     if !title.has(by_master, head) {
         return Err(Rule::Ids);
     }
     let number = own
-        .number_told(title.wide, head.seq, bare)
+        .number_near(title.wide, head.seq, bare)
         .ok_or(Rule::Number)?;
     if !bare && !own.repeats(number, text) {
         return Err(Rule::Slots);
     }
     let ack = own
-        .ack_told(other, title.wide, head.ack)
+        .ack_near(other, title.wide, head.ack)
         .ok_or(Rule::Acknowledgement)?;
     if number > own.count && number > other.acknowledged.saturating_add(8) {
         return Err(Rule::Window);
     }
-    Ok(Told { number, ack })
+    Ok(Near { number, ack })
 }

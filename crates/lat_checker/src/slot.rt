@@ -18,7 +18,7 @@ pub struct SlotFacts {
 
 /// A slot of a message that was sent, with the session that it belongs to.
 #[derive(Clone, Copy, PartialEq, Eq)]
-pub struct KeptSlot {
+pub struct OwnedSlot {
     /// The place of its session's reply among all slots of the slave, from 1 on; 0 is none.
     pub session: u128,
     pub slot: SlotFacts,

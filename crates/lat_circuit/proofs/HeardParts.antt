@@ -13,7 +13,7 @@ use Rattle.lat_machines.specs.values.Messages.{Head}
 use Rattle.lat_machines.specs.values.Answers.{Heard, Taken, Again, AckOnly, Foreign, Broke}
 use Rattle.lat_machines.specs.cores.Hearing.{fits_kind, numbers_at, run_frame}
 use Rattle.lat_slots.specs.declared.slot.Slot.{Slot}
-use Rattle.lat_stream.specs.Wire.{told}
+use Rattle.lat_stream.specs.Wire.{slot_heard}
 use Rattle.lat_link.specs.Links as link
 use Rattle.lat_link.specs.Payloads.{is_wide}
 use Rattle.lat_session.specs.Stands as sessions
@@ -24,7 +24,7 @@ use Rattle.lat_circuit.specs.Shown.{shown}
 use Rattle.lat_circuit.specs.Frames.{AreFormed, frame_sent}
 use Rattle.lat_circuit.specs.Stands.{Stands, Simulates}
 use Rattle.lat_circuit.specs.Hears.{HeardStep, foreign, hears_named, hears_run, heard_shown, SimulatesHearing}
-use Rattle.lat_circuit.specs.Applies.{number_heard, ack_heard, Applied, apply_slots, apply_body, apply, slave_occasion, applied_step, answer_told, Applies}
+use Rattle.lat_circuit.specs.Applies.{number_heard, ack_heard, Applied, apply_slots, apply_body, apply, slave_occasion, applied_step, some_answer, Applies}
 use Rattle.lat_circuit.proofs.Sends.{with_sessions}
 use Rattle.lat_circuit.proofs.HeardStarts.{hear_as, hear_true, hear_false, given, given_stands}
 use Rattle.lat_circuit.proofs.HeardRun.{answered, hearing, run_is, number_same}
@@ -34,11 +34,11 @@ use Rattle.lat_circuit.proofs.HeardRun.{answered, hearing, run_is, number_same}
 pub slots_bad : {E : Type 0} (a : Inside) (t : Table) (slots : List model.Slot) (r : Result OwnHeard E) (e : End) → Stands (shown a) e
     → sessions.Stands t (hear_all slots e.half.sessions).after
     → (hear_all slots e.half.sessions).good ≡ false
-    → answer_told r ≡ None
-    → Stands (shown (record a { sessions = t })) (apply_slots slots e).end × (answer_told r ≡ (apply_slots slots e).answer)
+    → some_answer r ≡ None
+    → Stands (shown (record a { sessions = t })) (apply_slots slots e).end × (some_answer r ≡ (apply_slots slots e).answer)
 slots_bad a t slots r e st here bad none =
     let h : HeardAll = hear_all slots e.half.sessions in
-    let P : Applied → Type 0 = λ x. Stands (shown (record a { sessions = t })) x.end × (answer_told r ≡ x.answer) in
+    let P : Applied → Type 0 = λ x. Stands (shown (record a { sessions = t })) x.end × (some_answer r ≡ x.answer) in
     subst (λ b. P (cond b
     (record {
       end = record e { half = record { link = take_message e.half.link slots; sessions = h.after }; owed = true };
@@ -47,9 +47,9 @@ slots_bad a t slots r e st here bad none =
     (record { end = record e { half = record (e.half) { sessions = h.after } }; answer = None }))) (sym bad)
     (with_sessions a t e h.after st here, none)
 
-length_told : (slots : List Slot) → length (map told slots) ≡ length slots
-length_told [] = refl
-length_told (x ∷ xs) = ap suc (length_told xs)
+length_heard : (slots : List Slot) → length (map slot_heard slots) ≡ length slots
+length_heard [] = refl
+length_heard (x ∷ xs) = ap suc (length_heard xs)
 
 -- the circuit that took a message
 abbrev pub took : Inside → link.Kept → Table → Inside
@@ -58,17 +58,17 @@ took a l t = record a { link = l; sessions = t; owed = true }
 pub slots_good : (a : Inside) (l : link.Kept) (t : Table) (slots : List Slot) (e : End) → Stands (shown a) e → a.running ≡ true
     → l.ids ≡ a.link.ids
     → l.sending ≡ a.link.sending
-    → link.Stands l (take_message e.half.link (map told slots))
-    → sessions.Stands t (hear_all (map told slots) e.half.sessions).after
-    → (hear_all (map told slots) e.half.sessions).good ≡ true
-    → Stands (shown (took a l t)) (apply_slots (map told slots) e).end × (Some (Taken (length slots)) ≡ (apply_slots (map told slots) e).answer)
+    → link.Stands l (take_message e.half.link (map slot_heard slots))
+    → sessions.Stands t (hear_all (map slot_heard slots) e.half.sessions).after
+    → (hear_all (map slot_heard slots) e.half.sessions).good ≡ true
+    → Stands (shown (took a l t)) (apply_slots (map slot_heard slots) e).end × (Some (Taken (length slots)) ≡ (apply_slots (map slot_heard slots) e).answer)
 slots_good a l t slots e st run ids sending took_it here good =
-    let h : HeardAll = hear_all (map told slots) e.half.sessions in
+    let h : HeardAll = hear_all (map slot_heard slots) e.half.sessions in
     let P : Applied → Type 0 = λ x. Stands (shown (took a l t)) x.end × (Some (Taken (length slots)) ≡ x.answer) in
     subst (λ b. P (cond b
     (record {
-      end = record e { half = record { link = take_message e.half.link (map told slots); sessions = h.after }; owed = true };
-      answer = Some (Taken (length (map told slots)));
+      end = record e { half = record { link = take_message e.half.link (map slot_heard slots); sessions = h.after }; owed = true };
+      answer = Some (Taken (length (map slot_heard slots)));
     })
     (record { end = record e { half = record (e.half) { sessions = h.after } }; answer = None }))) (sym good) (
       record {
@@ -90,7 +90,7 @@ slots_good a l t slots e st run ids sending took_it here good =
         sessions = here;
         calls = λ h. absurd (true≢false (sym run ∙ st.running ∙ h));
       },
-      ap (λ n. Some (Taken n)) (sym (length_told slots)),
+      ap (λ n. Some (Taken n)) (sym (length_heard slots)),
     )
 
 -- the body
@@ -117,43 +117,43 @@ owing a b c e st is = record {
   calls = st.calls;
 }
 
-none_told : (slots : List Slot) → length slots ≡ 0 → map told slots ≡ []
+none_told : (slots : List Slot) → length slots ≡ 0 → map slot_heard slots ≡ []
 none_told [] is = refl
 none_told (x ∷ xs) is = absurd (omega (arith, is))
 
 pub body_none : (a : Inside) (n : ℕ) (ask b : Bool) (slots : List Slot) (e : End) → Stands (shown a) e → length slots ≡ 0 → b ≡ (a.owed || ask)
-    → Stands (shown (record a { owed = b })) (apply_body n ask (map told slots) e).end × (Some AckOnly ≡ (apply_body n ask (map told slots) e).answer)
+    → Stands (shown (record a { owed = b })) (apply_body n ask (map slot_heard slots) e).end × (Some AckOnly ≡ (apply_body n ask (map slot_heard slots) e).answer)
 body_none a n ask b slots e st none is =
     subst (λ z. Stands (shown (record a { owed = b })) (apply_body n ask z e).end × (Some AckOnly ≡ (apply_body n ask z e).answer)) (sym (none_told slots none))
     (owing a b (e.owed || ask) e st (is ∙ ap (λ z. z || ask) st.owed), refl)
 
 -- where there are slots
 body_some : (slots : List Slot) (n : ℕ) (ask : Bool) (e : End) → (length slots ≡ 0 → ⊥)
-    → apply_body n ask (map told slots) e ≡ cond (is_next e.half.link n) (apply_slots (map told slots) e) (record { end = record e { owed = true }; answer = Some Again })
+    → apply_body n ask (map slot_heard slots) e ≡ cond (is_next e.half.link n) (apply_slots (map slot_heard slots) e) (record { end = record e { owed = true }; answer = Some Again })
 body_some [] n ask e some = absurd (some refl)
 body_some (x ∷ xs) n ask e some = refl
 
 pub body_again : (a : Inside) (n : ℕ) (ask : Bool) (slots : List Slot) (e : End) → Stands (shown a) e → (length slots ≡ 0 → ⊥) → is_next e.half.link n ≡ false
-    → Stands (shown (record a { owed = true })) (apply_body n ask (map told slots) e).end × (Some Again ≡ (apply_body n ask (map told slots) e).answer)
+    → Stands (shown (record a { owed = true })) (apply_body n ask (map slot_heard slots) e).end × (Some Again ≡ (apply_body n ask (map slot_heard slots) e).answer)
 body_again a n ask slots e st some other =
     let P : Applied → Type 0 = λ x. Stands (shown (record a { owed = true })) x.end × (Some Again ≡ x.answer) in
-    subst P (sym (body_some slots n ask e some ∙ ap (λ b. cond b (apply_slots (map told slots) e) (record { end = record e { owed = true }; answer = Some Again })) other))
+    subst P (sym (body_some slots n ask e some ∙ ap (λ b. cond b (apply_slots (map slot_heard slots) e) (record { end = record e { owed = true }; answer = Some Again })) other))
     (owing a true true e st refl, refl)
 
 pub body_takes : {E : Type 0} (n : ℕ) (ask : Bool) (slots : List Slot) (r : Result OwnHeard E) (l : Kept) (e : End) → (length slots ≡ 0 → ⊥) → is_next e.half.link n ≡ true
-    → Stands l (apply_slots (map told slots) e).end × (answer_told r ≡ (apply_slots (map told slots) e).answer)
-    → Stands l (apply_body n ask (map told slots) e).end × (answer_told r ≡ (apply_body n ask (map told slots) e).answer)
+    → Stands l (apply_slots (map slot_heard slots) e).end × (some_answer r ≡ (apply_slots (map slot_heard slots) e).answer)
+    → Stands l (apply_body n ask (map slot_heard slots) e).end × (some_answer r ≡ (apply_body n ask (map slot_heard slots) e).answer)
 body_takes n ask slots r l e some next takes =
-    let P : Applied → Type 0 = λ x. Stands l x.end × (answer_told r ≡ x.answer) in
-    subst P (sym (body_some slots n ask e some ∙ ap (λ b. cond b (apply_slots (map told slots) e) (record { end = record e { owed = true }; answer = Some Again })) next)) takes
+    let P : Applied → Type 0 = λ x. Stands l x.end × (some_answer r ≡ x.answer) in
+    subst P (sym (body_some slots n ask e some ∙ ap (λ b. cond b (apply_slots (map slot_heard slots) e) (record { end = record e { owed = true }; answer = Some Again })) next)) takes
 
 -- the whole
 
-pub unsent_applies : {E : Type 0} (h : Head) (slots : List model.Slot) (r : Result OwnHeard E) (k l : Kept) → answer_told r ≡ None → l ≡ k
+pub unsent_applies : {E : Type 0} (h : Head) (slots : List model.Slot) (r : Result OwnHeard E) (k l : Kept) → some_answer r ≡ None → l ≡ k
     → ((e : End) → Stands k e → is_unsent e.half.link (ack_heard h.ack e) ≡ true)
     → Applies (apply h slots) r k l
 unsent_applies h slots r k l none same is = λ e st.
-    let P : Applied → Type 0 = λ x. Stands l x.end × (answer_told r ≡ x.answer) in
+    let P : Applied → Type 0 = λ x. Stands l x.end × (some_answer r ≡ x.answer) in
     subst (λ b. P (cond b (record { end = e; answer = None }) (apply_body (number_heard h.seq e) h.ask slots (ack_end (ack_heard h.ack e) e)))) (sym (is e st))
     (subst (λ z. Stands z e) (sym same) st, none)
 
@@ -163,7 +163,7 @@ pub then_applies : {E : Type 0} (h : Head) (slots : List model.Slot) (r : Result
     → Applies (λ e. apply_body (number_heard h.seq e) h.ask slots e) r m l
     → Applies (apply h slots) r k l
 then_applies h slots r k m l is state body = λ e st.
-    let P : Applied → Type 0 = λ x. Stands l x.end × (answer_told r ≡ x.answer) in
+    let P : Applied → Type 0 = λ x. Stands l x.end × (some_answer r ≡ x.answer) in
     let d : End = ack_end (ack_heard h.ack e) e in
     subst (λ b. P (cond b (record { end = e; answer = None }) (apply_body (number_heard h.seq e) h.ask slots d))) (sym (is e st)) (
     subst (λ n. P (apply_body n h.ask slots d)) (number_same h.seq (ack_heard h.ack e) e) (body d (state e st (is e st)))
@@ -178,7 +178,7 @@ applied_ok f r answer k m l o p is a did = λ e st.
     let x = a e st in
     let y = did (f e).end x.0 in
     let P : HeardStep → Type 0 = λ s. Stands l s.step.end × (p ≡ o ++ map (frame_sent l.facts) s.step.sent) × (heard_shown answer ≡ s.answer) × AreFormed l.facts s.step.sent in
-    subst P (ap (λ z. step_of (f e).end z) (ap answer_told (sym is) ∙ x.1)) (y.0, y.1, refl, y.2)
+    subst P (ap (λ z. step_of (f e).end z) (ap some_answer (sym is) ∙ x.1)) (y.0, y.1, refl, y.2)
 
 pub applied_err : {E : Type 0} (f : End → Applied) (r : Result OwnHeard E) (b : E) (k m l : Kept) (o p : List OutFrame) → r ≡ Err b
     → Applies f r k m → Simulates (finish 2) m l o p → SimulatesHearing (λ e. applied_step (f e)) (answers.Broke 2) k l o p
@@ -186,7 +186,7 @@ applied_err f r b k m l o p is a did = λ e st.
     let x = a e st in
     let y = did (f e).end x.0 in
     let P : HeardStep → Type 0 = λ s. Stands l s.step.end × (p ≡ o ++ map (frame_sent l.facts) s.step.sent) × (Broke 2 ≡ s.answer) × AreFormed l.facts s.step.sent in
-    subst P (ap (λ z. step_of (f e).end z) (ap answer_told (sym is) ∙ x.1)) (y.0, y.1, refl, y.2)
+    subst P (ap (λ z. step_of (f e).end z) (ap some_answer (sym is) ∙ x.1)) (y.0, y.1, refl, y.2)
 
 -- which RUNs belong to the circuit
 

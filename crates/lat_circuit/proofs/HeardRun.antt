@@ -13,7 +13,7 @@ use Rattle.lat_machines.specs.cores.Hearing.{answer_of, numbers_at, run_frame}
 use Rattle.lat_machines.specs.values.Messages.{Head}
 use Rattle.lat_machines.specs.values.Answers.{Broke}
 use Rattle.lat_slots.specs.declared.slot.Slot.{Slot}
-use Rattle.lat_stream.specs.Wire.{told}
+use Rattle.lat_stream.specs.Wire.{slot_heard}
 use Rattle.lat_session.specs.Hears.{Hears}
 use Rattle.lat_session.specs.Stands as sessions
 use Rattle.lat_session.specs.Table.{Table}
@@ -83,7 +83,7 @@ number_same seq a e = cond_both (λ d. number_heard seq d ≡ number_heard seq e
 -- so far the slots were good, and the table stands for what they made
 abbrev pub SoFar : (old : Table) → List Slot → ℕ → Table → Type 0
 SoFar old slots i new =
-    (e : Sessions) → sessions.Stands old e → (f : Sessions) × sessions.Stands new f × (hear_all (map told slots) e ≡ hear_all (map told (drop i slots)) f)
+    (e : Sessions) → sessions.Stands old e → (f : Sessions) × sessions.Stands new f × (hear_all (map slot_heard slots) e ≡ hear_all (map slot_heard (drop i slots)) f)
 
 -- the next slot
 next_is : (slots : List Slot) (i : ℕ) (x : Slot) → i < length slots → x ≡ get_or slots i x → drop i slots ≡ x ∷ drop (suc i) slots
@@ -104,34 +104,34 @@ bad_slot (Some g) y rest f (Ok u) k l is hears same bad = absurd (false≢true b
 bad_slot (Some g) y rest f (Err b) k l is hears same bad = absurd (false≢true hears.answer)
 
 pub so_far_more : {A E : Type 0} (old k l : Table) (slots : List Slot) (i : ℕ) (x : Slot) (r : Result A E) → i < length slots → x ≡ get_or slots i x → is_err r ≡ false
-    → ((e : Sessions) → sessions.Stands k e → Hears l r (hear_slot e (told x)))
+    → ((e : Sessions) → sessions.Stands k e → Hears l r (hear_slot e (slot_heard x)))
     → SoFar old slots i k → SoFar old slots (i + 1) l
 so_far_more old k l slots i x r lt is ok hears so_far = λ e st.
     let s = so_far e st in
     let f = s.0 in
     let one : suc i ≡ i + 1 = omega arith in
-    let y = good_slot (hear_slot f (told x)) (told x) (map told (drop (suc i) slots)) f r l refl (hears f s.1) ok in (
+    let y = good_slot (hear_slot f (slot_heard x)) (slot_heard x) (map slot_heard (drop (suc i) slots)) f r l refl (hears f s.1) ok in (
       y.0,
       y.1,
-      s.2 ∙ ap (λ z. hear_all (map told z) f) (next_is slots i x lt is) ∙ y.2 ∙ ap (λ n. hear_all (map told (drop n slots)) y.0) one,
+      s.2 ∙ ap (λ z. hear_all (map slot_heard z) f) (next_is slots i x lt is) ∙ y.2 ∙ ap (λ n. hear_all (map slot_heard (drop n slots)) y.0) one,
     )
 
 -- what the slots made, and whether they were good
 pub record HeardSlots (old new : Table) (slots : List Slot) (good : Bool) : Type 0 where
-  pub state : (e : Sessions) → sessions.Stands old e → sessions.Stands new (hear_all (map told slots) e).after
-  pub answer : (e : Sessions) → sessions.Stands old e → good ≡ (hear_all (map told slots) e).good
+  pub state : (e : Sessions) → sessions.Stands old e → sessions.Stands new (hear_all (map slot_heard slots) e).after
+  pub answer : (e : Sessions) → sessions.Stands old e → good ≡ (hear_all (map slot_heard slots) e).good
 
 pub so_far_bad : {A E : Type 0} (old k l : Table) (slots : List Slot) (i : ℕ) (x : Slot) (r : Result A E) → i < length slots → x ≡ get_or slots i x → is_err r ≡ true
-    → ((e : Sessions) → sessions.Stands k e → Hears l r (hear_slot e (told x)))
+    → ((e : Sessions) → sessions.Stands k e → Hears l r (hear_slot e (slot_heard x)))
     → OnErr r (l ≡ k)
     → SoFar old slots i k → HeardSlots old l slots false
 so_far_bad old k l slots i x r lt is bad hears same so_far =
-    let at : (e : Sessions) → sessions.Stands old e → (f : Sessions) × sessions.Stands l f × (hear_all (map told slots) e ≡ record { after = f; good = false }) =
+    let at : (e : Sessions) → sessions.Stands old e → (f : Sessions) × sessions.Stands l f × (hear_all (map slot_heard slots) e ≡ record { after = f; good = false }) =
     (λ e st.
     let s = so_far e st in
     let f = s.0 in
-    let y = bad_slot (hear_slot f (told x)) (told x) (map told (drop (suc i) slots)) f r k l refl (hears f s.1) same bad in
-    (f, subst (λ z. sessions.Stands z f) (sym y.0) s.1, s.2 ∙ ap (λ z. hear_all (map told z) f) (next_is slots i x lt is) ∙ y.1)) in
+    let y = bad_slot (hear_slot f (slot_heard x)) (slot_heard x) (map slot_heard (drop (suc i) slots)) f r k l refl (hears f s.1) same bad in
+    (f, subst (λ z. sessions.Stands z f) (sym y.0) s.1, s.2 ∙ ap (λ z. hear_all (map slot_heard z) f) (next_is slots i x lt is) ∙ y.1)) in
     record {
       state = λ e st. let y = at e st in subst (λ (z : HeardAll). sessions.Stands l z.after) (sym y.2) y.1;
       answer = λ e st. let y = at e st in ap (λ (z : HeardAll). z.good) (sym y.2);
@@ -142,8 +142,8 @@ drop_all {X} xs i is = ap (λ n. drop n xs) is ∙ drop-length xs
 
 pub so_far_all : (old new : Table) (slots : List Slot) (i : ℕ) → i ≡ length slots → SoFar old slots i new → HeardSlots old new slots true
 so_far_all old new slots i all so_far =
-    let at : (e : Sessions) → sessions.Stands old e → (f : Sessions) × sessions.Stands new f × (hear_all (map told slots) e ≡ record { after = f; good = true }) =
-    (λ e st. let s = so_far e st in (s.0, s.1, s.2 ∙ ap (λ z. hear_all (map told z) s.0) (drop_all slots i all))) in
+    let at : (e : Sessions) → sessions.Stands old e → (f : Sessions) × sessions.Stands new f × (hear_all (map slot_heard slots) e ≡ record { after = f; good = true }) =
+    (λ e st. let s = so_far e st in (s.0, s.1, s.2 ∙ ap (λ z. hear_all (map slot_heard z) s.0) (drop_all slots i all))) in
     record {
       state = λ e st. let y = at e st in subst (λ (z : HeardAll). sessions.Stands new z.after) (sym y.2) y.1;
       answer = λ e st. let y = at e st in ap (λ (z : HeardAll). z.good) (sym y.2);

@@ -17,7 +17,7 @@ use Rattle.lat_model.specs.ends.End.{Run, CallStart, ReplyStart, marked}
 use Rattle.lat_machines.specs.values.Messages.{Param, StartInfo, Message, RunMessage, WideMessage, StartMessage, StopMessage}
 use Rattle.lat_machines.specs.values.Runs.{run_head, slots_in, run_message}
 use Rattle.lat_machines.specs.values.Timing.{wide_params, call_info, reply_info}
-use Rattle.lat_stream.specs.Wire.{told, formed_as}
+use Rattle.lat_stream.specs.Wire.{slot_heard, formed_as}
 use Rattle.lat_stream.specs.Wire.{IsFormed as SlotIsFormed}
 use Rattle.lat_seq.specs.declared.span.Span.{Span}
 use Rattle.lat_seq.specs.declared.span.Span.TheVariants.{Byte, Word}
@@ -33,9 +33,9 @@ formed_reads m f = payload_read (message_of m) (padded (message_text (message_of
 
 -- a RUN
 
-slots_told : (xs : List Slot) → Each SlotIsFormed xs → map told (map formed_as xs) ≡ xs
-slots_told [] all = refl
-slots_told (x ∷ xs) all = ap₂ (λ y ys. y ∷ ys) all.0.tells (slots_told xs all.1)
+slots_heard : (xs : List Slot) → Each SlotIsFormed xs → map slot_heard (map formed_as xs) ≡ xs
+slots_heard [] all = refl
+slots_heard (x ∷ xs) all = ap₂ (λ y ys. y ∷ ys) all.0.tells (slots_heard xs all.1)
 
 slots_writable : (xs : List Slot) → Each SlotIsFormed xs → AllByRecursion SlotIsWritable (map formed_as xs)
 slots_writable [] all = tt
@@ -47,11 +47,11 @@ count_is xs h = omega (arith, length-map xs formed_as, h)
 pub run_formed : (master ask : Bool) (to from : ℕ) (s : Span) (f : Frame (List Slot)) → 0 < to → 0 < from → IsMessage s (slots_in f) → IsFormed (run_message master (is_wide s) ask to from f)
 run_formed master ask to from Byte f t n m = record {
   writable = record { fits = (t, n, count_is (slots_in f) m.count, slots_writable (slots_in f) m.slots); room = omega (arith, m.room) };
-  shown = ap (λ xs. RunMessage (run_head master false ask to from f) xs) (slots_told (slots_in f) m.slots);
+  shown = ap (λ xs. RunMessage (run_head master false ask to from f) xs) (slots_heard (slots_in f) m.slots);
 }
 run_formed master ask to from Word f t n m = record {
   writable = record { fits = (t, n, count_is (slots_in f) m.count, slots_writable (slots_in f) m.slots); room = omega (arith, m.room) };
-  shown = ap (λ xs. WideMessage (run_head master true ask to from f) xs) (slots_told (slots_in f) m.slots);
+  shown = ap (λ xs. WideMessage (run_head master true ask to from f) xs) (slots_heard (slots_in f) m.slots);
 }
 
 -- no slots are a message

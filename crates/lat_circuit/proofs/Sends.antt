@@ -8,7 +8,7 @@ use Rattle.lat_model.specs.numbers.Link.{Link, form_message, formed_frame, windo
 use Rattle.lat_model.specs.sessions.Slots.{Slot}
 use Rattle.lat_model.specs.sessions.Sessions.{Sessions, held}
 use Rattle.lat_model.specs.sessions.Packing.{Packing, pack}
-use Rattle.lat_model.specs.ends.End.{End, Step, still, wire_of, all_known, settle, send_message, form_packed, occasion}
+use Rattle.lat_model.specs.ends.End.{End, Step, still, wire_of, all_known, acknowledge, send_message, form_packed, occasion}
 use Rattle.lat_model.specs.ends.Timers.{note_empty}
 use Rattle.lat_link.specs.Links as link
 use Rattle.lat_link.specs.Payloads.{is_wide, run_payload}
@@ -144,7 +144,7 @@ pub idle_did : (a : Inside) (new : Table) (count : ℕ) (l : Kept) (before after
     → ((s : Sessions) → sessions.Stands a.sessions s → sessions.Stands new (pack a.room s).after)
     → ((s : Sessions) → sessions.Stands a.sessions s → count ≡ length (pack a.room s).slots)
     → count ≡ 0
-    → Simulates settle (shown (record a { sessions = new })) l before after
+    → Simulates acknowledge (shown (record a { sessions = new })) l before after
     → Simulates occasion (shown a) l before after
 idle_did a new count l before after wide packs counts none did = λ e st.
     let p : Packing = pack a.room e.half.sessions in
@@ -154,9 +154,9 @@ idle_did a new count l before after wide packs counts none did = λ e st.
     let P : Step → Type 0 = λ s. Stands l s.end × (after ≡ before ++ map (frame_sent l.facts) s.sent) × AreFormed l.facts s.sent in
     subst P
     (sym (
-    ap (λ b. cond b (form_packed (pack e.room e.half.sessions) e) (settle e)) (wide e st)
+    ap (λ b. cond b (form_packed (pack e.room e.half.sessions) e) (acknowledge e)) (wide e st)
     ∙ ap (λ r. form_packed (pack r e.half.sessions) e) (sym st.room)
-    ∙ ap (λ b. cond b (settle e) (send_message p e)) empty
+    ∙ ap (λ b. cond b (acknowledge e) (send_message p e)) empty
     ))
     (did e (with_sessions a new e e.half.sessions st stays))
 
@@ -176,8 +176,8 @@ busy_did a new count l before after wide packs counts some did = λ e st.
     let P : Step → Type 0 = λ s. Stands l s.end × (after ≡ before ++ map (frame_sent l.facts) s.sent) × AreFormed l.facts s.sent in
     subst P
     (sym (
-    ap (λ b. cond b (form_packed (pack e.room e.half.sessions) e) (settle e)) (wide e st)
+    ap (λ b. cond b (form_packed (pack e.room e.half.sessions) e) (acknowledge e)) (wide e st)
     ∙ ap (λ r. form_packed (pack r e.half.sessions) e) (sym st.room)
-    ∙ ap (λ b. cond b (settle e) (send_message p e)) full
+    ∙ ap (λ b. cond b (acknowledge e) (send_message p e)) full
     ))
     (did e st (with_sessions a new e p.after st (packs e.half.sessions st.sessions)))

@@ -60,13 +60,13 @@ applied_step a =
       | Some answer ↦ record { step = slave_occasion a.end; answer = answer }
     ]
 
-abbrev pub answer_told : {E : Type 0} → Result OwnHeard E → Option Heard
-answer_told (Ok answer) = Some (heard_shown answer)
-answer_told (Err e) = None
+abbrev pub some_answer : {E : Type 0} → Result OwnHeard E → Option Heard
+some_answer (Ok answer) = Some (heard_shown answer)
+some_answer (Err e) = None
 
 -- the circuit applied this to every end that it stood for, and answered so
 abbrev pub Applies : {E : Type 0} → (End → Applied) → Result OwnHeard E → (old new : Kept) → Type 0
-Applies f result old new = (e : End) → Stands old e → Stands new (f e).end × (answer_told result ≡ (f e).answer)
+Applies f result old new = (e : End) → Stands old e → Stands new (f e).end × (some_answer result ≡ (f e).answer)
 
 -- the end lives and runs as before
 pub record GoesOn (old new : Kept) : Type 0 where

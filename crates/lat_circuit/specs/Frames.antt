@@ -11,7 +11,7 @@ use Rattle.lat_frames.specs.declared.message.Head.{Head as ReadHead}
 use Rattle.lat_frames.specs.declared.message.WideHead.{WideHead as ReadWideHead}
 use Rattle.lat_frames.specs.declared.message.StartInfo.{StartInfo as ReadInfo}
 use Rattle.lat_frames.specs.Written.{IsWritable, message_text}
-use Rattle.lat_stream.specs.Wire.{told}
+use Rattle.lat_stream.specs.Wire.{slot_heard}
 use Rattle.lat_model.specs.Lists.{Each}
 use Rattle.lat_model.specs.ends.End.{Mark, Fresh, Again, Bare, Sent, Run, CallStart, ReplyStart, Stopped}
 use Rattle.lat_machines.specs.values.Messages.{Param, Head, StartInfo, Message, RunMessage, WideMessage, StartMessage, StopMessage}
@@ -110,8 +110,8 @@ info_shown i = record {
 }
 
 abbrev pub message_shown : ReadMessage → Message
-message_shown (frames.Run head slots) = RunMessage (head_shown head) (map told slots)
-message_shown (frames.Wide head slots) = WideMessage (wide_head_shown head) (map told slots)
+message_shown (frames.Run head slots) = RunMessage (head_shown head) (map slot_heard slots)
+message_shown (frames.Wide head slots) = WideMessage (wide_head_shown head) (map slot_heard slots)
 message_shown (frames.Start master ask to from info) = StartMessage master ask to from (info_shown info)
 message_shown (frames.Stop master ask to from reason text) = StopMessage master ask to from reason text
 

@@ -7,5 +7,5 @@ pub mod Hears
 pub mod Applies
 pub mod Agrees
 pub mod Begins
-pub mod Told
+pub mod Info
 pub mod Times

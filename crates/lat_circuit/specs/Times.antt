@@ -16,10 +16,10 @@ act_step e = cond (silent e) (finish 6 e) (heard_step e)
 abbrev pub form_due : End → Step
 form_due e = cond (may_form e) (occasion (record e { due_at = e.moment })) (still (record e { due_at = e.moment }))
 
-abbrev pub due_told : Option ℕ → ℕ → Due
-due_told None frames = cond (nat_eq frames 0) Quiet (Sent frames)
-due_told (Some reason) frames = Ended reason
+abbrev pub due_sent : Option ℕ → ℕ → Due
+due_sent None frames = cond (nat_eq frames 0) Quiet (Sent frames)
+due_sent (Some reason) frames = Ended reason
 
 -- of a step: the reason of the end where it has ended, else how many frames were made
 abbrev pub due_of : Step → Due
-due_of s = due_told s.end.ended (length s.sent)
+due_of s = due_sent s.end.ended (length s.sent)

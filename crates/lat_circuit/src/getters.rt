@@ -13,7 +13,7 @@ ghost use Rattle.lat_session.specs.States.{asked_of, asked_at, is_asked};
 ghost use Rattle.lat_session.specs.Table.{state_at, waiting_at};
 ghost use Rattle.lat_circuit.specs.Agrees.{span_of};
 ghost use Rattle.lat_circuit.specs.Stands.{Stands};
-ghost use Rattle.lat_circuit.specs.Told.{session_state, session_end, circuit_end};
+ghost use Rattle.lat_circuit.specs.Info.{session_state, session_end, circuit_end};
 
 use crate::circuit::Circuit;
 use crate::config::CircuitConfig;

@@ -11,7 +11,7 @@ ghost use Rattle.lat_machines.specs.cores.Hearing.{fits_kind};
 ghost use Rattle.lat_machines.specs.values.Timing.{half_range};
 ghost use Rattle.lat_seq.specs.Spans.{half};
 ghost use Rattle.lat_slots.specs.Layout.{IsWritable};
-ghost use Rattle.lat_stream.specs.Wire.{told};
+ghost use Rattle.lat_stream.specs.Wire.{slot_heard};
 ghost use Rattle.lat_session.specs.Stands.{Stands as SessionsStand};
 ghost use Rattle.lat_session.specs.Table.{SameEnd};
 ghost use Rattle.lat_circuit.specs.Applies.{number_heard, ack_heard, apply_slots, apply_body, apply, applied_step, slave_occasion, Applies, GoesOn};
@@ -47,7 +47,7 @@ impl Circuit {
         requires moment { self.old.moments.now ≤ now }
         requires fields { wide ≡ false → (head.seq < 256) × (head.ack < 256) }
         requires slots { (length slots.now < 256) × AllByRecursion IsWritable slots.now }
-        ensures did { SimulatesHearing (hears_run self.old.facts.id now wide (wide_head_shown head) (map told slots.now)) result self.old self.new out.old out.new }
+        ensures did { SimulatesHearing (hears_run self.old.facts.id now wide (wide_head_shown head) (map slot_heard slots.now)) result self.old self.new out.old out.new }
         ensures remains { Remains now self.old self.new }
         ensures most { length out.new ≤ length out.old + 1 }
     {
@@ -87,7 +87,7 @@ impl Circuit {
         requires room { length out.old < 256 }
         requires fields { (head.now.seq < 2 * half self.old.link.sending.span) × (head.now.ack < 2 * half self.old.link.sending.span) }
         requires slots { (length slots.now < 256) × AllByRecursion IsWritable slots.now }
-        ensures did { SimulatesHearing (λ e. applied_step (apply (wide_head_shown head.now) (map told slots.now) e)) result self.old self.new out.old out.new }
+        ensures did { SimulatesHearing (λ e. applied_step (apply (wide_head_shown head.now) (map slot_heard slots.now) e)) result self.old self.new out.old out.new }
         ensures keeps { Keeps self.old self.new }
         ensures most { length out.new ≤ length out.old + 1 }
     {
@@ -122,7 +122,7 @@ impl Circuit {
         requires running { self.old.running ≡ true }
         requires fields { (head.now.seq < 2 * half self.old.link.sending.span) × (head.now.ack < 2 * half self.old.link.sending.span) }
         requires slots { (length slots.now < 256) × AllByRecursion IsWritable slots.now }
-        ensures applies { Applies (apply (wide_head_shown head.now) (map told slots.now)) result self.old self.new }
+        ensures applies { Applies (apply (wide_head_shown head.now) (map slot_heard slots.now)) result self.old self.new }
         ensures keeps { Keeps self.old self.new }
         ensures goes_on { GoesOn self.old self.new }
     {
@@ -160,7 +160,7 @@ impl Circuit {
         requires running { self.old.running ≡ true }
         requires field { number < 2 * half self.old.link.sending.span }
         requires slots { (length slots.now < 256) × AllByRecursion IsWritable slots.now }
-        ensures applies { Applies (λ e. apply_body (number_heard number e) ask (map told slots.now) e) result self.old self.new }
+        ensures applies { Applies (λ e. apply_body (number_heard number e) ask (map slot_heard slots.now) e) result self.old self.new }
         ensures keeps { Keeps self.old self.new }
         ensures goes_on { GoesOn self.old self.new }
     {
@@ -179,7 +179,7 @@ impl Circuit {
     fn take_slots(&mut self, slots: &[Slot]) -> Result<Heard, Broken>
         requires running { self.old.running ≡ true }
         requires slots { (length slots.now < 256) × AllByRecursion IsWritable slots.now }
-        ensures applies { Applies (apply_slots (map told slots.now)) result self.old self.new }
+        ensures applies { Applies (apply_slots (map slot_heard slots.now)) result self.old self.new }
         ensures keeps { Keeps self.old self.new }
         ensures goes_on { GoesOn self.old self.new }
     {
@@ -193,8 +193,8 @@ impl Circuit {
 // Applies the slots in order, up to the first bad one.
 fn hear_slots(sessions: &mut Sessions, slots: &[Slot]) -> Result<(), Broken>
     requires { AllByRecursion IsWritable slots.now }
-    ensures state { (e : States) → SessionsStand sessions.old e → SessionsStand sessions.new (hear_all (map told slots.now) e).after }
-    ensures answer { (e : States) → SessionsStand sessions.old e → is_ok result ≡ (hear_all (map told slots.now) e).good }
+    ensures state { (e : States) → SessionsStand sessions.old e → SessionsStand sessions.new (hear_all (map slot_heard slots.now) e).after }
+    ensures answer { (e : States) → SessionsStand sessions.old e → is_ok result ≡ (hear_all (map slot_heard slots.now) e).good }
     ensures same { SameEnd sessions.old sessions.new }
 {
     for slot in slots {

@@ -4,7 +4,7 @@ ghost use Rattle.std.specs.Prelude.{◌≡◌, ◌+◌, ◌<◌, ◌≤◌, ◌+
 ghost use Rattle.lat_base.specs.declared.outbox.Mark.TheVariants.{Fresh};
 ghost use Rattle.lat_base.specs.Lending.{frame_of};
 ghost use Rattle.lat_frames.specs.Reasons.{end_bits};
-ghost use Rattle.lat_model.specs.ends.End.{End, send_bare, settle, occasion, send_again, marked, send_start, finish, all_known};
+ghost use Rattle.lat_model.specs.ends.End.{End, send_bare, acknowledge, occasion, send_again, marked, send_start, finish, all_known};
 ghost use Rattle.lat_model.specs.numbers.Link.{again_frames};
 ghost use Rattle.lat_model.specs.sessions.Slots.{Slot};
 ghost use Rattle.lat_link.specs.Payloads.{head_size};
@@ -39,10 +39,10 @@ impl Circuit {
     }
 
     /// Sends the acknowledgement that is owed. The circuit must run.
-    pub(crate) fn settle(&mut self, out: &mut OutBox)
+    pub(crate) fn acknowledge(&mut self, out: &mut OutBox)
         requires room { length out.old < 256 }
         requires running { self.old.running ≡ true }
-        ensures did { Simulates settle self.old self.new out.old out.new }
+        ensures did { Simulates acknowledge self.old self.new out.old out.new }
         ensures keeps { Keeps self.old self.new }
         ensures most { length out.new ≤ length out.old + 1 }
     {
@@ -94,14 +94,14 @@ impl Circuit {
         ensures most { length out.new ≤ length out.old + 1 }
     {
         if !self.link.is_open() {
-            return self.settle(out);
+            return self.acknowledge(out);
         }
         let payload = lend(out, self, Mark::Fresh);
         self.link.begin(payload);
         let slots = self.sessions.pack(self.room, payload);
         if slots == 0 {
             out.withdraw();
-            return self.settle(out);
+            return self.acknowledge(out);
         }
         self.form(slots, payload);
     }

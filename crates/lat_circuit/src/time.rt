@@ -6,7 +6,7 @@ ghost use Rattle.lat_model.specs.ends.Timers.{note_empty, time_step, a_round, ro
 ghost use Rattle.lat_session.specs.Table.{SameEnd};
 ghost use Rattle.lat_circuit.specs.Stands.{Stands, Simulates};
 ghost use Rattle.lat_circuit.specs.Steps.{Keeps};
-ghost use Rattle.lat_circuit.specs.Times.{act_step, form_due, due_told, due_of};
+ghost use Rattle.lat_circuit.specs.Times.{act_step, form_due, due_sent, due_of};
 
 use crate::circuit::Circuit;
 use lat_base::OutBox;
@@ -46,12 +46,12 @@ impl Circuit {
         self.act(out);
         self.note_empty(was_held);
         let frames = out.len().saturating_sub(before) as u8;
-        self.told(frames)
+        self.due_sent(frames)
     }
 
     // What it tells, where it has made so many frames.
-    fn told(&self, frames: u8) -> Due
-        ensures { result ≡ due_told self.now.ended frames }
+    fn due_sent(&self, frames: u8) -> Due
+        ensures { result ≡ due_sent self.now.ended frames }
     {
         match self.ended {
             Some(reason) => Due::Ended(reason),
@@ -186,7 +186,7 @@ impl Circuit {
 }
 
 fn sent(frames: u8) -> Due
-    ensures { result ≡ due_told None frames }
+    ensures { result ≡ due_sent None frames }
 {
     if frames == 0 {
         Due::Quiet

@@ -20,7 +20,7 @@ use Rattle.lat_circuit.specs.Begins.{Begins, facts_called}
 use Rattle.lat_circuit.specs.Frames.{timing_shown}
 use Rattle.lat_circuits.specs.Kept.{Kept, Holds, side_of}
 use Rattle.lat_circuits.specs.Stands.{Stands, Simulates, IsCircuit}
-use Rattle.lat_circuits.specs.Opens.{id_told, called_core}
+use Rattle.lat_circuits.specs.Opens.{id_or_zero, called_core}
 use Rattle.lat_circuits.proofs.Places.{id_of}
 use Rattle.lat_circuits.proofs.Ids.{least_held, living_held}
 use Rattle.lat_circuits.proofs.Begun.{IsNew, held_too, named_core, begins_core, holds_begun, stands_begun, adds_begun}
@@ -70,21 +70,21 @@ and_turned true false = refl
 and_turned false true = refl
 and_turned false false = refl
 
-first_to : (c : Core) (to : ℕ) (qs : List circuit.Kept) → Each (IsCircuit c) qs → id_told (option_map id_of (find (is_one_to to) qs)) ≡ least (leads_to c to) (map id_of qs)
+first_to : (c : Core) (to : ℕ) (qs : List circuit.Kept) → Each (IsCircuit c) qs → id_or_zero (option_map id_of (find (is_one_to to) qs)) ≡ least (leads_to c to) (map id_of qs)
 first_to c to [] e = refl
 first_to c to (q ∷ qs) e =
     let same : is_one_to to q ≡ leads_to c to q.facts.id =
     ap (λ b. b && nat_eq (address q.facts.config.peer.0) to) (sym (lives_told q (c.circuits.circuit_at q.facts.id).end e.0.end))
     ∙ and_turned (lives_in c q.facts.id) (nat_eq (address q.facts.config.peer.0) to)
     ∙ ap (λ n. nat_eq n to && lives_in c q.facts.id) e.0.address in
-    ap (λ b. id_told (option_map id_of (cond b (Some q) (find (is_one_to to) qs)))) same ∙ by (leads_to c to q.facts.id) (first_to c to qs e.1)
+    ap (λ b. id_or_zero (option_map id_of (cond b (Some q) (find (is_one_to to) qs)))) same ∙ by (leads_to c to q.facts.id) (first_to c to qs e.1)
   where
-    by : (b : Bool) → id_told (option_map id_of (find (is_one_to to) qs)) ≡ least (leads_to c to) (map id_of qs)
-        → id_told (option_map id_of (cond b (Some q) (find (is_one_to to) qs))) ≡ cond b q.facts.id (least (leads_to c to) (map id_of qs))
+    by : (b : Bool) → id_or_zero (option_map id_of (find (is_one_to to) qs)) ≡ least (leads_to c to) (map id_of qs)
+        → id_or_zero (option_map id_of (cond b (Some q) (find (is_one_to to) qs))) ≡ cond b q.facts.id (least (leads_to c to) (map id_of qs))
     by true h = refl
     by false h = h
 
-pub one_to : (k : Kept) (c : Core) (to : ℕ) → Holds k → Stands k c → id_told (option_map id_of (find (is_one_to to) k.held)) ≡ circuit_to c to
+pub one_to : (k : Kept) (c : Core) (to : ℕ) → Holds k → Stands k c → id_or_zero (option_map id_of (find (is_one_to to) k.held)) ≡ circuit_to c to
 one_to k c to h st =
     first_to c to k.held st.each
     ∙ sym (least_held k c (leads_to c to) h st (record { lives = λ i is. (and_parts (nat_eq (c.circuits.circuit_at i).address to) (lives_in c i) is).1 }))

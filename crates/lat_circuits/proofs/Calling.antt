@@ -20,7 +20,7 @@ use Rattle.lat_circuit.specs.Stands as circuit_stands
 use Rattle.lat_circuit.specs.Steps.{Keeps}
 use Rattle.lat_circuits.specs.Kept.{Kept, Holds, IsOwn, IsClear, SameCircuits, side_of}
 use Rattle.lat_circuits.specs.Stands.{Stands, IsCircuit, calling}
-use Rattle.lat_circuits.specs.Told.{held_circuit, asks_in, is_asked_at}
+use Rattle.lat_circuits.specs.Info.{held_circuit, asks_in, is_asked_at}
 use Rattle.lat_circuits.specs.Living.{IsLiving, LivesAt, NoneAsks, lives_in, waits_at}
 use Rattle.lat_circuits.proofs.Held.{each_at, each_set, each_weaker}
 use Rattle.lat_circuits.proofs.Places.{Became, act_at, own_after, same_after, holds_after, put_core}

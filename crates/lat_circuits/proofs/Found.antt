@@ -16,7 +16,7 @@ use Rattle.lat_circuit.specs.Kept as circuit
 use Rattle.lat_circuit.specs.Stands as circuit_stands
 use Rattle.lat_circuits.specs.Kept.{Kept, Holds, IsOwn, has_id}
 use Rattle.lat_circuits.specs.Stands.{Stands, IsCircuit}
-use Rattle.lat_circuits.specs.Told.{held_circuit, is_of_circuit}
+use Rattle.lat_circuits.specs.Info.{held_circuit, is_of_circuit}
 use Rattle.lat_circuits.specs.Living.{lives_in}
 use Rattle.lat_circuits.proofs.Held.{rising_above}
 

@@ -7,7 +7,7 @@ use Rattle.lat_frames.specs.declared.message.Message.TheVariants as frames
 use Rattle.lat_frames.specs.declared.message.Head.{Head}
 use Rattle.lat_frames.specs.declared.message.WideHead.{WideHead}
 use Rattle.lat_frames.specs.declared.message.StartInfo.{StartInfo as ReadInfo}
-use Rattle.lat_stream.specs.Wire.{told}
+use Rattle.lat_stream.specs.Wire.{slot_heard}
 use Rattle.lat_model.specs.ends.End.{End}
 use Rattle.lat_model.specs.ends.Starting.{again_start}
 use Rattle.lat_model.specs.ends.Timers.{note_empty}
@@ -30,11 +30,11 @@ use Rattle.lat_circuits.proofs.Places.{id_of, id_read}
 
 pub run_read : (k : Side) (c : Core) (from : ℕ) (m : ReadMessage) (h : Head) (slots : List Slot) → m ≡ frames.Run h slots
     → heard_core k from (message_shown m) c ≡ hears_named k h.to from (message_shown m) c
-run_read k c from m h slots is = subst (λ z. heard_core k from (message_shown z) c ≡ hears_named k h.to from (message_shown z) c) (sym is) (core_run k c from (head_shown h) (map told slots))
+run_read k c from m h slots is = subst (λ z. heard_core k from (message_shown z) c ≡ hears_named k h.to from (message_shown z) c) (sym is) (core_run k c from (head_shown h) (map slot_heard slots))
 
 pub wide_read : (k : Side) (c : Core) (from : ℕ) (m : ReadMessage) (h : WideHead) (slots : List Slot) → m ≡ frames.Wide h slots
     → heard_core k from (message_shown m) c ≡ hears_named k h.to from (message_shown m) c
-wide_read k c from m h slots is = subst (λ z. heard_core k from (message_shown z) c ≡ hears_named k h.to from (message_shown z) c) (sym is) (core_wide k c from (wide_head_shown h) (map told slots))
+wide_read k c from m h slots is = subst (λ z. heard_core k from (message_shown z) c ≡ hears_named k h.to from (message_shown z) c) (sym is) (core_wide k c from (wide_head_shown h) (map slot_heard slots))
 
 pub stop_read : (k : Side) (c : Core) (from : ℕ) (m : ReadMessage) (master ask : Bool) (to source reason : ℕ) (text : List ℕ) → m ≡ frames.Stop master ask to source reason text
     → heard_core k from (message_shown m) c ≡ hears_named k to from (message_shown m) c

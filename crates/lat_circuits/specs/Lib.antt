@@ -1,7 +1,7 @@
 pub mod Kept
 pub mod Stands
 pub mod Hears
-pub mod Told
+pub mod Info
 pub mod Living
 pub mod Shown
 pub mod Opens

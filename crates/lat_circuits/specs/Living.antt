@@ -9,7 +9,7 @@ use Rattle.lat_session.specs.Table.{state_at}
 use Rattle.lat_circuit.specs.Kept as circuit
 use Rattle.lat_circuits.specs.Kept.{Kept}
 use Rattle.lat_circuits.specs.Stands.{Stands}
-use Rattle.lat_circuits.specs.Told.{held_circuit, is_asked_at}
+use Rattle.lat_circuits.specs.Info.{held_circuit, is_asked_at}
 
 abbrev pub lives_in : Option circuit.Kept → Bool
 lives_in None = false

@@ -6,9 +6,9 @@ use Rattle.lat_machines.specs.cores.Acts.{call_at}
 use Rattle.lat_machines.specs.cores.Cores.{Side, Core, Doing, acts, setup_of}
 
 -- an id, as the machines know it: 0 for none
-abbrev pub id_told : Option ℕ → ℕ
-id_told None = 0
-id_told (Some id) = id
+abbrev pub id_or_zero : Option ℕ → ℕ
+id_or_zero None = 0
+id_or_zero (Some id) = id
 
 -- a circuit is called to the node of this name
 abbrev pub called_core : Side → ℕ → Name → Core → Doing

@@ -11,7 +11,7 @@ ghost use Rattle.lat_stream.specs.Kept.{item_shown};
 ghost use Rattle.lat_session.specs.Calls.{call_of, bytes_in};
 ghost use Rattle.lat_circuits.specs.Kept.{side_of, SameCircuits, IsClear};
 ghost use Rattle.lat_circuits.specs.Stands.{Stands, calling};
-ghost use Rattle.lat_circuits.specs.Told.{sessions_at, session_at, held_circuit, ready, is_asked_at, answer_at};
+ghost use Rattle.lat_circuits.specs.Info.{sessions_at, session_at, held_circuit, ready, is_asked_at, answer_at};
 ghost use Rattle.lat_circuits.specs.Living.{lives_in, LivesAt, AsksAt, NoneAsks};
 
 use crate::circuits::Circuits;

@@ -14,15 +14,15 @@ ghost use Rattle.lat_machines.specs.cores.Cores.{Core, span};
 ghost use Rattle.lat_machines.specs.cores.Hearing.{names};
 ghost use Rattle.lat_session.specs.States.{asked_at};
 ghost use Rattle.lat_circuit.specs.Kept.{Kept};
-ghost use Rattle.lat_circuit.specs.Told.{session_state};
+ghost use Rattle.lat_circuit.specs.Info.{session_state};
 ghost use Rattle.lat_circuits.specs.Kept.{has_id, IsOwn};
 ghost use Rattle.lat_circuits.specs.Stands.{Stands, IsCircuit};
-ghost use Rattle.lat_circuits.specs.Told.{sessions_at, session_at, held_circuit, is_of_circuit};
-ghost use Rattle.lat_circuits.specs.Told.{telling, telling_of, ready, span_told, is_asked_at};
+ghost use Rattle.lat_circuits.specs.Info.{sessions_at, session_at, held_circuit, is_of_circuit};
+ghost use Rattle.lat_circuits.specs.Info.{telling, telling_of, ready, some_span, is_asked_at};
 
 use crate::circuits::Circuits;
 use crate::hearing::is_to;
-use crate::told::Told;
+use crate::info::Info;
 use lat_base::{Addr, Name, SessionState};
 use lat_circuit::{Asked, Circuit};
 use lat_seq::Span;
@@ -44,7 +44,7 @@ impl Circuits {
     }
 
     /// The present or last session of an id, `None` where the circuit isn't held.
-    pub fn told(&self, circuit: u16, id: u8) -> Option<Told>
+    pub fn info(&self, circuit: u16, id: u8) -> Option<Info>
         ensures model { (c : Core) → Stands self.now c → IfSome result (λ t. telling t ≡ telling_of c circuit id) }
         ensures held { is_some result ≡ has_id circuit self.now }
         ensures within { IfSome result (λ t. (1 ≤ circuit) × (circuit ≤ self.now.drawn)) }
@@ -139,7 +139,7 @@ impl Circuits {
 
     /// How far the message numbers of a circuit count, `None` exactly where no circuit of this id lives.
     pub fn span(&self, circuit: u16) -> Option<Span>
-        ensures { (c : Core) → Stands self.now c → result ≡ span_told (span c circuit) }
+        ensures { (c : Core) → Stands self.now c → result ≡ some_span (span c circuit) }
     {
         let held = self.circuit(circuit)?;
         if held.lives() {
@@ -174,11 +174,11 @@ fn circuit_of(held: &[Circuit], id: u16) -> Option<&Circuit>
 }
 
 // What a circuit tells of a session.
-fn tell(circuit: &Circuit, id: u8) -> Told
+fn tell(circuit: &Circuit, id: u8) -> Info
     ensures { (c : Core) → IsCircuit c circuit.now → telling result ≡ telling_of c circuit.now.facts.id id }
 {
     let (given, used) = circuit.totals(id);
-    Told {
+    Info {
         peer: circuit.config().peer,
         peer_circuit: circuit.peer_id(),
         peer_session: circuit.peer(id),

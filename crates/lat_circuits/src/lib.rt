@@ -5,11 +5,11 @@ mod calls;
 mod circuits;
 mod getters;
 mod hearing;
+mod info;
 mod opening;
 mod time;
-mod told;
 
 pub use circuits::Circuits;
 pub use hearing::Hearing;
+pub use info::Info;
 pub use lat_circuit::{Asked, SessionCall, SessionFault, Timing};
-pub use told::Told;

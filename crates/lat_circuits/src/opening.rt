@@ -16,8 +16,8 @@ ghost use Rattle.lat_circuit.specs.Kept.{Kept};
 ghost use Rattle.lat_circuit.specs.Stands as circuit_stands;
 ghost use Rattle.lat_circuits.specs.Kept.{side_of, SameCore, SameCircuits, has_id, IsClear};
 ghost use Rattle.lat_circuits.specs.Stands.{Stands, Simulates, calling};
-ghost use Rattle.lat_circuits.specs.Told.{sessions_at};
-ghost use Rattle.lat_circuits.specs.Opens.{id_told, called_core};
+ghost use Rattle.lat_circuits.specs.Info.{sessions_at};
+ghost use Rattle.lat_circuits.specs.Opens.{id_or_zero, called_core};
 
 use crate::circuits::Circuits;
 use crate::hearing::is_to;
@@ -27,7 +27,7 @@ use lat_circuit::{Circuit, SessionFault};
 impl Circuits {
     /// The id of the living circuit to a station, `None` where none lives.
     pub fn to(&self, peer: Addr) -> Option<u16>
-        ensures model { (c : Core) → Stands self.now c → id_told result ≡ circuit_to c (address peer.0) }
+        ensures model { (c : Core) → Stands self.now c → id_or_zero result ≡ circuit_to c (address peer.0) }
         ensures lives { (c : Core) → Stands self.now c → IfSome result (λ id. lives (c.circuits.circuit_at id).end ≡ true) }
     {
         id_to(&self.held, peer)

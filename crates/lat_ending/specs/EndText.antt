@@ -8,7 +8,7 @@ use Rattle.lat_history.specs.declared.fault.FullAt.{FullAt}
 use Rattle.lat_history.specs.declared.fault.SeatFault.{SeatFault}
 use Rattle.lat_history.specs.CellView.{SeatView}
 use Rattle.lat_history.specs.Counts.{seat_of}
-use Rattle.lat_history.specs.Audits.{kept_bytes, audit_of}
+use Rattle.lat_history.specs.Audits.{past_bytes, audit_of}
 use Rattle.lat_cell.specs.declared.seat.LineDone.{LineDone}
 use Rattle.lat_cell.specs.declared.seat.LineDone.TheVariants as done
 
@@ -26,7 +26,7 @@ abbrev pub took_items : ℕ → List Past → ℕ
 took_items line h = sum_by (took_at line) h
 
 abbrev pub line_text : ℕ → List Past → LineDone → List ℕ
-line_text k h d = codes "line " ++ (decimal k ++ (codes " put " ++ (decimal (kept_bytes k h) ++ (codes " took " ++ (decimal (took_items k h) ++ (codes " end " ++ (word_of d ++ codes "\n")))))))
+line_text k h d = codes "line " ++ (decimal k ++ (codes " put " ++ (decimal (past_bytes k h) ++ (codes " took " ++ (decimal (took_items k h) ++ (codes " end " ++ (word_of d ++ codes "\n")))))))
 
 -- the lines from this number on
 abbrev pub lines_text : ℕ → List Past → List LineDone → List ℕ

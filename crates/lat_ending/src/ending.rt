@@ -7,7 +7,7 @@ ghost use Rattle.lat_ending.specs.EndText.{word_of, took_items, line_text, lines
 
 use lat_base::{Answer, Core};
 use lat_cell::{Cell, LineDone, LineShare, Past, SeatFault};
-use lat_history::{kept_bytes, seat};
+use lat_history::{past_bytes, seat};
 use lat_outside::{Sink, Tx, write_all};
 use std::alloc::{AllocError, Global};
 use std::sync::ledger::Ledger;
@@ -52,7 +52,7 @@ fn line_onto(text: &mut String, k: u8, history: &[Past], done: LineDone) -> Resu
     requires { length history.now ≤ 1000000 }
     ensures { OnOk result (string_bytes text.new ≡ string_bytes text.old ++ line_text k history.now done) }
 {
-    let put = kept_bytes(k, history);
+    let put = past_bytes(k, history);
     let took = took_items(k, history);
     let word = word_of(done);
     write!(text, "line {k} put {put} took {took} end {word}\n")

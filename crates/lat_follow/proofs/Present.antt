@@ -10,7 +10,7 @@ use Rattle.lat_machines.specs.cores.Books.{LineSession, line_session, LineBook, 
 use Rattle.lat_machines.specs.world.Machines.{Machines, core_of}
 use Rattle.lat_stream.specs.Kept.{saturated}
 use Rattle.lat_lines.specs.Kept.{IsLine}
-use Rattle.lat_lines.specs.Stands.{session_shown, session_told, book_shown, book_told, IsSeat}
+use Rattle.lat_lines.specs.Stands.{session_shown, session_info, book_shown, book_info, IsSeat}
 use Rattle.lat_tales.specs.Books.{InBooks, lines_at}
 use Rattle.lat_wire.specs.Kept as wires
 use Rattle.lat_wire.specs.Stands.{Stands}
@@ -33,28 +33,28 @@ some_same x y h = cc
 
 -- a line's book, as it is told
 
-pub absent : (c : Core) (line number : ℕ) (b : base_book.LineBook) → book_shown b ≡ book_told (book c line) → b.present ≡ None → NotOn c number line
-absent c line number b e n s q = absurd (none_some (session_told s) (sym (ap (option_map session_shown) n) ∙ (ap (λ (z : LineBook). z.present) e ∙ ap (option_map session_told) q)))
+pub absent : (c : Core) (line number : ℕ) (b : base_book.LineBook) → book_shown b ≡ book_info (book c line) → b.present ≡ None → NotOn c number line
+absent c line number b e n s q = absurd (none_some (session_info s) (sym (ap (option_map session_shown) n) ∙ (ap (λ (z : LineBook). z.present) e ∙ ap (option_map session_info) q)))
 
-pub another : (c : Core) (line number : ℕ) (b : base_book.LineBook) (y : base.LineSession) → book_shown b ≡ book_told (book c line) → b.present ≡ Some y → y.number ≢ number → NotOn c number line
+pub another : (c : Core) (line number : ℕ) (b : base_book.LineBook) (y : base.LineSession) → book_shown b ≡ book_info (book c line) → b.present ≡ Some y → y.number ≢ number → NotOn c number line
 another c line number b y e n d s q t =
-    let same : session_shown y ≡ session_told s = some_same (session_shown y) (session_told s) (sym (ap (option_map session_shown) n) ∙ (ap (λ (z : LineBook). z.present) e ∙ ap (option_map session_told) q)) in
+    let same : session_shown y ≡ session_info s = some_same (session_shown y) (session_info s) (sym (ap (option_map session_shown) n) ∙ (ap (λ (z : LineBook). z.present) e ∙ ap (option_map session_info) q)) in
     d (ap (λ (z : LineSession). z.number) same ∙ t)
 
-pub found_on : (c : Core) (line number : ℕ) (b : base_book.LineBook) (y : base.LineSession) (n : Newcomer) → book_shown b ≡ book_told (book c line) → b.present ≡ Some y → y.number ≡ number → n.line ≡ line → n.session ≡ y → n.last ≡ b.last → IsPresent c number n
+pub found_on : (c : Core) (line number : ℕ) (b : base_book.LineBook) (y : base.LineSession) (n : Newcomer) → book_shown b ≡ book_info (book c line) → b.present ≡ Some y → y.number ≡ number → n.line ≡ line → n.session ≡ y → n.last ≡ b.last → IsPresent c number n
 found_on c line number b y n e p q on is last = go (book c line).present refl
   where
-    told : Some (session_shown y) ≡ option_map session_told (book c line).present
+    told : Some (session_shown y) ≡ option_map session_info (book c line).present
     told = sym (ap (option_map session_shown) p) ∙ ap (λ (z : LineBook). z.present) e
 
     go : (o : Option LineSession) → (book c line).present ≡ o → IsPresent c number n
-    go None h = absurd (none_some (session_shown y) (sym (told ∙ ap (option_map session_told) h)))
-    go (Some s) h = (let same : session_shown y ≡ session_told s = some_same (session_shown y) (session_told s) (told ∙ ap (option_map session_told) h) in record {
+    go None h = absurd (none_some (session_shown y) (sym (told ∙ ap (option_map session_info) h)))
+    go (Some s) h = (let same : session_shown y ≡ session_info s = some_same (session_shown y) (session_info s) (told ∙ ap (option_map session_info) h) in record {
       session = s;
       present = ap (λ l. (book c l).present) on ∙ h;
       number_is = sym (ap (λ (z : LineSession). z.number) same) ∙ q;
       shown = ap session_shown is ∙ same;
-      last = ap (option_map session_shown) last ∙ (ap (λ (z : LineBook). z.last) e ∙ ap (λ l. option_map session_told (book c l).last) (sym on));
+      last = ap (option_map session_shown) last ∙ (ap (λ (z : LineBook). z.last) e ∙ ap (λ l. option_map session_info (book c l).last) (sym on));
     })
 
 -- the line of a session exists
@@ -73,8 +73,8 @@ newcomer_is c lines number front rest s None books q l i h =
     h s.line i (line_session c (suc (length front)) s) (ap (λ (z : LineBook). z.present) books.0) (exact_told (suc (length front)) number (sym q) l)
 newcomer_is c lines number front rest s (Some n) books q l i h = record {
   line = on;
-  shown = h.shown ∙ ap session_told same;
-  last = h.last ∙ ap (λ (z : LineBook). option_map session_told z.last) (ap (book c) on ∙ books.0);
+  shown = h.shown ∙ ap session_info same;
+  last = h.last ∙ ap (λ (z : LineBook). option_map session_info z.last) (ap (book c) on ∙ books.0);
 }
   where
     own : (book c s.line).present ≡ Some (line_session c (suc (length front)) s)

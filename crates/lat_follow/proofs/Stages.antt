@@ -9,10 +9,10 @@ use Rattle.lat_machines.specs.world.Machines.{Setups, Machines}
 use Rattle.lat_roster.specs.Roster as rosters
 use Rattle.lat_roster.specs.Roster.{Shows}
 use Rattle.lat_roster.proofs.Found.{found_accepts}
-use Rattle.lat_tales.specs.Books.{newest_of, newest_told}
+use Rattle.lat_tales.specs.Books.{newest_of, newest_info}
 use Rattle.lat_tales.specs.Keeping.{connects, accepts}
 use Rattle.lat_tales.specs.Mates.{mate_by_ids}
-use Rattle.lat_tales.specs.Rows.{KeptRows, figures_of, newest_place}
+use Rattle.lat_tales.specs.Rows.{RowsAfter, figures_of, newest_place}
 use Rattle.lat_tales.proofs.mates.Places.{IsAt, one_seat, newest_at, newest_more}
 use Rattle.lat_tales.proofs.rows.Books.{book_newest}
 use Rattle.lat_tales.proofs.rows.By.{append_one, updated_line}
@@ -28,7 +28,7 @@ more_placed f a line s front h n z = go (nat_eq s.line line) refl
     go true q = (let e : suc (0 + length front) ≡ 0 = sym (ap (λ b. cond b (suc (0 + length front)) (newest_place line 0 0 front)) q) ∙ place in omega (arith, e))
     go false q = h (λ y. n (updated_line f s.line a line ∙ (ap (λ b. cond b a (f line)) q ∙ y))) (sym (ap (λ b. cond b (suc (0 + length front)) (newest_place line 0 0 front)) q) ∙ place)
 
-pub connected : (u : Setups) (x : Machines) (front rest : List Seat) (s : Seat) (k target : KeptRows) (old new : rosters.Kept) → Stage u x true front (s ∷ rest) k target old → Shows new (connects s (figures_of x.server.core (last_on s.line no_seat front)) k) → Stage u x true (front ++ s ∷ []) rest (connects s (figures_of x.server.core (last_on s.line no_seat front)) k) target new
+pub connected : (u : Setups) (x : Machines) (front rest : List Seat) (s : Seat) (k target : RowsAfter) (old new : rosters.Kept) → Stage u x true front (s ∷ rest) k target old → Shows new (connects s (figures_of x.server.core (last_on s.line no_seat front)) k) → Stage u x true (front ++ s ∷ []) rest (connects s (figures_of x.server.core (last_on s.line no_seat front)) k) target new
 connected u x front rest s k target old new h shows = record {
   seats = h.seats ∙ append_one front rest s;
   books = h.books.1;
@@ -38,7 +38,7 @@ connected u x front rest s k target old new h shows = record {
   named = λ z. absurd (true≢false z);
 }
 
-pub accepted : (u : Setups) (x : Machines) (front rest : List Seat) (t : Seat) (k target : KeptRows) (old new : rosters.Kept) → Stage u x false front (t ∷ rest) k target old → Shows new (accepts t.line (mate_by_ids u x t) (figures_of x.node.core (last_on t.line no_seat front)) k) → Stage u x false (front ++ t ∷ []) rest (accepts t.line (mate_by_ids u x t) (figures_of x.node.core (last_on t.line no_seat front)) k) target new
+pub accepted : (u : Setups) (x : Machines) (front rest : List Seat) (t : Seat) (k target : RowsAfter) (old new : rosters.Kept) → Stage u x false front (t ∷ rest) k target old → Shows new (accepts t.line (mate_by_ids u x t) (figures_of x.node.core (last_on t.line no_seat front)) k) → Stage u x false (front ++ t ∷ []) rest (accepts t.line (mate_by_ids u x t) (figures_of x.node.core (last_on t.line no_seat front)) k) target new
 accepted u x front rest t k target old new h shows = record {
   seats = h.seats ∙ append_one front rest t;
   books = h.books.1;
@@ -50,7 +50,7 @@ accepted u x front rest t k target old new h shows = record {
 
 -- a present session is the one of its number
 
-told_present : (o l : Option LineSession) (s : LineSession) → o ≡ Some s → newest_told (record { present = o; last = l }) ≡ Some s
+told_present : (o l : Option LineSession) (s : LineSession) → o ≡ Some s → newest_info (record { present = o; last = l }) ≡ Some s
 told_present None l s q = let z : ⊥ = cc in absurd z
 told_present (Some y) l s q = q
 

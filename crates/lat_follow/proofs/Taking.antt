@@ -12,7 +12,7 @@ use Rattle.lat_model.specs.sessions.Calls.{take_count, took}
 use Rattle.lat_machines.specs.values.Answers.{Took, NoLine, Closed}
 use Rattle.lat_machines.specs.values.Events.{Takes}
 use Rattle.lat_machines.specs.cores.Cores.{Seat, no_seat, Core, Side}
-use Rattle.lat_machines.specs.cores.Lines.{over, session_of, sessions_of, seat_at, holds, line_exists, waiting_at}
+use Rattle.lat_machines.specs.cores.Lines.{over, session_of, sessions_of, seat_at, has_session, line_exists, waiting_at}
 use Rattle.lat_machines.specs.cores.LineCalls.{Said, says, calls_on, take_on, on_line}
 use Rattle.lat_machines.specs.server.Server.{server_side}
 use Rattle.lat_machines.specs.node.Node.{node_side}
@@ -23,14 +23,14 @@ use Rattle.lat_stream.specs.Kept.{item_shown}
 use Rattle.lat_lines.specs.Back.{answer_of}
 use Rattle.lat_lines.specs.Events.{event_shown}
 use Rattle.lat_roster.specs.declared.row.Row.{Row}
-use Rattle.lat_roster.specs.Rows.{HasRoom}
-use Rattle.lat_roster.specs.Roster.{RoomAt}
+use Rattle.lat_roster.specs.Rows.{HasReserved}
+use Rattle.lat_roster.specs.Roster.{ReservedAt}
 use Rattle.lat_tales.proofs.seats.Calls.{seat_or_none}
 use Rattle.lat_tales.proofs.mates.Reach.{Reach, reach_run}
 use Rattle.lat_wire.specs.Kept as wires
 use Rattle.lat_wire.specs.Stands.{Stands}
 use Rattle.lat_wire.specs.Told.{answered}
-use Rattle.lat_follow.specs.Room.{line_in, taken_count}
+use Rattle.lat_follow.specs.Reserved.{line_in, taken_count}
 
 -- the session of a line that has one is found under its id
 held_named : (m : Bool) (lines : ℕ) (c : Core) (line : ℕ) → Seated m lines c → over c (seat_at c line) ≡ false → named (sessions_of c (seat_at c line)) (seat_at c line).id ≡ session_of c (seat_at c line)
@@ -84,7 +84,7 @@ line_took m lines many k c line n h = exists (line_exists many line)
     held true o = omega arith
     held false o = opens (take_open (session_of c (seat_at c line))) o
 
-    exists : (b : Bool) → given (cond b (cond (holds c line) (take_on k c s n) (says c Closed)) (says c NoLine)) ≤ min n (waiting_at c line)
+    exists : (b : Bool) → given (cond b (cond (has_session c line) (take_on k c s n) (says c Closed)) (says c NoLine)) ≤ min n (waiting_at c line)
     exists false = omega arith
     exists true = held (over c (seat_at c line)) refl
 
@@ -100,11 +100,11 @@ took_most k w b line n h = go b
 
 -- room for more is room for fewer
 
-has_less : (b : Bool) (p q s t : ℕ) (k : Row) → s ≤ p → t ≤ q → HasRoom b p q k → HasRoom b s t k
+has_less : (b : Bool) (p q s t : ℕ) (k : Row) → s ≤ p → t ≤ q → HasReserved b p q k → HasReserved b s t k
 has_less true p q s t k x y h = (omega (arith, x, h.0), omega (arith, y, h.1))
 has_less false p q s t k x y h = (omega (arith, x, h.0), omega (arith, y, h.1))
 
-pub room_less : (ks : List Row) (place : ℕ) (b : Bool) (p q s t : ℕ) → s ≤ p → t ≤ q → RoomAt ks place b p q → RoomAt ks place b s t
+pub room_less : (ks : List Row) (place : ℕ) (b : Bool) (p q s t : ℕ) → s ≤ p → t ≤ q → ReservedAt ks place b p q → ReservedAt ks place b s t
 room_less ks place b p q s t x y h i k e g = has_less b p q s t k x y (h i k e g)
 
 pub asked_most : {H : Type 0} (k : wires.Kept H) (w : Machines) (b : Bool) (e : Event) → Stands k w → taken_count e (answered (wires.setups_of k) w b (event_shown e)) ≤ min (items_asked e) (waiting_at (core_of w b) (line_in e))

@@ -10,29 +10,29 @@ use Rattle.lat_stream.specs.Kept.{saturated}
 use Rattle.lat_tales.specs.Books.{InBooks, Comes, lines_at}
 use Rattle.lat_tales.specs.Keeping.{connects, accepts, new_seats}
 use Rattle.lat_tales.specs.Mates.{mate_by_ids}
-use Rattle.lat_tales.specs.Rows.{KeptRows, figures_of}
+use Rattle.lat_tales.specs.Rows.{RowsAfter, figures_of}
 use Rattle.lat_tales.proofs.rows.Newcomers.{run_comes}
 use Rattle.lat_follow.specs.declared.newcomer.Newcomer.{Newcomer}
 use Rattle.lat_follow.specs.Following.{Stage, LeadsTo}
 use Rattle.lat_follow.specs.Moves.{IsReached}
 use Rattle.lat_follow.specs.Present.{IsNewcomer}
 
-pub one_more : (u : Setups) (x : Machines) (b : Bool) (number count : ℕ) (target : KeptRows) (old new : rosters.Kept) (n : Newcomer)
+pub one_more : (u : Setups) (x : Machines) (b : Bool) (number count : ℕ) (target : RowsAfter) (old new : rosters.Kept) (n : Newcomer)
     → LeadsTo u x b number (suc count) target old
     → ((front rest : List Seat) (s : Seat) → (core_of x b).seats ≡ front ++ s ∷ rest → InBooks (core_of x b) front (s ∷ rest) → number ≡ suc (length front) → IsNewcomer (core_of x b) front s n)
-    → ((front rest : List Seat) (s : Seat) (k : KeptRows) → Stage u x b front (s ∷ rest) k target old → IsNewcomer (core_of x b) front s n → (j : KeptRows) × Stage u x b (front ++ s ∷ []) rest j target new)
+    → ((front rest : List Seat) (s : Seat) (k : RowsAfter) → Stage u x b front (s ∷ rest) k target old → IsNewcomer (core_of x b) front s n → (j : RowsAfter) × Stage u x b (front ++ s ∷ []) rest j target new)
     → LeadsTo u x b (suc number) count target new
 one_more u x b number count target old new n h found step = go h.rest h.count_is h.stage
   where
     go : (rest : List Seat) → suc count ≡ length rest → Stage u x b h.front rest h.rows target old → LeadsTo u x b (suc number) count target new
     go [] q s = absurd (omega (arith, q))
     go (s ∷ rest) q t =
-        let p : (j : KeptRows) × Stage u x b (h.front ++ s ∷ []) rest j target new = step h.front rest s h.rows t (found h.front rest s t.seats t.books h.number_is) in
+        let p : (j : RowsAfter) × Stage u x b (h.front ++ s ∷ []) rest j target new = step h.front rest s h.rows t (found h.front rest s t.seats t.books h.number_is) in
         let l : length (h.front ++ s ∷ []) ≡ length h.front + 1 = length-append h.front (s ∷ []) in
         record { front = h.front ++ s ∷ []; rest = rest; rows = p.0; number_is = omega (arith, h.number_is, l); count_is = omega (arith, q); stage = p.1 }
 
 -- there is one more
-pub some_more : (u : Setups) (x : Machines) (b : Bool) (number count : ℕ) (target : KeptRows) (old : rosters.Kept)
+pub some_more : (u : Setups) (x : Machines) (b : Bool) (number count : ℕ) (target : RowsAfter) (old : rosters.Kept)
     → LeadsTo u x b number (suc count) target old
     → ((front rest : List Seat) (s : Seat) → (core_of x b).seats ≡ front ++ s ∷ rest → InBooks (core_of x b) front (s ∷ rest) → number ≡ suc (length front) → ⊥)
     → ⊥
@@ -42,7 +42,7 @@ some_more u x b number count target old h none = go h.rest h.count_is h.stage
     go [] q s = absurd (omega (arith, q))
     go (s ∷ rest) q t = none h.front rest s t.seats t.books h.number_is
 
-pub ended : (u : Setups) (x : Machines) (b : Bool) (number : ℕ) (target : KeptRows) (k : rosters.Kept) → LeadsTo u x b number 0 target k → Shows k target
+pub ended : (u : Setups) (x : Machines) (b : Bool) (number : ℕ) (target : RowsAfter) (k : rosters.Kept) → LeadsTo u x b number 0 target k → Shows k target
 ended u x b number target k h = go b h.rest h.count_is h.stage
   where
     go : (b : Bool) (rest : List Seat) → 0 ≡ length rest → Stage u x b h.front rest h.rows target k → Shows k target
@@ -62,14 +62,14 @@ counted c d lines many before made count h b l m few q =
 
 -- what is done at either end
 
-pub connect_step : (u : Setups) (x : Machines) (b : Bool) (target : KeptRows) (old new : rosters.Kept) (n : Newcomer) → b ≡ true
-    → ((front rest : List Seat) (s : Seat) (k : KeptRows) → Stage u x true front (s ∷ rest) k target old → IsNewcomer x.server.core front s n → Stage u x true (front ++ s ∷ []) rest (connects s (figures_of x.server.core (last_on s.line no_seat front)) k) target new)
-    → (front rest : List Seat) (s : Seat) (k : KeptRows) → Stage u x b front (s ∷ rest) k target old → IsNewcomer (core_of x b) front s n → (j : KeptRows) × Stage u x b (front ++ s ∷ []) rest j target new
+pub connect_step : (u : Setups) (x : Machines) (b : Bool) (target : RowsAfter) (old new : rosters.Kept) (n : Newcomer) → b ≡ true
+    → ((front rest : List Seat) (s : Seat) (k : RowsAfter) → Stage u x true front (s ∷ rest) k target old → IsNewcomer x.server.core front s n → Stage u x true (front ++ s ∷ []) rest (connects s (figures_of x.server.core (last_on s.line no_seat front)) k) target new)
+    → (front rest : List Seat) (s : Seat) (k : RowsAfter) → Stage u x b front (s ∷ rest) k target old → IsNewcomer (core_of x b) front s n → (j : RowsAfter) × Stage u x b (front ++ s ∷ []) rest j target new
 connect_step u x true target old new n q f front rest s k t i = (connects s (figures_of x.server.core (last_on s.line no_seat front)) k, f front rest s k t i)
 connect_step u x false target old new n q f front rest s k t i = absurd (true≢false (sym q))
 
-pub accept_step : (u : Setups) (x : Machines) (b : Bool) (target : KeptRows) (old new : rosters.Kept) (n : Newcomer) → b ≡ false
-    → ((front rest : List Seat) (s : Seat) (k : KeptRows) → Stage u x false front (s ∷ rest) k target old → IsNewcomer x.node.core front s n → Stage u x false (front ++ s ∷ []) rest (accepts s.line (mate_by_ids u x s) (figures_of x.node.core (last_on s.line no_seat front)) k) target new)
-    → (front rest : List Seat) (s : Seat) (k : KeptRows) → Stage u x b front (s ∷ rest) k target old → IsNewcomer (core_of x b) front s n → (j : KeptRows) × Stage u x b (front ++ s ∷ []) rest j target new
+pub accept_step : (u : Setups) (x : Machines) (b : Bool) (target : RowsAfter) (old new : rosters.Kept) (n : Newcomer) → b ≡ false
+    → ((front rest : List Seat) (s : Seat) (k : RowsAfter) → Stage u x false front (s ∷ rest) k target old → IsNewcomer x.node.core front s n → Stage u x false (front ++ s ∷ []) rest (accepts s.line (mate_by_ids u x s) (figures_of x.node.core (last_on s.line no_seat front)) k) target new)
+    → (front rest : List Seat) (s : Seat) (k : RowsAfter) → Stage u x b front (s ∷ rest) k target old → IsNewcomer (core_of x b) front s n → (j : RowsAfter) × Stage u x b (front ++ s ∷ []) rest j target new
 accept_step u x false target old new n q f front rest s k t i = (accepts s.line (mate_by_ids u x s) (figures_of x.node.core (last_on s.line no_seat front)) k, f front rest s k t i)
 accept_step u x true target old new n q f front rest s k t i = absurd (true≢false q)

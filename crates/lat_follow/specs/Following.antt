@@ -7,15 +7,15 @@ use Rattle.lat_roster.specs.Roster.{Shows, last_row}
 use Rattle.lat_tales.specs.Books.{InBooks}
 use Rattle.lat_tales.specs.Keeping.{lines_of, connects_all, accepts_all}
 use Rattle.lat_tales.specs.Mates.{last_named}
-use Rattle.lat_tales.specs.Rows.{KeptRows, newest_place}
+use Rattle.lat_tales.specs.Rows.{RowsAfter, newest_place}
 
 -- the rows with new sessions of an end, behind those in front
-abbrev pub rows_with : Setups → Machines → Bool → List Seat → List Seat → KeptRows → KeptRows
+abbrev pub rows_with : Setups → Machines → Bool → List Seat → List Seat → RowsAfter → RowsAfter
 rows_with u x true front ss k = connects_all x.server.core front ss k
 rows_with u x false front ss k = accepts_all u x front ss k
 
 -- The roster shows rows that these new sessions, behind those in front, lead to the target
-pub record Stage (u : Setups) (x : Machines) (server : Bool) (front rest : List Seat) (r target : KeptRows) (k : rosters.Kept) : Type 0 where
+pub record Stage (u : Setups) (x : Machines) (server : Bool) (front rest : List Seat) (r target : RowsAfter) (k : rosters.Kept) : Type 0 where
   pub seats : (core_of x server).seats ≡ front ++ rest
   pub books : InBooks (core_of x server) front rest
   pub shows : Shows k r
@@ -25,10 +25,10 @@ pub record Stage (u : Setups) (x : Machines) (server : Bool) (front rest : List 
   pub named : server ≡ false → (circuit id : ℕ) → last_row circuit id 0 0 r.rows ≡ last_named circuit id 0 0 x.server.core.seats
 
 -- The roster shows rows from which so many new sessions, the first one with this number, lead to the target
-pub record LeadsTo (u : Setups) (x : Machines) (server : Bool) (number count : ℕ) (target : KeptRows) (k : rosters.Kept) : Type 0 where
+pub record LeadsTo (u : Setups) (x : Machines) (server : Bool) (number count : ℕ) (target : RowsAfter) (k : rosters.Kept) : Type 0 where
   pub front : List Seat
   pub rest : List Seat
-  pub rows : KeptRows
+  pub rows : RowsAfter
   pub number_is : number ≡ suc (length front)
   pub count_is : count ≡ length rest
   pub stage : Stage u x server front rest rows target k

@@ -1,5 +1,5 @@
 pub mod Moves
-pub mod Room
+pub mod Reserved
 pub mod Adding
 pub mod Present
 pub mod Following

@@ -5,7 +5,7 @@ use Rattle.lat_machines.specs.world.Machines.{Setups, Posted, Machines, Move, Do
 use Rattle.lat_machines.specs.world.Safe.{Fit, answer_by}
 use Rattle.lat_tales.specs.Items.{line_of, put_by, taken_by}
 use Rattle.lat_tales.specs.Keeping.{adds}
-use Rattle.lat_tales.specs.Rows.{KeptRows}
+use Rattle.lat_tales.specs.Rows.{RowsAfter}
 
 -- a world of a run from the opening
 pub record IsReached (u : Setups) (w : Machines) : Type 0 where
@@ -25,7 +25,7 @@ end_told u w (HearsFrame i now rates) = hearer u (slice_get w.posts i)
 end_told u w (HearsForeign b from payload now rates) = cond (is_own u from) None (Some b)
 
 -- the rows with the items that a move puts and takes; what is heard does neither
-abbrev pub items_added : Setups → Machines → Move → KeptRows → KeptRows
+abbrev pub items_added : Setups → Machines → Move → RowsAfter → RowsAfter
 items_added u w (Does b e rates) k = adds b (line_of e) (put_by e (answer_by u w b e)) (taken_by e (answer_by u w b e)) k
 items_added u w (HearsFrame i now rates) k = k
 items_added u w (HearsForeign b from payload now rates) k = k

@@ -4,7 +4,7 @@ use Rattle.lat_machines.specs.cores.Books.{LineSession, line_session, book}
 use Rattle.lat_machines.specs.cores.Cores.{Seat, Core}
 use Rattle.lat_stream.specs.Kept.{saturated}
 use Rattle.lat_lines.specs.Kept.{IsLine}
-use Rattle.lat_lines.specs.Stands.{session_shown, session_told}
+use Rattle.lat_lines.specs.Stands.{session_shown, session_info}
 use Rattle.lat_tales.specs.Books.{newest_of}
 use Rattle.lat_follow.specs.declared.newcomer.Newcomer.{Newcomer}
 
@@ -13,8 +13,8 @@ pub record IsPresent (c : Core) (number : ℕ) (n : Newcomer) : Type 0 where
   pub session : LineSession
   pub present : (book c n.line).present ≡ Some session
   pub number_is : saturated session.number ≡ number
-  pub shown : session_shown n.session ≡ session_told session
-  pub last : option_map session_shown n.last ≡ option_map session_told (book c n.line).last
+  pub shown : session_shown n.session ≡ session_info session
+  pub last : option_map session_shown n.last ≡ option_map session_info (book c n.line).last
 
 -- the line has no present session of this number
 abbrev pub NotOn : Core → ℕ → ℕ → Type 0
@@ -27,5 +27,5 @@ Finds c number lines o = MatchOption o ((line : ℕ) → IsLine lines line → N
 -- a line session that is new, with the newest of its line before it
 pub record IsNewcomer (c : Core) (front : List Seat) (s : Seat) (n : Newcomer) : Type 0 where
   pub line : n.line ≡ s.line
-  pub shown : session_shown n.session ≡ session_told (line_session c (suc (length front)) s)
-  pub last : option_map session_shown n.last ≡ option_map session_told (newest_of c s.line front)
+  pub shown : session_shown n.session ≡ session_info (line_session c (suc (length front)) s)
+  pub last : option_map session_shown n.last ≡ option_map session_info (newest_of c s.line front)

@@ -6,7 +6,7 @@ ghost use Rattle.lat_machines.specs.cores.Cores.{Seat};
 ghost use Rattle.lat_machines.specs.world.Machines.{Machines, core_of};
 ghost use Rattle.lat_stream.specs.Kept.{saturated};
 ghost use Rattle.lat_lines.specs.Kept.{IsLine};
-ghost use Rattle.lat_lines.specs.Stands.{book_shown, book_told};
+ghost use Rattle.lat_lines.specs.Stands.{book_shown, book_info};
 ghost use Rattle.lat_tales.specs.Books.{InBooks, lines_at};
 ghost use Rattle.lat_wire.specs.Kept.{setups_of};
 ghost use Rattle.lat_wire.specs.Stands.{Stands};
@@ -30,7 +30,7 @@ pub(crate) fn made<H: RatingRule>(wire: &Wire<H>, server: bool) -> u64
 /// The last two sessions of a line of the server or of the node, which must exist.
 pub(crate) fn book_on<H: RatingRule>(wire: &Wire<H>, server: bool, line: u8) -> LineBook
     requires { IsLine (lines_at server (setups_of wire.now)) line }
-    ensures { (w : Machines) → Stands wire.now w → book_shown result ≡ book_told (book (core_of w server) line) }
+    ensures { (w : Machines) → Stands wire.now w → book_shown result ≡ book_info (book (core_of w server) line) }
 {
     if server {
         wire.server().book(line)

@@ -7,10 +7,10 @@ ghost use Rattle.lat_lines.specs.Back.{answer_of};
 ghost use Rattle.lat_lines.specs.Events.{event_shown};
 ghost use Rattle.lat_tales.specs.Items.{line_of, put_by, taken_by, accepted_bytes, accepted_setting, taken_items};
 ghost use Rattle.lat_tales.specs.Keeping.{adds};
-ghost use Rattle.lat_tales.specs.Rows.{KeptRows};
-ghost use Rattle.lat_roster.specs.Roster.{Shows, RoomAt};
+ghost use Rattle.lat_tales.specs.Rows.{RowsAfter};
+ghost use Rattle.lat_roster.specs.Roster.{Shows, ReservedAt};
 ghost use Rattle.lat_follow.specs.Adding.{HasAdded};
-ghost use Rattle.lat_follow.specs.Room.{place_of, FitsIn, HasPlaces};
+ghost use Rattle.lat_follow.specs.Reserved.{place_of, FitsIn, HasPlaces};
 
 use lat_base::{Answer, Event, Item};
 use lat_roster::Roster;
@@ -18,7 +18,7 @@ use lat_roster::Roster;
 /// What an event adds to the items of its line's session, by its answer. There is room for them.
 pub fn add_items(server: bool, event: &Event, answer: &Answer, roster: &mut Roster)
     requires { FitsIn roster.old server event.now answer.now }
-    ensures shows { (a : machines.Answer) (k : KeptRows) →
+    ensures shows { (a : machines.Answer) (k : RowsAfter) →
         answer.now ≡ answer_of a →
         Shows roster.old k →
         Shows roster.new (adds server (line_of (event_shown event.now))
@@ -35,7 +35,7 @@ pub fn add_items(server: bool, event: &Event, answer: &Answer, roster: &mut Rost
 
 // The first bytes of a put, as many as its answer says.
 fn put_bytes(server: bool, line: u8, bytes: &[u8], answer: &Answer, roster: &mut Roster)
-    requires { RoomAt roster.old.rows (place_of roster.old server line) server (length bytes.now) 0 }
+    requires { ReservedAt roster.old.rows (place_of roster.old server line) server (length bytes.now) 0 }
     ensures shows { HasAdded roster.old roster.new server line answer.now (accepted_bytes bytes.now) (λ a. []) }
     ensures places { (n : ℕ) → HasPlaces n roster.old → HasPlaces n roster.new }
 {
@@ -49,7 +49,7 @@ fn put_bytes(server: bool, line: u8, bytes: &[u8], answer: &Answer, roster: &mut
 
 // A setting that was taken.
 fn put_setting(server: bool, line: u8, setting: &[u8; 5], answer: &Answer, roster: &mut Roster)
-    requires { RoomAt roster.old.rows (place_of roster.old server line) server 1 0 }
+    requires { ReservedAt roster.old.rows (place_of roster.old server line) server 1 0 }
     ensures shows { HasAdded roster.old roster.new server line answer.now (accepted_setting setting.now) (λ a. []) }
     ensures places { (n : ℕ) → HasPlaces n roster.old → HasPlaces n roster.new }
 {
@@ -62,7 +62,7 @@ fn put_setting(server: bool, line: u8, setting: &[u8; 5], answer: &Answer, roste
 
 // The items that a take gave.
 fn take_items(server: bool, line: u8, answer: &Answer, roster: &mut Roster)
-    requires { RoomAt roster.old.rows (place_of roster.old server line) server 0 (items_given answer.now) }
+    requires { ReservedAt roster.old.rows (place_of roster.old server line) server 0 (items_given answer.now) }
     ensures shows { HasAdded roster.old roster.new server line answer.now (λ a. []) taken_items }
     ensures places { (n : ℕ) → HasPlaces n roster.old → HasPlaces n roster.new }
 {

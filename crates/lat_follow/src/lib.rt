@@ -4,9 +4,9 @@
 mod books;
 mod items;
 mod newcomer;
-mod room;
+mod reserving;
 mod sessions;
 
 pub use items::add_items;
-pub use room::{reserve_for, reserve_new};
+pub use reserving::{reserve_for, reserve_new};
 pub use sessions::follow;

@@ -5,11 +5,11 @@ ghost use Rattle.lat_machines.specs.cores.Cores.{Seat, no_seat, Core};
 ghost use Rattle.lat_machines.specs.cores.Lines.{last_on};
 ghost use Rattle.lat_machines.specs.cores.Books.{line_session};
 ghost use Rattle.lat_machines.specs.world.Machines.{Setups, Machines, Move, core_of, happens};
-ghost use Rattle.lat_lines.specs.Stands.{session_shown, session_told};
+ghost use Rattle.lat_lines.specs.Stands.{session_shown, session_info};
 ghost use Rattle.lat_tales.specs.Books.{lines_at};
-ghost use Rattle.lat_tales.specs.Keeping.{kept_after, connects, accepts};
+ghost use Rattle.lat_tales.specs.Keeping.{rows_after, connects, accepts};
 ghost use Rattle.lat_tales.specs.Mates.{last_named, mate_by_ids};
-ghost use Rattle.lat_tales.specs.Rows.{KeptRows, Keeps, figures_of};
+ghost use Rattle.lat_tales.specs.Rows.{RowsAfter, Keeps, figures_of};
 ghost use Rattle.lat_roster.specs.Roster.{Shows, last_row};
 ghost use Rattle.lat_roster.specs.Rows.{ShowsFigures};
 ghost use Rattle.lat_wire.specs.Kept.{setups_of};
@@ -17,7 +17,7 @@ ghost use Rattle.lat_wire.specs.Stands.{Stands};
 ghost use Rattle.lat_follow.specs.Following.{Stage, LeadsTo};
 ghost use Rattle.lat_follow.specs.Moves.{IsReached, end_told, items_added};
 ghost use Rattle.lat_follow.specs.Present.{IsNewcomer};
-ghost use Rattle.lat_follow.specs.Room.{HasPlaces};
+ghost use Rattle.lat_follow.specs.Reserved.{HasPlaces};
 
 use crate::books::{made, newcomer_of};
 use crate::newcomer::Newcomer;
@@ -41,7 +41,7 @@ pub fn follow<H: RatingRule>(
     requires lines { lines_at server (setups_of wire.now) ≡ lines }
     requires few { before + lines < 2 ^ 64 - 1 }
     requires places { HasPlaces lines roster.old }
-    ensures shows { (u : Setups) (w : Machines) (m : Move) (k : KeptRows) →
+    ensures shows { (u : Setups) (w : Machines) (m : Move) (k : RowsAfter) →
         setups_of wire.now ≡ u →
         IsReached u w →
         end_told u w m ≡ Some server →
@@ -49,7 +49,7 @@ pub fn follow<H: RatingRule>(
         before ≡ length (core_of w server).seats →
         Keeps u w k →
         Shows roster.old (items_added u w m k) →
-        Shows roster.new (kept_after u w m k) }
+        Shows roster.new (rows_after u w m k) }
 {
     let count = made(wire, server)
         .saturating_sub(before)
@@ -70,7 +70,7 @@ fn follow_all<H: RatingRule>(
     requires lines { lines_at server (setups_of wire.now) ≡ lines }
     requires few { before + count < 2 ^ 64 - 1 }
     requires places { HasPlaces count roster.old }
-    ensures { (u : Setups) (x : Machines) (target : KeptRows) →
+    ensures { (u : Setups) (x : Machines) (target : RowsAfter) →
         setups_of wire.now ≡ u →
         Stands wire.now x →
         LeadsTo u x server (suc before) count target roster.old →
@@ -94,7 +94,7 @@ fn follow_one<H: RatingRule>(
     requires few { number < 2 ^ 64 - 1 }
     requires places { HasPlaces 1 roster.old }
     ensures places { (n : ℕ) → HasPlaces (suc n) roster.old → HasPlaces n roster.new }
-    ensures leads { (u : Setups) (x : Machines) (count : ℕ) (target : KeptRows) →
+    ensures leads { (u : Setups) (x : Machines) (count : ℕ) (target : RowsAfter) →
         setups_of wire.now ≡ u →
         Stands wire.now x →
         LeadsTo u x server number (suc count) target roster.old →
@@ -115,7 +115,7 @@ fn connect(alloc: Global, line: u8, newcomer: Newcomer, roster: &mut Roster)
     requires places { HasPlaces 1 roster.old }
     requires line { newcomer.line ≡ line }
     ensures places { (n : ℕ) → HasPlaces (suc n) roster.old → HasPlaces n roster.new }
-    ensures stage { (u : Setups) (x : Machines) (front rest : List Seat) (s : Seat) (k target : KeptRows) →
+    ensures stage { (u : Setups) (x : Machines) (front rest : List Seat) (s : Seat) (k target : RowsAfter) →
         Stage u x true front (s ∷ rest) k target roster.old →
         IsNewcomer x.server.core front s newcomer →
         Stage u x true (front ++ s ∷ []) rest
@@ -131,7 +131,7 @@ fn connect(alloc: Global, line: u8, newcomer: Newcomer, roster: &mut Roster)
 fn accept<H: RatingRule>(wire: &Wire<H>, line: u8, newcomer: Newcomer, roster: &mut Roster)
     requires { newcomer.line ≡ line }
     ensures places { (n : ℕ) → HasPlaces n roster.old → HasPlaces n roster.new }
-    ensures stage { (u : Setups) (x : Machines) (front rest : List Seat) (t : Seat) (k target : KeptRows) →
+    ensures stage { (u : Setups) (x : Machines) (front rest : List Seat) (t : Seat) (k target : RowsAfter) →
         setups_of wire.now ≡ u →
         Stage u x false front (t ∷ rest) k target roster.old →
         IsNewcomer x.node.core front t newcomer →
@@ -147,9 +147,9 @@ fn accept<H: RatingRule>(wire: &Wire<H>, line: u8, newcomer: Newcomer, roster: &
 // The place of the row that a session of the node belongs to, 0 for none.
 fn mate_of<H: RatingRule>(wire: &Wire<H>, session: LineSession, roster: &Roster) -> usize
     ensures within { result ≤ length roster.now.rows }
-    ensures is { (u : Setups) (x : Machines) (number : ℕ) (t : Seat) (k : KeptRows) →
+    ensures is { (u : Setups) (x : Machines) (number : ℕ) (t : Seat) (k : RowsAfter) →
         setups_of wire.now ≡ u →
-        session_shown session ≡ session_told (line_session x.node.core number t) →
+        session_shown session ≡ session_info (line_session x.node.core number t) →
         Shows roster.now k →
         ((circuit id : ℕ) → last_row circuit id 0 0 k.rows ≡ last_named circuit id 0 0 x.server.core.seats) →
         result ≡ mate_by_ids u x t }
@@ -165,7 +165,7 @@ fn mate_of<H: RatingRule>(wire: &Wire<H>, session: LineSession, roster: &Roster)
 // The figures of a session, as its line tells them.
 fn figures_of(session: Option<LineSession>) -> Figures
     ensures { (c : Core) (number : ℕ) (s : Seat) →
-        option_map session_shown session ≡ Some (session_told (line_session c number s)) →
+        option_map session_shown session ≡ Some (session_info (line_session c number s)) →
         ShowsFigures result (figures_of c s) }
 {
     match session {

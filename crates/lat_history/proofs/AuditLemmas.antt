@@ -4,7 +4,7 @@ use Rattle.std.specs.Prelude.{Option, Some, None}
 use Rattle.lat_history.specs.CellView.{SeatView}
 use Rattle.lat_history.specs.declared.past.Past.{Past}
 use Rattle.lat_history.specs.declared.fault.SeatFault.{SeatFault}
-use Rattle.lat_history.specs.Audits.{faults_from, audit_of, seat_fault, first_of, differs, SeatAgrees, kept_events, kept_bytes, share_events, share_bytes}
+use Rattle.lat_history.specs.Audits.{faults_from, audit_of, seat_fault, first_of, differs, SeatAgrees, past_events, past_bytes, share_events, share_bytes}
 
 pub audit_is : (h : List Past) (s : List SeatView) → audit_of h s ≡ faults_from 66 0 h s
 unfolding audit_of
@@ -34,10 +34,10 @@ same_by false seat kept share is e = grind (arith, is, e)
 
 agrees_at : (seat : ℕ) (h : List Past) (s : List SeatView) → seat_fault seat h s ≡ None → SeatAgrees h s seat
 agrees_at seat h s e =
-    let both = both_none (differs seat (kept_events seat h) (share_events seat s)) (differs seat (kept_bytes seat h) (share_bytes seat s)) e in
+    let both = both_none (differs seat (past_events seat h) (share_events seat s)) (differs seat (past_bytes seat h) (share_bytes seat s)) e in
     record {
-      events = same_by _ seat (kept_events seat h) (share_events seat s) refl both.0;
-      bytes = same_by _ seat (kept_bytes seat h) (share_bytes seat s) refl both.1;
+      events = same_by _ seat (past_events seat h) (share_events seat s) refl both.0;
+      bytes = same_by _ seat (past_bytes seat h) (share_bytes seat s) refl both.1;
     }
 
 pub by_place : (b : Bool) (k seat at : ℕ) (h : List Past) (s : List SeatView) → nat_eq at seat ≡ b → seat_fault seat h s ≡ None → seat ≤ at → at < seat + suc k → (seat + 1 ≤ at → SeatAgrees h s at) → SeatAgrees h s at

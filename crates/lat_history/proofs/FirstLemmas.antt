@@ -6,7 +6,7 @@ use Rattle.lat_history.specs.CellView.{SeatView}
 use Rattle.lat_history.specs.declared.past.Past.{Past}
 use Rattle.lat_history.specs.declared.fault.SeatFault.{SeatFault}
 use Rattle.lat_history.specs.Audits.{faults_from, audit_of, seat_fault, first_of, differs, SeatAgrees, EventsDiffer, BytesDiffer, IsFirstToDiffer}
-use Rattle.lat_history.specs.Audits.{kept_events, kept_bytes, share_events, share_bytes}
+use Rattle.lat_history.specs.Audits.{past_events, past_bytes, share_events, share_bytes}
 use Rattle.lat_history.proofs.AuditLemmas.{audit_is, by_place, same_by}
 
 -- which of two is named
@@ -34,19 +34,19 @@ named_by false seat kept share f is e =
     }
 
 here_by : (seat : ℕ) (h : List Past) (s : List SeatView) (f : SeatFault)
-    → (differs seat (kept_events seat h) (share_events seat s) ≡ Some f)
-    ⊎ ((differs seat (kept_events seat h) (share_events seat s) ≡ None) × (differs seat (kept_bytes seat h) (share_bytes seat s) ≡ Some f))
+    → (differs seat (past_events seat h) (share_events seat s) ≡ Some f)
+    ⊎ ((differs seat (past_events seat h) (share_events seat s) ≡ None) × (differs seat (past_bytes seat h) (share_bytes seat s) ≡ Some f))
     → (seat ≡ f.seat) × (EventsDiffer h s f ⊎ BytesDiffer h s f)
 here_by seat h s f (inl e) =
-    let n = named_by _ seat (kept_events seat h) (share_events seat s) f refl e in
-    (n.seat, inl (record { kept = n.kept ∙ ap (λ k. kept_events k h) n.seat; share = n.share ∙ ap (λ k. share_events k s) n.seat; differ = n.differ }))
+    let n = named_by _ seat (past_events seat h) (share_events seat s) f refl e in
+    (n.seat, inl (record { kept = n.kept ∙ ap (λ k. past_events k h) n.seat; share = n.share ∙ ap (λ k. share_events k s) n.seat; differ = n.differ }))
 here_by seat h s f (inr e) =
-    let n = named_by _ seat (kept_bytes seat h) (share_bytes seat s) f refl e.1 in
-    let events = same_by _ seat (kept_events seat h) (share_events seat s) refl e.0 in (
+    let n = named_by _ seat (past_bytes seat h) (share_bytes seat s) f refl e.1 in
+    let events = same_by _ seat (past_events seat h) (share_events seat s) refl e.0 in (
       n.seat,
       inr (record {
-        events = sym (ap (λ k. kept_events k h) n.seat) ∙ events ∙ ap (λ k. share_events k s) n.seat;
-        kept = n.kept ∙ ap (λ k. kept_bytes k h) n.seat;
+        events = sym (ap (λ k. past_events k h) n.seat) ∙ events ∙ ap (λ k. share_events k s) n.seat;
+        kept = n.kept ∙ ap (λ k. past_bytes k h) n.seat;
         share = n.share ∙ ap (λ k. share_bytes k s) n.seat;
         differ = n.differ;
       }),
@@ -63,7 +63,7 @@ first_step : (k seat : ℕ) (h : List Past) (s : List SeatView) (f : SeatFault)
     → (seat_fault seat h s ≡ Some f) ⊎ ((seat_fault seat h s ≡ None) × (faults_from k (seat + 1) h s ≡ Some f))
     → (faults_from k (seat + 1) h s ≡ Some f → FirstFrom k (seat + 1) h s f) → FirstFrom (suc k) seat h s f
 first_step k seat h s f (inl e) next =
-    let here = here_by seat h s f (which (differs seat (kept_events seat h) (share_events seat s)) (differs seat (kept_bytes seat h) (share_bytes seat s)) f e) in
+    let here = here_by seat h s f (which (differs seat (past_events seat h) (share_events seat s)) (differs seat (past_bytes seat h) (share_bytes seat s)) f e) in
     record {
       low = omega (arith, here.0);
       high = omega (arith, here.0);

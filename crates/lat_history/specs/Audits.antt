@@ -7,15 +7,15 @@ use Rattle.lat_history.specs.declared.past.Past.{Past}
 use Rattle.lat_history.specs.declared.fault.SeatFault.{SeatFault}
 
 -- the events of a seat in the history
-abbrev pub kept_events : ℕ → List Past → ℕ
-kept_events seat h = count_by (λ p. seat_of p.event == seat) h
+abbrev pub past_events : ℕ → List Past → ℕ
+past_events seat h = count_by (λ p. seat_of p.event == seat) h
 
-abbrev pub kept_at : ℕ → Past → ℕ
-kept_at seat p = if seat_of p.event == seat then put_in p else 0
+abbrev pub past_at : ℕ → Past → ℕ
+past_at seat p = if seat_of p.event == seat then put_in p else 0
 
 -- the bytes of a seat that were put
-abbrev pub kept_bytes : ℕ → List Past → ℕ
-kept_bytes seat h = sum_by (kept_at seat) h
+abbrev pub past_bytes : ℕ → List Past → ℕ
+past_bytes seat h = sum_by (past_at seat) h
 
 -- the share of a seat; who has none counts nothing
 abbrev pub share_at : ℕ → List SeatView → Option SeatView
@@ -37,7 +37,7 @@ first_of None other = other
 
 -- events are compared first, then bytes
 abbrev pub seat_fault : ℕ → List Past → List SeatView → Option SeatFault
-seat_fault seat h shares = first_of (differs seat (kept_events seat h) (share_events seat shares)) (differs seat (kept_bytes seat h) (share_bytes seat shares))
+seat_fault seat h shares = first_of (differs seat (past_events seat h) (share_events seat shares)) (differs seat (past_bytes seat h) (share_bytes seat shares))
 
 -- over so many seats from this one on
 unfoldable pub faults_from : ℕ → ℕ → List Past → List SeatView → Option SeatFault
@@ -50,19 +50,19 @@ audit_of h shares = faults_from 66 0 h shares
 
 -- each seat's counts in the history are those of its share
 pub record SeatAgrees (h : List Past) (shares : List SeatView) (seat : ℕ) : Type 0 where
-  pub events : kept_events seat h ≡ share_events seat shares
-  pub bytes : kept_bytes seat h ≡ share_bytes seat shares
+  pub events : past_events seat h ≡ share_events seat shares
+  pub bytes : past_bytes seat h ≡ share_bytes seat shares
 
 -- the events that a fault names: those of its seat in the history and in its share, and they differ
 pub record EventsDiffer (h : List Past) (shares : List SeatView) (f : SeatFault) : Type 0 where
-  pub kept : f.kept ≡ kept_events f.seat h
+  pub kept : f.kept ≡ past_events f.seat h
   pub share : f.share ≡ share_events f.seat shares
   pub differ : f.kept ≢ f.share
 
 -- the bytes that a fault names, behind events that agree
 pub record BytesDiffer (h : List Past) (shares : List SeatView) (f : SeatFault) : Type 0 where
-  pub events : kept_events f.seat h ≡ share_events f.seat shares
-  pub kept : f.kept ≡ kept_bytes f.seat h
+  pub events : past_events f.seat h ≡ share_events f.seat shares
+  pub kept : f.kept ≡ past_bytes f.seat h
   pub share : f.share ≡ share_bytes f.seat shares
   pub differ : f.kept ≢ f.share
 

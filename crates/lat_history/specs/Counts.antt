@@ -43,8 +43,8 @@ put_in p = put_of p.answer
 abbrev pub bytes_put : List Past → ℕ
 bytes_put history = sum_by put_in history
 
-abbrev pub bytes_kept : List Past → ℕ
-bytes_kept history = sum_by (λ p. bytes_in p.event) history
+abbrev pub history_bytes : List Past → ℕ
+history_bytes history = sum_by (λ p. bytes_in p.event) history
 
 abbrev pub past : Event → Answer → Past
 past event answer = record { event = event; answer = answer }
@@ -54,13 +54,13 @@ abbrev pub ShowsLimit : Option FullAt → Type 0
 ShowsLimit full = IfSome full (λ at. (at.events ≡ 1000000) ⊎ (268435456 < at.bytes + at.more))
 
 -- a history has room for an event
-pub record HasRoom (history : List Past) (event : Event) : Type 0 where
+pub record MayAdd (history : List Past) (event : Event) : Type 0 where
   pub events : length history < 1000000
-  pub bytes : bytes_kept history + bytes_in event ≤ 268435456
+  pub bytes : history_bytes history + bytes_in event ≤ 268435456
 
 -- it has none: as many events are kept as may be, or its bytes would pass the limit
 pub record IsFullAt (history : List Past) (event : Event) (at : FullAt) : Type 0 where
   pub events : at.events ≡ length history
-  pub bytes : at.bytes ≡ bytes_kept history
+  pub bytes : at.bytes ≡ history_bytes history
   pub more : at.more ≡ bytes_in event
   pub limit : ShowsLimit (Some at)

@@ -1,6 +1,6 @@
 -- What a cell's numbers say of its history.
 use Rattle.std.specs.Prelude.{◌≡◌, ℕ, ◌*◌, ◌≤◌, List, length, Option, is_some, nat_lt}
-use Rattle.lat_history.specs.Counts.{bytes_put, bytes_kept, ShowsLimit}
+use Rattle.lat_history.specs.Counts.{bytes_put, history_bytes, ShowsLimit}
 use Rattle.lat_history.specs.declared.past.Past.{Past}
 use Rattle.lat_history.specs.declared.fault.FullAt.{FullAt}
 
@@ -13,7 +13,7 @@ pub record Counted (history : List Past) (total put : ℕ) : Type 0 where
 -- the history is within the limits of a cell, and at most 256 frames were sent for each event
 pub record Limited (history : List Past) (kept sent : ℕ) : Type 0 where
   pub events : length history ≤ 1000000
-  pub bytes : kept ≡ bytes_kept history
+  pub bytes : kept ≡ history_bytes history
   pub most : kept ≤ 268435456
   pub frames : sent ≤ 256 * length history
 

@@ -2,14 +2,14 @@
 
 ghost use Rattle.std.specs.Prelude.{◌≡◌, ◌≢◌, ◌+◌, ◌<◌, ◌++◌, ◌≤◌, ◌∷◌, [], length, vec_len, vec_capacity, true, Some, Err, IfOk, OnOk, OnErr};
 ghost use Rattle.lat_history.specs.CellView.{IsRefused};
-ghost use Rattle.lat_history.specs.Counts.{seat_of, bytes_in, put_of, put_by, past, ShowsLimit, IsFullAt, HasRoom};
+ghost use Rattle.lat_history.specs.Counts.{seat_of, bytes_in, put_of, put_by, past, ShowsLimit, IsFullAt, MayAdd};
 ghost use Rattle.lat_history.specs.History.{Grew, SameBefore, run_of};
 
 use crate::cell::{BYTES, Cell, MOST};
 use crate::fault::{CellFault, FullAt, Receipt};
 use crate::past::{Past, bytes, put};
 use crate::share::LineShare;
-use lat_base::{Core, Event, ItemsRoom, Memory, OutFrame};
+use lat_base::{Core, Event, ItemsMemory, Memory, OutFrame};
 use lat_outside::Tx;
 use std::alloc::Global;
 use std::sync::ledger::Ledger;
@@ -48,8 +48,8 @@ impl<C: Core, T: Tx, E: Ledger, B: Ledger, F: Ledger> Cell<C, T, E, B, F> {
         ensures put { IfOk result (λ r. put_of r.answer ≤ put_by event) }
         ensures stopping { self.new.stopping ≡ self.old.stopping }
         ensures limit { (at : FullAt) → result ≡ Err (CellFault.Full at) → IsFullAt self.old.history event at }
-        ensures room { HasRoom self.old.history event → (at : FullAt) → result ≢ Err (CellFault.Full at) }
-        ensures no_room { ((at : FullAt) → result ≢ Err (CellFault.Full at)) → HasRoom self.old.history event }
+        ensures room { MayAdd self.old.history event → (at : FullAt) → result ≢ Err (CellFault.Full at) }
+        ensures no_room { ((at : FullAt) → result ≢ Err (CellFault.Full at)) → MayAdd self.old.history event }
         ensures full { (at : FullAt) → result ≡ Err (CellFault.Full at) → (share.new ≡ record share.old { full = true }) × (0 < self.new.full_seats) }
         ensures first { (at : FullAt) → result ≡ Err (CellFault.Full at) → IsRefused self.old share.old self.new at }
         ensures room_left { OnOk result ((self.new.full ≡ self.old.full) × (self.new.full_seats ≡ self.old.full_seats)) }
@@ -78,7 +78,7 @@ impl<C: Core, T: Tx, E: Ledger, B: Ledger, F: Ledger> Cell<C, T, E, B, F> {
             bytes,
             ..
         } = self;
-        let room = ItemsRoom::take(alloc, event.asked())?;
+        let room = ItemsMemory::take(alloc, event.asked())?;
         reserved(history)?;
         let answer = core.step(alloc, &event, out)?;
         let frames = out.frames();

@@ -1,7 +1,7 @@
 //! Each seat's counts in the history against its share.
 
 ghost use Rattle.std.specs.Prelude.{◌≡◌, ◌+◌, ◌<◌, ◌≤◌, ◌*◌, ℕ, Ok, Err, Some, None, IfSome, IsOk, OnOk, length};
-ghost use Rattle.lat_history.specs.Audits.{kept_events, kept_bytes, share_events, share_bytes, share_at, differs, seat_fault, audit_of};
+ghost use Rattle.lat_history.specs.Audits.{past_events, past_bytes, share_events, share_bytes, share_at, differs, seat_fault, audit_of};
 ghost use Rattle.lat_history.specs.Audits.{SeatAgrees, IsFirstToDiffer};
 
 use crate::cell::Cell;
@@ -13,9 +13,9 @@ use lat_outside::Tx;
 use std::sync::ledger::Ledger;
 
 /// How many of the history's events are of this seat.
-pub fn kept_events(at: u8, history: &[Past]) -> u64
+pub fn past_events(at: u8, history: &[Past]) -> u64
     requires { length history.now ≤ 1000000 }
-    ensures { result ≡ kept_events at history.now }
+    ensures { result ≡ past_events at history.now }
 {
     let mut n = 0;
     for p in history {
@@ -27,9 +27,9 @@ pub fn kept_events(at: u8, history: &[Past]) -> u64
 }
 
 /// How many bytes of this seat were put.
-pub fn kept_bytes(at: u8, history: &[Past]) -> u64
+pub fn past_bytes(at: u8, history: &[Past]) -> u64
     requires { length history.now ≤ 1000000 }
-    ensures { result ≡ kept_bytes at history.now }
+    ensures { result ≡ past_bytes at history.now }
 {
     let mut n = 0;
     for p in history {
@@ -71,9 +71,9 @@ fn seat_fault<E: Ledger, B: Ledger, F: Ledger>(
     ensures { result ≡ seat_fault seat history.now shares.now }
 {
     let (events, bytes) = counts_of(seat, shares);
-    match differs(seat, kept_events(seat, history), events) {
+    match differs(seat, past_events(seat, history), events) {
         Some(fault) => Some(fault),
-        None => differs(seat, kept_bytes(seat, history), bytes),
+        None => differs(seat, past_bytes(seat, history), bytes),
     }
 }
 

@@ -13,7 +13,7 @@ mod past;
 mod share;
 mod shares;
 
-pub use audit::{kept_bytes, kept_events};
+pub use audit::{past_bytes, past_events};
 pub use cell::{BYTES, Cell, MOST};
 pub use fault::{CellFault, FullAt, Receipt, SeatFault};
 pub use past::{Past, put, seat};

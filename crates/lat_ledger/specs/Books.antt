@@ -25,7 +25,7 @@ tallies_of k false = k.node
 -- with the room for so many more frames
 pub record Kept : Type 0 where
   pub book : Book
-  pub room : ℕ
+  pub reserved : ℕ
 
 -- frames
 

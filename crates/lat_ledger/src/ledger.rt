@@ -40,7 +40,7 @@ impl Model for Ledger {
 
     ghost Value = { Kept };
 
-    ghost view = { λ a. record { book = record { log = a.posts.log; server = a.server; node = a.node }; room = a.posts.room } };
+    ghost view = { λ a. record { book = record { log = a.posts.log; server = a.server; node = a.node }; reserved = a.posts.reserved } };
 }
 
 // The number of a frame of this mark behind so many messages of its circuit.
@@ -139,7 +139,7 @@ impl Ledger {
             ≡ cond (nat_eq x circuit) tally (tally_at (tallies_of self.old.book server) x) }
         ensures other { tallies_of self.new.book (not server) ≡ tallies_of self.old.book (not server) }
         ensures log { self.new.book.log ≡ self.old.book.log }
-        ensures room { self.new.room ≡ self.old.room }
+        ensures reserved { self.new.reserved ≡ self.old.reserved }
     {
         if server {
             self.server.set(circuit, tally);
@@ -158,7 +158,7 @@ impl Ledger {
             (tally_at (tallies_of self.old.book server) x) }
         ensures other { tallies_of self.new.book (not server) ≡ tallies_of self.old.book (not server) }
         ensures log { self.new.book.log ≡ self.old.book.log }
-        ensures room { self.new.room ≡ self.old.room }
+        ensures reserved { self.new.reserved ≡ self.old.reserved }
     {
         let Tally {
             formed,
@@ -179,7 +179,7 @@ impl Ledger {
     /// Keeps the frames that the server or the node made in one event. The other end's address is `other`. There must be room
     /// for them.
     pub fn enter_all(&mut self, by_server: bool, other: &Addr, frames: &[OutFrame])
-        requires room { length frames.now ≤ self.old.room }
+        requires reserved { length frames.now ≤ self.old.reserved }
         requires few { length self.old.book.log.posts + length frames.now < 2 ^ 32 }
         requires formed { (x : ℕ) → (tally_at (tallies_of self.old.book by_server) x).formed ≤ length self.old.book.log.posts }
         ensures book { (u : Setups) (sent : List Posted) (done : List ℕ) (counts : Bool → Counts) (fs : List machines.OutFrame) →
@@ -205,7 +205,7 @@ impl Ledger {
     }
 
     fn enter(&mut self, by_server: bool, other: &Addr, frame: &OutFrame)
-        requires room { 0 < self.old.room }
+        requires reserved { 0 < self.old.reserved }
         requires few { length self.old.book.log.posts < 2 ^ 32 }
         requires formed { (x : ℕ) → (tally_at (tallies_of self.old.book by_server) x).formed ≤ length self.old.book.log.posts }
         ensures book { (u : Setups) (sent : List Posted) (done : List ℕ) (counts : Bool → Counts) (f : machines.OutFrame) →
@@ -223,7 +223,7 @@ impl Ledger {
             ≡ (tally_at (tallies_of self.old.book by_server) x).taken }
         ensures other { tallies_of self.new.book (not by_server) ≡ tallies_of self.old.book (not by_server) }
         ensures came { (n : ℕ) → CameAtMost n self.old.book.log.ways → CameAtMost n self.new.book.log.ways }
-        ensures room { self.old.room ≡ self.new.room + 1 }
+        ensures reserved { self.old.reserved ≡ self.new.reserved + 1 }
     {
         let tally = self.tally(by_server, frame.circuit);
         let post = post_of(frame, by_server, tally);

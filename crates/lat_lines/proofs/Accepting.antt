@@ -10,7 +10,7 @@ use Rattle.lat_model.specs.ends.Timers.{note_empty}
 use Rattle.lat_model.proofs.sessions.Words.{upd_same}
 use Rattle.lat_machines.specs.cores.Acts.{steps_at, idle}
 use Rattle.lat_machines.specs.cores.Cores.{Seat, no_seat, Core, Side}
-use Rattle.lat_machines.specs.cores.Lines.{session_of, over, last_on, seat_at, holds}
+use Rattle.lat_machines.specs.cores.Lines.{session_of, over, last_on, seat_at, has_session}
 use Rattle.lat_circuits.specs.Kept as circuits
 use Rattle.lat_circuits.specs.Stands as stands
 use Rattle.lat_circuits.specs.Stands.{calling}
@@ -41,7 +41,7 @@ last_stays c d line s (x ∷ xs) e f = last_stays c d line (cond (nat_eq x.line 
     by true = e.0
     by false = f
 
-pub none_still : (k : Kept) (q : circuits.Kept) (c d : Core) (line : ℕ) → Stands k c → stands.Stands q d → CoreLater c d → holds c line ≡ false → holds d line ≡ false
+pub none_still : (k : Kept) (q : circuits.Kept) (c d : Core) (line : ℕ) → Stands k c → stands.Stands q d → CoreLater c d → has_session c line ≡ false → has_session d line ≡ false
 none_still k q c d line st h later none =
     let b : Between q c d = record { later = later; stands = h; unheard = st.seated.unheard } in
     let nobody : over d no_seat ≡ true = ap (λ z. not z || free (session_of d no_seat)) (none_later c d later st.none) in

@@ -8,7 +8,7 @@ use Rattle.lat_circuits.specs.Stands as stands
 use Rattle.lat_lines.specs.declared.seat.Seat as own
 use Rattle.lat_lines.specs.Kept.{Kept}
 use Rattle.lat_lines.specs.Cores.{Covers}
-use Rattle.lat_lines.specs.Stands.{Stands, seat_shown, seat_told, present}
+use Rattle.lat_lines.specs.Stands.{Stands, seat_shown, seat_info, present}
 use Rattle.lat_lines.proofs.reaping.Seats.{not_over}
 use Rattle.lat_lines.proofs.reaping.After.{AllHeld}
 
@@ -17,7 +17,7 @@ present_held : (k : circuits.Kept) (c : Core) (n : ℕ) (ss : List Seat) → sta
 present_held k c n [] st = tt
 present_held k c n (s ∷ ss) st = by (over c s) refl (present_held k c (suc n) ss st)
   where
-    by : (b : Bool) → over c s ≡ b → AllHeld k (present c (suc n) ss) → AllHeld k (cond b (present c (suc n) ss) (seat_told c (suc n) s ∷ present c (suc n) ss))
+    by : (b : Bool) → over c s ≡ b → AllHeld k (present c (suc n) ss) → AllHeld k (cond b (present c (suc n) ss) (seat_info c (suc n) s ∷ present c (suc n) ss))
     by true o h = h
     by false o h = (st.all s.circuit (not_over c s o).0, h)
 

@@ -6,7 +6,7 @@ use Rattle.lat_model.specs.sessions.Session.{free}
 use Rattle.lat_model.specs.sessions.Sessions.{named}
 use Rattle.lat_model.specs.ends.End.{lives}
 use Rattle.lat_machines.specs.cores.Cores.{Seat, no_seat, Core}
-use Rattle.lat_machines.specs.cores.Lines.{end_of, sessions_of, session_of, over, last_on, seat_at, holds}
+use Rattle.lat_machines.specs.cores.Lines.{end_of, sessions_of, session_of, over, last_on, seat_at, has_session}
 use Rattle.lat_lines.specs.declared.seat.Seat as own
 use Rattle.lat_lines.specs.Kept.{Kept}
 use Rattle.lat_lines.specs.Stands.{IsSeat, Stands}
@@ -31,7 +31,7 @@ each_last P c line d (x ∷ xs) f e o = each_last P c line (cond (nat_eq x.line 
     by true o = e.0
     by false o = f o
 
-pub held_seat : (k : Kept) (c : Core) (line : ℕ) → Stands k c → holds c line ≡ true → IsHeld k.lines c (seat_at c line)
+pub held_seat : (k : Kept) (c : Core) (line : ℕ) → Stands k c → has_session c line ≡ true → IsHeld k.lines c (seat_at c line)
 held_seat k c line st h =
     let s : Seat = seat_at c line in
     let o : over c s ≡ false = not-true (over c s) h in

@@ -6,11 +6,11 @@ use Rattle.std.proofs.lemmas.List.{length-map}
 use Rattle.std.proofs.lemmas.Option.{none-some, same_Some}
 use Rattle.lat_model.specs.sessions.Session.{free}
 use Rattle.lat_machines.specs.cores.Cores.{Seat, no_seat, Core}
-use Rattle.lat_machines.specs.cores.Lines.{session_of, over, last_on, seat_at, holds, used}
+use Rattle.lat_machines.specs.cores.Lines.{session_of, over, last_on, seat_at, has_session, used}
 use Rattle.lat_machines.specs.cores.Books.{LineSession, line_session, line_history}
 use Rattle.lat_lines.specs.declared.seat.Seat as own
 use Rattle.lat_lines.specs.Kept.{Kept}
-use Rattle.lat_lines.specs.Stands.{Present, NoneOn, Latest, Stands, present, seat_shown, seat_told}
+use Rattle.lat_lines.specs.Stands.{Present, NoneOn, Latest, Stands, present, seat_shown, seat_info}
 
 abbrev pub is_on : ℕ → Present → Bool
 is_on line p = nat_eq p.line line
@@ -18,7 +18,7 @@ is_on line p = nat_eq p.line line
 -- The line has this session, of this number
 pub record OnLine (c : Core) (line n : ℕ) (ss : List Seat) (s : Seat) : Type 0 where
   pub number : ℕ
-  pub is : find (is_on line) (present c n ss) ≡ Some (seat_told c number s)
+  pub is : find (is_on line) (present c n ss) ≡ Some (seat_info c number s)
   pub before : List LineSession
   pub history : line_history c line n ss ≡ line_session c number s ∷ before
 
@@ -43,7 +43,7 @@ none_present c line n d [] l o = refl
 none_present c line n d (x ∷ xs) l o = by (over c x) refl (nat_eq x.line line) refl (λ e p. none_present c line (suc n) e xs l.1 p)
   where
     here : Present
-    here = seat_told c (suc n) x
+    here = seat_info c (suc n) x
 
     rest : List Present
     rest = present c (suc n) xs
@@ -71,7 +71,7 @@ last_present c line n d [] l o e = absurd (true≢false (sym o ∙ e))
 last_present c line n d (x ∷ xs) l o e = by (over c x) refl (nat_eq x.line line) refl (λ z p q. last_present c line (suc n) z xs l.1 p q)
   where
     here : Present
-    here = seat_told c (suc n) x
+    here = seat_info c (suc n) x
 
     rest : List Present
     rest = present c (suc n) xs
@@ -124,14 +124,14 @@ find_shown line (s ∷ ss) = by (nat_eq s.line line) (find_shown line ss)
 
 -- This is kept of the session that a line has
 pub record HasSeat (c : Core) (line : ℕ) (s : own.Seat) : Type 0 where
-  pub holds : holds c line ≡ true
+  pub holds : has_session c line ≡ true
   pub number : ℕ
-  pub shown : seat_shown s ≡ seat_told c number (seat_at c line)
+  pub shown : seat_shown s ≡ seat_info c number (seat_at c line)
   pub before : List LineSession
   pub history : line_history c line 0 c.seats ≡ line_session c number (seat_at c line) ∷ before
 
 abbrev pub Found : Core → ℕ → Option own.Seat → Type 0
-Found c line None = holds c line ≡ false
+Found c line None = has_session c line ≡ false
 Found c line (Some s) = HasSeat c line s
 
 -- no line has the session that isn't one
@@ -149,12 +149,12 @@ found k c line st o is = by (over c (seat_at c line)) refl o shown
     by true e (Some s) f = absurd (none-some (seat_shown s) (sym (f ∙ none_present c line 0 no_seat c.seats st.seated.latest e)))
     by false e None f =
         let r = last_present c line 0 no_seat c.seats st.seated.latest (no_seat_over k c st) e in
-        absurd (none-some (seat_told c r.number (seat_at c line)) (f ∙ r.is))
+        absurd (none-some (seat_info c r.number (seat_at c line)) (f ∙ r.is))
     by false e (Some s) f =
         let r = last_present c line 0 no_seat c.seats st.seated.latest (no_seat_over k c st) e in
-        record { holds = ap not e; number = r.number; shown = same_Some (seat_shown s) (seat_told c r.number (seat_at c line)) (f ∙ r.is); before = r.before; history = r.history }
+        record { holds = ap not e; number = r.number; shown = same_Some (seat_shown s) (seat_info c r.number (seat_at c line)) (f ∙ r.is); before = r.before; history = r.history }
 
-pub found_holds : (c : Core) (line : ℕ) (o : Option own.Seat) → Found c line o → is_some o ≡ holds c line
+pub found_holds : (c : Core) (line : ℕ) (o : Option own.Seat) → Found c line o → is_some o ≡ has_session c line
 found_holds c line None f = sym f
 found_holds c line (Some s) f = sym f.holds
 
@@ -164,7 +164,7 @@ present_count c n [] = refl
 present_count c n (s ∷ ss) = by (over c s) (present_count c (suc n) ss)
   where
     by : (b : Bool) → length (present c (suc n) ss) ≡ length (filter (λ s. not (over c s)) ss)
-        → length (cond b (present c (suc n) ss) (seat_told c (suc n) s ∷ present c (suc n) ss))
+        → length (cond b (present c (suc n) ss) (seat_info c (suc n) s ∷ present c (suc n) ss))
         ≡ length (cond (not b) (s ∷ filter (λ s. not (over c s)) ss) (filter (λ s. not (over c s)) ss))
     by true ih = ih
     by false ih = ap suc ih

@@ -7,7 +7,7 @@ use Rattle.lat_base.specs.declared.answer.Answer.TheVariants as answers
 use Rattle.lat_model.specs.sessions.Calls.{Call}
 use Rattle.lat_machines.specs.values.Answers.{NoLine, Closed}
 use Rattle.lat_machines.specs.cores.Cores.{Seat, Core}
-use Rattle.lat_machines.specs.cores.Lines.{over, seat_at, holds, line_exists}
+use Rattle.lat_machines.specs.cores.Lines.{over, seat_at, has_session, line_exists}
 use Rattle.lat_machines.specs.cores.LineCalls.{Said, says, on_line}
 use Rattle.lat_circuits.specs.Kept as circuits
 use Rattle.lat_circuits.specs.Stands as stands
@@ -81,11 +81,11 @@ refused k line f a e c st = by (line_exists k.lines line) refl (find (is_seat_of
     by : (b : Bool) → line_exists k.lines line ≡ b → (o : Option own.Seat) → Found c line o → cond b (ok_or o answers.Closed) (Err answers.NoLine) ≡ Err a
         → HasAnswered c (on_line k.lines c line (f c)) (record k { freed = [] }) a
     by false g o h e =
-        let is : on_line k.lines c line (f c) ≡ says c NoLine = ap (λ b. cond b (cond (holds c line) (f c (seat_at c line)) (says c Closed)) (says c NoLine)) g in
+        let is : on_line k.lines c line (f c) ≡ says c NoLine = ap (λ b. cond b (cond (has_session c line) (f c (seat_at c line)) (says c Closed)) (says c NoLine)) g in
         refused_so k c a (on_line k.lines c line (f c)) st (ap answer_shown (sym (same_err answers.NoLine a e)) ∙ sym (ap (λ z. z.answer) is)) (ap (λ z. z.core) is)
     by true g None h e =
         let is : on_line k.lines c line (f c) ≡ says c Closed =
-        ap (λ b. cond b (cond (holds c line) (f c (seat_at c line)) (says c Closed)) (says c NoLine)) g
+        ap (λ b. cond b (cond (has_session c line) (f c (seat_at c line)) (says c Closed)) (says c NoLine)) g
         ∙ ap (λ b. cond b (f c (seat_at c line)) (says c Closed)) h in
         refused_so k c a (on_line k.lines c line (f c)) st (ap answer_shown (sym (same_err answers.Closed a e)) ∙ sym (ap (λ z. z.answer) is)) (ap (λ z. z.core) is)
     by true g (Some s) h e = absurd (not_ok s a (sym e))
@@ -117,7 +117,7 @@ says_called k m line s f x a is did agrees c st =
     let d : Core = stands.calling (side_of k) s.session.circuit x c in
     let g = agrees c t st (held_seat k c line st has.holds) (circuit_is c line s has) (id_is c line s has) in
     let on : on_line k.lines c line (f c) ≡ f c t =
-    ap (λ b. cond b (cond (holds c line) (f c t) (says c Closed)) (says c NoLine)) is.exists
+    ap (λ b. cond b (cond (has_session c line) (f c t) (says c Closed)) (says c NoLine)) is.exists
     ∙ ap (λ b. cond b (f c t) (says c Closed)) has.holds in
     let core : (on_line k.lines c line (f c)).core ≡ d = ap (λ z. z.core) on ∙ g.core in
     let done = did c st in

@@ -13,7 +13,7 @@ use Rattle.lat_queue.specs.Histories.{some_key}
 use Rattle.lat_queue.specs.declared.key.Key.{Key}
 use Rattle.lat_machines.specs.values.Keys as keys
 use Rattle.lat_machines.specs.cores.Cores.{Seat, no_seat, Core}
-use Rattle.lat_machines.specs.cores.Lines.{end_of, sessions_of, session_of, over, last_on, seat_at, holds, told_count}
+use Rattle.lat_machines.specs.cores.Lines.{end_of, sessions_of, session_of, over, last_on, seat_at, has_session, saturated_count}
 use Rattle.lat_machines.specs.cores.Books.{SessionEnd, EndedClosed, EndedRejected, EndedCircuit, reject_reason, end_reason, seat_end, LineSession, line_session, line_history, book_of, book}
 use Rattle.lat_circuit.specs.Kept as circuit
 use Rattle.lat_circuits.specs.Kept as circuits
@@ -22,10 +22,10 @@ use Rattle.lat_circuits.proofs.Held.{each_push}
 use Rattle.lat_stream.specs.Kept.{saturated}
 use Rattle.lat_lines.specs.declared.seat.Seat as own
 use Rattle.lat_lines.specs.Kept.{Kept, Holds, Apart, IsLine}
-use Rattle.lat_lines.specs.Stands.{Present, IsSeat, NoneOn, Latest, Stands, present, seat_shown, seat_told, session_shown, session_told}
+use Rattle.lat_lines.specs.Stands.{Present, IsSeat, NoneOn, Latest, Stands, present, seat_shown, seat_info, session_shown, session_info}
 use Rattle.lat_lines.specs.Opens.{seated_core, session_begun}
 use Rattle.lat_lines.specs.Later.{Leads}
-use Rattle.lat_circuits.specs.Told.{telling_of}
+use Rattle.lat_circuits.specs.Info.{telling_of}
 use Rattle.lat_lines.proofs.OnLines.{none_last}
 
 abbrev with_seats : Core → List Seat → Core
@@ -33,18 +33,18 @@ with_seats c ts = record c { seats = ts }
 
 -- one more line session behind the others
 
-present_push : (c : Core) (ts : List Seat) (n : ℕ) (ss : List Seat) (t : Seat) → over c t ≡ false → present (with_seats c ts) n (ss ++ t ∷ []) ≡ present c n ss ++ seat_told c (suc (n + length ss)) t ∷ []
+present_push : (c : Core) (ts : List Seat) (n : ℕ) (ss : List Seat) (t : Seat) → over c t ≡ false → present (with_seats c ts) n (ss ++ t ∷ []) ≡ present c n ss ++ seat_info c (suc (n + length ss)) t ∷ []
 present_push c ts n [] t o =
-    ap (λ b. cond b [] (seat_told c (suc n) t ∷ [])) o ∙ ap (λ m. seat_told c (suc m) t ∷ []) (omega arith)
-present_push c ts n (x ∷ xs) t o = by (over c x) (present_push c ts (suc n) xs t o ∙ ap (λ m. present c (suc n) xs ++ seat_told c (suc m) t ∷ []) (omega arith))
+    ap (λ b. cond b [] (seat_info c (suc n) t ∷ [])) o ∙ ap (λ m. seat_info c (suc m) t ∷ []) (omega arith)
+present_push c ts n (x ∷ xs) t o = by (over c x) (present_push c ts (suc n) xs t o ∙ ap (λ m. present c (suc n) xs ++ seat_info c (suc m) t ∷ []) (omega arith))
   where
     new : Present
-    new = seat_told c (suc (n + suc (length xs))) t
+    new = seat_info c (suc (n + suc (length xs))) t
 
     by : (b : Bool) → present (with_seats c ts) (suc n) (xs ++ t ∷ []) ≡ present c (suc n) xs ++ new ∷ []
-        → cond b (present (with_seats c ts) (suc n) (xs ++ t ∷ [])) (seat_told c (suc n) x ∷ present (with_seats c ts) (suc n) (xs ++ t ∷ [])) ≡ cond b (present c (suc n) xs) (seat_told c (suc n) x ∷ present c (suc n) xs) ++ new ∷ []
+        → cond b (present (with_seats c ts) (suc n) (xs ++ t ∷ [])) (seat_info c (suc n) x ∷ present (with_seats c ts) (suc n) (xs ++ t ∷ [])) ≡ cond b (present c (suc n) xs) (seat_info c (suc n) x ∷ present c (suc n) xs) ++ new ∷ []
     by true ih = ih
-    by false ih = ap (λ z. seat_told c (suc n) x ∷ z) ih
+    by false ih = ap (λ z. seat_info c (suc n) x ∷ z) ih
 
 history_push : (c : Core) (ts : List Seat) (line n : ℕ) (ss : List Seat) (t : Seat) → line_history (with_seats c ts) line n (ss ++ t ∷ []) ≡ cond (nat_eq t.line line) (line_session c (suc (n + length ss)) t ∷ []) [] ++ line_history c line n ss
 history_push c ts line n [] t = by (nat_eq t.line line) ∙ ap (λ m. cond (nat_eq t.line line) (line_session c (suc m) t ∷ []) [] ++ []) (omega arith)
@@ -81,7 +81,7 @@ last_before : (x : LineSession) (xs : List LineSession) → (book_of true (x ∷
 last_before x [] = refl
 last_before x (y ∷ ys) = refl
 
-book_push : (c : Core) (line : ℕ) (t : Seat) → over c t ≡ false → holds c t.line ≡ false → (book (seated_core c t) line).last ≡ (book c line).last
+book_push : (c : Core) (line : ℕ) (t : Seat) → over c t ≡ false → has_session c t.line ≡ false → (book (seated_core c t) line).last ≡ (book c line).last
 book_push c line t o h = by (nat_eq t.line line) refl
   where
     d : Core
@@ -93,13 +93,13 @@ book_push c line t o h = by (nat_eq t.line line) refl
     past : line_history d line 0 d.seats ≡ cond (nat_eq t.line line) (new ∷ []) [] ++ line_history c line 0 c.seats
     past = history_push c (c.seats ++ t ∷ []) line 0 c.seats t ∙ ap (λ m. cond (nat_eq t.line line) (line_session c (suc m) t ∷ []) [] ++ line_history c line 0 c.seats) (omega arith)
 
-    held : holds d line ≡ not (over c (cond (nat_eq t.line line) t (seat_at c line)))
+    held : has_session d line ≡ not (over c (cond (nat_eq t.line line) t (seat_at c line)))
     held = ap (λ s. not (over c s)) (last_push line no_seat c.seats t)
 
     by : (b : Bool) → nat_eq t.line line ≡ b → (book d line).last ≡ (book c line).last
     by true e =
-        let mine : holds d line ≡ true = held ∙ ap (λ b. not (over c (cond b t (seat_at c line)))) e ∙ ap not o in
-        let none : holds c line ≡ false = subst (λ z. holds c z ≡ false) (eqb-true t.line line e) h in
+        let mine : has_session d line ≡ true = held ∙ ap (λ b. not (over c (cond b t (seat_at c line)))) e ∙ ap not o in
+        let none : has_session c line ≡ false = subst (λ z. has_session c z ≡ false) (eqb-true t.line line e) h in
         ap₂ (λ b hs. (book_of b hs).last) mine (past ∙ ap (λ b. cond b (new ∷ []) [] ++ line_history c line 0 c.seats) e)
         ∙ last_before new (line_history c line 0 c.seats)
         ∙ sym (ap (λ b. (book_of b (line_history c line 0 c.seats)).last) none)
@@ -135,20 +135,20 @@ stands_seated k c ts st = record { own = st.own; moment = st.moment; drawn = st.
 
 -- The line of t has the session t from now on, and s is kept of it
 pub record Begins (k : Kept) (c : Core) (t : Seat) (s : own.Seat) : Type 0 where
-  pub none : holds c t.line ≡ false
+  pub none : has_session c t.line ≡ false
   pub going : over c t ≡ false
   pub seat : IsSeat k.lines c t
-  pub shown : seat_shown s ≡ seat_told c (suc (length c.seats)) t
+  pub shown : seat_shown s ≡ seat_info c (suc (length c.seats)) t
 
 pub stands_push : (k : Kept) (c : Core) (t : Seat) (s : own.Seat) (made : ℕ) → Stands k c → Begins k c t s → made ≡ saturated (suc (length c.seats))
     → Stands (record k { seats = k.seats ++ s ∷ []; made = made }) (seated_core c t)
 stands_push k c t s made st b m = record {
   circuits = stands_seated k.circuits c ts st.circuits;
   seated = record {
-    seats = map-append seat_shown k.seats (s ∷ []) ∙ ap₂ (λ ps p. ps ++ p ∷ []) st.seated.seats b.shown ∙ sym (present_push c ts 0 c.seats t b.going ∙ ap (λ m. present c 0 c.seats ++ seat_told c (suc m) t ∷ []) (omega arith));
-    last = λ line l. st.seated.last line l ∙ ap (option_map session_told) (sym (book_push c line t b.going b.none));
+    seats = map-append seat_shown k.seats (s ∷ []) ∙ ap₂ (λ ps p. ps ++ p ∷ []) st.seated.seats b.shown ∙ sym (present_push c ts 0 c.seats t b.going ∙ ap (λ m. present c 0 c.seats ++ seat_info c (suc m) t ∷ []) (omega arith));
+    last = λ line l. st.seated.last line l ∙ ap (option_map session_info) (sym (book_push c line t b.going b.none));
     made = m ∙ ap saturated (omega (arith, length-append c.seats (t ∷ [])));
-    finished = st.seated.finished ∙ ap told_count (sym (ended_push c ts c.seats t b.going));
+    finished = st.seated.finished ∙ ap saturated_count (sym (ended_push c ts c.seats t b.going));
     each = seats_push k.lines c ts c.seats t st.seated.each b.seat;
     latest = latest_push c ts t.line no_seat c.seats t refl st.seated.latest (not-false (over c (seat_at c t.line)) b.none);
     unheard = st.seated.unheard;
@@ -218,13 +218,13 @@ told_of c n t s end = record {
   end = end;
 }
 
-pub begins : (k : Kept) (c : Core) (t : Seat) (key : Option Key) (u : base.LineSession) → Stands k c → holds c t.line ≡ false → IsLine k.lines t.line → lives (end_of c t) ≡ true → Leads (sessions_of c t) t.id t.serial
+pub begins : (k : Kept) (c : Core) (t : Seat) (key : Option Key) (u : base.LineSession) → Stands k c → has_session c t.line ≡ false → IsLine k.lines t.line → lives (end_of c t) ≡ true → Leads (sessions_of c t) t.id t.serial
     → (1 ≤ t.circuit) × (t.circuit ≤ c.circuits.drawn) → t.key ≡ some_key key
     → session_shown u ≡ session_begun (saturated (suc (length c.seats))) t.circuit t.id (telling_of c t.circuit t.id)
     → Begins k c t (record { line = t.line; key = key; session = u })
 begins k c t key u st h l alive leads drawn e is =
     let going : over c t ≡ false = or_from (not (lives (end_of c t))) (free (session_of c t)) (ap not alive) leads.taken in
-    let same : session_shown u ≡ session_told (line_session c (suc (length c.seats)) t) =
+    let same : session_shown u ≡ session_info (line_session c (suc (length c.seats)) t) =
     is ∙ ap₂ (told_of c (suc (length c.seats)) t) (ap (sessions_of c t).session leads.at_id) (sym (not_ended c t going)) in
     record {
       none = h;

@@ -3,7 +3,7 @@ use Rattle.std.proofs.Common.{◌≡◌, ℕ, zero, suc, ◌+◌, ◌-◌, Bool,
 use Rattle.std.specs.Option.{option_map}
 use Rattle.std.specs.List.{range_with_len}
 use Rattle.lat_model.specs.Lists.{least, upwards}
-use Rattle.lat_circuits.specs.Opens.{id_told}
+use Rattle.lat_circuits.specs.Opens.{id_or_zero}
 use Rattle.lat_base.specs.declared.book.LineSession as base
 use Rattle.lat_base.specs.declared.state.SessionState.TheVariants as states
 use Rattle.lat_model.specs.sessions.Session.{Session, Free, state, take_open}
@@ -12,12 +12,12 @@ use Rattle.lat_model.specs.sessions.Slots.{items}
 use Rattle.lat_model.specs.ends.End.{End, lives}
 use Rattle.lat_machines.specs.cores.Books.{LineSession, LineBook, book_of, book, line_history}
 use Rattle.lat_machines.specs.cores.Cores.{Core}
-use Rattle.lat_machines.specs.cores.Lines.{session_of, seat_at, holds, line_state, waiting_at}
+use Rattle.lat_machines.specs.cores.Lines.{session_of, seat_at, has_session, line_state, waiting_at}
 use Rattle.lat_stream.specs.Kept.{state_shown}
-use Rattle.lat_circuit.specs.Told.{session_state}
+use Rattle.lat_circuit.specs.Info.{session_state}
 use Rattle.lat_lines.specs.declared.seat.Seat as own
 use Rattle.lat_lines.specs.Kept.{Kept, IsLine, side_of}
-use Rattle.lat_lines.specs.Stands.{Stands, session_shown, session_told, last_shown}
+use Rattle.lat_lines.specs.Stands.{Stands, session_shown, session_info, last_shown}
 use Rattle.lat_lines.proofs.OnLines.{HasSeat, Found}
 use Rattle.lat_lines.proofs.HeldSeats.{held_seat, circuit_is, id_is}
 
@@ -37,14 +37,14 @@ first_present x (y ∷ ys) = refl
 abbrev pub session_in : own.Seat → base.LineSession
 session_in s = s.session
 
-pub present_told : (c : Core) (line : ℕ) (o : Option own.Seat) → Found c line o → option_map session_shown (option_map session_in o) ≡ option_map session_told (book c line).present
-present_told c line None f = sym (ap (λ b. option_map session_told (book_of b (line_history c line 0 c.seats)).present) f ∙ ap (option_map session_told) (none_present (line_history c line 0 c.seats)))
+pub present_told : (c : Core) (line : ℕ) (o : Option own.Seat) → Found c line o → option_map session_shown (option_map session_in o) ≡ option_map session_info (book c line).present
+present_told c line None f = sym (ap (λ b. option_map session_info (book_of b (line_history c line 0 c.seats)).present) f ∙ ap (option_map session_info) (none_present (line_history c line 0 c.seats)))
 present_told c line (Some s) f =
     ap (λ p. Some p.session) f.shown
-    ∙ sym (ap₂ (λ b h. option_map session_told (book_of b h).present) f.holds f.history ∙ ap (option_map session_told) (first_present _ f.before))
+    ∙ sym (ap₂ (λ b h. option_map session_info (book_of b h).present) f.holds f.history ∙ ap (option_map session_info) (first_present _ f.before))
 
 pub last_told : (k : Kept) (c : Core) (line : ℕ) (o : Option base.LineSession) → Stands k c → IsLine k.lines line → slice_get k.last (line - 1) ≡ Some o
-    → option_map session_shown o ≡ option_map session_told (book c line).last
+    → option_map session_shown o ≡ option_map session_info (book c line).last
 last_told k c line o st l e = by o ∙ ap last_shown (sym e) ∙ st.seated.last line l
   where
     by : (o : Option base.LineSession) → option_map session_shown o ≡ last_shown (Some o)
@@ -67,7 +67,7 @@ state_told k c line s st f side =
     ∙ ap₂ (λ m t. state_shown (state m t)) master h.named
     ∙ ap (λ b. state_shown (cond b (state k.circuits.server (session_of c (seat_at c line))) Free)) (sym f.holds)
 
-pub state_none : (k : Kept) (c : Core) (line : ℕ) → holds c line ≡ false → states.Free ≡ state_shown (line_state (side_of k) c line)
+pub state_none : (k : Kept) (c : Core) (line : ℕ) → has_session c line ≡ false → states.Free ≡ state_shown (line_state (side_of k) c line)
 state_none k c line f = ap (λ b. state_shown (cond b (state k.circuits.server (session_of c (seat_at c line))) Free)) (sym f)
 
 -- the items that a take could give
@@ -85,27 +85,27 @@ waiting_told k c line s st f =
     ∙ ap₂ (λ b (u : Session). cond (b && take_open u) (length (items u.came) - u.taken) 0) h.lives h.named
     ∙ ap (λ b. cond (b && take_open t) (length (items t.came) - t.taken) 0) (sym f.holds)
 
-pub waiting_none : (c : Core) (line : ℕ) → holds c line ≡ false → 0 ≡ waiting_at c line
+pub waiting_none : (c : Core) (line : ℕ) → has_session c line ≡ false → 0 ≡ waiting_at c line
 waiting_none c line f =
     let t : Session = session_of c (seat_at c line) in
     ap (λ b. cond (b && take_open t) (length (items t.came) - t.taken) 0) (sym f)
 
 -- the least line without a session
 
-id_kept : (o : Option ℕ) → id_told o ≡ id_told (option_map (λ x. x) o)
+id_kept : (o : Option ℕ) → id_or_zero o ≡ id_or_zero (option_map (λ x. x) o)
 id_kept None = refl
 id_kept (Some x) = refl
 
-least_found : (p : ℕ → Bool) (a n : ℕ) → id_told (find p (range_with_len (suc a) n)) ≡ least p (upwards a n)
+least_found : (p : ℕ → Bool) (a n : ℕ) → id_or_zero (find p (range_with_len (suc a) n)) ≡ least p (upwards a n)
 least_found p a zero = refl
 least_found p a (suc n) =
     let next : suc a + 1 ≡ suc (suc a) = omega arith in
-    by (p (suc a)) (ap (λ z. id_told (find p (range_with_len z n))) next ∙ least_found p (suc a) n)
+    by (p (suc a)) (ap (λ z. id_or_zero (find p (range_with_len z n))) next ∙ least_found p (suc a) n)
   where
-    by : (b : Bool) → id_told (find p (range_with_len (suc a + 1) n)) ≡ least p (upwards (suc a) n)
-        → id_told (cond b (Some (suc a)) (find p (range_with_len (suc a + 1) n))) ≡ cond b (suc a) (least p (upwards (suc a) n))
+    by : (b : Bool) → id_or_zero (find p (range_with_len (suc a + 1) n)) ≡ least p (upwards (suc a) n)
+        → id_or_zero (cond b (Some (suc a)) (find p (range_with_len (suc a + 1) n))) ≡ cond b (suc a) (least p (upwards (suc a) n))
     by true ih = refl
     by false ih = ih
 
-pub least_told : (p : ℕ → Bool) (n : ℕ) (o : Option ℕ) → option_map (λ x. x) o ≡ find p (range_with_len 1 n) → id_told o ≡ least p (upwards 0 n)
-least_told p n o e = id_kept o ∙ ap id_told e ∙ least_found p 0 n
+pub least_told : (p : ℕ → Bool) (n : ℕ) (o : Option ℕ) → option_map (λ x. x) o ≡ find p (range_with_len 1 n) → id_or_zero o ≡ least p (upwards 0 n)
+least_told p n o e = id_kept o ∙ ap id_or_zero e ∙ least_found p 0 n

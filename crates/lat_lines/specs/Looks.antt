@@ -4,11 +4,11 @@ use Rattle.std.specs.Option.{is_some}
 use Rattle.lat_base.specs.declared.book.LineSession as base
 use Rattle.lat_machines.specs.cores.Books.{LineSession, EndedClosed}
 use Rattle.lat_machines.specs.cores.Cores.{Core}
-use Rattle.lat_machines.specs.cores.Lines.{told_count}
+use Rattle.lat_machines.specs.cores.Lines.{saturated_count}
 use Rattle.lat_queue.specs.declared.key.Key.{Key}
 use Rattle.lat_circuits.specs.Kept as circuits
 use Rattle.lat_circuits.specs.Stands as stands
-use Rattle.lat_circuits.specs.Told.{Telling, telling_of}
+use Rattle.lat_circuits.specs.Info.{Telling, telling_of}
 use Rattle.lat_lines.specs.declared.seat.Seat.{Seat}
 use Rattle.lat_lines.specs.Stands.{Present, end_shown, seat_shown}
 
@@ -17,8 +17,8 @@ use Rattle.lat_lines.specs.Stands.{Present, end_shown, seat_shown}
 abbrev pub session_closed : Telling → LineSession → LineSession
 session_closed t s = record s { peer_address = t.peer; peer_circuit = t.peer_circuit; end = Some EndedClosed }
 
-abbrev pub session_seen : Telling → LineSession → LineSession
-session_seen t s = record s {
+abbrev pub session_reviewed : Telling → LineSession → LineSession
+session_reviewed t s = record s {
   peer_address = t.peer;
   peer_circuit = t.peer_circuit;
   peer_session = t.peer_session;
@@ -28,7 +28,7 @@ session_seen t s = record s {
 }
 
 abbrev pub session_after : Telling → LineSession → LineSession
-session_after t s = cond t.is_asked (session_closed t s) (session_seen t s)
+session_after t s = cond t.is_asked (session_closed t s) (session_reviewed t s)
 
 abbrev pub present_after : Core → Present → Present
 present_after d p = record p { session = session_after (telling_of d p.session.circuit p.session.session) p.session }
@@ -49,7 +49,7 @@ last_after (s ∷ ss) ls = last_after ss (cond (is_over s) (slice_set ls (s.line
 
 abbrev pub finished_after : List Seat → ℕ → ℕ
 finished_after [] n = n
-finished_after (s ∷ ss) n = finished_after ss (cond (is_over s) (told_count (suc n)) n)
+finished_after (s ∷ ss) n = finished_after ss (cond (is_over s) (saturated_count (suc n)) n)
 
 abbrev pub key_after : Option Key → List Key → List Key
 key_after None ks = ks

@@ -11,7 +11,7 @@ use Rattle.lat_queue.specs.declared.key.Key.{Key}
 use Rattle.lat_circuits.specs.Kept as circuits
 use Rattle.lat_circuits.specs.Stands.{calling}
 use Rattle.lat_circuits.specs.Opens.{called_core}
-use Rattle.lat_circuits.specs.Told.{Telling}
+use Rattle.lat_circuits.specs.Info.{Telling}
 use Rattle.lat_lines.specs.declared.opening.OpenFault.{OpenFault}
 use Rattle.lat_lines.specs.declared.opening.OpenFault.TheVariants.{SessionsFull, CircuitsFull, IdsOut}
 

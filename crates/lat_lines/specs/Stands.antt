@@ -11,7 +11,7 @@ use Rattle.lat_machines.specs.values.Addresses.{address}
 use Rattle.lat_machines.specs.values.Keys as keys
 use Rattle.lat_machines.specs.cores.Books.{SessionEnd, EndedClosed, EndedRejected, EndedCircuit, LineSession, line_session, LineBook, book}
 use Rattle.lat_machines.specs.cores.Cores.{Seat, Core, Doing}
-use Rattle.lat_machines.specs.cores.Lines.{sessions_of, session_of, over, ended, told_count}
+use Rattle.lat_machines.specs.cores.Lines.{sessions_of, session_of, over, ended, saturated_count}
 use Rattle.lat_queue.specs.Histories.{key_in, some_key}
 use Rattle.lat_stream.specs.Kept.{saturated}
 use Rattle.lat_payload.specs.Frames.{Emits}
@@ -41,14 +41,14 @@ session_shown s = record {
 }
 
 -- as it is told: its counts stop at the greatest number of 64 bits
-abbrev pub session_told : LineSession → LineSession
-session_told s = record s { number = saturated s.number; given = saturated s.given; used_up = saturated s.used_up }
+abbrev pub session_info : LineSession → LineSession
+session_info s = record s { number = saturated s.number; given = saturated s.given; used_up = saturated s.used_up }
 
 abbrev pub book_shown : base_book.LineBook → LineBook
 book_shown b = record { present = option_map session_shown b.present; last = option_map session_shown b.last }
 
-abbrev pub book_told : LineBook → LineBook
-book_told b = record { present = option_map session_told b.present; last = option_map session_told b.last }
+abbrev pub book_info : LineBook → LineBook
+book_info b = record { present = option_map session_info b.present; last = option_map session_info b.last }
 
 -- a session that a line has
 pub record Present : Type 0 where
@@ -59,13 +59,13 @@ pub record Present : Type 0 where
 abbrev pub seat_shown : own.Seat → Present
 seat_shown s = record { line = s.line; key = some_key s.key; session = session_shown s.session }
 
-abbrev pub seat_told : Core → ℕ → Seat → Present
-seat_told c number s = record { line = s.line; key = s.key; session = session_told (line_session c number s) }
+abbrev pub seat_info : Core → ℕ → Seat → Present
+seat_info c number s = record { line = s.line; key = s.key; session = session_info (line_session c number s) }
 
 -- of these line sessions, which come behind the first n, those that aren't over
 abbrev pub present : Core → ℕ → List Seat → List Present
 present c n [] = []
-present c n (s ∷ ss) = cond (over c s) (present c (suc n) ss) (seat_told c (suc n) s ∷ present c (suc n) ss)
+present c n (s ∷ ss) = cond (over c s) (present c (suc n) ss) (seat_info c (suc n) s ∷ present c (suc n) ss)
 
 abbrev pub freed_key : Option keys.Key → List keys.Key → List keys.Key
 freed_key None ks = ks
@@ -104,9 +104,9 @@ last_shown (Some (Some s)) = Some (session_shown s)
 -- the lines stand for the line sessions of the core
 pub record Seated (k : Kept) (c : Core) : Type 0 where
   pub seats : map seat_shown k.seats ≡ present c 0 c.seats
-  pub last : (line : ℕ) → IsLine k.lines line → last_shown (slice_get k.last (line - 1)) ≡ option_map session_told (book c line).last
+  pub last : (line : ℕ) → IsLine k.lines line → last_shown (slice_get k.last (line - 1)) ≡ option_map session_info (book c line).last
   pub made : k.made ≡ saturated (length c.seats)
-  pub finished : k.finished ≡ told_count (ended c)
+  pub finished : k.finished ≡ saturated_count (ended c)
   pub each : Each (IsSeat k.lines c) c.seats
   pub latest : Latest c c.seats
   pub unheard : (x : ℕ) → Unheard (c.circuits.circuit_at x).end

@@ -41,7 +41,7 @@ impl Lines {
                     .call_session(session.circuit, session.session, call);
                 let is_over = is_free(self.circuits.state(session.circuit, session.session));
                 self.reap_unless(!is_over);
-                call_told(call, answer)
+                answer_of_call(call, answer)
             }
             Err(answer) => self.refused(answer),
         }
@@ -72,7 +72,7 @@ impl Lines {
                     .take(session.circuit, session.session, items.as_mut_slice());
                 let is_over = is_free(self.circuits.state(session.circuit, session.session));
                 self.reap_unless(!is_over);
-                Ok(took_told(answer, items))
+                Ok(answer_of_take(answer, items))
             }
             Err(answer) => Ok(self.refused(answer)),
         }
@@ -115,7 +115,7 @@ fn places(alloc: Global, count: usize) -> Result<Vec<Item>, Memory>
     Ok(items)
 }
 
-fn fault_told(fault: SessionFault) -> Answer
+fn answer_of_fault(fault: SessionFault) -> Answer
     ensures { result ≡ fault_answer fault }
 {
     match fault {
@@ -124,16 +124,16 @@ fn fault_told(fault: SessionFault) -> Answer
     }
 }
 
-fn call_told(call: &SessionCall, answer: Result<usize, SessionFault>) -> Answer
+fn answer_of_call(call: &SessionCall, answer: Result<usize, SessionFault>) -> Answer
     ensures { result ≡ call_answer call.now answer }
 {
     match answer {
-        Ok(taken) => done_told(call, taken),
-        Err(fault) => fault_told(fault),
+        Ok(taken) => answer_of_done(call, taken),
+        Err(fault) => answer_of_fault(fault),
     }
 }
 
-fn done_told(call: &SessionCall, taken: usize) -> Answer
+fn answer_of_done(call: &SessionCall, taken: usize) -> Answer
     ensures { result ≡ done_answer call.now taken }
 {
     match call {
@@ -142,11 +142,11 @@ fn done_told(call: &SessionCall, taken: usize) -> Answer
     }
 }
 
-fn took_told(answer: Result<usize, SessionFault>, items: Vec<Item>) -> Answer
+fn answer_of_take(answer: Result<usize, SessionFault>, items: Vec<Item>) -> Answer
     ensures { result ≡ took_answer answer items.items }
 {
     match answer {
         Ok(_) => Answer::Took(Items::of(items)),
-        Err(fault) => fault_told(fault),
+        Err(fault) => answer_of_fault(fault),
     }
 }

@@ -9,15 +9,15 @@ ghost use Rattle.lat_machines.specs.values.Addresses.{address};
 ghost use Rattle.lat_machines.specs.cores.Books.{book};
 ghost use Rattle.lat_machines.specs.cores.Cores.{Core, span};
 ghost use Rattle.lat_machines.specs.cores.Hearing.{names};
-ghost use Rattle.lat_machines.specs.cores.Lines.{holds, used, ended, told_count, line_exists, line_state, waiting_at};
+ghost use Rattle.lat_machines.specs.cores.Lines.{has_session, used, ended, saturated_count, line_exists, line_state, waiting_at};
 ghost use Rattle.lat_session.specs.States.{asked_at};
 ghost use Rattle.lat_stream.specs.Kept.{state_shown, saturated};
 ghost use Rattle.lat_circuits.specs.Kept.{has_id};
-ghost use Rattle.lat_circuits.specs.Told.{sessions_at, session_at, span_told};
-ghost use Rattle.lat_circuits.specs.Opens.{id_told};
+ghost use Rattle.lat_circuits.specs.Info.{sessions_at, session_at, some_span};
+ghost use Rattle.lat_circuits.specs.Opens.{id_or_zero};
 ghost use Rattle.lat_lines.specs.Kept.{side_of, IsLine};
 ghost use Rattle.lat_lines.specs.Answers.{ready};
-ghost use Rattle.lat_lines.specs.Stands.{Stands, book_shown, book_told};
+ghost use Rattle.lat_lines.specs.Stands.{Stands, book_shown, book_info};
 ghost use Rattle.lat_lines.specs.declared.seat.Seat.{Seat};
 
 use crate::lines::Lines;
@@ -58,8 +58,8 @@ impl Lines {
     }
 
     /// Whether the line has a session.
-    pub fn holds(&self, line: u8) -> bool
-        ensures { (c : Core) → Stands self.now c → result ≡ holds c line }
+    pub fn has_session(&self, line: u8) -> bool
+        ensures { (c : Core) → Stands self.now c → result ≡ has_session c line }
     {
         seat_of(self.seats.as_slice(), line).is_some()
     }
@@ -81,7 +81,7 @@ impl Lines {
 
     /// How many line sessions are over. It stops at the greatest number of 32 bits.
     pub fn finished(&self) -> u32
-        ensures { (c : Core) → Stands self.now c → result ≡ told_count (ended c) }
+        ensures { (c : Core) → Stands self.now c → result ≡ saturated_count (ended c) }
     {
         self.finished
     }
@@ -114,7 +114,7 @@ impl Lines {
     /// The last two sessions of a line, which must exist.
     pub fn book(&self, line: u8) -> LineBook
         requires { IsLine self.now.lines line }
-        ensures { (c : Core) → Stands self.now c → book_shown result ≡ book_told (book c line) }
+        ensures { (c : Core) → Stands self.now c → book_shown result ≡ book_info (book c line) }
     {
         LineBook {
             present: seat_of(self.seats.as_slice(), line).map(|seat| seat.session),
@@ -126,10 +126,10 @@ impl Lines {
     pub fn free_line(&self) -> Option<u8>
         ensures model { (c : Core) →
             Stands self.now c →
-            id_told result ≡ least (λ line. not (holds c line)) (upwards 0 self.now.lines) }
+            id_or_zero result ≡ least (λ line. not (has_session c line)) (upwards 0 self.now.lines) }
         ensures line { IfSome result (λ line. IsLine self.now.lines line) }
     {
-        (1..self.count + 1).find(|line| !self.holds(*line))
+        (1..self.count + 1).find(|line| !self.has_session(*line))
     }
 
     /// Whether a RUN from a station with these ids names a living circuit whose reply was heard.
@@ -141,7 +141,7 @@ impl Lines {
 
     /// How far the message numbers of a circuit count, `None` exactly where no circuit of this id lives.
     pub fn span(&self, circuit: u16) -> Option<Span>
-        ensures { (c : Core) → Stands self.now c → result ≡ span_told (span c circuit) }
+        ensures { (c : Core) → Stands self.now c → result ≡ some_span (span c circuit) }
     {
         self.circuits.span(circuit)
     }

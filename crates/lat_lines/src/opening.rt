@@ -7,14 +7,14 @@ ghost use Rattle.lat_model.specs.sessions.Session.{waits};
 ghost use Rattle.lat_model.specs.sessions.Sessions.{named, least_free};
 ghost use Rattle.lat_machines.specs.values.Addresses.{address};
 ghost use Rattle.lat_machines.specs.cores.Cores.{Core};
-ghost use Rattle.lat_machines.specs.cores.Lines.{holds};
+ghost use Rattle.lat_machines.specs.cores.Lines.{has_session};
 ghost use Rattle.lat_machines.specs.server.Server.{ServerConfig, server_side, has_room, can_open, opens};
 ghost use Rattle.lat_queue.specs.Histories.{key_in, some_key};
 ghost use Rattle.lat_payload.specs.Frames.{Emits};
 ghost use Rattle.lat_circuit.specs.Agrees.{IsTiming};
 ghost use Rattle.lat_circuits.specs.Kept.{side_of as circuits_side, IsClear, SameCore, SameCircuits, has_id};
 ghost use Rattle.lat_circuits.specs.Stands.{calling, Simulates, Stands as CircuitsStand};
-ghost use Rattle.lat_circuits.specs.Told.{telling};
+ghost use Rattle.lat_circuits.specs.Info.{telling};
 ghost use Rattle.lat_lines.specs.Later.{Leads};
 ghost use Rattle.lat_lines.specs.Kept.{side_of, SameLines, IsLine};
 ghost use Rattle.lat_lines.specs.Stands.{Stands, freed_between, session_shown};
@@ -24,7 +24,7 @@ use crate::getters::seat_of;
 use crate::lines::Lines;
 use crate::seat::Seat;
 use lat_base::{Addr, LineSession, Name, OutBox};
-use lat_circuits::{Circuits, Told};
+use lat_circuits::{Circuits, Info};
 use lat_queue::Key;
 
 /// Why no session can be had with a station.
@@ -79,7 +79,7 @@ impl Lines {
         ensures opened { (config : ServerConfig) (c : Core) →
             server_side config ≡ side_of self.old →
             Stands self.old c →
-            holds c line ≡ false →
+            has_session c line ≡ false →
             OnOk result (Stands self.new (opens config line (address peer.0) node.now service.now (some_key key) (request_of key) c).core
             × Emits (opens config line (address peer.0) node.now service.now (some_key key) (request_of key) c).frames out.old out.new) }
         ensures answer { (c : Core) → Stands self.old c → result ≡ opening c (address peer.0) }
@@ -107,7 +107,7 @@ impl Lines {
         requires line { IsLine self.old.lines line }
         ensures state { (c : Core) →
             Stands self.old c →
-            holds c line ≡ false →
+            has_session c line ≡ false →
             lives (c.circuits.circuit_at circuit).end ≡ true →
             waits (named (c.circuits.circuit_at circuit).end.half.sessions id) ≡ true →
             Stands self.new (accepted_core (side_of self.old) line circuit id c) }
@@ -141,7 +141,7 @@ impl Lines {
         requires line { IsLine self.old.lines line }
         ensures state { (c : Core) (serial : ℕ) →
             Stands self.old c →
-            holds c line ≡ false →
+            has_session c line ≡ false →
             lives (c.circuits.circuit_at circuit).end ≡ true →
             Leads (c.circuits.circuit_at circuit).end.half.sessions session serial →
             Stands self.new (seated_core c (record {
@@ -153,7 +153,7 @@ impl Lines {
             })) }
         ensures side { (c : Core) →
             Stands self.old c →
-            holds c line ≡ false →
+            has_session c line ≡ false →
             lives (c.circuits.circuit_at circuit).end ≡ true →
             (c.circuits.circuit_at circuit).end.half.sessions.master ≡ self.old.circuits.server }
         ensures lines { self.new.lines ≡ self.old.lines }
@@ -163,9 +163,9 @@ impl Lines {
         if seat_of(self.seats.as_slice(), line).is_some() {
             return;
         }
-        if let Some(told) = self.circuits.told(circuit, session) {
+        if let Some(info) = self.circuits.info(circuit, session) {
             self.made = self.made.saturating_add(1);
-            let session = begun(self.made, circuit, session, told);
+            let session = begun(self.made, circuit, session, info);
             self.seats.push_reserved(Seat { line, key, session });
         }
     }
@@ -217,19 +217,19 @@ fn connect(circuits: &mut Circuits, circuit: u16, service: &Name, request: Optio
 }
 
 // What is known of a line session at its beginning.
-fn begun(number: u64, circuit: u16, session: u8, told: Told) -> LineSession
-    ensures value { session_shown result ≡ session_begun number circuit session (telling told) }
+fn begun(number: u64, circuit: u16, session: u8, info: Info) -> LineSession
+    ensures value { session_shown result ≡ session_begun number circuit session (telling info) }
     ensures unended { result.end ≡ None }
 {
     LineSession {
         number,
-        peer: told.peer,
+        peer: info.peer,
         circuit,
         session,
-        peer_circuit: told.peer_circuit,
-        peer_session: told.peer_session,
-        given: told.given,
-        used: told.used,
+        peer_circuit: info.peer_circuit,
+        peer_session: info.peer_session,
+        given: info.given,
+        used: info.used,
         end: None,
     }
 }

@@ -10,15 +10,15 @@ ghost use Rattle.lat_lines.specs.Kept.{SameLines, IsLine};
 ghost use Rattle.lat_lines.specs.Stands.{Seated, freed_between, session_shown};
 ghost use Rattle.lat_lines.specs.Calm.{CoreCalm};
 ghost use Rattle.lat_lines.specs.Cores.{CoreLater, Covers};
-ghost use Rattle.lat_lines.specs.Looks.{Looks, session_closed, session_seen, last_after, finished_after, freed_after};
-ghost use Rattle.lat_circuits.specs.Told.{telling};
+ghost use Rattle.lat_lines.specs.Looks.{Looks, session_closed, session_reviewed, last_after, finished_after, freed_after};
+ghost use Rattle.lat_circuits.specs.Info.{telling};
 ghost use Rattle.lat_queue.specs.Histories.{key_in};
 ghost use Rattle.lat_lines.specs.declared.seat.Seat.{Seat};
 
 use crate::lines::Lines;
 use crate::seat::Seat;
 use lat_base::{LineSession, SessionEnd};
-use lat_circuits::{Circuits, Told};
+use lat_circuits::{Circuits, Info};
 use lat_queue::Key;
 
 impl Lines {
@@ -88,41 +88,41 @@ impl Seat {
     fn look(&mut self, circuits: &Circuits)
         ensures { Looks circuits.now self.old self.new }
     {
-        if let Some(told) = circuits.told(self.session.circuit, self.session.session) {
-            self.session = if told.is_asked {
-                closed(self.session, told)
+        if let Some(info) = circuits.info(self.session.circuit, self.session.session) {
+            self.session = if info.is_asked {
+                closed(self.session, info)
             } else {
-                seen(self.session, told)
+                reviewed(self.session, info)
             };
         }
     }
 }
 
 // Another session has its id already, which waits for this end's answer: it has become free by both stops.
-fn closed(session: LineSession, told: Told) -> LineSession
-    ensures { session_shown result ≡ session_closed (telling told) (session_shown session) }
+fn closed(session: LineSession, info: Info) -> LineSession
+    ensures { session_shown result ≡ session_closed (telling info) (session_shown session) }
 {
     LineSession {
-        peer: told.peer,
-        peer_circuit: told.peer_circuit,
+        peer: info.peer,
+        peer_circuit: info.peer_circuit,
         end: Some(SessionEnd::Closed),
         ..session
     }
 }
 
-fn seen(session: LineSession, told: Told) -> LineSession
-    ensures { session_shown result ≡ session_seen (telling told) (session_shown session) }
+fn reviewed(session: LineSession, info: Info) -> LineSession
+    ensures { session_shown result ≡ session_reviewed (telling info) (session_shown session) }
 {
     LineSession {
         number: session.number,
-        peer: told.peer,
+        peer: info.peer,
         circuit: session.circuit,
         session: session.session,
-        peer_circuit: told.peer_circuit,
-        peer_session: told.peer_session,
-        given: told.given,
-        used: told.used,
-        end: told.end,
+        peer_circuit: info.peer_circuit,
+        peer_session: info.peer_session,
+        given: info.given,
+        used: info.used,
+        end: info.end,
     }
 }
 

@@ -8,15 +8,15 @@ use Rattle.lat_cell.specs.declared.seat.LineDone.{LineDone}
 use Rattle.lat_ending.specs.EndText.{Ended}
 
 -- what a cell tells at its end: its history, and what it refused for want of room
-pub record Told : Type 0 where
+pub record Printed : Type 0 where
   pub history : List Past
   pub full : Option FullAt
 
-abbrev pub told : {C T : Type 0} → CellView C T → Told
-told cell = record { history = cell.history; full = cell.full }
+abbrev pub printed : {C T : Type 0} → CellView C T → Printed
+printed cell = record { history = cell.history; full = cell.full }
 
-abbrev pub told_in : {C T : Type 0} → Option (CellView C T) → Option Told
-told_in ran = option_map told ran
+abbrev pub printed_in : {C T : Type 0} → Option (CellView C T) → Option Printed
+printed_in ran = option_map printed ran
 
 -- the statuses that neither words nor outside are to blame for: all went well, the cell is full, the audit is refused, no memory
 abbrev pub IsOwn : ℕ → Type 0
@@ -27,6 +27,6 @@ abbrev pub RoseIn : {A : Type 0} → (A → ℕ) → A → A → Type 0
 RoseIn faults old new = Rose (faults old) (faults new)
 
 -- what a sink was given, and the status, are those of the last text of a cell that tells this, with these shares and these ends
-abbrev pub IsPrinted : {S : Type 0} → (S → Option (List ℕ)) → (S → ℕ) → S → S → Told → List SeatView → List LineDone → ℕ → Type 0
+abbrev pub IsPrinted : {S : Type 0} → (S → Option (List ℕ)) → (S → ℕ) → S → S → Printed → List SeatView → List LineDone → ℕ → Type 0
 IsPrinted told_by faults old new t shares ends status =
     Ended (told_by old) (told_by new) (faults old) (faults new) t.history t.full shares ends status

@@ -6,18 +6,18 @@ use Rattle.lat_words.specs.declared.config.Role.{Role}
 use Rattle.lat_words.specs.declared.config.Role.TheVariants as roles
 use Rattle.lat_cell.specs.declared.seat.LineDone.{LineDone}
 use Rattle.lat_history.specs.CellView.{SeatView}
-use Rattle.lat_live.specs.Printed.{Told, told}
+use Rattle.lat_live.specs.Printed.{Printed, printed}
 use Rattle.lat_live.specs.Seating.{GivenBack}
 use Rattle.lat_live.specs.declared.ran.Ran.{Ran}
 use Rattle.lat_live.specs.declared.ran.Ran.TheVariants as ran
 
--- what is told of the cell that ran, whatever its core
-abbrev pub told_of : {H P T E B F : Type 0} → Ran H P T E B F → Option Told
-told_of (ran.Server cell) = Some (told cell)
-told_of (ran.Switch cell) = Some (told cell)
-told_of (ran.Node cell) = Some (told cell)
-told_of (ran.Tariff cell) = Some (told cell)
-told_of ran.Not = None
+-- what is printed of the cell that ran, whatever its core
+abbrev pub printed_of : {H P T E B F : Type 0} → Ran H P T E B F → Option Printed
+printed_of (ran.Server cell) = Some (printed cell)
+printed_of (ran.Switch cell) = Some (printed cell)
+printed_of (ran.Node cell) = Some (printed cell)
+printed_of (ran.Tariff cell) = Some (printed cell)
+printed_of ran.Not = None
 
 -- the role that ran
 abbrev pub role_of : {H P T E B F : Type 0} → Ran H P T E B F → Option Role

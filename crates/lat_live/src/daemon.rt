@@ -6,7 +6,7 @@ ghost use Rattle.lat_words.specs.Configs.{config_of};
 ghost use Rattle.lat_tariff.specs.Tariffs.{AreKnown};
 ghost use Rattle.lat_live.specs.declared.ran.Ran.TheVariants as ran;
 ghost use Rattle.lat_live.specs.Printed.{IsPrinted, IsOwn, RoseIn};
-ghost use Rattle.lat_live.specs.Served.{told_of, role_of, AreRight, AreWrong, BackOf, refusal, IsNotRun};
+ghost use Rattle.lat_live.specs.Served.{printed_of, role_of, AreRight, AreWrong, BackOf, refusal, IsNotRun};
 
 use crate::ran::Served;
 use crate::roles::serve_in_role;
@@ -84,8 +84,8 @@ pub fn serve<
     ensures not { result.ran ≡ ran.Not → IsNotRun (map string_bytes words.now) result.status }
     ensures empty { result.ran ≡ ran.Not → (result.shares ≡ []) × (result.ends ≡ []) × (result.lines ≡ []) }
     ensures role { IfSome (role_of result.ran) (λ role. option_map (λ c. c.role) (config_of (map string_bytes words.now)) ≡ Some role) }
-    ensures ended { IfSome (told_of result.ran) (λ t. IsPrinted S.written S.faults out.old out.new t result.shares result.ends result.status) }
-    ensures back { IfSome (told_of result.ran) (λ t. BackOf O.L.faults (map string_bytes words.now) result.shares result.ends result.lines) }
+    ensures ended { IfSome (printed_of result.ran) (λ t. IsPrinted S.written S.faults out.old out.new t result.shares result.ends result.status) }
+    ensures back { IfSome (printed_of result.ran) (λ t. BackOf O.L.faults (map string_bytes words.now) result.shares result.ends result.lines) }
 {
     let config = match config_of(alloc, words) {
         Ok(Some(config)) => config,

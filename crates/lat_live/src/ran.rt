@@ -3,8 +3,8 @@
 ghost use Rattle.std.specs.Prelude.{◌≡◌, IfSome, None, []};
 ghost use Rattle.lat_words.specs.declared.config.Role.TheVariants as roles;
 ghost use Rattle.lat_live.specs.declared.ran.Ran.TheVariants as rans;
-ghost use Rattle.lat_live.specs.Printed.{told_in};
-ghost use Rattle.lat_live.specs.Served.{told_of, role_of};
+ghost use Rattle.lat_live.specs.Printed.{printed_in};
+ghost use Rattle.lat_live.specs.Served.{printed_of, role_of};
 
 use crate::lists::{Ends, Lines};
 use crate::seats::Given;
@@ -97,7 +97,7 @@ impl<H: RatingRule, P: SteadyRule, T: Tx, L: LineEnd, E: Ledger, B: Ledger, F: L
         done: CoreServed<ServerCore, T, L, E, B, F>,
     ) -> Served<H, P, T, L, E, B, F>
         ensures status { result.status ≡ done.status }
-        ensures told { told_of result.ran ≡ told_in done.ran }
+        ensures printed { printed_of result.ran ≡ printed_in done.ran }
         ensures role { IfSome (role_of result.ran) (λ role. role ≡ roles.Server) }
         ensures none { result.ran ≡ rans.Not → done.ran ≡ None }
         ensures shares { result.shares ≡ done.given.shares.items }
@@ -116,7 +116,7 @@ impl<H: RatingRule, P: SteadyRule, T: Tx, L: LineEnd, E: Ledger, B: Ledger, F: L
         done: CoreServed<SwitchCore, T, L, E, B, F>,
     ) -> Served<H, P, T, L, E, B, F>
         ensures status { result.status ≡ done.status }
-        ensures told { told_of result.ran ≡ told_in done.ran }
+        ensures printed { printed_of result.ran ≡ printed_in done.ran }
         ensures role { IfSome (role_of result.ran) (λ role. role ≡ roles.Switch) }
         ensures none { result.ran ≡ rans.Not → done.ran ≡ None }
         ensures shares { result.shares ≡ done.given.shares.items }
@@ -135,7 +135,7 @@ impl<H: RatingRule, P: SteadyRule, T: Tx, L: LineEnd, E: Ledger, B: Ledger, F: L
         done: CoreServed<NodeCore<H>, T, L, E, B, F>,
     ) -> Served<H, P, T, L, E, B, F>
         ensures status { result.status ≡ done.status }
-        ensures told { told_of result.ran ≡ told_in done.ran }
+        ensures printed { printed_of result.ran ≡ printed_in done.ran }
         ensures role { IfSome (role_of result.ran) (λ role. role ≡ roles.Node) }
         ensures none { result.ran ≡ rans.Not → done.ran ≡ None }
         ensures shares { result.shares ≡ done.given.shares.items }
@@ -154,7 +154,7 @@ impl<H: RatingRule, P: SteadyRule, T: Tx, L: LineEnd, E: Ledger, B: Ledger, F: L
         done: CoreServed<TariffCore<H, P>, T, L, E, B, F>,
     ) -> Served<H, P, T, L, E, B, F>
         ensures status { result.status ≡ done.status }
-        ensures told { told_of result.ran ≡ told_in done.ran }
+        ensures printed { printed_of result.ran ≡ printed_in done.ran }
         ensures role { IfSome (role_of result.ran) (λ role. role ≡ roles.Tariff) }
         ensures none { result.ran ≡ rans.Not → done.ran ≡ None }
         ensures shares { result.shares ≡ done.given.shares.items }

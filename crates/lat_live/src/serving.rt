@@ -3,7 +3,7 @@
 ghost use Rattle.std.specs.Prelude.{◌≡◌, ◌≢◌, ◌⊎◌, ◌+◌, ◌-◌, ◌<◌, ◌≤◌, map, length, vec_len, vec_capacity, IfSome, IfOk, [], None, Err};
 ghost use Rattle.lat_outside.specs.Causes.{Rose};
 ghost use Rattle.lat_history.specs.Seats.{fresh, seats_from};
-ghost use Rattle.lat_live.specs.Printed.{told, told_in, IsPrinted, IsOwn, RoseIn};
+ghost use Rattle.lat_live.specs.Printed.{printed, printed_in, IsPrinted, IsOwn, RoseIn};
 ghost use Rattle.lat_live.specs.Seating.{GivenBack, share_of};
 
 use crate::opening::{OpenFault, open_lines};
@@ -117,7 +117,7 @@ fn printed<C: Core, T: Tx, S: Sink, E: Ledger, B: Ledger, F: Ledger>(
     out: &mut S,
 ) -> u8
     requires { length ends.now ≤ 64 }
-    ensures text { IsPrinted S.written S.faults out.old out.new (told cell.now) shares.now ends.now result }
+    ensures text { IsPrinted S.written S.faults out.old out.new (printed cell.now) shares.now ends.now result }
     ensures own { IsOwn result ⊎ (result ≡ 5) }
     ensures other { result ≢ 4 }
     ensures sink { result ≡ 5 → RoseIn S.faults out.old out.new }
@@ -160,9 +160,9 @@ pub fn serve_core<
     requires names { (blanks.events.name ≡ E.name) × (blanks.bytes.name ≡ B.name) × (blanks.full.name ≡ F.name) }
     requires parts { (blanks.events.parts ≡ E.parts) × (blanks.bytes.parts ≡ B.parts) × (blanks.full.parts ≡ F.parts) }
     requires many { (E.parts ≡ 66) × (B.parts ≡ 66) × (F.parts ≡ 66) }
-    ensures ended { IfSome (told_in result.ran) (λ t.
+    ensures ended { IfSome (printed_in result.ran) (λ t.
         IsPrinted S.written S.faults out.old out.new t result.given.shares.items result.given.ends.items result.status) }
-    ensures back { IfSome (told_in result.ran) (λ t.
+    ensures back { IfSome (printed_in result.ran) (λ t.
         GivenBack O.L.faults plan.now.lines result.given.shares.items result.given.ends.items result.given.lines.items) }
     ensures own { IsOwn result.status ⊎ ((result.status ≡ 4) ⊎ (result.status ≡ 5)) }
     ensures opener { result.status ≡ 4 → RoseIn O.faults opener.old opener.new }

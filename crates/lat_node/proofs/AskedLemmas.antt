@@ -11,7 +11,7 @@ use Rattle.lat_model.specs.ends.Timers.{note_empty}
 use Rattle.lat_machines.specs.values.Names.{Name, same}
 use Rattle.lat_machines.specs.cores.Acts.{idle, steps_at}
 use Rattle.lat_machines.specs.cores.Cores.{Core}
-use Rattle.lat_machines.specs.cores.Lines.{holds}
+use Rattle.lat_machines.specs.cores.Lines.{has_session}
 use Rattle.lat_machines.specs.node.Node.{NodeConfig, Node, Requested, Verdict, Accepts, Rejects, request_of, was_requested, verdict, on_free_line, free_line, is_offered, judged, local_call, asked_at, answers_one, answers_in, asked_on, answers_asked}
 use Rattle.lat_session.specs.declared.getters.Asked.{Asked}
 use Rattle.lat_session.specs.States.{asked_at as told_at}
@@ -82,27 +82,27 @@ least_passes p (x ∷ xs) k e = go (p x) refl (least_passes p xs k) e
 
 -- a session is accepted for a line that has none
 
-on_free : (config : NodeConfig) (c : Core) (n line : ℕ) → free_line config c ≡ n → on_free_line n ≡ Accepts line → holds c line ≡ false
+on_free : (config : NodeConfig) (c : Core) (n line : ℕ) → free_line config c ≡ n → on_free_line n ≡ Accepts line → has_session c line ≡ false
 on_free config c zero line e q = let z : ⊥ = cc in absurd z
 on_free config c (suc k) line e q =
     let got : Accepts (suc k) ≡ Accepts line = ap (λ b. cond b (Rejects 7) (Accepts (suc k))) (sym (eqb-suc-zero k)) ∙ q in
     let same : suc k ≡ line = cc in
-    let free : not (holds c (suc k)) ≡ true = least_passes (λ l. not (holds c l)) (upwards 0 config.lines) k e in
-    subst (λ l. holds c l ≡ false) same (unheld (holds c (suc k)) free)
+    let free : not (has_session c (suc k)) ≡ true = least_passes (λ l. not (has_session c l)) (upwards 0 config.lines) k e in
+    subst (λ l. has_session c l ≡ false) same (unheld (has_session c (suc k)) free)
   where
     unheld : (b : Bool) → not b ≡ true → b ≡ false
     unheld true e = let z : ⊥ = cc in absurd z
     unheld false e = refl
 
-pub accepts_free : (config : NodeConfig) (s : Node) (service : Name) (request : Option ℕ) (line : ℕ) → verdict config s service request ≡ Accepts line → holds s.core line ≡ false
+pub accepts_free : (config : NodeConfig) (s : Node) (service : Name) (request : Option ℕ) (line : ℕ) → verdict config s service request ≡ Accepts line → has_session s.core line ≡ false
 accepts_free config s service None line q = go (is_offered config service) q
   where
-    go : (b : Bool) → cond b (on_free_line (free_line config s.core)) (Rejects 4) ≡ Accepts line → holds s.core line ≡ false
+    go : (b : Bool) → cond b (on_free_line (free_line config s.core)) (Rejects 4) ≡ Accepts line → has_session s.core line ≡ false
     go true q = on_free config s.core (free_line config s.core) line refl q
     go false q = let z : ⊥ = cc in absurd z
 accepts_free config s service (Some id) line q = go (was_requested service (request_of id s) && not (list_any (nat_eq id) s.accepted)) q
   where
-    go : (b : Bool) → cond b (on_free_line (free_line config s.core)) (Rejects 5) ≡ Accepts line → holds s.core line ≡ false
+    go : (b : Bool) → cond b (on_free_line (free_line config s.core)) (Rejects 5) ≡ Accepts line → has_session s.core line ≡ false
     go true q = on_free config s.core (free_line config s.core) line refl q
     go false q = let z : ⊥ = cc in absurd z
 

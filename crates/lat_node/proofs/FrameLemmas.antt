@@ -14,7 +14,7 @@ use Rattle.lat_machines.specs.values.Events.{Numbers, Event, Hears, Time, Connec
 use Rattle.lat_machines.specs.values.Answers.{Answer, Done, Accepted, Took, Closed, NoLine, Full, IdUsed}
 use Rattle.lat_machines.specs.values.Messages.{Message, RunMessage, WideMessage, StartMessage, StopMessage}
 use Rattle.lat_machines.specs.cores.Cores.{Seat, Core}
-use Rattle.lat_machines.specs.cores.Lines.{sessions_of, session_of, seat_at, holds, line_exists}
+use Rattle.lat_machines.specs.cores.Lines.{sessions_of, session_of, seat_at, has_session, line_exists}
 use Rattle.lat_machines.specs.cores.LineCalls.{Said, says, calls_on, put_on, set_on, attend_on, take_on, close_on, on_line}
 use Rattle.lat_machines.specs.cores.Hearing.{StartFact, Repeats, Makes, Refuses, start_fact}
 use Rattle.lat_machines.specs.node.Node.{NodeConfig, Node, Requested, node_side, tells, command_frame, request_of, requests_again, withdraws, start_answer, solicited, hears_message, node_step, rates_of, NodeFrames}
@@ -55,8 +55,8 @@ quiet_cond P false x y p q = q
 
 quiet_on : (P : Answer → Type 0) (lines : ℕ) (c : Core) (line : ℕ) (f : Seat → Said) → ((s : Seat) → P (f s).answer) → P Closed → P NoLine → P (on_line lines c line f).answer
 quiet_on P lines c line f p q r =
-    quiet_cond P (line_exists lines line) (cond (holds c line) (f (seat_at c line)) (says c Closed)) (says c NoLine)
-    (quiet_cond P (holds c line) (f (seat_at c line)) (says c Closed) (p (seat_at c line)) q) r
+    quiet_cond P (line_exists lines line) (cond (has_session c line) (f (seat_at c line)) (says c Closed)) (says c NoLine)
+    (quiet_cond P (has_session c line) (f (seat_at c line)) (says c Closed) (p (seat_at c line)) q) r
 
 -- the events that ask for none, whatever they are answered
 abbrev pub IsQuiet : Event → Type 0

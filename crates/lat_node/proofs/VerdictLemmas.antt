@@ -8,7 +8,7 @@ use Rattle.lat_machines.specs.values.Names.{Name, same}
 use Rattle.lat_machines.specs.cores.Cores.{Core}
 use Rattle.lat_machines.specs.node.Node.{NodeConfig, Node, Rejects, Accepts, Verdict, request_of, was_requested, verdict, free_line, on_free_line}
 use Rattle.lat_slots.specs.declared.reason.RejectReason.TheVariants.{NoRoom}
-use Rattle.lat_circuits.specs.Opens.{id_told}
+use Rattle.lat_circuits.specs.Opens.{id_or_zero}
 use Rattle.lat_lines.specs.Kept.{IsLine}
 use Rattle.lat_node.specs.Answering.{verdict_shown}
 
@@ -27,7 +27,7 @@ position_any p xs = ap is_some (position_from-zero p xs) ∙ any_from p 0 xs
 
 -- the line that is free, or none
 
-pub free_shown : (config : NodeConfig) (c : Core) (o : Option ℕ) → id_told o ≡ free_line config c → IfSome o (IsLine config.lines) → verdict_shown (ok_or o NoRoom) ≡ on_free_line (free_line config c)
+pub free_shown : (config : NodeConfig) (c : Core) (o : Option ℕ) → id_or_zero o ≡ free_line config c → IfSome o (IsLine config.lines) → verdict_shown (ok_or o NoRoom) ≡ on_free_line (free_line config c)
 free_shown config c None e h = ap on_free_line e
 free_shown config c (Some zero) e h = absurd (omega (arith, h.0))
 free_shown config c (Some (suc n)) e h = ap (λ b. cond b (Rejects 7) (Accepts (suc n))) (sym (eqb-suc-zero n)) ∙ ap on_free_line e

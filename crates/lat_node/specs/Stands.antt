@@ -8,7 +8,7 @@ use Rattle.lat_base.specs.declared.state.SessionState.{SessionState}
 use Rattle.lat_model.specs.Lists.{Each}
 use Rattle.lat_machines.specs.values.Addresses.{address}
 use Rattle.lat_machines.specs.values.Frames as machine
-use Rattle.lat_machines.specs.cores.Lines.{line_state, waiting_at, told_count}
+use Rattle.lat_machines.specs.cores.Lines.{line_state, waiting_at, saturated_count}
 use Rattle.lat_machines.specs.node.Node.{NodeConfig, Requested, Node, NodeStep, NodeFrames, node_side, open_node, node_step, finished}
 use Rattle.lat_payload.specs.Frames.{frame_view, expected, IsReadable}
 use Rattle.lat_stream.specs.Kept.{state_shown}
@@ -41,7 +41,7 @@ pub record Stands {H : Type 0} (k : Kept H) (s : Node) : Type 0 where
   pub lines : lines.Stands k.lines s.core
   pub requests : map request_shown k.requests ≡ map (request_in s) s.requests
   pub accepted : Each (λ id. was_made s id ≡ true) s.accepted
-  pub turned_away : k.turned_away ≡ told_count s.turned_away
+  pub turned_away : k.turned_away ≡ saturated_count s.turned_away
 
 -- the machine of a configuration with a rule, and its state
 pub record Machine (H : Type 0) : Type 0 where

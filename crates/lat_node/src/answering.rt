@@ -3,7 +3,7 @@
 ghost use Rattle.std.specs.Prelude.{◌≡◌, true, false, IfOk};
 ghost use Rattle.lat_model.specs.ends.End.{lives};
 ghost use Rattle.lat_model.specs.Lists.{upwards};
-ghost use Rattle.lat_machines.specs.cores.Lines.{holds};
+ghost use Rattle.lat_machines.specs.cores.Lines.{has_session};
 ghost use Rattle.lat_machines.specs.node.Node as machine;
 ghost use Rattle.lat_circuits.specs.Kept.{has_id};
 ghost use Rattle.lat_lines.specs.Kept.{IsLine};
@@ -86,7 +86,7 @@ impl<H: RatingRule> NodeCore<H> {
         ensures state { (s : machine.Node) →
             Stands self.old s →
             Asks s circuit asked.now →
-            holds s.core line ≡ false →
+            has_session s.core line ≡ false →
             IsOfRequest s asked.now.request →
             Stands self.new (machine.judged (config_of self.old) s circuit asked.now.id asked.now.request (machine.Accepts line)) }
         ensures same { SameConfig self.old self.new }

@@ -125,7 +125,7 @@ impl<H: RatingRule> NodeCore<H> {
         let named = self.named(from, message);
         let hearing = self.lines.heard(from, message, out);
         self.answer_named(named);
-        hearing_told(hearing)
+        hearing_answer(hearing)
     }
 
     fn answer_named(&mut self, circuit: Option<u16>)
@@ -213,7 +213,7 @@ impl<H: RatingRule> NodeCore<H> {
 }
 
 // What is answered to a circuit message.
-fn hearing_told(hearing: Hearing) -> Answer
+fn hearing_answer(hearing: Hearing) -> Answer
     ensures value { answer_shown result ≡ hearing_shown hearing }
     ensures plain { IsPlain result }
 {

@@ -21,7 +21,7 @@ use Rattle.lat_notices.proofs.Writable.{writable}
 use Rattle.lat_dir.specs.Stands.{service_shown}
 use Rattle.lat_queue.specs.Histories.{kept_in}
 use Rattle.lat_payload.specs.Shown.{action_shown, outcome_shown, notice_shown}
-use Rattle.lat_payload.specs.NoticesOf.{kept_of, outcome_of, action_of, service_of, notice_of, IsTold}
+use Rattle.lat_payload.specs.NoticesOf.{kept_of, outcome_of, action_of, service_of, notice_of, IsSendable}
 
 pub kept_back : (k : Kept) → kept_of (kept_in k) ≡ k
 kept_back (kept.Waiting place) = refl
@@ -53,18 +53,18 @@ notice_back (notices.Solicit s) = refl
 notice_back (notices.Response r) = refl
 
 -- a place that a queue has is above 0
-told_fits : (o : Outcome) → IsTold o → IsOutcome o
-told_fits (outcomes.Kept (kept.Waiting place)) h = omega (arith, h.0)
-told_fits (outcomes.Kept kept.Granted) h = tt
-told_fits (outcomes.Kept kept.Cancelled) h = tt
-told_fits (outcomes.Kept kept.QueueFull) h = tt
-told_fits (outcomes.Kept kept.NoService) h = tt
-told_fits (outcomes.Kept kept.RecordsFull) h = tt
-told_fits (outcomes.Kept kept.Done) h = tt
-told_fits outcomes.Unknown h = tt
+sendable_fits : (o : Outcome) → IsSendable o → IsOutcome o
+sendable_fits (outcomes.Kept (kept.Waiting place)) h = omega (arith, h.0)
+sendable_fits (outcomes.Kept kept.Granted) h = tt
+sendable_fits (outcomes.Kept kept.Cancelled) h = tt
+sendable_fits (outcomes.Kept kept.QueueFull) h = tt
+sendable_fits (outcomes.Kept kept.NoService) h = tt
+sendable_fits (outcomes.Kept kept.RecordsFull) h = tt
+sendable_fits (outcomes.Kept kept.Done) h = tt
+sendable_fits outcomes.Unknown h = tt
 
-pub status_writable : (s : Status) → IsTold s.outcome → IsName s.node → IsWritable (notices.Status s)
-status_writable s told node = writable (notices.Status s) (record { outcome = told_fits s.outcome told; node = node }) (omega (arith, node.most))
+pub status_writable : (s : Status) → IsSendable s.outcome → IsName s.node → IsWritable (notices.Status s)
+status_writable s told node = writable (notices.Status s) (record { outcome = sendable_fits s.outcome told; node = node }) (omega (arith, node.most))
 
 pub command_writable : (c : Command) → IsName c.node → IsName c.service → IsWritable (notices.Command c)
 command_writable c node service =

@@ -74,6 +74,6 @@ notice_of (model.SolicitNotice s) = notices.Solicit (solicit_of s)
 notice_of (model.ResponseNotice r) = notices.Response (response_of r)
 
 -- where it tells a place in the queue, it is one that a queue has
-abbrev pub IsTold : Outcome → Type 0
-IsTold (outcomes.Kept k) = HasPlace k
-IsTold outcomes.Unknown = Unit {0}
+abbrev pub IsSendable : Outcome → Type 0
+IsSendable (outcomes.Kept k) = HasPlace k
+IsSendable outcomes.Unknown = Unit {0}

@@ -9,7 +9,7 @@ ghost use Rattle.lat_machines.specs.values.Addresses.{address, everyone};
 ghost use Rattle.lat_machines.specs.values.Frames.{plain, OfNotice};
 ghost use Rattle.lat_machines.specs.values.Notices.{CommandNotice, StatusNotice, SolicitNotice, ResponseNotice};
 ghost use Rattle.lat_payload.specs.Shown.{action_shown, outcome_shown, notice_shown};
-ghost use Rattle.lat_payload.specs.NoticesOf.{IsTold};
+ghost use Rattle.lat_payload.specs.NoticesOf.{IsSendable};
 ghost use Rattle.lat_payload.specs.Frames.{GoesOutAs};
 
 use lat_base::{Addr, EVERYONE, Mark, Name, OutFrame, Payload};
@@ -50,7 +50,7 @@ pub fn status_frame(
     node: &Name,
     outcome: Outcome,
 ) -> OutFrame
-    requires { IsTold outcome }
+    requires { IsSendable outcome }
     ensures { GoesOutAs result (plain (address to.0) 0 (OfNotice (StatusNotice
         (record { incarnation = incarnation; request = request; outcome = outcome_shown outcome; node = node.now })))) }
 {

@@ -70,4 +70,4 @@ way_of k b = side_of k.ways b
 -- with the room for so many more frames
 pub record Kept : Type 0 where
   pub log : Log
-  pub room : ℕ
+  pub reserved : ℕ

@@ -59,7 +59,7 @@ impl Model for Posts {
 
     ghost view = { λ a. record {
       log = record { posts = map post_of a.frames.items; marks = map mark_of a.frames.items; ways = a.ways };
-      room = vec_capacity a.frames - vec_len a.frames;
+      reserved = vec_capacity a.frames - vec_len a.frames;
     } };
 
     ghost invariant = { λ a.
@@ -200,7 +200,7 @@ impl Posts {
     /// Takes the room of all frames that one event can make, 256. `Memory` where none is found.
     pub fn reserve(&mut self) -> Result<(), Memory>
         ensures same { self.new.log ≡ self.old.log }
-        ensures ok { OnOk result (256 ≤ self.new.room) }
+        ensures ok { OnOk result (256 ≤ self.new.reserved) }
     {
         self.frames.reserve(OUTBOX_FRAMES)?;
         Ok(())
@@ -222,7 +222,7 @@ impl Posts {
 
     /// Adds a frame at the end. `for_other` says that it was sent to the other end or to everyone. There must be room.
     pub fn push(&mut self, post: Post, for_other: bool)
-        requires room { 0 < self.old.room }
+        requires reserved { 0 < self.old.reserved }
         requires few { length self.old.log.posts < 2 ^ 32 }
         ensures posts { self.new.log.posts ≡ self.old.log.posts ++ post ∷ [] }
         ensures log { (u : Setups) (posts : List Posted) (delivered : List ℕ) (p : Posted) →
@@ -231,7 +231,7 @@ impl Posts {
             is_for_other u p ≡ for_other →
             IsLog u self.new.log (posts ++ p ∷ []) delivered }
         ensures came { (n : ℕ) → CameAtMost n self.old.log.ways → CameAtMost n self.new.log.ways }
-        ensures room { self.old.room ≡ self.new.room + 1 }
+        ensures reserved { self.old.reserved ≡ self.new.reserved + 1 }
     {
         let by_server = post.by_server;
         let turn = turn_of(self.ways, by_server, for_other);

@@ -22,7 +22,7 @@ use Rattle.lat_queue.specs.declared.entry.Entry.{Entry}
 use Rattle.lat_queue.specs.declared.entry.Standing.{Standing}
 use Rattle.lat_queue.specs.declared.entry.Standing.TheVariants as stands
 use Rattle.lat_queue.specs.KeyHash.{one_key}
-use Rattle.lat_queue.specs.Tables.{Table, waits_somewhere, waiters, told_of, told_entry, told, standing_at, new_standing, new_told, added, with_standing, restood, waiting_entry, waiting_found, cancelled_by, cancelled, given_by, given, finished_entry, finished_by, finished, first_of}
+use Rattle.lat_queue.specs.Tables.{Table, waits_somewhere, waiters, info_of, entry_info, info, standing_at, new_standing, new_info, added, with_standing, restood, waiting_entry, waiting_found, cancelled_by, cancelled, given_by, given, finished_entry, finished_by, finished, first_of}
 use Rattle.lat_queue.specs.Histories.{Noted, noted, key_in, address_in, kept_in, some_kept, some_first, some_request, request_key, waited, turned_away, line_of, standing_in, noted_in, is_first_answer, IsFirst, Stands, finish_history}
 use Rattle.lat_queue.proofs.KeyLemmas.{key_self, key_turn, key_right}
 use Rattle.lat_queue.proofs.EventLemmas.{extend, Grows, grows_cancel, grows_grant, grows_finish, grows_again, full_asks, grows_new, grants_more, place_other, place_same}
@@ -30,7 +30,7 @@ use Rattle.lat_machines.proofs.queue.Legal.{legal_none}
 use Rattle.lat_queue.proofs.LegalLemmas.{legal_ask, legal_cancel, legal_finish, legal_grant}
 use Rattle.lat_queue.proofs.RecordLemmas.{Distinct, distinct_records, each_all, Found, restand, map_same, map_twice, moved, unmoved, unmoved_none}
 use Rattle.lat_queue.proofs.StandLemmas.{grant_still, stays, cancel_waits, cancel_stays, grant_waits, granted_is, finish_granted, stands_quiet, stands_grant}
-use Rattle.lat_queue.proofs.ToldLemmas.{told_known, unknown, told_right, count_is, each_found}
+use Rattle.lat_queue.proofs.InfoLemmas.{info_known, unknown, info_right, count_is, each_found}
 use Rattle.lat_queue.proofs.WaitLemmas.{Stood, stood, first_right, any_either}
 
 each_of : {A : Type 0} (P : A → Type 0) → ((x : A) → P x) → (xs : List A) → Each P xs
@@ -53,16 +53,16 @@ still_stands t es h e st g q n f entries legal =
 asks_stay : (o : List Name) (h : List QueueEvent) (k : keys.Key) (from : ℕ) (s : Name) (a : Kept) (rs : List Request) → map (noted_in o h) rs ≡ map (λ r. noted_in o (h ++ Asks k from s a ∷ []) (extend (Asks k from s a) r)) rs
 asks_stay o h k from s a rs = sym (map_same (λ (r : Request). noted_in o (h ++ Asks k from s a ∷ []) (extend (Asks k from s a) r)) (noted_in o h) rs (each_of (λ (r : Request). noted_in o (h ++ Asks k from s a ∷ []) (extend (Asks k from s a) r) ≡ noted_in o h r) (λ r. stays o h (Asks k from s a) r (grant_still h (Asks k from s a) r.key refl) refl refl) rs))
 
-pub stands_again : (t : Table) (h : List QueueEvent) (k : Key) (from : Addr) (s : Name) (a : base.Kept) → Stands t h → told t k ≡ Some a → Stands t (h ++ Asks (key_in k) (address_in from) s (kept_in a) ∷ [])
+pub stands_again : (t : Table) (h : List QueueEvent) (k : Key) (from : Addr) (s : Name) (a : base.Kept) → Stands t h → info t k ≡ Some a → Stands t (h ++ Asks (key_in k) (address_in from) s (kept_in a) ∷ [])
 stands_again t h k from s a st q = by (lookup (one_key k) t.entries) refl q
   where
     e : QueueEvent
     e = Asks (key_in k) (address_in from) s (kept_in a)
 
-    by : (o : Option Entry) → lookup (one_key k) t.entries ≡ o → told_entry t.entries k o ≡ Some a → Stands t (h ++ e ∷ [])
+    by : (o : Option Entry) → lookup (one_key k) t.entries ≡ o → entry_info t.entries k o ≡ Some a → Stands t (h ++ e ∷ [])
     by None l q = let z : ⊥ = cc in absurd z
     by (Some x) l q =
-        let f : Found (noted_in t.offered h) (records h) k x = told_known t h k x st l in
+        let f : Found (noted_in t.offered h) (records h) k x = info_known t h k x st l in
         still_stands t t.entries h e st (grows_again h (key_in k) (address_in from) s (kept_in a) f.request f.found) refl (λ j. refl) (λ r n. refl)
         (st.entries ∙ asks_stay t.offered h (key_in k) (address_in from) s (kept_in a) (records h)) (legal_ask h (key_in k) (address_in from) s (kept_in a) st.legal)
 
@@ -83,26 +83,26 @@ record NewStands (o : List Name) (s : Name) (a : Kept) (standing : Standing) : T
   pub stands : standing ≡ cond (is_waiting a) (stands.Waits (line_of o s)) (turned_away a)
   pub offered : is_waiting a ≡ true → line_of o s < length o
 
-new_stands : (t : Table) (s : Name) → NewStands t.offered s (kept_in (new_told t (new_standing t s))) (new_standing t s)
+new_stands : (t : Table) (s : Name) → NewStands t.offered s (kept_in (new_info t (new_standing t s))) (new_standing t s)
 new_stands t s = by (position (λ n. same s n) t.offered) refl
   where
-    at : (i : ℕ) → line_of t.offered s ≡ i → i < length t.offered → (b : Bool) → NewStands t.offered s (kept_in (new_told t (cond b stands.QueueFull (stands.Waits i)))) (cond b stands.QueueFull (stands.Waits i))
+    at : (i : ℕ) → line_of t.offered s ≡ i → i < length t.offered → (b : Bool) → NewStands t.offered s (kept_in (new_info t (cond b stands.QueueFull (stands.Waits i)))) (cond b stands.QueueFull (stands.Waits i))
     at i l w true = record { not_full = refl; answered = refl; stands = refl; offered = λ q. absurd (true≢false (sym q)) }
     at i l w false = record { not_full = refl; answered = refl; stands = ap stands.Waits (sym l); offered = λ q. subst (λ z. z < length t.offered) (sym l) w }
 
-    by : (p : Option ℕ) → position (λ n. same s n) t.offered ≡ p → NewStands t.offered s (kept_in (new_told t (standing_at t.entries p))) (standing_at t.entries p)
+    by : (p : Option ℕ) → position (λ n. same s n) t.offered ≡ p → NewStands t.offered s (kept_in (new_info t (standing_at t.entries p))) (standing_at t.entries p)
     by None q = record { not_full = refl; answered = refl; stands = refl; offered = λ m. absurd (true≢false (sym m)) }
     by (Some i) q = let p : Stood t.offered s (position (λ n. same s n) t.offered) i = stood t.offered s i q in at i p.line p.within (nat_le 64 (length (waiters i t.entries)))
 
 pub stands_new : (t : Table) (h : List QueueEvent) (k : Key) (from : Addr) (s : Name) → Stands t h → lookup (one_key k) t.entries ≡ None → length t.entries < 65536
-    → Stands (added t k (record { from = from; service = s; standing = new_standing t s })) (h ++ Asks (key_in k) (address_in from) s (kept_in (new_told t (new_standing t s))) ∷ [])
+    → Stands (added t k (record { from = from; service = s; standing = new_standing t s })) (h ++ Asks (key_in k) (address_in from) s (kept_in (new_info t (new_standing t s))) ∷ [])
 stands_new t h k from s st l n =
     stands_quiet t (t.entries ++ (k, entry) ∷ []) h e (new ∷ []) st refl (λ j. refl) (λ r m. refl) grown.are (rooms t h e (new ∷ []) st grown) (first, tt)
     (map-append noted t.entries ((k, entry) ∷ []) ∙ ap₂ (λ a b. a ++ b ∷ []) (st.entries ∙ asks_stay t.offered h (key_in k) (address_in from) s answer (records h) ∙ sym (map_twice (noted_in t.offered (h ++ e ∷ [])) (extend e) (records h))) one ∙ sym (map-append (noted_in t.offered (h ++ e ∷ [])) (map (extend e) (records h)) (new ∷ [])))
     (legal_ask h (key_in k) (address_in from) s answer st.legal)
   where
     answer : Kept
-    answer = kept_in (new_told t (new_standing t s))
+    answer = kept_in (new_info t (new_standing t s))
 
     e : QueueEvent
     e = Asks (key_in k) (address_in from) s answer
@@ -169,7 +169,7 @@ stands_cancelled t h k st = by (lookup (one_key k) t.entries) refl
 -- an end
 
 pub stands_finished : (t : Table) (h : List QueueEvent) (k : Key) → Stands t h → Stands (finished t k) (finish_history (key_in k) h)
-stands_finished t h k st = by (lookup (one_key k) t.entries) refl (told_right t h k st)
+stands_finished t h k st = by (lookup (one_key k) t.entries) refl (info_right t h k st)
   where
     e : QueueEvent
     e = Finishes (key_in k)
@@ -195,11 +195,11 @@ stands_finished t h k st = by (lookup (one_key k) t.entries) refl (told_right t 
 
     ends : (x : Entry) (n : ℕ) → x.standing ≡ stands.Granted n → lookup (one_key k) t.entries ≡ Some x → Stands (restood t k x (stands.Done n) t.granted) (h ++ e ∷ [])
     ends x n q l =
-        let f : Found g (records h) k x = told_known t h k x st l in
+        let f : Found g (records h) k x = info_known t h k x st l in
         still_stands t (insert_entry one_key t.entries k (with_standing x (stands.Done n))) h e st (grows_finish h (key_in k)) refl (λ j. refl) (λ r m. apart n (granted_of n x q f) r m (same_key r.key (key_in k)) refl)
         (moved (λ r. Unit {0}) g g' (λ r. refl) k x (stands.Done n) others (λ r u p s. finish_granted t.offered h (key_in k) r n p (s ∙ q)) t.entries (records h) st.entries (distinct_records h) (each_of (λ r. Unit {0}) (λ r. tt) (records h)) l) (legal_finish h (key_in k) st.legal)
 
-    at : (x : Entry) (s : Standing) → x.standing ≡ s → lookup (one_key k) t.entries ≡ Some x → Some (kept_in (told_of t.entries k s)) ≡ kept_of (key_in k) h → Stands (finished_entry t k x s) (finish_history (key_in k) h)
+    at : (x : Entry) (s : Standing) → x.standing ≡ s → lookup (one_key k) t.entries ≡ Some x → Some (kept_in (info_of t.entries k s)) ≡ kept_of (key_in k) h → Stands (finished_entry t k x s) (finish_history (key_in k) h)
     at x (stands.Granted n) q l r = subst (λ b. Stands (restood t k x (stands.Done n) t.granted) (cond b (h ++ e ∷ []) h)) (ap is_granted r) (ends x n q l)
     at x (stands.Waits i) q l r = idle (sym (ap is_granted r))
     at x (stands.Done n) q l r = idle (sym (ap is_granted r))
@@ -207,9 +207,9 @@ stands_finished t h k st = by (lookup (one_key k) t.entries) refl (told_right t 
     at x stands.QueueFull q l r = idle (sym (ap is_granted r))
     at x stands.NoService q l r = idle (sym (ap is_granted r))
 
-    by : (o : Option Entry) → lookup (one_key k) t.entries ≡ o → some_kept (told t k) ≡ kept_of (key_in k) h → Stands (finished_by t k o) (finish_history (key_in k) h)
-    by None l r = idle (sym (ap is_granted (sym (ap (λ o. some_kept (told_entry t.entries k o)) l) ∙ r)))
-    by (Some x) l r = at x x.standing refl l (sym (ap (λ o. some_kept (told_entry t.entries k o)) l) ∙ r)
+    by : (o : Option Entry) → lookup (one_key k) t.entries ≡ o → some_kept (info t k) ≡ kept_of (key_in k) h → Stands (finished_by t k o) (finish_history (key_in k) h)
+    by None l r = idle (sym (ap is_granted (sym (ap (λ o. some_kept (entry_info t.entries k o)) l) ∙ r)))
+    by (Some x) l r = at x x.standing refl l (sym (ap (λ o. some_kept (entry_info t.entries k o)) l) ∙ r)
 
 -- a grant
 
@@ -306,7 +306,7 @@ stands_given t h s k from st q = by (next_request s h) refl (sym (ap some_first 
         let test : Request → Bool = λ y. waits y && same y.service s in
         let f : FirstFound test (records h) r = first_found test (records h) r (distinct_records h) n in
         let there : find (λ (y : Request). same_key y.key (key_in k)) (records h) ≡ Some r = subst (λ j. find (λ (y : Request). same_key y.key j) (records h) ≡ Some r) i f.found in
-        let d : Found g (records h) k x = told_known t h k x st l in
+        let d : Found g (records h) k x = info_known t h k x st l in
         let one : Some d.request ≡ Some r = sym d.found ∙ there in
         let is : d.request ≡ r = cc in
         let first : IsFirst t.offered h r = each_found (IsFirst t.offered h) (λ (y : Request). same_key y.key (key_in k)) (records h) r st.firsts there in
@@ -325,9 +325,9 @@ stands_given t h s k from st q = by (next_request s h) refl (sym (ap some_first 
 pub stands_none : (o : List Name) → Stands (record { offered = o; entries = []; granted = 0 }) []
 stands_none o = record { entries = refl; granted = refl; firsts = tt; known = λ k n. refl; room = λ l. refl; legal = legal_none }
 
-pub told_none : (es : List (Key × Entry)) (k : Key) (o : Option Entry) → told_entry es k o ≡ None → o ≡ None
-told_none es k None q = refl
-told_none es k (Some e) q = let z : ⊥ = cc in absurd z
+pub info_none : (es : List (Key × Entry)) (k : Key) (o : Option Entry) → entry_info es k o ≡ None → o ≡ None
+info_none es k None q = refl
+info_none es k (Some e) q = let z : ⊥ = cc in absurd z
 
 -- results
 

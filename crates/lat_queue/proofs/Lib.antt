@@ -5,5 +5,5 @@ pub mod LegalLemmas
 pub mod RecordLemmas
 pub mod StandLemmas
 pub mod TableLemmas
-pub mod ToldLemmas
+pub mod InfoLemmas
 pub mod WaitLemmas

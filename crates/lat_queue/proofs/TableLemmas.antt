@@ -16,7 +16,7 @@ use Rattle.lat_queue.specs.declared.entry.Waiter.{Waiter}
 use Rattle.lat_base.specs.declared.kept.Kept.{Kept}
 use Rattle.lat_queue.specs.KeyHash.{one_key}
 use Rattle.lat_queue.specs.Lines.{has_key, place_at, without_at, without}
-use Rattle.lat_queue.specs.Tables.{Table, HasPlace, IsShort, told_of, Holds, HasRoom, added, restood, waiting_entry, waiting_found, waits_at, waits_somewhere, waiter_of, waiters, waiting_count, OnLine, with_standing}
+use Rattle.lat_queue.specs.Tables.{Table, HasPlace, IsShort, info_of, Holds, MayWait, added, restood, waiting_entry, waiting_found, waits_at, waits_somewhere, waiter_of, waiters, waiting_count, OnLine, with_standing}
 
 pub lookup_each : (P : Entry → Type 0) (k : Key) (es : List (Key × Entry)) (e : Entry) → Each (λ (x : Key × Entry). P x.1) es → lookup (one_key k) es ≡ Some e → P e
 lookup_each P k [] e p q = let z : ⊥ = cc in absurd z
@@ -185,7 +185,7 @@ off_line i Cancelled h = tt
 off_line i QueueFull h = tt
 off_line i NoService h = tt
 
-room_line : (t : Table) (st : Standing) → HasRoom t st → OnLine (length t.offered) st
+room_line : (t : Table) (st : Standing) → MayWait t st → OnLine (length t.offered) st
 room_line t (Waits j) h = h.0
 room_line t (Granted n) h = tt
 room_line t (Done n) h = tt
@@ -246,7 +246,7 @@ holds_still t ls k e st h l w s = record {
     len = length_insert k e (with_standing e st) t.entries l
 
 -- a new record, waiting or not
-pub holds_joined : (t : Table) (ls : List (List Waiter)) (k : Key) (e : Entry) (i : ℕ) (line : List Waiter) → Holds t ls → HasRoom t e.standing → length t.entries < 65536 → e.standing ≡ Waits i → line ≡ waiters i t.entries ++ waiter_of (k, e) ∷ [] → Holds (added t k e) (slice_set ls i line)
+pub holds_joined : (t : Table) (ls : List (List Waiter)) (k : Key) (e : Entry) (i : ℕ) (line : List Waiter) → Holds t ls → MayWait t e.standing → length t.entries < 65536 → e.standing ≡ Waits i → line ≡ waiters i t.entries ++ waiter_of (k, e) ∷ [] → Holds (added t k e) (slice_set ls i line)
 unfolding one_if
 holds_joined t ls k e i line h room few w n = record {
   count = length-set ls i line ∙ h.count;
@@ -333,10 +333,10 @@ same_line i = by (nat_eq i i) refl
     by true q = q
     by false q = absurd (eqb-false i i q refl)
 
-pub has_place : (k : Key) (e : Entry) (es : List (Key × Entry)) (r : Kept) → lookup (one_key k) es ≡ Some e → r ≡ told_of es k e.standing → IsShort r → HasPlace r
+pub has_place : (k : Key) (e : Entry) (es : List (Key × Entry)) (r : Kept) → lookup (one_key k) es ≡ Some e → r ≡ info_of es k e.standing → IsShort r → HasPlace r
 has_place k e es r l q h = by e.standing refl (subst IsShort q h) (λ p. subst HasPlace (sym q) p)
   where
-    by : (s : Standing) → e.standing ≡ s → IsShort (told_of es k s) → (HasPlace (told_of es k s) → HasPlace r) → HasPlace r
+    by : (s : Standing) → e.standing ≡ s → IsShort (info_of es k s) → (HasPlace (info_of es k s) → HasPlace r) → HasPlace r
     by (Waits i) w h m = m (counts (length (waiters i es)) (position (has_key k) (waiters i es)) (some_wait i k e es l (ap (waits_at i) w ∙ same_line i)), h)
     by (Granted n) w h m = m tt
     by (Done n) w h m = m tt

@@ -16,7 +16,7 @@ use Rattle.lat_queue.specs.declared.entry.Waiter.{Waiter}
 use Rattle.lat_queue.specs.declared.entry.Standing.{Standing}
 use Rattle.lat_queue.specs.declared.entry.Standing.TheVariants.{Waits}
 use Rattle.lat_queue.specs.Lines.{has_key, place_at, place_of}
-use Rattle.lat_queue.specs.Tables.{Table, waits_at, waits_somewhere, waiters, waiter_told, first_waiter, first_of}
+use Rattle.lat_queue.specs.Tables.{Table, waits_at, waits_somewhere, waiters, waiter_info, first_waiter, first_of}
 use Rattle.lat_queue.specs.Histories.{Noted, noted, key_in, address_in, waited, turned_away, line_of, standing_in, noted_in, some_first, some_request, IsFirst, Stands}
 use Rattle.lat_queue.proofs.KeyLemmas.{key_left, name_turn, name_left}
 use Rattle.lat_queue.proofs.TableLemmas.{not_at}
@@ -160,7 +160,7 @@ nobody_waits t h s st n = none_waits t.offered h s n (records h) st.firsts
 
 -- the first that waits
 
-first_is : (ws : List Waiter) (rs : List Request) → map waiter_in ws ≡ map request_in rs → some_first (waiter_told (slice_get ws 0)) ≡ some_request (first rs)
+first_is : (ws : List Waiter) (rs : List Request) → map waiter_in ws ≡ map request_in rs → some_first (waiter_info (slice_get ws 0)) ≡ some_request (first rs)
 first_is [] [] q = refl
 first_is [] (r ∷ rs) q = let z : ⊥ = cc in absurd z
 first_is (w ∷ ws) [] q = let z : ⊥ = cc in absurd z
@@ -169,7 +169,7 @@ first_is (w ∷ ws) (r ∷ rs) q = let p : waiter_in w ≡ request_in r = cc in 
 pub first_right : (t : Table) (h : List QueueEvent) (s : Name) → Stands t h → some_first (first_of t s) ≡ some_request (next_request s h)
 first_right t h s st = by (position (λ n. same s n) t.offered) refl
   where
-    by : (p : Option ℕ) → position (λ n. same s n) t.offered ≡ p → some_first (waiter_told (first_waiter t.entries p)) ≡ some_request (first (waiting s h))
+    by : (p : Option ℕ) → position (λ n. same s n) t.offered ≡ p → some_first (waiter_info (first_waiter t.entries p)) ≡ some_request (first (waiting s h))
     by None q = sym (ap (λ z. some_request (first z)) (nobody_waits t h s st (not_stood t.offered s q)))
     by (Some i) q = let p : Stood t.offered s (position (λ n. same s n) t.offered) i = stood t.offered s i q in first_is (waiters i t.entries) (waiting s h) (lines_wait t h s i st p.line p.within)
 

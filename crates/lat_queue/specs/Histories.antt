@@ -4,7 +4,7 @@ use Rattle.std.specs.Option.{is_some}
 use Rattle.std.specs.List.{list_any, position_or_len}
 use Rattle.lat_base.specs.declared.addr.Addr.{Addr}
 use Rattle.lat_base.specs.declared.kept.Kept as base
-use Rattle.lat_base.specs.declared.kept.Kept.TheVariants as told
+use Rattle.lat_base.specs.declared.kept.Kept.TheVariants as own
 use Rattle.lat_model.specs.Lists.{Each}
 use Rattle.lat_machines.specs.values.Names.{Name, same}
 use Rattle.lat_machines.specs.values.Addresses.{address}
@@ -29,13 +29,13 @@ abbrev pub address_in : Addr → ℕ
 address_in a = address a.0
 
 abbrev pub kept_in : base.Kept → Kept
-kept_in (told.Waiting place) = Waiting place
-kept_in told.Granted = Granted
-kept_in told.Cancelled = Cancelled
-kept_in told.QueueFull = QueueFull
-kept_in told.NoService = NoService
-kept_in told.RecordsFull = RecordsFull
-kept_in told.Done = Done
+kept_in (own.Waiting place) = Waiting place
+kept_in own.Granted = Granted
+kept_in own.Cancelled = Cancelled
+kept_in own.QueueFull = QueueFull
+kept_in own.NoService = NoService
+kept_in own.RecordsFull = RecordsFull
+kept_in own.Done = Done
 
 abbrev pub record_in : Record → records.Record
 record_in r = record { key = key_in r.key; service = r.service; kept = kept_in r.kept; grant = r.grant }

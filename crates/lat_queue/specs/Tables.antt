@@ -62,13 +62,13 @@ pub record Holds (t : Table) (lines : List (List Waiter)) : Type 0 where
 -- what is told
 
 -- what a key is told that stands so
-abbrev pub told_of : List (Key × Entry) → Key → Standing → Kept
-told_of es k (Waits i) = kept.Waiting (place_of k (waiters i es))
-told_of es k (Granted n) = kept.Granted
-told_of es k (Done n) = kept.Done
-told_of es k Cancelled = kept.Cancelled
-told_of es k QueueFull = kept.QueueFull
-told_of es k NoService = kept.NoService
+abbrev pub info_of : List (Key × Entry) → Key → Standing → Kept
+info_of es k (Waits i) = kept.Waiting (place_of k (waiters i es))
+info_of es k (Granted n) = kept.Granted
+info_of es k (Done n) = kept.Done
+info_of es k Cancelled = kept.Cancelled
+info_of es k QueueFull = kept.QueueFull
+info_of es k NoService = kept.NoService
 
 -- where it tells a place, that is 1 to 64
 abbrev pub HasPlace : Kept → Type 0
@@ -80,23 +80,23 @@ abbrev pub IsShort : Kept → Type 0
 IsShort (kept.Waiting place) = place ≤ 64
 IsShort _ = Unit {0}
 
-abbrev pub told_entry : List (Key × Entry) → Key → Option Entry → Option Kept
-told_entry es k None = None
-told_entry es k (Some e) = Some (told_of es k e.standing)
+abbrev pub entry_info : List (Key × Entry) → Key → Option Entry → Option Kept
+entry_info es k None = None
+entry_info es k (Some e) = Some (info_of es k e.standing)
 
 -- what is kept of a key
-abbrev pub told : Table → Key → Option Kept
-told t k = told_entry t.entries k (lookup (one_key k) t.entries)
+abbrev pub info : Table → Key → Option Kept
+info t k = entry_info t.entries k (lookup (one_key k) t.entries)
 
 -- the number of its grant
-abbrev pub grant_told : Standing → Option ℕ
-grant_told (Granted n) = Some n
-grant_told (Done n) = Some n
-grant_told _ = None
+abbrev pub grant_info : Standing → Option ℕ
+grant_info (Granted n) = Some n
+grant_info (Done n) = Some n
+grant_info _ = None
 
 abbrev pub shown_entry : List (Key × Entry) → Option (Key × Entry) → Option Record
 shown_entry es None = None
-shown_entry es (Some e) = Some (record { key = e.0; service = e.1.service; kept = told_of es e.0 e.1.standing; grant = grant_told e.1.standing })
+shown_entry es (Some e) = Some (record { key = e.0; service = e.1.service; kept = info_of es e.0 e.1.standing; grant = grant_info e.1.standing })
 
 -- the record at a place of the order of first commands
 abbrev pub shown : Table → ℕ → Option Record
@@ -106,13 +106,13 @@ abbrev pub first_waiter : List (Key × Entry) → Option ℕ → Option Waiter
 first_waiter es None = None
 first_waiter es (Some i) = slice_get (waiters i es) 0
 
-abbrev pub waiter_told : Option Waiter → Option (Key × Addr)
-waiter_told None = None
-waiter_told (Some w) = Some (w.key, w.from)
+abbrev pub waiter_info : Option Waiter → Option (Key × Addr)
+waiter_info None = None
+waiter_info (Some w) = Some (w.key, w.from)
 
 -- the first that waits for a service
 abbrev pub first_of : Table → List ℕ → Option (Key × Addr)
-first_of t service = waiter_told (first_waiter t.entries (position (λ n. same service n) t.offered))
+first_of t service = waiter_info (first_waiter t.entries (position (λ n. same service n) t.offered))
 
 -- a new request
 
@@ -125,15 +125,15 @@ abbrev pub new_standing : Table → List ℕ → Standing
 new_standing t service = standing_at t.entries (position (λ n. same service n) t.offered)
 
 -- what a new request that stands so is told
-abbrev pub new_told : Table → Standing → Kept
-new_told t (Waits i) = kept.Waiting (length (waiters i t.entries) + 1)
-new_told t QueueFull = kept.QueueFull
-new_told t _ = kept.NoService
+abbrev pub new_info : Table → Standing → Kept
+new_info t (Waits i) = kept.Waiting (length (waiters i t.entries) + 1)
+new_info t QueueFull = kept.QueueFull
+new_info t _ = kept.NoService
 
 -- its line has room for one that waits
-abbrev pub HasRoom : Table → Standing → Type 0
-HasRoom t (Waits i) = (i < length t.offered) × (length (waiters i t.entries) < 64)
-HasRoom t _ = Unit {0}
+abbrev pub MayWait : Table → Standing → Type 0
+MayWait t (Waits i) = (i < length t.offered) × (length (waiters i t.entries) < 64)
+MayWait t _ = Unit {0}
 
 -- one record more
 abbrev pub added : Table → Key → Entry → Table

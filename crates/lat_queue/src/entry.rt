@@ -23,11 +23,11 @@ pub(crate) enum Standing {
 }
 
 impl Standing {
-    ghost use Rattle.lat_queue.specs.Tables.{grant_told};
+    ghost use Rattle.lat_queue.specs.Tables.{grant_info};
 
     /// The number of its grant.
     pub(crate) fn grant(self) -> Option<u32>
-        ensures { result ≡ grant_told self }
+        ensures { result ≡ grant_info self }
     {
         match self {
             Standing::Granted(grant) | Standing::Done(grant) => Some(grant),

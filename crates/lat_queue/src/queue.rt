@@ -7,7 +7,7 @@ ghost use Rattle.lat_queue.specs.Histories.{Stands, key_in, address_in, kept_in,
 ghost use Rattle.std.specs.Map.{lookup};
 ghost use Rattle.lat_queue.specs.KeyHash.{one_key};
 ghost use Rattle.indexmap.specs.IndexMap.{insert_entry};
-ghost use Rattle.lat_queue.specs.Tables.{waiters, OnLine, HasRoom, HasPlace, IsShort, told, told_of, new_told, new_standing, added, shown, first_of, waiting_of, cancelled, given, finished};
+ghost use Rattle.lat_queue.specs.Tables.{waiters, OnLine, MayWait, HasPlace, IsShort, info, info_of, new_info, new_standing, added, shown, first_of, waiting_of, cancelled, given, finished};
 
 use crate::entry::{Entry, Standing, Waiter};
 use crate::key::Key;
@@ -118,7 +118,7 @@ impl Queue {
         ensures offered { self.new.offered ≡ self.old.offered }
         ensures err { OnErr result (self.new ≡ self.old) }
     {
-        if let Some(kept) = self.told(key) {
+        if let Some(kept) = self.info(key) {
             return Ok(kept);
         }
         if self.entries.len() >= RECORDS {
@@ -136,7 +136,7 @@ impl Queue {
         ensures offered { self.new.offered ≡ self.old.offered }
     {
         self.withdraw(key);
-        self.told(key)
+        self.info(key)
     }
 
     /// The key of the first that waits for the service, and the address that its first command came from. None where
@@ -181,7 +181,7 @@ impl Queue {
     fn admit(&mut self, key: &Key, from: Addr, service: &Name) -> Result<Kept, Memory>
         requires new { lookup (one_key key.now) self.old.entries ≡ None }
         requires few { length self.old.entries < 65536 }
-        ensures answer { IfOk result (λ a. a ≡ new_told self.old (new_standing self.old service.now)) }
+        ensures answer { IfOk result (λ a. a ≡ new_info self.old (new_standing self.old service.now)) }
         ensures place { IfOk result HasPlace }
         ensures ok { OnOk result (self.new ≡ added self.old key.now (record {
           from = from;
@@ -191,7 +191,7 @@ impl Queue {
         ensures err { OnErr result (self.new ≡ self.old) }
     {
         let standing = self.new_standing(service);
-        let kept = self.new_told(standing);
+        let kept = self.new_info(standing);
         let service = *service;
         self.add(
             key,
@@ -205,9 +205,9 @@ impl Queue {
     }
 
     // What a key of this standing is told.
-    fn told_of(&self, key: &Key, standing: Standing) -> Kept
+    fn info_of(&self, key: &Key, standing: Standing) -> Kept
         requires { OnLine (length self.now.offered) standing }
-        ensures value { result ≡ told_of self.now.entries key.now standing }
+        ensures value { result ≡ info_of self.now.entries key.now standing }
         ensures most { IsShort result }
     {
         match standing {
@@ -221,18 +221,18 @@ impl Queue {
     }
 
     // What is kept of the key.
-    fn told(&self, key: &Key) -> Option<Kept>
-        ensures value { result ≡ told self.now key.now }
+    fn info(&self, key: &Key) -> Option<Kept>
+        ensures value { result ≡ info self.now key.now }
         ensures place { IfSome result HasPlace }
     {
         let entry = self.entries.get(key)?;
-        Some(self.told_of(key, entry.standing))
+        Some(self.info_of(key, entry.standing))
     }
 
     // How a new request for the service stands.
     fn new_standing(&self, service: &Name) -> Standing
         ensures value { result ≡ new_standing self.now service.now }
-        ensures room { HasRoom self.now result }
+        ensures room { MayWait self.now result }
     {
         match self.offered.place_of(service) {
             Some(line) if self.lines[line].len() >= LINE => Standing::QueueFull,
@@ -242,9 +242,9 @@ impl Queue {
     }
 
     // What a new request that stands so is told.
-    fn new_told(&self, standing: Standing) -> Kept
-        requires { HasRoom self.now standing }
-        ensures value { result ≡ new_told self.now standing }
+    fn new_info(&self, standing: Standing) -> Kept
+        requires { MayWait self.now standing }
+        ensures value { result ≡ new_info self.now standing }
         ensures place { HasPlace result }
     {
         match standing {
@@ -258,7 +258,7 @@ impl Queue {
     fn add(&mut self, key: &Key, entry: Entry) -> Result<(), Memory>
         requires new { lookup (one_key key.now) self.old.entries ≡ None }
         requires few { length self.old.entries < 65536 }
-        requires room { HasRoom self.old entry.standing }
+        requires room { MayWait self.old entry.standing }
         ensures ok { OnOk result (self.new ≡ added self.old key.now entry) }
         ensures err { OnErr result (self.new ≡ self.old) }
     {
@@ -347,7 +347,7 @@ impl Queue {
         Some(Record {
             key: *key,
             service: entry.service,
-            kept: self.told_of(key, entry.standing),
+            kept: self.info_of(key, entry.standing),
             grant: entry.standing.grant(),
         })
     }

@@ -2,7 +2,7 @@
 use Rattle.std.specs.Prelude.{◌≡◌, ℕ, true, false}
 use Rattle.lat_machines.specs.world.Machines.{Machines}
 use Rattle.lat_tales.specs.Books.{lines_at}
-use Rattle.lat_tales.specs.Rows.{KeptRows, Keeps}
+use Rattle.lat_tales.specs.Rows.{RowsAfter, Keeps}
 use Rattle.lat_roster.specs.Roster as rosters
 use Rattle.lat_wire.specs.Stands as wires
 use Rattle.lat_replay.specs.Kept.{Kept, setups_of}
@@ -10,7 +10,7 @@ use Rattle.lat_replay.specs.Kept.{Kept, setups_of}
 -- the wire does, so they are a run of the machines; and the roster shows the rows that are kept of them
 pub record Stands {H : Type 0} (k : Kept H) (w : Machines) : Type 0 where
   pub wire : wires.Stands k.wire w
-  pub rows : KeptRows
+  pub rows : RowsAfter
   pub keeps : Keeps (setups_of k) w rows
   pub shows : rosters.Shows k.roster rows
 

@@ -2,7 +2,7 @@
 
 ghost use Rattle.std.specs.Prelude.{◌≡◌, ◌≢◌, ◌*◌, ◌↔◌, ◌++◌, IfOk, OnOk, IsTrue, MatchOption, None, length, slice_get, string_bytes};
 ghost use Rattle.lat_machines.specs.values.Addresses.{address, everyone};
-ghost use Rattle.lat_machines.specs.cores.Lines.{holds};
+ghost use Rattle.lat_machines.specs.cores.Lines.{has_session};
 ghost use Rattle.lat_machines.specs.world.Machines.{Machines, core_of, open_machines};
 ghost use Rattle.lat_machines.specs.world.Reports.{report};
 ghost use Rattle.lat_node.specs.Config as nodes;
@@ -164,10 +164,10 @@ impl<H: RatingRule> World<H> {
     }
 
     /// Whether a line of the server or of the node exists and has a session.
-    pub fn held(&self, server: bool, line: u8) -> bool
-        ensures { (w : Machines) → Stands self.now w → result ≡ holds (core_of w server) line }
+    pub fn has_session(&self, server: bool, line: u8) -> bool
+        ensures { (w : Machines) → Stands self.now w → result ≡ has_session (core_of w server) line }
     {
-        self.wire.held(server, line)
+        self.wire.has_session(server, line)
     }
 
     /// Appends the report. `Memory` where none is found, or where a count stands at the greatest number of 64 bits, where it

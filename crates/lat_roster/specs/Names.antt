@@ -4,7 +4,7 @@ use Rattle.std.specs.Map.{lookup}
 
 pub record Names : Type 0 where
   pub entries : List (ℕ × ℕ)
-  pub room : ℕ  -- for how many more
+  pub reserved : ℕ  -- for how many more
 
 -- circuit and session id in one number
 abbrev pub key_of : ℕ → ℕ → ℕ

@@ -3,27 +3,27 @@ use Rattle.std.specs.Prelude.{◌≡◌, ℕ, suc, ◌<◌, ◌≤◌, ◌&&◌,
 use Rattle.lat_tales.specs.Rows as rows
 use Rattle.lat_roster.specs.declared.row.Row.{Row}
 use Rattle.lat_roster.specs.Names.{Names, key_of, place_of}
-use Rattle.lat_roster.specs.Rows.{ShowsRow, HasRoom}
+use Rattle.lat_roster.specs.Rows.{ShowsRow, HasReserved}
 
 pub record Kept : Type 0 where
   pub rows : List Row
   pub server_lines : List ℕ  -- by line, the place of the row of its newest session, from 1 on
   pub node_lines : List ℕ
   pub names : Names
-  pub room : ℕ  -- for how many more rows
+  pub reserved : ℕ  -- for how many more rows
 
 -- each row shows the one beside it
-abbrev pub ShowsRows : List Row → List rows.KeptRow → Type 0
+abbrev pub ShowsRows : List Row → List rows.RowAfter → Type 0
 ShowsRows [] rs = rs ≡ []
 ShowsRows (k ∷ ks) [] = ⊥
 ShowsRows (k ∷ ks) (r ∷ rs) = ShowsRow k r × ShowsRows ks rs
 
 -- the place of the last row with these ids; `found` where none follows
-abbrev pub last_row : ℕ → ℕ → ℕ → ℕ → List rows.KeptRow → ℕ
+abbrev pub last_row : ℕ → ℕ → ℕ → ℕ → List rows.RowAfter → ℕ
 last_row circuit id place found [] = found
 last_row circuit id place found (r ∷ rs) = last_row circuit id (suc place) (cond (nat_eq r.circuit circuit && nat_eq r.id id) (suc place) found) rs
 
-pub record Shows (k : Kept) (r : rows.KeptRows) : Type 0 where
+pub record Shows (k : Kept) (r : rows.RowsAfter) : Type 0 where
   pub rows : ShowsRows k.rows r.rows
   pub server_lines : (line : ℕ) → line < 256 → slice_index k.server_lines line ≡ r.server_lines line
   pub node_lines : (line : ℕ) → line < 256 → slice_index k.node_lines line ≡ r.node_lines line
@@ -38,5 +38,5 @@ pub record Holds (k : Kept) : Type 0 where
   pub name_places : (key : ℕ) → place_of k.names key ≤ length k.rows
 
 -- the row at this place, if it is one, has room for so many items more
-abbrev pub RoomAt : List Row → ℕ → Bool → ℕ → ℕ → Type 0
-RoomAt ks place b put taken = (i : ℕ) (k : Row) → place ≡ suc i → slice_get ks i ≡ Some k → HasRoom b put taken k
+abbrev pub ReservedAt : List Row → ℕ → Bool → ℕ → ℕ → Type 0
+ReservedAt ks place b put taken = (i : ℕ) (k : Row) → place ≡ suc i → slice_get ks i ≡ Some k → HasReserved b put taken k

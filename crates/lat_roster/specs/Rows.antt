@@ -12,7 +12,7 @@ pub record ShowsFigures (f : Figures) (r : rows.Figures) : Type 0 where
   pub used_up : f.used ≡ saturated r.used_up
   pub end : option_map end_shown f.end ≡ r.end
 
-pub record ShowsRow (k : Row) (r : rows.KeptRow) : Type 0 where
+pub record ShowsRow (k : Row) (r : rows.RowAfter) : Type 0 where
   pub line : k.line ≡ r.line
   pub circuit : k.circuit ≡ r.circuit
   pub id : k.id ≡ r.id
@@ -31,6 +31,6 @@ pub record IsSeat (s : Seat) (on circuit_id session_id : ℕ) : Type 0 where
   pub id : s.id ≡ session_id
 
 -- a row with room for so many items more that the session at this end puts and takes
-abbrev pub HasRoom : Bool → ℕ → ℕ → Row → Type 0
-HasRoom true put taken k = (vec_len k.up.put + put ≤ vec_capacity k.up.put) × (vec_len k.down.taken + taken ≤ vec_capacity k.down.taken)
-HasRoom false put taken k = (vec_len k.down.put + put ≤ vec_capacity k.down.put) × (vec_len k.up.taken + taken ≤ vec_capacity k.up.taken)
+abbrev pub HasReserved : Bool → ℕ → ℕ → Row → Type 0
+HasReserved true put taken k = (vec_len k.up.put + put ≤ vec_capacity k.up.put) × (vec_len k.down.taken + taken ≤ vec_capacity k.down.taken)
+HasReserved false put taken k = (vec_len k.down.put + put ≤ vec_capacity k.down.put) × (vec_len k.up.taken + taken ≤ vec_capacity k.up.taken)

@@ -4,9 +4,9 @@ ghost use Rattle.std.specs.Prelude.{◌≡◌, ◌≢◌, ◌+◌, ◌-◌, ◌�
 ghost use Rattle.lat_model.specs.sessions.Slots as slots;
 ghost use Rattle.lat_tales.specs.Rows as rows;
 ghost use Rattle.lat_tales.specs.Keeping.{change, with_items};
-ghost use Rattle.lat_roster.specs.Rows.{ShowsFigures, HasRoom};
+ghost use Rattle.lat_roster.specs.Rows.{ShowsFigures, HasReserved};
 ghost use Rattle.lat_roster.specs.Shown.{item_shown};
-ghost use Rattle.lat_roster.specs.Roster.{ShowsRows, RoomAt};
+ghost use Rattle.lat_roster.specs.Roster.{ShowsRows, ReservedAt};
 
 use crate::figures::Figures;
 use crate::row::Row;
@@ -15,7 +15,7 @@ use lat_base::{Item, Memory};
 // The figures of the server's end are written into the row at this place; nothing at 0.
 pub(crate) fn leave_server(list: &mut [Row], place: usize, figures: Figures)
     requires { place ≤ length list.old }
-    ensures { (rs : List rows.KeptRow) (f : rows.Figures) →
+    ensures { (rs : List rows.RowAfter) (f : rows.Figures) →
         ShowsRows list.old rs →
         (place ≢ 0 → ShowsFigures figures f) →
         ShowsRows list.new (change place (λ r. record r { server = f }) rs) }
@@ -28,7 +28,7 @@ pub(crate) fn leave_server(list: &mut [Row], place: usize, figures: Figures)
 // The figures of the node's end are written into the row at this place; nothing at 0.
 pub(crate) fn leave_node(list: &mut [Row], place: usize, figures: Figures)
     requires { place ≤ length list.old }
-    ensures { (rs : List rows.KeptRow) (f : rows.Figures) →
+    ensures { (rs : List rows.RowAfter) (f : rows.Figures) →
         ShowsRows list.old rs →
         (place ≢ 0 → ShowsFigures figures f) →
         ShowsRows list.new (change place (λ r. record r { node = f }) rs) }
@@ -41,7 +41,7 @@ pub(crate) fn leave_node(list: &mut [Row], place: usize, figures: Figures)
 // The row at this place gets the node's line; nothing at 0.
 pub(crate) fn join(list: &mut [Row], place: usize, line: u8)
     requires { place ≤ length list.old }
-    ensures { (rs : List rows.KeptRow) → ShowsRows list.old rs → ShowsRows list.new (change place (λ r. record r { node_line = line }) rs) }
+    ensures { (rs : List rows.RowAfter) → ShowsRows list.old rs → ShowsRows list.new (change place (λ r. record r { node_line = line }) rs) }
 {
     if place > 0 {
         list[place - 1].node_line = line;
@@ -52,7 +52,7 @@ pub(crate) fn join(list: &mut [Row], place: usize, line: u8)
 pub(crate) fn hand_over(list: &mut [Row], left: usize, figures: Figures, place: usize, line: u8)
     requires left { left ≤ length list.old }
     requires place { place ≤ length list.old }
-    ensures { (rs : List rows.KeptRow) (f : rows.Figures) →
+    ensures { (rs : List rows.RowAfter) (f : rows.Figures) →
         ShowsRows list.old rs →
         (left ≢ 0 → ShowsFigures figures f) →
         ShowsRows list.new (change place (λ r. record r { node_line = line }) (change left (λ r. record r { node = f }) rs)) }
@@ -64,8 +64,8 @@ pub(crate) fn hand_over(list: &mut [Row], left: usize, figures: Figures, place: 
 // The row at this place has more bytes put; nothing at 0.
 pub(crate) fn put_at(list: &mut [Row], place: usize, server: bool, bytes: &[u8])
     requires place { place ≤ length list.old }
-    requires room { RoomAt list.old place server (length bytes.now) 0 }
-    ensures { (rs : List rows.KeptRow) → ShowsRows list.old rs → ShowsRows list.new (change place (with_items server (map slots.Byte bytes.now) []) rs) }
+    requires reserved { ReservedAt list.old place server (length bytes.now) 0 }
+    ensures { (rs : List rows.RowAfter) → ShowsRows list.old rs → ShowsRows list.new (change place (with_items server (map slots.Byte bytes.now) []) rs) }
 {
     if place > 0 {
         list[place - 1].puts(server, bytes);
@@ -75,8 +75,8 @@ pub(crate) fn put_at(list: &mut [Row], place: usize, server: bool, bytes: &[u8])
 // The row at this place has more items put and taken; nothing at 0.
 pub(crate) fn add_at(list: &mut [Row], place: usize, server: bool, put: &[Item], taken: &[Item])
     requires place { place ≤ length list.old }
-    requires room { RoomAt list.old place server (length put.now) (length taken.now) }
-    ensures { (rs : List rows.KeptRow) (ps ts : List slots.Item) →
+    requires reserved { ReservedAt list.old place server (length put.now) (length taken.now) }
+    ensures { (rs : List rows.RowAfter) (ps ts : List slots.Item) →
         put.now ≡ map item_shown ps →
         taken.now ≡ map item_shown ts →
         ShowsRows list.old rs →
@@ -96,8 +96,8 @@ pub(crate) fn reserve_at(
     taken: usize,
 ) -> Result<(), Memory>
     requires { place ≤ length list.old }
-    ensures same { (rs : List rows.KeptRow) → ShowsRows list.old rs → ShowsRows list.new rs }
-    ensures room { OnOk result (RoomAt list.new place server put taken) }
+    ensures same { (rs : List rows.RowAfter) → ShowsRows list.old rs → ShowsRows list.new rs }
+    ensures reserved { OnOk result (ReservedAt list.new place server put taken) }
 {
     if place > 0 {
         list[place - 1].reserve(server, put, taken)?;

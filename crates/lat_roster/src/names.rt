@@ -26,7 +26,7 @@ impl Model for Names {
 
     ghost Value = { Names };
 
-    ghost view = { λ a. record { entries = a.places.entries; room = spare a.places } };
+    ghost view = { λ a. record { entries = a.places.entries; reserved = spare a.places } };
 }
 
 // The ids in one number.
@@ -49,7 +49,7 @@ impl Names {
     /// Takes room for `n` more. `Memory` where none is found.
     pub(crate) fn reserve(&mut self, n: usize) -> Result<(), Memory>
         ensures same { (key : ℕ) → place_of self.new key ≡ place_of self.old key }
-        ensures ok { OnOk result (n ≤ self.new.room) }
+        ensures ok { OnOk result (n ≤ self.new.reserved) }
     {
         self.places.reserve(n)?;
         Ok(())
@@ -57,9 +57,9 @@ impl Names {
 
     /// Notes the place of the last row with these ids, for which there is room.
     pub(crate) fn set(&mut self, circuit: u16, id: u8, place: usize)
-        requires { 0 < self.old.room }
+        requires { 0 < self.old.reserved }
         ensures place { (k : ℕ) → place_of self.new k ≡ cond (nat_eq (key_of circuit id) k) place (place_of self.old k) }
-        ensures room { self.old.room ≤ self.new.room + 1 }
+        ensures reserved { self.old.reserved ≤ self.new.reserved + 1 }
     {
         let _ = self.places.insert(key(circuit, id), place);
     }

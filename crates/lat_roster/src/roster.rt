@@ -8,7 +8,7 @@ ghost use Rattle.lat_tales.specs.Keeping.{no_rows, adds, connects, accepts};
 ghost use Rattle.lat_roster.specs.Names.{key_of, place_of};
 ghost use Rattle.lat_roster.specs.Shown.{item_shown};
 ghost use Rattle.lat_roster.specs.Rows.{ShowsFigures, IsSeat};
-ghost use Rattle.lat_roster.specs.Roster.{Shows, last_row, RoomAt};
+ghost use Rattle.lat_roster.specs.Roster.{Shows, last_row, ReservedAt};
 
 use crate::changes::{add_at, hand_over, leave_server, put_at, reserve_at};
 use crate::figures::Figures;
@@ -49,7 +49,7 @@ impl Model for Roster {
       server_lines = a.server_lines.items;
       node_lines = a.node_lines.items;
       names = a.names;
-      room = vec_capacity a.rows - vec_len a.rows;
+      reserved = vec_capacity a.rows - vec_len a.rows;
     } };
 
     ghost invariant = { λ a. Holds (record {
@@ -57,7 +57,7 @@ impl Model for Roster {
       server_lines = a.server_lines.items;
       node_lines = a.node_lines.items;
       names = a.names;
-      room = 0;
+      reserved = 0;
     }) };
 }
 
@@ -90,9 +90,9 @@ impl Roster {
 
     /// Takes room for `n` sessions more. `Memory` where none is found; the rows stay.
     pub fn reserve(&mut self, n: usize) -> Result<(), Memory>
-        ensures same { (r : rows.KeptRows) → Shows self.old r → Shows self.new r }
-        ensures rows { OnOk result (n ≤ self.new.room) }
-        ensures names { OnOk result (n ≤ self.new.names.room) }
+        ensures same { (r : rows.RowsAfter) → Shows self.old r → Shows self.new r }
+        ensures rows { OnOk result (n ≤ self.new.reserved) }
+        ensures names { OnOk result (n ≤ self.new.names.reserved) }
     {
         self.rows.reserve(n)?;
         self.names.reserve(n)
@@ -100,7 +100,7 @@ impl Roster {
 
     /// The place, from 1 on, of the last row with these ids of the server; 0 where there is none.
     pub fn named(&self, circuit: u16, id: u8) -> usize
-        ensures is { (r : rows.KeptRows) → Shows self.now r → result ≡ last_row circuit id 0 0 r.rows }
+        ensures is { (r : rows.RowsAfter) → Shows self.now r → result ≡ last_row circuit id 0 0 r.rows }
         ensures within { result ≤ length self.now.rows }
     {
         self.names.get(circuit, id)
@@ -133,9 +133,9 @@ impl Roster {
         put: usize,
         taken: usize,
     ) -> Result<(), Memory>
-        ensures same { (r : rows.KeptRows) → Shows self.old r → Shows self.new r }
-        ensures items { OnOk result (RoomAt self.new.rows (slice_index (if server then self.new.server_lines else self.new.node_lines) line) server put taken) }
-        ensures rows { self.old.room ≡ self.new.room }
+        ensures same { (r : rows.RowsAfter) → Shows self.old r → Shows self.new r }
+        ensures items { OnOk result (ReservedAt self.new.rows (slice_index (if server then self.new.server_lines else self.new.node_lines) line) server put taken) }
+        ensures rows { self.old.reserved ≡ self.new.reserved }
         ensures names { self.new.names ≡ self.old.names }
     {
         let place = self.newest(server, line);
@@ -144,9 +144,9 @@ impl Roster {
 
     /// The newest session of a line has put bytes more, for which there is room.
     pub fn puts(&mut self, server: bool, line: u8, bytes: &[u8])
-        requires { RoomAt self.old.rows (slice_index (if server then self.old.server_lines else self.old.node_lines) line) server (length bytes.now) 0 }
-        ensures shows { (r : rows.KeptRows) → Shows self.old r → Shows self.new (adds server line (map slots.Byte bytes.now) [] r) }
-        ensures rows { self.old.room ≡ self.new.room }
+        requires { ReservedAt self.old.rows (slice_index (if server then self.old.server_lines else self.old.node_lines) line) server (length bytes.now) 0 }
+        ensures shows { (r : rows.RowsAfter) → Shows self.old r → Shows self.new (adds server line (map slots.Byte bytes.now) [] r) }
+        ensures rows { self.old.reserved ≡ self.new.reserved }
         ensures names { self.new.names ≡ self.old.names }
     {
         let place = self.newest(server, line);
@@ -155,14 +155,14 @@ impl Roster {
 
     /// The newest session of a line has put and taken items more, for which there is room.
     pub fn adds(&mut self, server: bool, line: u8, put: &[Item], taken: &[Item])
-        requires { RoomAt self.old.rows (slice_index (if server then self.old.server_lines else self.old.node_lines) line) server
+        requires { ReservedAt self.old.rows (slice_index (if server then self.old.server_lines else self.old.node_lines) line) server
             (length put.now) (length taken.now) }
-        ensures shows { (r : rows.KeptRows) (ps ts : List slots.Item) →
+        ensures shows { (r : rows.RowsAfter) (ps ts : List slots.Item) →
             put.now ≡ map item_shown ps →
             taken.now ≡ map item_shown ts →
             Shows self.old r →
             Shows self.new (adds server line ps ts r) }
-        ensures rows { self.old.room ≡ self.new.room }
+        ensures rows { self.old.reserved ≡ self.new.reserved }
         ensures names { self.new.names ≡ self.old.names }
     {
         let place = self.newest(server, line);
@@ -172,15 +172,15 @@ impl Roster {
     /// A line of the server has a session more, with these ids. The figures of the line's session before are written down,
     /// where it had one. There is room for it.
     pub fn connects(&mut self, alloc: Global, line: u8, circuit: u16, id: u8, before: Figures)
-        requires rows { 0 < self.old.room }
-        requires names { 0 < self.old.names.room }
-        ensures shows { (r : rows.KeptRows) (s : Seat) (f : rows.Figures) →
+        requires rows { 0 < self.old.reserved }
+        requires names { 0 < self.old.names.reserved }
+        ensures shows { (r : rows.RowsAfter) (s : Seat) (f : rows.Figures) →
             Shows self.old r →
             IsSeat s line circuit id →
             (slice_index self.old.server_lines line ≢ 0 → ShowsFigures before f) →
             Shows self.new (connects s f r) }
-        ensures rows { self.old.room ≡ self.new.room + 1 }
-        ensures names { self.old.names.room ≤ self.new.names.room + 1 }
+        ensures rows { self.old.reserved ≡ self.new.reserved + 1 }
+        ensures names { self.old.names.reserved ≤ self.new.names.reserved + 1 }
     {
         leave_server(
             self.rows.as_mut_slice(),
@@ -197,11 +197,11 @@ impl Roster {
     /// session before are written down, where it had a row.
     pub fn accepts(&mut self, line: u8, place: usize, before: Figures)
         requires { place ≤ length self.old.rows }
-        ensures shows { (r : rows.KeptRows) (f : rows.Figures) →
+        ensures shows { (r : rows.RowsAfter) (f : rows.Figures) →
             Shows self.old r →
             (slice_index self.old.node_lines line ≢ 0 → ShowsFigures before f) →
             Shows self.new (accepts line place f r) }
-        ensures rows { self.old.room ≡ self.new.room }
+        ensures rows { self.old.reserved ≡ self.new.reserved }
         ensures names { self.new.names ≡ self.old.names }
     {
         hand_over(

@@ -7,7 +7,7 @@ ghost use Rattle.lat_machines.specs.cores.Cores.{Seat};
 ghost use Rattle.lat_tales.specs.Rows as rows;
 ghost use Rattle.lat_tales.specs.Keeping.{new_row, with_items};
 ghost use Rattle.lat_roster.specs.Shown.{item_shown};
-ghost use Rattle.lat_roster.specs.Rows.{IsSeat, ShowsRow, HasRoom};
+ghost use Rattle.lat_roster.specs.Rows.{IsSeat, ShowsRow, HasReserved};
 
 use crate::figures::Figures;
 use lat_base::{Item, Memory};
@@ -88,8 +88,8 @@ impl Row {
 
     // The session at this end has put bytes more, for which there is room.
     pub(crate) fn puts(&mut self, server: bool, bytes: &[u8])
-        requires { HasRoom server (length bytes.now) 0 self.old }
-        ensures { (r : rows.KeptRow) → ShowsRow self.old r → ShowsRow self.new (with_items server (map slots.Byte bytes.now) [] r) }
+        requires { HasReserved server (length bytes.now) 0 self.old }
+        ensures { (r : rows.RowAfter) → ShowsRow self.old r → ShowsRow self.new (with_items server (map slots.Byte bytes.now) [] r) }
     {
         if server {
             add_bytes(&mut self.up.put, bytes);
@@ -100,8 +100,8 @@ impl Row {
 
     // The session at this end has put these items more and taken those, for which there is room.
     pub(crate) fn adds(&mut self, server: bool, put: &[Item], taken: &[Item])
-        requires { HasRoom server (length put.now) (length taken.now) self.old }
-        ensures { (r : rows.KeptRow) (ps ts : List slots.Item) →
+        requires { HasReserved server (length put.now) (length taken.now) self.old }
+        ensures { (r : rows.RowAfter) (ps ts : List slots.Item) →
             put.now ≡ map item_shown ps →
             taken.now ≡ map item_shown ts →
             ShowsRow self.old r →
@@ -118,8 +118,8 @@ impl Row {
 
     // Takes room for so many items more that the session at this end puts and takes.
     pub(crate) fn reserve(&mut self, server: bool, put: usize, taken: usize) -> Result<(), Memory>
-        ensures same { (r : rows.KeptRow) → ShowsRow self.old r → ShowsRow self.new r }
-        ensures room { OnOk result (HasRoom server put taken self.new) }
+        ensures same { (r : rows.RowAfter) → ShowsRow self.old r → ShowsRow self.new r }
+        ensures reserved { OnOk result (HasReserved server put taken self.new) }
     {
         if server {
             self.up.put.reserve(put)?;

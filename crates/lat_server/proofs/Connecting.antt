@@ -12,7 +12,7 @@ use Rattle.lat_machines.specs.values.Frames.{OfNotice, plain}
 use Rattle.lat_machines.specs.values.Answers.{Answer, Connected, NoLine, Busy, SessionsFull, CircuitsFull, IdsOut}
 use Rattle.lat_machines.specs.server.Directory.{Best, best}
 use Rattle.lat_machines.specs.cores.Cores.{circuit_to}
-use Rattle.lat_machines.specs.cores.Lines.{line_exists, holds}
+use Rattle.lat_machines.specs.cores.Lines.{line_exists, has_session}
 use Rattle.lat_machines.specs.server.Server.{ServerConfig, Server, ServerStep, server_side, tells, does, has_room, opens, connects_to, solicits_for, connect_event}
 use Rattle.lat_payload.specs.Frames.{GoesOutAs, Emits}
 use Rattle.lat_payload.proofs.Frames.{adds_none, adds_one}
@@ -39,7 +39,7 @@ idle k s a out rest st = record {
   directory = st.directory;
   waiting = st.queue;
   solicits = st.solicits;
-  settled = st.settled;
+  concluded = st.concluded;
   freed = ap (map key_in) rest.freed ∙ sym (none_between s.core s.core.seats);
   frames = adds_none out;
 }
@@ -49,13 +49,13 @@ idle k s a out rest st = record {
 pub at_no_line : (config : ServerConfig) (s : Server) (line : ℕ) (service : Name) → line_exists config.lines line ≡ false → connect_event config s line service ≡ tells s NoLine
 at_no_line config s line service e = rw e
 
-pub at_busy : (config : ServerConfig) (s : Server) (line : ℕ) (service : Name) → line_exists config.lines line ≡ true → holds s.core line ≡ true → connect_event config s line service ≡ tells s Busy
+pub at_busy : (config : ServerConfig) (s : Server) (line : ℕ) (service : Name) → line_exists config.lines line ≡ true → has_session s.core line ≡ true → connect_event config s line service ≡ tells s Busy
 at_busy config s line service e h = rw (e, h)
 
-pub at_best : (config : ServerConfig) (s : Server) (line : ℕ) (service : Name) (b : Best) → line_exists config.lines line ≡ true → holds s.core line ≡ false → best config.groups service s.core.moment s.heard ≡ Some b → connect_event config s line service ≡ connects_to config s line service b
+pub at_best : (config : ServerConfig) (s : Server) (line : ℕ) (service : Name) (b : Best) → line_exists config.lines line ≡ true → has_session s.core line ≡ false → best config.groups service s.core.moment s.heard ≡ Some b → connect_event config s line service ≡ connects_to config s line service b
 at_best config s line service b e h i = rw (e, h, i)
 
-pub at_none : (config : ServerConfig) (s : Server) (line : ℕ) (service : Name) → line_exists config.lines line ≡ true → holds s.core line ≡ false → best config.groups service s.core.moment s.heard ≡ None → connect_event config s line service ≡ solicits_for config s service
+pub at_none : (config : ServerConfig) (s : Server) (line : ℕ) (service : Name) → line_exists config.lines line ≡ true → has_session s.core line ≡ false → best config.groups service s.core.moment s.heard ≡ None → connect_event config s line service ≡ solicits_for config s service
 at_none config s line service e h i = rw (e, h, i)
 
 -- a session with the best node
@@ -103,7 +103,7 @@ did_connect k s line service b l r before after rest st e o f n = subst (λ t. H
         directory = st.directory;
         waiting = st.queue;
         solicits = st.solicits;
-        settled = st.settled;
+        concluded = st.concluded;
         freed = ap (map key_in) f ∙ sym (opening_frees_none k.lines.lines s.core (opens (config_of k) line b.from b.node service None None s.core).core None (opening_of (config_of k) line b.from b.node service None None s.core) st.lines.seated.each);
         frames = o.1;
       };
@@ -124,7 +124,7 @@ did_solicit k s service asker f before after rest st a e n = record {
     directory = st.directory;
     waiting = st.queue;
     solicits = ap (λ z. (z + 1) % 65536) st.solicits;
-    settled = st.settled;
+    concluded = st.concluded;
     freed = ap (map key_in) rest.freed ∙ sym (none_between s.core s.core.seats);
     frames = subst (Emits (solicits_for (config_of k) s service).frames before) (sym n)
         (adds_one (plain everyone 0 (OfNotice (SolicitNotice (record { id = (s.solicits + 1) % 65536; asker = k.lines.circuits.name; service = service })))) f before

@@ -18,10 +18,10 @@ use Rattle.lat_machines.specs.server.Queue.{QueueEvent, Cancels}
 use Rattle.lat_machines.specs.server.Records.{kept_of}
 use Rattle.lat_machines.specs.cores.Acts.{time_at}
 use Rattle.lat_machines.specs.cores.Cores.{Seat, Core, Side, Doing, rests, then_doing, acts, at_moment, time_each, circuit_to}
-use Rattle.lat_machines.specs.cores.Lines.{sessions_of, session_of, seat_at, holds, line_exists}
+use Rattle.lat_machines.specs.cores.Lines.{sessions_of, session_of, seat_at, has_session, line_exists}
 use Rattle.lat_machines.specs.cores.LineCalls.{Said, says, calls_on, put_on, set_on, attend_on, take_on, close_on, on_line}
 use Rattle.lat_machines.specs.server.Server.{ServerConfig, Server, ServerStep, server_side, tells, does, has_room, opens, connects_to, solicits_for, connect_event, status_frame, key_of, hears_message, hears_command, hears_value, hears, server_event}
-use Rattle.lat_server.specs.Settled as settled
+use Rattle.lat_server.specs.Concluded as concluded
 use Rattle.lat_server.proofs.Openings.{Opening, opening_of}
 
 -- the same sessions
@@ -29,7 +29,7 @@ use Rattle.lat_server.proofs.Openings.{Opening, opening_of}
 abbrev Same : Core → Core → Type 0
 Same c d = d.seats ≡ c.seats
 
-same : (c d : Core) → Same c d → settled.Connects c d
+same : (c d : Core) → Same c d → concluded.Connects c d
 same c d q = record { new = []; seats = q ∙ sym (append-nil c.seats); keyless = tt }
 
 step_cond : (c : Core) (b : Bool) (s t : ServerStep) → Same c s.state.core → Same c t.state.core → Same c (cond b s t).state.core
@@ -41,7 +41,7 @@ said_cond c true s t p q = p
 said_cond c false s t p q = q
 
 line_same : (lines : ℕ) (c : Core) (line : ℕ) (f : Seat → Said) → ((s : Seat) → Same c (f s).core) → Same c (on_line lines c line f).core
-line_same lines c line f p = said_cond c (line_exists lines line) (cond (holds c line) (f (seat_at c line)) (says c Closed)) (says c NoLine) (said_cond c (holds c line) (f (seat_at c line)) (says c Closed) (p (seat_at c line)) refl) refl
+line_same lines c line f p = said_cond c (line_exists lines line) (cond (has_session c line) (f (seat_at c line)) (says c Closed)) (says c NoLine) (said_cond c (has_session c line) (f (seat_at c line)) (says c Closed) (p (seat_at c line)) refl) refl
 
 put_same : (k : Side) (c : Core) (bytes : List ℕ) (s : Seat) → Same c (put_on k c s bytes).core
 put_same k c bytes s = said_cond c (put_open (session_of c s)) (says (calls_on k c s (Put s.id bytes)) (Accepted (put_count (session_of c s) (length bytes)))) (says c Closed) refl refl
@@ -104,29 +104,29 @@ hears_same config st from (Whole v) k = step_cond st.core (nat_eq from everyone)
 
 -- a line that is connected
 
-connect_seats : (config : ServerConfig) (st : Server) (line : ℕ) (service : Name) → settled.Connects st.core (connect_event config st line service).state.core
-connect_seats config st line service = by (line_exists config.lines line) (holds st.core line) (best config.groups service st.core.moment st.heard)
+connect_seats : (config : ServerConfig) (st : Server) (line : ℕ) (service : Name) → concluded.Connects st.core (connect_event config st line service).state.core
+connect_seats config st line service = by (line_exists config.lines line) (has_session st.core line) (best config.groups service st.core.moment st.heard)
   where
-    none : settled.Connects st.core st.core
+    none : concluded.Connects st.core st.core
     none = same st.core st.core refl
 
-    if : (b : Bool) (s t : ServerStep) → settled.Connects st.core s.state.core → settled.Connects st.core t.state.core → settled.Connects st.core (cond b s t).state.core
+    if : (b : Bool) (s t : ServerStep) → concluded.Connects st.core s.state.core → concluded.Connects st.core t.state.core → concluded.Connects st.core (cond b s t).state.core
     if true s t p q = p
     if false s t p q = q
 
-    reaches : (b : Best) → settled.Connects st.core (connects_to config st line service b).state.core
+    reaches : (b : Best) → concluded.Connects st.core (connects_to config st line service b).state.core
     reaches b =
         let x : ℕ = circuit_to st.core b.from in
         let d : Doing = opens config line b.from b.node service None None st.core in
         let o : Opening st.core None d.core = opening_of config line b.from b.node service None None st.core in
-        let n : settled.Connects st.core d.core = record { new = o.seat ∷ []; seats = o.seats; keyless = (o.key, tt) } in
+        let n : concluded.Connects st.core d.core = record { new = o.seat ∷ []; seats = o.seats; keyless = (o.key, tt) } in
         if (nat_eq x 0)
         (cond (nat_lt (living st.core.circuits) 8) (cond (nat_lt st.core.circuits.drawn 65535) (does st (Connected (suc st.core.circuits.drawn) 1) d) (tells st IdsOut)) (tells st CircuitsFull))
         (cond (has_room st.core x) (does st (Connected x (least_free (st.core.circuits.circuit_at x).end.half.sessions)) d) (tells st SessionsFull))
         (if (nat_lt (living st.core.circuits) 8) (cond (nat_lt st.core.circuits.drawn 65535) (does st (Connected (suc st.core.circuits.drawn) 1) d) (tells st IdsOut)) (tells st CircuitsFull) (if (nat_lt st.core.circuits.drawn 65535) (does st (Connected (suc st.core.circuits.drawn) 1) d) (tells st IdsOut) n none) none)
         (if (has_room st.core x) (does st (Connected x (least_free (st.core.circuits.circuit_at x).end.half.sessions)) d) (tells st SessionsFull) n none)
 
-    by : (n m : Bool) (o : Option Best) → settled.Connects st.core (cond n (cond m (tells st Busy) (elim o [ None ↦ solicits_for config st service | Some b ↦ connects_to config st line service b ])) (tells st NoLine)).state.core
+    by : (n m : Bool) (o : Option Best) → concluded.Connects st.core (cond n (cond m (tells st Busy) (elim o [ None ↦ solicits_for config st service | Some b ↦ connects_to config st line service b ])) (tells st NoLine)).state.core
     by false m o = none
     by true true o = none
     by true false None = none
@@ -134,7 +134,7 @@ connect_seats config st line service = by (line_exists config.lines line) (holds
 
 -- every event
 
-pub event_seats : (config : ServerConfig) (st : Server) (e : Event) → settled.Connects st.core (server_event config st e).state.core
+pub event_seats : (config : ServerConfig) (st : Server) (e : Event) → concluded.Connects st.core (server_event config st e).state.core
 event_seats config st (Hears from payload k now) = same st.core (hears config (record st { core = at_moment now st.core }) from payload k).state.core (hears_same config (record st { core = at_moment now st.core }) from payload k)
 event_seats config st (Time now) = same st.core (time_each (server_side config) (upwards 0 st.core.circuits.drawn) (rests (at_moment now st.core))).core (times_same (server_side config) (upwards 0 st.core.circuits.drawn) (rests (at_moment now st.core)))
 event_seats config st (Connects line service) = connect_seats config st line service

@@ -12,11 +12,11 @@ use Rattle.lat_queue.proofs.RecordLemmas.{each_all}
 use Rattle.lat_lines.specs.Kept as lines
 use Rattle.lat_lines.specs.Stands as stands
 use Rattle.lat_server.specs.Kept.{Kept, config_of}
-use Rattle.lat_server.specs.Settled.{Connects, finish_each}
+use Rattle.lat_server.specs.Concluded.{Connects, finish_each}
 use Rattle.lat_server.specs.Stands.{Stands}
 use Rattle.lat_server.specs.Events.{Underway, HasPassed, Passes, all_lines, HasFollowed}
 use Rattle.lat_server.proofs.KeptLemmas.{Firsts}
-use Rattle.lat_server.proofs.SettledLemmas.{Finished, finished}
+use Rattle.lat_server.proofs.ConcludedLemmas.{Finished, finished}
 
 firsts_of : (t : Table) (q : List QueueEvent) → queue.Stands t q → Firsts q
 firsts_of t q st = each_all (IsFirst t.offered q) (λ (r : Request). is_first_answer r.answer ≡ true) (records q) (λ r i. i.answered) st.firsts
@@ -28,10 +28,10 @@ followed k r l new s t before middle after u n f g e p =
     let m : Kept = record k { lines = l; queue = r } in
     let d : Core = t.state.core in
     let q : List QueueEvent = t.state.queue in
-    let z : Finished s.core d q = finished s.core d q n (firsts_of k.queue q u.waiting) u.settled in
+    let z : Finished s.core d q = finished s.core d q n (firsts_of k.queue q u.waiting) u.concluded in
     let same : finish_each (map key_in k.lines.freed) q ≡ finish_all d d.seats q = ap (λ ks. finish_each ks q) u.freed ∙ sym z.same in
     let start : Passing = record { state = finished_requests t.state; frames = [] } in
-    let st : Stands m (finished_requests t.state) = record { lines = g d u.core; directory = u.directory; queue = subst (queue.Stands r) same (f q u.waiting); solicits = u.solicits; settled = z.settled } in
+    let st : Stands m (finished_requests t.state) = record { lines = g d u.core; directory = u.directory; queue = subst (queue.Stands r) same (f q u.waiting); solicits = u.solicits; concluded = z.concluded } in
     let done : HasPassed (all_lines (config_of m) start) new middle after = p start middle (record { state = st; frames = adds_none middle }) in
     let there : HasPassed (all_lines (config_of k) start) new middle after = subst (λ (c : ServerConfig). HasPassed (all_lines c start) new middle after) e done in
     record { state = there.state; frames = adds_then t.frames (all_lines (config_of k) start).frames before middle after u.frames there.frames }

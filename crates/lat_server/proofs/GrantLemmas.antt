@@ -17,10 +17,10 @@ use Rattle.lat_queue.specs.Histories.{IsFirst}
 use Rattle.lat_queue.proofs.KeyLemmas.{key_self, key_turn}
 use Rattle.lat_queue.proofs.RecordLemmas.{Distinct, distinct_records}
 use Rattle.lat_queue.proofs.StandLemmas.{each_append}
-use Rattle.lat_queue.proofs.ToldLemmas.{each_found}
+use Rattle.lat_queue.proofs.InfoLemmas.{each_found}
 use Rattle.lat_queue.proofs.WaitLemmas.{any_either}
 use Rattle.lat_lines.specs.Stands.{IsSeat}
-use Rattle.lat_server.specs.Settled.{IsSettled, AreSettled, Settled}
+use Rattle.lat_server.specs.Concluded.{IsConcluded, AreConcluded, Concluded}
 use Rattle.lat_server.proofs.KeptLemmas.{kept_then, kept_more, done_stays, granted_stays}
 use Rattle.lat_server.proofs.Openings.{Opening}
 
@@ -99,14 +99,14 @@ each_last : {A : Type 0} (P : A → Type 0) (xs : List A) (y : A) → Each P (xs
 each_last P [] y p = p.0
 each_last P (x ∷ xs) y p = each_last P xs y p.1
 
-pub grant_settled : (m n : ℕ) (c d : Core) (h : List QueueEvent) (k : Key) (s : Name) → Opening c (Some k) d → Each (IsSeat m c) c.seats → Each (IsSeat n d) d.seats → kept_of k (h ++ Grants k s ∷ []) ≡ Some Granted → Settled c h → Settled d (h ++ Grants k s ∷ [])
-grant_settled m n c d h k s o i j g p =
-    subst (AreSettled d (h ++ Grants k s ∷ [])) (sym o.seats)
-    (each_append (λ (t : Seat). IsSettled (h ++ Grants k s ∷ []) t.key (over d t)) c.seats (o.seat ∷ [])
-    (each_two (IsSeat m c) (λ (t : Seat). IsSettled h t.key (over c t)) (λ (t : Seat). IsSettled (h ++ Grants k s ∷ []) t.key (over d t)) c.seats (λ t a b. one t a t.key b) i p)
-    (subst (λ z. IsSettled (h ++ Grants k s ∷ []) z (over d o.seat)) (sym o.key) (inr (o.held n (each_last (IsSeat n d) c.seats o.seat (subst (Each (IsSeat n d)) o.seats j)), g)), tt))
+pub grant_concluded : (m n : ℕ) (c d : Core) (h : List QueueEvent) (k : Key) (s : Name) → Opening c (Some k) d → Each (IsSeat m c) c.seats → Each (IsSeat n d) d.seats → kept_of k (h ++ Grants k s ∷ []) ≡ Some Granted → Concluded c h → Concluded d (h ++ Grants k s ∷ [])
+grant_concluded m n c d h k s o i j g p =
+    subst (AreConcluded d (h ++ Grants k s ∷ [])) (sym o.seats)
+    (each_append (λ (t : Seat). IsConcluded (h ++ Grants k s ∷ []) t.key (over d t)) c.seats (o.seat ∷ [])
+    (each_two (IsSeat m c) (λ (t : Seat). IsConcluded h t.key (over c t)) (λ (t : Seat). IsConcluded (h ++ Grants k s ∷ []) t.key (over d t)) c.seats (λ t a b. one t a t.key b) i p)
+    (subst (λ z. IsConcluded (h ++ Grants k s ∷ []) z (over d o.seat)) (sym o.key) (inr (o.held n (each_last (IsSeat n d) c.seats o.seat (subst (Each (IsSeat n d)) o.seats j)), g)), tt))
   where
-    one : (t : Seat) → IsSeat m c t → (z : Option Key) → IsSettled h z (over c t) → IsSettled (h ++ Grants k s ∷ []) z (over d t)
+    one : (t : Seat) → IsSeat m c t → (z : Option Key) → IsConcluded h z (over c t) → IsConcluded (h ++ Grants k s ∷ []) z (over d t)
     one t a None b = tt
     one t a (Some x) (inl e) = inl (done_stays x h (Grants k s) e)
     one t a (Some x) (inr e) = inr (o.kept t a.drawn.1 e.0, granted_stays x h (Grants k s) (λ y. refl) e.1)

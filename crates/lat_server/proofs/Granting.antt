@@ -8,7 +8,7 @@ use Rattle.lat_model.specs.Lists.{upwards}
 use Rattle.lat_machines.specs.values.Names.{Name}
 use Rattle.lat_machines.specs.values.Keys.{Key}
 use Rattle.lat_machines.specs.cores.Cores.{Core, Doing, circuit_to}
-use Rattle.lat_machines.specs.cores.Lines.{holds}
+use Rattle.lat_machines.specs.cores.Lines.{has_session}
 use Rattle.lat_machines.specs.server.Queue.{QueueEvent, Grants, Request, next_request}
 use Rattle.lat_machines.specs.server.Server.{ServerConfig, Passing, has_room, can_open, opens, offer_on, grant_frame, granting, fitting, grants_by, grant_line, grant_lines}
 use Rattle.lat_payload.specs.Frames.{GoesOutAs, Emits}
@@ -27,7 +27,7 @@ use Rattle.lat_server.specs.declared.config.Offer.{Offer}
 use Rattle.lat_server.specs.Kept.{Kept, config_of}
 use Rattle.lat_server.specs.Events.{HasPassed}
 use Rattle.lat_server.proofs.Openings.{opening_of}
-use Rattle.lat_server.proofs.GrantLemmas.{granted_then, grant_settled}
+use Rattle.lat_server.proofs.GrantLemmas.{granted_then, grant_concluded}
 
 -- where a session can be had, one is opened
 opening_ok : (c : Core) (x : ℕ) → can_open c x ≡ true → (ids : ℕ × ℕ) × (opening c x ≡ Ok ids)
@@ -72,7 +72,7 @@ has_granted k p start before middle after line service r m x l t g f o h n key f
         directory = h.state.directory;
         queue = queue_granted t p.state.queue service r.key g (answer ∙ ap request_key n) gives;
         solicits = h.state.solicits;
-        settled = grant_settled k.lines.lines l.lines c d.core p.state.queue r.key service (opening_of (config_of k) line r.from r.key.node service (Some r.key) (Some r.key.request) c) h.state.lines.seated.each core.seated.each (granted_then k.queue p.state.queue service r h.state.queue n) h.state.settled;
+        concluded = grant_concluded k.lines.lines l.lines c d.core p.state.queue r.key service (opening_of (config_of k) line r.from r.key.node service (Some r.key) (Some r.key.request) c) h.state.lines.seated.each core.seated.each (granted_then k.queue p.state.queue service r h.state.queue n) h.state.concluded;
       };
       frames = adds_then p.frames (grant_frame r ∷ d.frames) start before after h.frames (adds_then (grant_frame r ∷ []) d.frames before middle after told sent);
     }
@@ -120,10 +120,10 @@ lines_more config n p =
     let e : 0 + n ≡ n = omega arith in
     ap (λ z. grant_lines config z p) (upwards_more 0 n ∙ ap (λ z. upwards 0 n ++ suc z ∷ []) e) ∙ lines_then config (upwards 0 n) (suc n) p
 
-pub at_offer : (config : ServerConfig) (p : Passing) (line : ℕ) (service : Name) → offer_on line config.offers ≡ Some service → holds p.state.core line ≡ false → grant_line config p line ≡ grants_by config line (Some service) (fitting p.state.core (next_request service p.state.queue)) p
+pub at_offer : (config : ServerConfig) (p : Passing) (line : ℕ) (service : Name) → offer_on line config.offers ≡ Some service → has_session p.state.core line ≡ false → grant_line config p line ≡ grants_by config line (Some service) (fitting p.state.core (next_request service p.state.queue)) p
 at_offer config p line service e h = rw (e, h)
 
-pub at_held : (config : ServerConfig) (p : Passing) (line : ℕ) (service : Name) → offer_on line config.offers ≡ Some service → holds p.state.core line ≡ true → grant_line config p line ≡ p
+pub at_held : (config : ServerConfig) (p : Passing) (line : ℕ) (service : Name) → offer_on line config.offers ≡ Some service → has_session p.state.core line ≡ true → grant_line config p line ≡ p
 at_held config p line service e h = rw (e, h)
 
 pub at_no_offer : (config : ServerConfig) (p : Passing) (line : ℕ) → offer_on line config.offers ≡ None → grant_line config p line ≡ p

@@ -17,7 +17,7 @@ use Rattle.lat_machines.specs.cores.Lines.{over}
 use Rattle.lat_machines.specs.cores.LineCalls.{Said}
 use Rattle.lat_machines.specs.server.Server.{ServerConfig, Server, ServerStep, server_side, offered, tells, with_core, does, said, hears_message, hears_announcement, status_frame, key_of, hears_command}
 use Rattle.lat_payload.specs.Frames.{GoesOutAs, Emits}
-use Rattle.lat_payload.specs.NoticesOf.{IsTold}
+use Rattle.lat_payload.specs.NoticesOf.{IsSendable}
 use Rattle.lat_payload.specs.Shown.{outcome_shown}
 use Rattle.lat_payload.proofs.Frames.{adds_none, adds_one}
 use Rattle.lat_dir.specs.declared.directory.DirFault.{DirFault}
@@ -35,12 +35,12 @@ use Rattle.lat_lines.specs.Stands as stands
 use Rattle.lat_lines.specs.Stands.{freed_key, freed_from}
 use Rattle.lat_server.specs.declared.config.Offer.{Offer}
 use Rattle.lat_server.specs.Config.{offer_shown}
-use Rattle.lat_server.specs.Commands.{Noted, noted, HasNoted, answer_told, outcome_told, announced_answer}
+use Rattle.lat_server.specs.Commands.{Noted, noted, HasNoted, kept_answer, kept_outcome, announced_answer}
 use Rattle.lat_server.specs.Kept.{Kept, config_of, AtRest}
-use Rattle.lat_server.specs.Settled.{Settled}
+use Rattle.lat_server.specs.Concluded.{Concluded}
 use Rattle.lat_server.specs.Stands.{Stands}
 use Rattle.lat_server.specs.Events.{HasDone}
-use Rattle.lat_server.proofs.SettledLemmas.{settled_more}
+use Rattle.lat_server.proofs.ConcludedLemmas.{concluded_more}
 
 -- what follows from a result where there is one
 pub if_ok : {A E : Type 0} (r : Result A E) (P Q : A → Type 0) → ((a : A) → P a → Q a) → IfOk r P → IfOk r Q
@@ -67,7 +67,7 @@ at now s = with_core s (at_moment now s.core)
 -- nothing but the moment moves on
 pub did_pass : (k : Kept) (s : Server) (now : ℕ) (l : lines.Kept) (a : base.Answer) (out : List OutFrame) → AtRest k → Stands k s → stands.Stands l (at_moment now s.core) → l.freed ≡ k.lines.freed → HasDone s (tells (at now s) (answer_shown a)) (record k { lines = l }) a out out
 did_pass k s now l a out rest st m f = record {
-  state = record { core = m; directory = st.directory; waiting = st.queue; solicits = st.solicits; settled = st.settled; freed = ap (map key_in) (f ∙ rest.freed) ∙ sym (none_moved now s.core s.core.seats); frames = adds_none out };
+  state = record { core = m; directory = st.directory; waiting = st.queue; solicits = st.solicits; concluded = st.concluded; freed = ap (map key_in) (f ∙ rest.freed) ∙ sym (none_moved now s.core s.core.seats); frames = adds_none out };
   answered = refl;
 }
 
@@ -75,14 +75,14 @@ did_pass k s now l a out rest st m f = record {
 pub did_time : (k : Kept) (s : Server) (now : ℕ) (l : lines.Kept) (d : dir.Kept) (before after : List OutFrame) → Stands k s → stands.HasStepped (at_moment now s.core) (passes_time (server_side (config_of k)) (at_moment now s.core)) l before after → dir.Stands d s.heard
     → HasDone s (does s Done (passes_time (server_side (config_of k)) (at_moment now s.core))) (record k { lines = l; directory = d }) answers.Done before after
 did_time k s now l d before after st t h = record {
-  state = record { core = t.state; directory = h; waiting = st.queue; solicits = st.solicits; settled = st.settled; freed = t.freed ∙ moved_freed now s.core (passes_time (server_side (config_of k)) (at_moment now s.core)).core s.core.seats; frames = t.frames };
+  state = record { core = t.state; directory = h; waiting = st.queue; solicits = st.solicits; concluded = st.concluded; freed = t.freed ∙ moved_freed now s.core (passes_time (server_side (config_of k)) (at_moment now s.core)).core s.core.seats; frames = t.frames };
   answered = refl;
 }
 
 -- a call on a line
 pub did_call : (k : Kept) (s : Server) (l : lines.Kept) (a : base.Answer) (x : Said) (out : List OutFrame) → Stands k s → HasAnswered s.core x l a → HasDone s (said s x) (record k { lines = l }) a out out
 did_call k s l a x out st t = record {
-  state = record { core = t.state; directory = st.directory; waiting = st.queue; solicits = st.solicits; settled = st.settled; freed = t.freed; frames = adds_none out };
+  state = record { core = t.state; directory = st.directory; waiting = st.queue; solicits = st.solicits; concluded = st.concluded; freed = t.freed; frames = adds_none out };
   answered = t.answered;
 }
 
@@ -101,7 +101,7 @@ did_message k s now from m l a before after st t e =
     let h : HeardCore = heard_core (server_side (config_of k)) from m (at_moment now s.core) in
     subst (λ z. HasDone s z (record k { lines = l }) a before after) (sym (message_is (config_of k) (at now s) from m))
     (record {
-      state = record { core = t.state; directory = st.directory; waiting = st.queue; solicits = st.solicits; settled = st.settled; freed = t.freed ∙ moved_freed now s.core h.doing.core s.core.seats; frames = t.frames };
+      state = record { core = t.state; directory = st.directory; waiting = st.queue; solicits = st.solicits; concluded = st.concluded; freed = t.freed ∙ moved_freed now s.core h.doing.core s.core.seats; frames = t.frames };
       answered = e;
     })
 
@@ -122,7 +122,7 @@ pub did_announce : (k : Kept) (s : Server) (now from : ℕ) (m : Announcement) (
     → answer_shown a ≡ announced_answer (if refuses k.directory.groups (max s.core.moment now) m s.heard then Err faults.Full else Ok (meets k.directory.groups m))
     → HasDone s (hears_announcement (config_of k) (at now s) from m) (record k { lines = l; directory = d }) a out out
 did_announce k s now from m l d a out rest st c f h e = record {
-  state = record { core = c; directory = h; waiting = st.queue; solicits = st.solicits; settled = st.settled; freed = ap (map key_in) (f ∙ rest.freed) ∙ sym (none_moved now s.core s.core.seats); frames = adds_none out };
+  state = record { core = c; directory = h; waiting = st.queue; solicits = st.solicits; concluded = st.concluded; freed = ap (map key_in) (f ∙ rest.freed) ∙ sym (none_moved now s.core s.core.seats); frames = adds_none out };
   answered = e ∙ announced_is (refuses k.directory.groups (max s.core.moment now) m s.heard) (meets k.directory.groups m);
 }
 
@@ -158,36 +158,36 @@ command_is config s from m Cancel = by (kept_of (key_of m) q)
 pub same_offers : (k : Kept) → k.queue.offered ≡ map (λ (o : Offer). o.service) k.offers → offered (config_of k) ≡ k.queue.offered
 same_offers k e = map_twice (λ o. o.service) offer_shown k.offers ∙ sym e
 
-noted_settled : (c : Core) (names : List Name) (from : ℕ) (m : Command) (a : Action) (q : List QueueEvent) → Settled c q → Settled c (noted names from m a q).events
-noted_settled c names from m Ask q p = settled_more c q (Asks (key_of m) from m.service (ask_answer names (key_of m) m.service q)) c.seats (λ j. refl) p
-noted_settled c names from m Cancel q p = settled_more c q (Cancels (key_of m)) c.seats (λ j. refl) p
+noted_concluded : (c : Core) (names : List Name) (from : ℕ) (m : Command) (a : Action) (q : List QueueEvent) → Concluded c q → Concluded c (noted names from m a q).events
+noted_concluded c names from m Ask q p = concluded_more c q (Asks (key_of m) from m.service (ask_answer names (key_of m) m.service q)) c.seats (λ j. refl) p
+noted_concluded c names from m Cancel q p = concluded_more c q (Cancels (key_of m)) c.seats (λ j. refl) p
 
-answer_is : (o : Option base_kept.Kept) → answer_shown (answer_told o) ≡ answer_of (some_kept o)
+answer_is : (o : Option base_kept.Kept) → answer_shown (kept_answer o) ≡ answer_of (some_kept o)
 answer_is None = refl
 answer_is (Some k) = refl
 
-outcome_is : (o : Option base_kept.Kept) → outcome_shown (outcome_told o) ≡ outcome_of (some_kept o)
+outcome_is : (o : Option base_kept.Kept) → outcome_shown (kept_outcome o) ≡ outcome_of (some_kept o)
 outcome_is None = refl
 outcome_is (Some k) = refl
 
-pub told_place : (o : Option base_kept.Kept) → IfSome o HasPlace → IsTold (outcome_told o)
-told_place None p = tt
-told_place (Some k) p = p
+pub place_sendable : (o : Option base_kept.Kept) → IfSome o HasPlace → IsSendable (kept_outcome o)
+place_sendable None p = tt
+place_sendable (Some k) p = p
 
 pub did_command : (k : Kept) (s : Server) (now from : ℕ) (m : Command) (a : Action) (l : lines.Kept) (t : Table) (o : Option base_kept.Kept) (f : OutFrame) (before after : List OutFrame) → AtRest k → Stands k s → offered (config_of k) ≡ k.queue.offered
-    → HasNoted (noted k.queue.offered from m a s.queue) t o → GoesOutAs f (status_frame from m (outcome_shown (outcome_told o))) → after ≡ before ++ f ∷ [] → stands.Stands l (at_moment now s.core) → l.freed ≡ k.lines.freed
-    → HasDone s (hears_command (config_of k) (at now s) from m a) (record k { lines = l; queue = t }) (answer_told o) before after
+    → HasNoted (noted k.queue.offered from m a s.queue) t o → GoesOutAs f (status_frame from m (outcome_shown (kept_outcome o))) → after ≡ before ++ f ∷ [] → stands.Stands l (at_moment now s.core) → l.freed ≡ k.lines.freed
+    → HasDone s (hears_command (config_of k) (at now s) from m a) (record k { lines = l; queue = t }) (kept_answer o) before after
 did_command k s now from m a l t o f before after rest st same n e p c g =
     let x : Noted = noted k.queue.offered from m a s.queue in
-    let told : outcome_shown (outcome_told o) ≡ outcome_of x.kept = outcome_is o ∙ ap outcome_of n.told in
-    subst (λ z. HasDone s z (record k { lines = l; queue = t }) (answer_told o) before after) (sym (command_is (config_of k) (at now s) from m a ∙ ap (λ ns. noting (at now s) from m (noted ns from m a s.queue)) same))
+    let told : outcome_shown (kept_outcome o) ≡ outcome_of x.kept = outcome_is o ∙ ap outcome_of n.told in
+    subst (λ z. HasDone s z (record k { lines = l; queue = t }) (kept_answer o) before after) (sym (command_is (config_of k) (at now s) from m a ∙ ap (λ ns. noting (at now s) from m (noted ns from m a s.queue)) same))
     (record {
       state = record {
         core = c;
         directory = st.directory;
         waiting = n.state;
         solicits = st.solicits;
-        settled = noted_settled s.core k.queue.offered from m a s.queue st.settled;
+        concluded = noted_concluded s.core k.queue.offered from m a s.queue st.concluded;
         freed = ap (map key_in) (g ∙ rest.freed) ∙ sym (none_moved now s.core s.core.seats);
         frames = subst (Emits (status_frame from m (outcome_of x.kept) ∷ []) before) (sym p) (adds_one (status_frame from m (outcome_of x.kept)) f before (subst (λ y. GoesOutAs f (status_frame from m y)) told e));
       };

@@ -2,7 +2,7 @@
 use Rattle.std.proofs.Common.{◌≡◌, ℕ, Bool, true, false, not, cond, ◌&&◌, ◌||◌, List, [], ◌∷◌, map, length, filter, Option, Some, None, is_some, is_none, nat_eq, eqb-true, slice_get, refl, sym, ap, ◌∙◌, arith}
 use Rattle.std.proofs.lemmas.Bool.{true≢false, false≢true}
 use Rattle.lat_machines.specs.values.Names.{Name, same}
-use Rattle.lat_machines.specs.cores.Lines.{holds}
+use Rattle.lat_machines.specs.cores.Lines.{has_session}
 use Rattle.lat_machines.specs.server.Queue.{QueueEvent, Request, first, records, waits, next_request}
 use Rattle.lat_machines.specs.server.Records.{shown, record_at}
 use Rattle.lat_machines.specs.server.Server.{ServerConfig, Passing, offer_on, fitting, grantable, grants_by, grant_line, grant_lines}
@@ -43,7 +43,7 @@ line_nothing offers config p line are none = by (offer_on line config.offers) re
     by None e = refl
     by (Some service) e =
         let next : next_request service p.state.queue ≡ None = waited (nat_eq (length offers) 0) refl none in
-        ap (λ r. grants_by config line (Some service) (cond (holds p.state.core line) None (fitting p.state.core r)) p) next ∙ either (holds p.state.core line) service
+        ap (λ r. grants_by config line (Some service) (cond (has_session p.state.core line) None (fitting p.state.core r)) p) next ∙ either (has_session p.state.core line) service
       where
         none_some : None ≡ Some service → ⊥
         none_some z = true≢false (ap is_none z)

@@ -8,7 +8,7 @@ use Rattle.lat_machines.specs.server.Records.{place_in, kept_now, record_of, kep
 use Rattle.lat_queue.specs.Histories.{is_first_answer}
 use Rattle.lat_queue.proofs.EventLemmas.{extend, Grows, grows_finish, any_more}
 use Rattle.lat_queue.proofs.StandLemmas.{each_map, each_append}
-use Rattle.lat_queue.proofs.ToldLemmas.{each_found}
+use Rattle.lat_queue.proofs.InfoLemmas.{each_found}
 use Rattle.lat_model.specs.Lists.{Each}
 
 -- the record stays, with the event behind it

@@ -7,5 +7,5 @@ pub mod GrantLemmas
 pub mod Hearing
 pub mod KeptLemmas
 pub mod Openings
-pub mod SettledLemmas
+pub mod ConcludedLemmas
 pub mod Stepping

@@ -32,13 +32,13 @@ pub record HasNoted (n : Noted) (new : Table) (kept : Option base_kept.Kept) : T
   pub state : Stands new n.events
   pub told : some_kept kept ≡ n.kept
 
-abbrev pub answer_told : Option base_kept.Kept → base.Answer
-answer_told None = answers.NotKept
-answer_told (Some k) = answers.Kept k
+abbrev pub kept_answer : Option base_kept.Kept → base.Answer
+kept_answer None = answers.NotKept
+kept_answer (Some k) = answers.Kept k
 
-abbrev pub outcome_told : Option base_kept.Kept → Outcome
-outcome_told None = outcomes.Unknown
-outcome_told (Some k) = outcomes.Kept k
+abbrev pub kept_outcome : Option base_kept.Kept → Outcome
+kept_outcome None = outcomes.Unknown
+kept_outcome (Some k) = outcomes.Kept k
 
 -- an announcement that was kept, one of other groups, and one that found no room
 abbrev pub announced_answer : Result Bool DirFault → Answer

@@ -16,7 +16,7 @@ use Rattle.lat_lines.specs.Answers.{answer_shown}
 use Rattle.lat_lines.specs.Stands as lines
 use Rattle.lat_lines.specs.Stands.{freed_between}
 use Rattle.lat_server.specs.Kept.{Kept, config_of}
-use Rattle.lat_server.specs.Settled.{Settled, Connects}
+use Rattle.lat_server.specs.Concluded.{Concluded, Connects}
 use Rattle.lat_server.specs.Stands.{Stands}
 
 -- An event but for what follows every event: the requests of the sessions that it freed are known, and not finished yet. The
@@ -26,7 +26,7 @@ pub record Underway (s : Server) (t : ServerStep) (new : Kept) (before after : L
   pub directory : dir.Stands new.directory t.state.heard
   pub waiting : queue.Stands new.queue t.state.queue
   pub solicits : new.solicits ≡ t.state.solicits
-  pub settled : Settled s.core t.state.queue
+  pub concluded : Concluded s.core t.state.queue
   pub freed : map key_in new.lines.freed ≡ freed_between s.core t.state.core
   pub frames : Emits t.frames before after
 

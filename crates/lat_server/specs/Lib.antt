@@ -1,6 +1,6 @@
 pub mod Config
 pub mod Kept
-pub mod Settled
+pub mod Concluded
 pub mod Stands
 pub mod Shown
 pub mod Events

@@ -15,7 +15,7 @@ use Rattle.lat_lines.specs.Back.{answer_of}
 use Rattle.lat_lines.specs.Events.{event_shown}
 use Rattle.lat_lines.specs.Stands as lines
 use Rattle.lat_server.specs.Kept.{Kept, config_of}
-use Rattle.lat_server.specs.Settled.{Settled}
+use Rattle.lat_server.specs.Concluded.{Concluded}
 
 -- a server stands for a state of the machine
 pub record Stands (k : Kept) (s : Server) : Type 0 where
@@ -23,7 +23,7 @@ pub record Stands (k : Kept) (s : Server) : Type 0 where
   pub directory : dir.Stands k.directory s.heard
   pub queue : queue.Stands k.queue s.queue
   pub solicits : k.solicits ≡ s.solicits
-  pub settled : Settled s.core s.queue
+  pub concluded : Concluded s.core s.queue
 
 -- the machine of a configuration, and its state
 pub record Machine : Type 0 where

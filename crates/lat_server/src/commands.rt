@@ -9,7 +9,7 @@ ghost use Rattle.lat_payload.specs.Shown.{action_shown, command_shown};
 ghost use Rattle.lat_queue.specs.Histories as queue;
 ghost use Rattle.lat_queue.specs.Histories.{key_in};
 ghost use Rattle.lat_queue.specs.Tables.{HasPlace};
-ghost use Rattle.lat_server.specs.Commands.{noted, HasNoted, answer_told, outcome_told};
+ghost use Rattle.lat_server.specs.Commands.{noted, HasNoted, kept_answer, kept_outcome};
 ghost use Rattle.lat_lines.specs.Answers.{IsPlain};
 ghost use Rattle.lat_server.specs.Events.{DoesAt};
 ghost use Rattle.lat_server.specs.Kept.{AtRest, SameConfig};
@@ -91,7 +91,7 @@ fn note(
 
 // What the command is answered where this is kept of its request.
 fn answer_kept(kept: Option<Kept>) -> Answer
-    ensures value { result ≡ answer_told kept }
+    ensures value { result ≡ kept_answer kept }
     ensures told { IsPlain result }
 {
     match kept {
@@ -102,7 +102,7 @@ fn answer_kept(kept: Option<Kept>) -> Answer
 
 // What the node is told then.
 fn outcome_kept(kept: Option<Kept>) -> Outcome
-    ensures value { result ≡ outcome_told kept }
+    ensures value { result ≡ kept_outcome kept }
 {
     match kept {
         Some(kept) => Outcome::Kept(kept),

@@ -1,7 +1,7 @@
 //! Connecting a line to a service.
 
 ghost use Rattle.std.specs.Prelude.{◌≡◌, ◌≤◌, ◌+◌, false, length};
-ghost use Rattle.lat_machines.specs.cores.Lines.{holds};
+ghost use Rattle.lat_machines.specs.cores.Lines.{has_session};
 ghost use Rattle.lat_machines.specs.server.Server.{Server, connect_event, connects_to, solicits_for};
 ghost use Rattle.lat_dir.specs.Words.{best_shown};
 ghost use Rattle.lat_lines.specs.Kept.{IsLine};
@@ -42,7 +42,7 @@ impl ServerCore {
         if !self.lines.exists(line) {
             return Answer::NoLine;
         }
-        if self.lines.holds(line) {
+        if self.lines.has_session(line) {
             return Answer::Busy;
         }
         match self.directory.best(service, self.lines.moment()) {
@@ -58,7 +58,7 @@ impl ServerCore {
         requires room { length out.old + 16 ≤ 256 }
         ensures does { (s : Server) →
             Stands self.old s →
-            holds s.core line ≡ false →
+            has_session s.core line ≡ false →
             HasDone s (connects_to (config_of self.old) s line service.now (best_shown best.now)) self.new result out.old out.new }
         ensures same { SameConfig self.old self.new }
         ensures told { IsPlain result }

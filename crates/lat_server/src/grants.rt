@@ -2,7 +2,7 @@
 
 ghost use Rattle.std.specs.Prelude.{◌≡◌, ◌≤◌, ◌+◌, ◌||◌, is_none, length, map, false, true, List, Some, find, option_map, nat_eq};
 ghost use Rattle.lat_base.specs.declared.outbox.OutFrame.{OutFrame};
-ghost use Rattle.lat_machines.specs.cores.Lines.{holds};
+ghost use Rattle.lat_machines.specs.cores.Lines.{has_session};
 ghost use Rattle.lat_machines.specs.server.Queue.{QueueEvent, Request, next_request};
 ghost use Rattle.lat_machines.specs.server.Records.{record_at};
 ghost use Rattle.lat_machines.specs.server.Server.{Passing, can_open, fitting, grants_by, granting, grant_line};
@@ -12,7 +12,7 @@ ghost use Rattle.lat_lines.specs.Kept.{IsLine};
 ghost use Rattle.lat_server.specs.declared.config.Offer.{Offer};
 ghost use Rattle.lat_server.specs.Events.{HasPassed, Passes, all_lines};
 ghost use Rattle.lat_server.specs.Kept.{config_of, AtRest, SameConfig, with_queue};
-ghost use Rattle.lat_server.specs.Settled.{finish_each};
+ghost use Rattle.lat_server.specs.Concluded.{finish_each};
 
 use crate::server::ServerCore;
 use lat_base::{Addr, Kept, Name, OutBox};
@@ -99,7 +99,7 @@ impl ServerCore {
         ensures most { length out.new ≤ length out.old + 2 }
     {
         if let Some(service) = self.offer_on(line) {
-            if !self.lines.holds(line) {
+            if !self.lines.has_session(line) {
                 self.grant_first(line, &service, out);
             }
         }
@@ -112,7 +112,7 @@ impl ServerCore {
         requires room { length out.old + 17 ≤ 256 }
         ensures passes { (p : Passing) (start : List OutFrame) →
             HasPassed p self.old start out.old →
-            holds p.state.core line ≡ false →
+            has_session p.state.core line ≡ false →
             HasPassed
             (grants_by (config_of self.old) line (Some service.now)
             (fitting p.state.core (next_request service.now p.state.queue)) p)
@@ -135,7 +135,7 @@ impl ServerCore {
         requires room { length out.old + 17 ≤ 256 }
         ensures passes { (p : Passing) (start : List OutFrame) (r : Request) →
             HasPassed p self.old start out.old →
-            holds p.state.core line ≡ false →
+            has_session p.state.core line ≡ false →
             next_request service.now p.state.queue ≡ Some r →
             r.key ≡ key_in key →
             r.from ≡ address_in from →

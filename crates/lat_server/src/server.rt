@@ -8,9 +8,9 @@ ghost use Rattle.lat_machines.specs.server.Records.{record_at};
 ghost use Rattle.lat_machines.specs.server.Server.{Server};
 ghost use Rattle.lat_machines.specs.values.Addresses.{address};
 ghost use Rattle.lat_stream.specs.Kept.{saturated};
-ghost use Rattle.lat_circuits.specs.Told.{span_told};
+ghost use Rattle.lat_circuits.specs.Info.{some_span};
 ghost use Rattle.lat_lines.specs.Kept.{IsLine};
-ghost use Rattle.lat_lines.specs.Stands.{book_shown, book_told};
+ghost use Rattle.lat_lines.specs.Stands.{book_shown, book_info};
 ghost use Rattle.lat_queue.specs.Histories.{some_record};
 ghost use Rattle.lat_server.specs.Config.{config_shown, IsConfig};
 ghost use Rattle.lat_server.specs.Kept.{config_of, AtRest};
@@ -127,7 +127,7 @@ impl ServerCore {
     /// The last two sessions of a line, which must exist. It takes no memory.
     pub fn book(&self, line: u8) -> LineBook
         requires { IsLine self.now.lines.lines line }
-        ensures { (s : Server) → Stands self.now s → book_shown result ≡ book_told (book s.core line) }
+        ensures { (s : Server) → Stands self.now s → book_shown result ≡ book_info (book s.core line) }
     {
         self.lines.book(line)
     }
@@ -148,7 +148,7 @@ impl ServerCore {
 
     /// How far the message numbers of a circuit count, `None` exactly where no circuit of this id lives.
     pub fn span(&self, circuit: u16) -> Option<Span>
-        ensures { (s : Server) → Stands self.now s → result ≡ span_told (span s.core circuit) }
+        ensures { (s : Server) → Stands self.now s → result ≡ some_span (span s.core circuit) }
     {
         self.lines.span(circuit)
     }

@@ -8,7 +8,7 @@ ghost use Rattle.lat_model.specs.sessions.Session.{waits};
 ghost use Rattle.lat_model.specs.sessions.Sessions.{Sessions as States, named, least_free};
 ghost use Rattle.lat_model.specs.sessions.Slots as sessions;
 ghost use Rattle.lat_slots.specs.Layout.{IsWritable};
-ghost use Rattle.lat_stream.specs.Wire.{told, request_in, number_in};
+ghost use Rattle.lat_stream.specs.Wire.{slot_heard, request_in, number_in};
 ghost use Rattle.lat_session.specs.Hears.{Hears, has_peer, rejects_peer, is_calling};
 ghost use Rattle.lat_session.specs.Stands.{Stands};
 ghost use Rattle.lat_session.specs.Table.{SameEnd, state_at, table_of, reason_of};
@@ -27,7 +27,7 @@ impl Sessions {
     /// circuit breaks. See "Bad slots" in docs/PROTOCOL.md.
     pub fn heard_slot(&mut self, slot: &Slot) -> Result<(), BadSlot>
         requires { IsWritable slot.now }
-        ensures hears { (e : States) → Stands self.old e → Hears self.new result (hear_slot e (told slot.now)) }
+        ensures hears { (e : States) → Stands self.old e → Hears self.new result (hear_slot e (slot_heard slot.now)) }
         ensures err { OnErr result (self.new ≡ self.old) }
         ensures same { SameEnd self.old self.new }
     {

@@ -2,7 +2,7 @@
 use Rattle.std.proofs.Common.{◌≡◌, ℕ, zero, suc, ◌+◌, ◌*◌, ◌<◌, ◌≤◌, sym, ap, ◌∙◌, refl, subst, arith, Bool, true, false, cond, List, [], ◌∷◌, length, Option, Some, None, nat_lt, slice_get}
 use Rattle.std.proofs.lemmas.Bool.{lt-ltb, ltb-true}
 use Rattle.lat_machines.specs.values.Events.{Takes}
-use Rattle.lat_machines.specs.cores.Lines.{holds}
+use Rattle.lat_machines.specs.cores.Lines.{has_session}
 use Rattle.lat_machines.specs.world.Machines.{Setups, Machines, core_of, tell}
 use Rattle.lat_model.specs.Lists.{upwards}
 use Rattle.lat_replay.specs.Played.{State, next, Played, Through, Refused, played}
@@ -62,9 +62,9 @@ take_same u w false line ratings = refl
 pub take_lead : (u : Setups) (b : Bool) (lines : List ℕ) (s : State) → Taken u b lines s (behind u s (take_events u b lines s))
 unfolding behind take_events
 take_lead u b [] s = record { machines = refl; moment = refl }
-take_lead u b (line ∷ lines) s = go (holds (core_of s.machines b) line) refl (take_lead u b lines (next u s (take_on b line))) (take_lead u b lines s)
+take_lead u b (line ∷ lines) s = go (has_session (core_of s.machines b) line) refl (take_lead u b lines (next u s (take_on b line))) (take_lead u b lines s)
   where
-    go : (c : Bool) → holds (core_of s.machines b) line ≡ c → Taken u b lines (next u s (take_on b line)) (behind u (next u s (take_on b line)) (take_events u b lines (next u s (take_on b line)))) → Taken u b lines s (behind u s (take_events u b lines s)) → Taken u b (line ∷ lines) s (behind u s (cond c (take_on b line ∷ take_events u b lines (next u s (take_on b line))) (take_events u b lines s)))
+    go : (c : Bool) → has_session (core_of s.machines b) line ≡ c → Taken u b lines (next u s (take_on b line)) (behind u (next u s (take_on b line)) (take_events u b lines (next u s (take_on b line)))) → Taken u b lines s (behind u s (take_events u b lines s)) → Taken u b (line ∷ lines) s (behind u s (cond c (take_on b line ∷ take_events u b lines (next u s (take_on b line))) (take_events u b lines s)))
     go true e p q = record {
       machines = p.machines ∙ ap (take_lines u b lines) (take_same u s.machines b line (rates u s.machines) ∙ sym (ap (λ z. cond z (tell u s.machines b (Takes line 4096) []) s.machines) e));
       moment = p.moment;

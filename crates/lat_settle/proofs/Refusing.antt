@@ -5,7 +5,7 @@ use Rattle.std.proofs.lemmas.Option.{slice_get_within}
 use Rattle.lat_machines.specs.values.Timing.{half_range}
 use Rattle.lat_machines.specs.values.Messages.{Head}
 use Rattle.lat_machines.specs.cores.Hearing.{names}
-use Rattle.lat_machines.specs.cores.Lines.{holds}
+use Rattle.lat_machines.specs.cores.Lines.{has_session}
 use Rattle.lat_machines.specs.world.Machines.{Setups, Posted, Machines, own_of, core_of}
 use Rattle.lat_machines.specs.world.Reports.{report}
 use Rattle.lat_machines.specs.world.Tally.{formed_in, shown_in}
@@ -121,7 +121,7 @@ full_delivers u (suc n) s young = go (undelivered u s.machines) refl (λ i. full
 full_takes : (u : Setups) (b : Bool) (lines : List ℕ) (s : State) → OnlyFulls u s (take_events u b lines s)
 unfolding OnlyFulls take_events
 full_takes u b [] s = tt
-full_takes u b (line ∷ lines) s = go (holds (core_of s.machines b) line) (full_takes u b lines (next u s (take_on b line))) (full_takes u b lines s)
+full_takes u b (line ∷ lines) s = go (has_session (core_of s.machines b) line) (full_takes u b lines (next u s (take_on b line))) (full_takes u b lines s)
   where
     go : (c : Bool) → OnlyFulls u (next u s (take_on b line)) (take_events u b lines (next u s (take_on b line))) → OnlyFulls u s (take_events u b lines s) → OnlyFulls u s (cond c (take_on b line ∷ take_events u b lines (next u s (take_on b line))) (take_events u b lines s))
     go true p q = (first_full (nat_lt 199744 (length s.machines.posts)) (None ∷ []) refl, p)

@@ -1,6 +1,6 @@
 -- The turns of the loops of a round.
 use Rattle.std.proofs.Common.{◌≡◌, ℕ, zero, suc, ◌+◌, ◌*◌, ◌<◌, ◌≤◌, sym, ap, ◌∙◌, refl, subst, arith, Bool, true, false, cond, List, [], ◌∷◌, ◌++◌, Option, Some, None, Result}
-use Rattle.lat_machines.specs.cores.Lines.{holds}
+use Rattle.lat_machines.specs.cores.Lines.{has_session}
 use Rattle.lat_machines.specs.world.Machines.{Setups, Machines, core_of}
 use Rattle.lat_model.specs.Lists.{upwards}
 use Rattle.lat_replay.specs.Kept.{Kept}
@@ -84,7 +84,7 @@ taking_none u s b lines k h = record { left = lines; count = omega arith; half =
 
 take_cut : (u : Setups) (b : Bool) (line : ℕ) (lines : List ℕ) (t : State) → take_events u b (line ∷ lines) t ≡ followed u t (take_events u b (line ∷ []) t) (take_events u b lines)
 unfolding take_events followed behind
-take_cut u b line lines t = go (holds (core_of t.machines b) line)
+take_cut u b line lines t = go (has_session (core_of t.machines b) line)
   where
     go : (c : Bool) → cond c (take_on b line ∷ take_events u b lines (next u t (take_on b line))) (take_events u b lines t) ≡ cond c (take_on b line ∷ []) [] ++ take_events u b lines (behind u t (cond c (take_on b line ∷ []) []))
     go true = refl
@@ -125,13 +125,13 @@ pub taking_all : {H : Type 0} (u : Setups) (s : State) (b : Bool) (lines n : ℕ
 taking_all u s b lines n k l d = half_all u s (take_events u b (upwards 0 lines) s) (take_events u b (upwards n d.left)) k d.half (λ t h. ap (λ z. take_events u b (upwards n z) t) (let q : d.left ≡ 0 = omega (arith, d.count, l) in q) ∙ take_end u b t)
 
 -- a line without a session doesn't take
-pub takes_none : {H : Type 0} (u : Setups) (s : State) (b : Bool) (line : ℕ) (k : Kept H) → holds (core_of s.machines b) line ≡ false → StandsAt k s → Tells u s (take_events u b (line ∷ []) s) k
+pub takes_none : {H : Type 0} (u : Setups) (s : State) (b : Bool) (line : ℕ) (k : Kept H) → has_session (core_of s.machines b) line ≡ false → StandsAt k s → Tells u s (take_events u b (line ∷ []) s) k
 unfolding take_events behind NoneRefused
 takes_none u s b line k e h =
     subst (λ z. Tells u s (cond z (take_on b line ∷ []) []) k) (sym e) (record { none = tt; stands = h })
 
 -- one with a session does
-pub takes_one : {A H : Type 0} (u : Setups) (s : State) (b : Bool) (line : ℕ) (r : Result A EventFault) (k : Kept H) → holds (core_of s.machines b) line ≡ true → TellsAs u s (take_on b line ∷ []) r k → TellsAs u s (take_events u b (line ∷ []) s) r k
+pub takes_one : {A H : Type 0} (u : Setups) (s : State) (b : Bool) (line : ℕ) (r : Result A EventFault) (k : Kept H) → has_session (core_of s.machines b) line ≡ true → TellsAs u s (take_on b line ∷ []) r k → TellsAs u s (take_events u b (line ∷ []) s) r k
 unfolding take_events
 takes_one {A = A} {H = H} u s b line r k e q = subst (λ z. TellsAs u s (cond z (take_on b line ∷ []) []) r k) (sym e) q
 

@@ -1,7 +1,7 @@
 -- The events of a round. Each is found when its turn comes: in the state behind those before it.
 use Rattle.std.specs.Prelude.{ℕ, zero, suc, Bool, true, false, cond, List, [], ◌∷◌, ◌++◌, Option, Some, None}
 use Rattle.lat_base.specs.declared.event.Event.TheVariants as events
-use Rattle.lat_machines.specs.cores.Lines.{holds}
+use Rattle.lat_machines.specs.cores.Lines.{has_session}
 use Rattle.lat_machines.specs.world.Machines.{Setups, core_of}
 use Rattle.lat_model.specs.Lists.{upwards}
 use Rattle.lat_replay.specs.Played.{State, next}
@@ -42,7 +42,7 @@ take_on server line = Local server (events.Take line 4096)
 unfoldable pub take_events : Setups → Bool → List ℕ → State → List WorldEvent
 take_events u server [] s = []
 take_events u server (line ∷ lines) s =
-    cond (holds (core_of s.machines server) line)
+    cond (has_session (core_of s.machines server) line)
     (take_on server line ∷ take_events u server lines (next u s (take_on server line)))
     (take_events u server lines s)
 

@@ -18,7 +18,7 @@ use Rattle.lat_stream.specs.Kept.{Kept, kept_of, start_left, state_shown}
 use Rattle.lat_stream.specs.Sound.{Sound}
 use Rattle.lat_stream.specs.Steps.{runs_in}
 use Rattle.lat_stream.specs.Turns.{turn_in, turn_of, later_turn, offer_at, leading, next_bytes, bytes_offer, start_slot, due}
-use Rattle.lat_stream.specs.Wire.{IsFormed, told, formed_as, request_params}
+use Rattle.lat_stream.specs.Wire.{IsFormed, slot_heard, formed_as, request_params}
 use Rattle.lat_stream.proofs.Texts.{params_have}
 use Rattle.lat_stream.proofs.Running.{runs_in_is}
 use Rattle.lat_stream.proofs.FormsTurns.{Agrees, turn_agrees, no_reject}
@@ -28,7 +28,7 @@ use Rattle.lat_stream.proofs.FormsTurns.{Agrees, turn_agrees, no_reject}
 number_back : (n : ℕ) → n % 256 + 256 * (n / 256) ≡ n
 number_back n = omega arith
 
-start_told : (to from credits size : ℕ) (service : List ℕ) (request : Option ℕ) → told (formed_as (Start to from credits size service request)) ≡ Start to from credits size service request
+start_told : (to from credits size : ℕ) (service : List ℕ) (request : Option ℕ) → slot_heard (formed_as (Start to from credits size service request)) ≡ Start to from credits size service request
 start_told to from credits size service None = refl
 start_told to from credits size service (Some id) = ap (λ n. Start to from credits size service (Some n)) (number_back id)
 

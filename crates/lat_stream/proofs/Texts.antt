@@ -5,7 +5,7 @@ use Rattle.lat_fields.specs.Params.{params_text}
 use Rattle.lat_model.specs.sessions.Slots.{Slot, Start, DataA, DataB, Attention, Reject, Stop, slot_len, params_len}
 use Rattle.lat_slots.specs.Layout.{slot_text, body_of}
 use Rattle.lat_slots.specs.declared.slot.Slot as wire
-use Rattle.lat_stream.specs.Wire.{told, formed_as, request_params}
+use Rattle.lat_stream.specs.Wire.{slot_heard, formed_as, request_params}
 
 -- a setting has a flag and four characters
 abbrev pub Whole : Slot → Type 0
@@ -45,7 +45,7 @@ number_is : (n : ℕ) → n < 65536 → n % 256 + 256 * (n / 256) ≡ n
 number_is n h = omega (arith, h)
 
 -- what a formed slot tells is what the session formed
-pub told_is : (x : Slot) → IsTold x → told (formed_as x) ≡ x
+pub told_is : (x : Slot) → IsTold x → slot_heard (formed_as x) ≡ x
 told_is (Start to from credits size service None) h = refl
 told_is (Start to from credits size service (Some id)) h = ap (λ n. Start to from credits size service (Some n)) (number_is id h)
 told_is (DataA to from credits bytes) h = refl

@@ -19,13 +19,13 @@ request_in [] = None
 request_in (p ∷ ps) = cond (nat_eq p.code 5 && nat_eq (length p.bytes) 2) (Some (number_in p.bytes)) (request_in ps)
 
 -- what a slot tells a session
-abbrev pub told : Slot → sessions.Slot
-told (Start to from credits attention size service subject params) = sessions.Start to from credits size service (request_in params)
-told (DataA to from credits bytes) = sessions.DataA to from credits bytes
-told (DataB to from credits flag chars) = sessions.DataB to from credits (flag ∷ chars)
-told (Attention to from flag) = sessions.Attention to from flag
-told (Reject to from reason) = sessions.Reject to from reason
-told (Stop to from reason) = sessions.Stop to from reason
+abbrev pub slot_heard : Slot → sessions.Slot
+slot_heard (Start to from credits attention size service subject params) = sessions.Start to from credits size service (request_in params)
+slot_heard (DataA to from credits bytes) = sessions.DataA to from credits bytes
+slot_heard (DataB to from credits flag chars) = sessions.DataB to from credits (flag ∷ chars)
+slot_heard (Attention to from flag) = sessions.Attention to from flag
+slot_heard (Reject to from reason) = sessions.Reject to from reason
+slot_heard (Stop to from reason) = sessions.Stop to from reason
 
 abbrev pub request_params : Option ℕ → List Param
 request_params None = []
@@ -47,4 +47,4 @@ formed_as (sessions.Stop to from reason) = Stop to from reason
 -- What is written of the slot can be written, and tells the slot
 pub record IsFormed (x : sessions.Slot) : Type 0 where
   pub writable : IsWritable (formed_as x)
-  pub tells : told (formed_as x) ≡ x
+  pub tells : slot_heard (formed_as x) ≡ x

@@ -10,15 +10,15 @@ use Rattle.lat_machines.specs.world.Machines.{Machines}
 use Rattle.lat_machines.specs.world.Reports.{RecordRow, report}
 use Rattle.lat_queue.specs.Histories as queues
 use Rattle.lat_queue.specs.declared.record.Record.{Record}
-use Rattle.lat_tales.specs.Rows.{KeptRow, KeptRows, Keeps}
-use Rattle.lat_tales.specs.Told.{told_row, told_rows, told_from}
+use Rattle.lat_tales.specs.Rows.{RowAfter, RowsAfter, Keeps}
+use Rattle.lat_tales.specs.Reported.{report_row, report_rows, report_rows_from}
 use Rattle.lat_roster.specs.declared.row.Row.{Row}
 use Rattle.lat_roster.specs.Rows.{ShowsRow}
 use Rattle.lat_roster.specs.Roster.{ShowsRows}
 use Rattle.lat_report.specs.ReportText.{frames_text, row_text, rows_text, request_text, grant_text, event_text, report_text}
 use Rattle.lat_report.specs.Rows.{record_in}
 use Rattle.lat_wire.specs.Kept.{Kept, setups_of}
-use Rattle.lat_wire.specs.Notes.{note_shown, noted_told}
+use Rattle.lat_wire.specs.Notes.{note_shown, noted_info}
 use Rattle.lat_wire.specs.Stands.{Stands}
 use Rattle.lat_wire.specs.declared.notes.Note.{Note}
 use Rattle.lat_summary.specs.Notes.{note_line}
@@ -54,13 +54,13 @@ requests_all q n e = go (slice_get (records q) n) refl e
     go (Some x) t e = let z : ⊥ = cc in absurd z
 
 -- one session more
-pub session_more : (w : Machines) (k : KeptRows) (i place next : ℕ) (rows : List Row) (row : Row) (first old new : List ℕ) → ShowsRows rows k.rows → slice_get rows i ≡ Some row → place ≡ suc i → next ≡ suc i → old ≡ first ++ rows_text 1 (told_from w k 0 (take i k.rows)) → ((r : KeptRow) → slice_get k.rows i ≡ Some r → ShowsRow row r → new ≡ old ++ row_text place (told_row w k place r)) → new ≡ first ++ rows_text 1 (told_from w k 0 (take next k.rows))
+pub session_more : (w : Machines) (k : RowsAfter) (i place next : ℕ) (rows : List Row) (row : Row) (first old new : List ℕ) → ShowsRows rows k.rows → slice_get rows i ≡ Some row → place ≡ suc i → next ≡ suc i → old ≡ first ++ rows_text 1 (report_rows_from w k 0 (take i k.rows)) → ((r : RowAfter) → slice_get k.rows i ≡ Some r → ShowsRow row r → new ≡ old ++ row_text place (report_row w k place r)) → new ≡ first ++ rows_text 1 (report_rows_from w k 0 (take next k.rows))
 session_more w k i place next rows row first old new sh q p n o f =
     let b : Beside row i k.rows = beside rows k.rows i row sh q in
     f b.row b.there b.shows
-    ∙ (ap (λ z. old ++ row_text z (told_row w k z b.row)) p
-    ∙ (more_text old first (rows_text 1 (told_from w k 0 (take i k.rows))) (rows_text 1 (told_from w k 0 (take (suc i) k.rows))) (row_text (suc i) (told_row w k (suc i) b.row)) o (rows_more w k i b.row b.there)
-    ∙ ap (λ z. first ++ rows_text 1 (told_from w k 0 (take z k.rows))) (sym n)))
+    ∙ (ap (λ z. old ++ row_text z (report_row w k z b.row)) p
+    ∙ (more_text old first (rows_text 1 (report_rows_from w k 0 (take i k.rows))) (rows_text 1 (report_rows_from w k 0 (take (suc i) k.rows))) (row_text (suc i) (report_row w k (suc i) b.row)) o (rows_more w k i b.row b.there)
+    ∙ ap (λ z. first ++ rows_text 1 (report_rows_from w k 0 (take z k.rows))) (sym n)))
 
 -- the parts, one behind another
 whole : (a b c d e g : List ℕ) (f s r h n z : List ℕ) → b ≡ a ++ f → c ≡ b ++ s → d ≡ c ++ r ++ h → e ≡ d ++ n → g ≡ e ++ z → g ≡ a ++ (f ++ s ++ r ++ h ++ n ++ z)
@@ -71,7 +71,7 @@ whole a b c d e g f s r h n z p q t u v =
     let five : e ≡ a ++ (f ++ s ++ r ++ h ++ n) = u ∙ more_text d a (f ++ s ++ r ++ h) (f ++ s ++ r ++ h ++ n) n four refl in
     v ∙ more_text e a (f ++ s ++ r ++ h ++ n) (f ++ s ++ r ++ h ++ n ++ z) z five refl
 
-pub composed : {H : Type 0} (u : Kept H) (w : Machines) (k : KeptRows) (ns : List Note) (frames : ℕ) (a b c d e g : List ℕ) → Stands u w → Keeps (setups_of u) w k → frames ≡ length w.posts → map note_shown ns ≡ map noted_told w.noted → b ≡ a ++ frames_text frames → c ≡ b ++ rows_text 1 (told_rows w k) → d ≡ c ++ flat_map request_text (request_rows w.server.queue) ++ flat_map grant_text (grants_of w.server.queue) → e ≡ d ++ flat_map note_line ns → g ≡ e ++ codes "done\n" → g ≡ a ++ report_text (report (setups_of u) w)
+pub composed : {H : Type 0} (u : Kept H) (w : Machines) (k : RowsAfter) (ns : List Note) (frames : ℕ) (a b c d e g : List ℕ) → Stands u w → Keeps (setups_of u) w k → frames ≡ length w.posts → map note_shown ns ≡ map noted_info w.noted → b ≡ a ++ frames_text frames → c ≡ b ++ rows_text 1 (report_rows w k) → d ≡ c ++ flat_map request_text (request_rows w.server.queue) ++ flat_map grant_text (grants_of w.server.queue) → e ≡ d ++ flat_map note_line ns → g ≡ e ++ codes "done\n" → g ≡ a ++ report_text (report (setups_of u) w)
 composed u w k ns frames a b c d e g s h f n p q t v z =
     whole a b c d e g (frames_text (length w.posts)) (rows_text 1 (report (setups_of u) w).sessions) (flat_map request_text (request_rows w.server.queue)) (flat_map grant_text (grants_of w.server.queue)) (flat_map event_text w.noted) (codes "done\n")
     (p ∙ ap (λ y. a ++ frames_text y) f)

@@ -12,8 +12,8 @@ use Rattle.lat_machines.specs.cores.Books.{SessionEnd, LineSession, line_session
 use Rattle.lat_machines.specs.cores.Lines.{line_exists, last_on, seat_at}
 use Rattle.lat_lines.specs.Kept.{IsLine}
 use Rattle.lat_lines.specs.Stands as lines
-use Rattle.lat_lines.specs.Stands.{session_shown, session_told, book_shown, book_told}
-use Rattle.lat_tales.specs.Books.{newest_told}
+use Rattle.lat_lines.specs.Stands.{session_shown, session_info, book_shown, book_info}
+use Rattle.lat_tales.specs.Books.{newest_info}
 use Rattle.lat_tales.specs.Rows.{figures_of, newest_place}
 use Rattle.lat_tales.specs.Rows as rows
 use Rattle.lat_tales.proofs.rows.Books.{book_newest}
@@ -37,36 +37,36 @@ ends_same (Some e) = ap Some (end_same e)
 
 -- the newest that is told
 
-told_newest : (p l : Option LineSession) → newest_told (book_told (record { present = p; last = l })) ≡ option_map session_told (newest_told (record { present = p; last = l }))
+told_newest : (p l : Option LineSession) → newest_info (book_info (record { present = p; last = l })) ≡ option_map session_info (newest_info (record { present = p; last = l }))
 told_newest None None = refl
 told_newest None (Some s) = refl
 told_newest (Some s) None = refl
 told_newest (Some s) (Some t) = refl
 
-had_newest : (c : Core) (line : ℕ) → HasHad c line → newest_told (book c line) ≡ Some (line_session c (newest_place line 0 0 c.seats) (seat_at c line))
+had_newest : (c : Core) (line : ℕ) → HasHad c line → newest_info (book c line) ≡ Some (line_session c (newest_place line 0 0 c.seats) (seat_at c line))
 had_newest c line h = book_newest c line ∙ go (nat_eq (newest_place line 0 0 c.seats) 0) refl
   where
     go : (b : Bool) → nat_eq (newest_place line 0 0 c.seats) 0 ≡ b → cond b None (Some (line_session c (newest_place line 0 0 c.seats) (last_on line no_seat c.seats))) ≡ Some (line_session c (newest_place line 0 0 c.seats) (seat_at c line))
     go true q = absurd (h (eqb-true (newest_place line 0 0 c.seats) 0 q))
     go false q = refl
 
-newest_is : (c : Core) (line : ℕ) (b : base_book.LineBook) (n : Option base.LineSession) → HasHad c line → book_shown b ≡ book_told (book c line) → option_map session_shown n ≡ newest_told (book_shown b) → option_map session_shown n ≡ Some (session_told (line_session c (newest_place line 0 0 c.seats) (seat_at c line)))
+newest_is : (c : Core) (line : ℕ) (b : base_book.LineBook) (n : Option base.LineSession) → HasHad c line → book_shown b ≡ book_info (book c line) → option_map session_shown n ≡ newest_info (book_shown b) → option_map session_shown n ≡ Some (session_info (line_session c (newest_place line 0 0 c.seats) (seat_at c line)))
 newest_is c line b n h q r =
-    r ∙ (ap newest_told q ∙ (told_newest (book c line).present (book c line).last ∙ ap (option_map session_told) (had_newest c line h)))
+    r ∙ (ap newest_info q ∙ (told_newest (book c line).present (book c line).last ∙ ap (option_map session_info) (had_newest c line h)))
 
-pub newest_some : (c : Core) (line : ℕ) (b : base_book.LineBook) (s : base.LineSession) → HasHad c line → book_shown b ≡ book_told (book c line) → Some (session_shown s) ≡ newest_told (book_shown b) → ShowsFigures (record { given = s.given; used = s.used; end = s.end }) (figures_of c (seat_at c line))
+pub newest_some : (c : Core) (line : ℕ) (b : base_book.LineBook) (s : base.LineSession) → HasHad c line → book_shown b ≡ book_info (book c line) → Some (session_shown s) ≡ newest_info (book_shown b) → ShowsFigures (record { given = s.given; used = s.used; end = s.end }) (figures_of c (seat_at c line))
 newest_some c line b s h q r =
-    let e : Some (session_shown s) ≡ Some (session_told (line_session c (newest_place line 0 0 c.seats) (seat_at c line))) = newest_is c line b (Some s) h q r in
-    let i : session_shown s ≡ session_told (line_session c (newest_place line 0 0 c.seats) (seat_at c line)) = cc in
+    let e : Some (session_shown s) ≡ Some (session_info (line_session c (newest_place line 0 0 c.seats) (seat_at c line))) = newest_is c line b (Some s) h q r in
+    let i : session_shown s ≡ session_info (line_session c (newest_place line 0 0 c.seats) (seat_at c line)) = cc in
     record {
       given = ap (λ (z : LineSession). z.given) i;
       used_up = ap (λ (z : LineSession). z.used_up) i;
       end = ends_same s.end ∙ ap (λ (z : LineSession). z.end) i;
     }
 
-pub newest_none : (c : Core) (line : ℕ) (b : base_book.LineBook) (f : Figures) → HasHad c line → book_shown b ≡ book_told (book c line) → None ≡ newest_told (book_shown b) → ShowsFigures f (figures_of c (seat_at c line))
+pub newest_none : (c : Core) (line : ℕ) (b : base_book.LineBook) (f : Figures) → HasHad c line → book_shown b ≡ book_info (book c line) → None ≡ newest_info (book_shown b) → ShowsFigures f (figures_of c (seat_at c line))
 newest_none c line b f h q r =
-    let e : ◌≡◌ {A = Option LineSession} None (Some (session_told (line_session c (newest_place line 0 0 c.seats) (seat_at c line)))) = newest_is c line b None h q r in
+    let e : ◌≡◌ {A = Option LineSession} None (Some (session_info (line_session c (newest_place line 0 0 c.seats) (seat_at c line)))) = newest_is c line b None h q r in
     let z : ⊥ = cc in
     absurd z
 

@@ -11,7 +11,7 @@ use Rattle.lat_report.specs.NoteText.{note_text}
 use Rattle.lat_report.specs.ReportText.{event_text}
 use Rattle.lat_text.specs.Line.{line}
 use Rattle.lat_report.proofs.Words.{word_found}
-use Rattle.lat_wire.specs.Notes.{Told, note_shown, noted_told}
+use Rattle.lat_wire.specs.Notes.{NoteInfo, note_shown, noted_info}
 use Rattle.lat_wire.specs.declared.notes.Note.{Note}
 use Rattle.lat_summary.specs.Notes.{note_line}
 
@@ -62,21 +62,21 @@ note_back Full = refl
 note_back IdUsed = refl
 note_back NotHere = refl
 
-abbrev told_line : Told → List ℕ
-told_line t = event_text (record { event = t.event; answer = answer_shown t.answer })
+abbrev info_line : NoteInfo → List ℕ
+info_line t = event_text (record { event = t.event; answer = answer_shown t.answer })
 
 abbrev with_text : ℕ → List ℕ → List ℕ
 with_text event text = line (codes "event " ∷ decimal event ∷ codes " " ∷ text ∷ [])
 
-line_back : (n : NotedEvent) → told_line (noted_told n) ≡ event_text n
+line_back : (n : NotedEvent) → info_line (noted_info n) ≡ event_text n
 line_back n = ap (with_text n.event) (sym (note_back n.answer))
 
 -- the lines of a wire's notes are those of the world's events
-pub notes_same : (ns : List Note) (es : List NotedEvent) → map note_shown ns ≡ map noted_told es → flat_map note_line ns ≡ flat_map event_text es
+pub notes_same : (ns : List Note) (es : List NotedEvent) → map note_shown ns ≡ map noted_info es → flat_map note_line ns ≡ flat_map event_text es
 notes_same [] [] q = refl
 notes_same [] (e ∷ es) q = let z : ⊥ = cc in absurd z
 notes_same (n ∷ ns) [] q = let z : ⊥ = cc in absurd z
 notes_same (n ∷ ns) (e ∷ es) q =
-    let a : note_shown n ≡ noted_told e = cc in
-    let b : map note_shown ns ≡ map noted_told es = cc in
-    ap₂ (λ x y. x ++ y) (ap told_line a ∙ line_back e) (notes_same ns es b)
+    let a : note_shown n ≡ noted_info e = cc in
+    let b : map note_shown ns ≡ map noted_info es = cc in
+    ap₂ (λ x y. x ++ y) (ap info_line a ∙ line_back e) (notes_same ns es b)

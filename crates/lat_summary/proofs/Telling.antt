@@ -4,15 +4,15 @@ use Rattle.lat_base.specs.declared.item.Item as base
 use Rattle.lat_model.specs.sessions.Slots.{Item}
 use Rattle.lat_machines.specs.world.Machines.{Machines}
 use Rattle.lat_machines.specs.world.Reports as reports
-use Rattle.lat_tales.specs.Rows.{Figures, KeptRow, KeptRows}
-use Rattle.lat_tales.specs.Told.{server_figures, node_figures, told_row}
+use Rattle.lat_tales.specs.Rows.{Figures, RowAfter, RowsAfter}
+use Rattle.lat_tales.specs.Reported.{server_figures, node_figures, report_row}
 use Rattle.lat_roster.specs.Shown.{item_shown}
 use Rattle.lat_report.specs.ReportText.{row_text}
 use Rattle.lat_report.specs.Rows.{items_in}
 use Rattle.lat_summary.specs.Rows.{told_with}
 use Rattle.lat_summary.proofs.Texts.{items_are}
 
-module _ (r : KeptRow) (server node : Figures) where
+module _ (r : RowAfter) (server node : Figures) where
   abbrev pub whole : ℕ → Option ℕ → List Item → List Item → List Item → List Item → reports.Row
   whole line o put_up taken_up put_down taken_down = record {
     line = line;
@@ -29,5 +29,5 @@ module _ (r : KeptRow) (server node : Figures) where
       ∙ ap₂ (λ x y. whole r.line (cond (nat_eq r.node_line 0) None (Some r.node_line)) r.put_up r.taken_up x y) (items_are pd r.put_down c) (items_are td r.taken_down d))
 
 -- its text, with the figures that are told
-pub row_is : (w : Machines) (k : KeptRows) (place : ℕ) (r : KeptRow) (told : reports.Row) (server node : Figures) (old new : List ℕ) → new ≡ old ++ row_text place told → told ≡ told_with r server node → server ≡ server_figures w k place r → node ≡ node_figures w k place r → new ≡ old ++ row_text place (told_row w k place r)
+pub row_is : (w : Machines) (k : RowsAfter) (place : ℕ) (r : RowAfter) (told : reports.Row) (server node : Figures) (old new : List ℕ) → new ≡ old ++ row_text place told → told ≡ told_with r server node → server ≡ server_figures w k place r → node ≡ node_figures w k place r → new ≡ old ++ row_text place (report_row w k place r)
 row_is w k place r told server node old new t e s n = t ∙ ap (λ z. old ++ row_text place z) (e ∙ ap₂ (told_with r) s n)

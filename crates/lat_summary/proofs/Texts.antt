@@ -8,8 +8,8 @@ use Rattle.lat_machines.specs.world.Machines.{Machines}
 use Rattle.lat_machines.specs.world.Reports.{Row}
 use Rattle.lat_lines.specs.Answers.{item_in}
 use Rattle.lat_tales.specs.Rows as rows
-use Rattle.lat_tales.specs.Rows.{KeptRow, KeptRows}
-use Rattle.lat_tales.specs.Told.{told_row, told_from}
+use Rattle.lat_tales.specs.Rows.{RowAfter, RowsAfter}
+use Rattle.lat_tales.specs.Reported.{report_row, report_rows_from}
 use Rattle.lat_roster.specs.Shown.{item_shown}
 use Rattle.lat_report.specs.ReportText.{row_text, rows_text}
 use Rattle.lat_report.specs.Rows.{items_in}
@@ -38,13 +38,13 @@ rows_behind n (x ∷ xs) r =
     plus = omega arith
 
 -- the texts of the first rows with one more
-pub rows_more : (w : Machines) (k : KeptRows) (i : ℕ) (r : KeptRow) → slice_get k.rows i ≡ Some r → rows_text 1 (told_from w k 0 (take (suc i) k.rows)) ≡ rows_text 1 (told_from w k 0 (take i k.rows)) ++ row_text (suc i) (told_row w k (suc i) r)
+pub rows_more : (w : Machines) (k : RowsAfter) (i : ℕ) (r : RowAfter) → slice_get k.rows i ≡ Some r → rows_text 1 (report_rows_from w k 0 (take (suc i) k.rows)) ≡ rows_text 1 (report_rows_from w k 0 (take i k.rows)) ++ row_text (suc i) (report_row w k (suc i) r)
 rows_more w k i r q =
     ap (rows_text 1) (told_more w k i r q)
-    ∙ (rows_behind 1 (told_from w k 0 (take i k.rows)) (told_row w k (suc i) r) ∙ ap (λ z. rows_text 1 (told_from w k 0 (take i k.rows)) ++ row_text z (told_row w k (suc i) r)) plus)
+    ∙ (rows_behind 1 (report_rows_from w k 0 (take i k.rows)) (report_row w k (suc i) r) ∙ ap (λ z. rows_text 1 (report_rows_from w k 0 (take i k.rows)) ++ row_text z (report_row w k (suc i) r)) plus)
   where
-    plus : 1 + length (told_from w k 0 (take i k.rows)) ≡ suc i
-    plus = let a : length (told_from w k 0 (take i k.rows)) ≡ i = told_length w k 0 (take i k.rows) ∙ take_length k.rows i r q in omega (arith, a)
+    plus : 1 + length (report_rows_from w k 0 (take i k.rows)) ≡ suc i
+    plus = let a : length (report_rows_from w k 0 (take i k.rows)) ≡ i = told_length w k 0 (take i k.rows) ∙ take_length k.rows i r q in omega (arith, a)
 
 pub more_text : (text before xs ys zs : List ℕ) → text ≡ before ++ xs → ys ≡ xs ++ zs → text ++ zs ≡ before ++ ys
 more_text text before xs ys zs a b = ap (λ z. z ++ zs) a ∙ (append_more before xs zs ∙ ap (λ z. before ++ z) (sym b))

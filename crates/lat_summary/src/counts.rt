@@ -4,7 +4,7 @@ ghost use Rattle.std.specs.Prelude.{◌≡◌};
 ghost use Rattle.std.specs.List.{sum_by};
 ghost use Rattle.lat_machines.specs.world.Machines.{Machines};
 ghost use Rattle.lat_machines.specs.world.Reports.{report};
-ghost use Rattle.lat_tales.specs.Rows.{KeptRows, Keeps};
+ghost use Rattle.lat_tales.specs.Rows.{RowsAfter, Keeps};
 ghost use Rattle.lat_roster.specs.Roster.{Shows};
 ghost use Rattle.lat_roster.specs.Shown.{saturated};
 ghost use Rattle.lat_wire.specs.Kept.{setups_of};
@@ -55,7 +55,7 @@ fn taken_in(rows: &[Row]) -> u64
 
 /// How much the report of a world tells. It takes no memory.
 pub fn counts_of<H: RatingRule>(wire: &Wire<H>, roster: &Roster) -> Counts
-    ensures { (w : Machines) (k : KeptRows) →
+    ensures { (w : Machines) (k : RowsAfter) →
         Stands wire.now w →
         Keeps (setups_of wire.now) w k →
         Shows roster.now k →

@@ -7,12 +7,12 @@ ghost use Rattle.lat_machines.specs.cores.Lines.{line_exists, seat_at};
 ghost use Rattle.lat_machines.specs.node.Node.{Node};
 ghost use Rattle.lat_machines.specs.server.Server.{Server};
 ghost use Rattle.lat_machines.specs.world.Machines.{Machines};
-ghost use Rattle.lat_lines.specs.Stands.{session_shown, book_shown, book_told};
+ghost use Rattle.lat_lines.specs.Stands.{session_shown, book_shown, book_info};
 ghost use Rattle.lat_server.specs.Stands as servers;
 ghost use Rattle.lat_node.specs.Stands as nodes;
-ghost use Rattle.lat_tales.specs.Books.{newest_told};
+ghost use Rattle.lat_tales.specs.Books.{newest_info};
 ghost use Rattle.lat_tales.specs.Rows as rows;
-ghost use Rattle.lat_tales.specs.Told.{server_figures, node_figures};
+ghost use Rattle.lat_tales.specs.Reported.{server_figures, node_figures};
 ghost use Rattle.lat_roster.specs.Rows.{ShowsFigures};
 ghost use Rattle.lat_summary.specs.Rows.{figures_shown};
 ghost use Rattle.lat_summary.specs.Standing.{StandsFor, HasHad, RowAt};
@@ -25,7 +25,7 @@ use lat_wire::{RatingRule, Wire};
 
 // The newest session that a book tells of.
 fn newest(book: LineBook) -> Option<LineSession>
-    ensures { option_map session_shown result ≡ newest_told (book_shown book) }
+    ensures { option_map session_shown result ≡ newest_info (book_shown book) }
 {
     match book.present {
         Some(session) => Some(session),
@@ -36,7 +36,7 @@ fn newest(book: LineBook) -> Option<LineSession>
 // The figures of the newest session of the line that a book is of.
 fn figures_by(told: LineBook) -> Figures
     ensures { (c : Core) (line : ℕ) →
-        book_shown told ≡ book_told (book c line) →
+        book_shown told ≡ book_info (book c line) →
         HasHad c line →
         ShowsFigures result (rows.figures_of c (seat_at c line)) }
 {
@@ -91,7 +91,7 @@ pub(crate) fn server_figures<H: RatingRule>(
     written: Figures,
 ) -> Figures
     requires { 0 < place }
-    ensures { (w : Machines) (k : rows.KeptRows) (r : rows.KeptRow) →
+    ensures { (w : Machines) (k : rows.RowsAfter) (r : rows.RowAfter) →
         StandsFor wire.now roster.now w k →
         r.line ≡ line →
         ShowsFigures written r.server →
@@ -114,7 +114,7 @@ pub(crate) fn node_figures<H: RatingRule>(
     written: Figures,
 ) -> Figures
     requires { 0 < place }
-    ensures { (w : Machines) (k : rows.KeptRows) (r : rows.KeptRow) →
+    ensures { (w : Machines) (k : rows.RowsAfter) (r : rows.RowAfter) →
         StandsFor wire.now roster.now w k →
         RowAt k place r →
         r.node_line ≡ line →

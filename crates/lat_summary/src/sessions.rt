@@ -5,7 +5,7 @@ ghost use Rattle.lat_machines.specs.world.Machines.{Machines};
 ghost use Rattle.lat_report.specs.ReportText.{row_text, rows_text};
 ghost use Rattle.lat_report.specs.Rows.{row_in};
 ghost use Rattle.lat_tales.specs.Rows as rows;
-ghost use Rattle.lat_tales.specs.Told.{told_row, told_rows};
+ghost use Rattle.lat_tales.specs.Reported.{report_row, report_rows};
 ghost use Rattle.lat_roster.specs.Rows.{ShowsRow};
 ghost use Rattle.lat_summary.specs.Rows.{figures_shown, told_with};
 ghost use Rattle.lat_summary.specs.Standing.{StandsFor, RowAt};
@@ -26,7 +26,7 @@ fn some_line(line: u8) -> Option<u8>
 
 // The session of a row, with its figures at both ends.
 fn told(row: &Row, server: Figures, node: Figures) -> SessionRow<'_>
-    ensures { (r : rows.KeptRow) → ShowsRow row.now r → row_in result ≡ told_with r (figures_shown server) (figures_shown node) }
+    ensures { (r : rows.RowAfter) → ShowsRow row.now r → row_in result ≡ told_with r (figures_shown server) (figures_shown node) }
 {
     SessionRow {
         line: row.line,
@@ -57,11 +57,11 @@ fn row_onto<H: RatingRule>(
     out: &mut String,
 ) -> Result<(), Memory>
     requires { 0 < place }
-    ensures { OnOk result ((w : Machines) (k : rows.KeptRows) (r : rows.KeptRow) →
+    ensures { OnOk result ((w : Machines) (k : rows.RowsAfter) (r : rows.RowAfter) →
         StandsFor wire.now roster.now w k →
         RowAt k place r →
         ShowsRow row.now r →
-        string_bytes out.new ≡ string_bytes out.old ++ row_text place (told_row w k place r)) }
+        string_bytes out.new ≡ string_bytes out.old ++ row_text place (report_row w k place r)) }
 {
     let server = exact(server_figures(wire, roster, place, row.line, row.server))?;
     let node = exact(node_figures(wire, roster, place, row.node_line, row.node))?;
@@ -76,9 +76,9 @@ pub(crate) fn sessions_onto<H: RatingRule>(
     roster: &Roster,
     out: &mut String,
 ) -> Result<(), Memory>
-    ensures { OnOk result ((w : Machines) (k : rows.KeptRows) →
+    ensures { OnOk result ((w : Machines) (k : rows.RowsAfter) →
         StandsFor wire.now roster.now w k →
-        string_bytes out.new ≡ string_bytes out.old ++ rows_text 1 (told_rows w k)) }
+        string_bytes out.new ≡ string_bytes out.old ++ rows_text 1 (report_rows w k)) }
 {
     let list = roster.rows();
     let mut place: usize = 0;

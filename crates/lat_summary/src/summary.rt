@@ -7,7 +7,7 @@ ghost use Rattle.lat_machines.specs.server.Server.{Server};
 ghost use Rattle.lat_machines.specs.world.Machines.{Machines};
 ghost use Rattle.lat_machines.specs.world.Reports.{report};
 ghost use Rattle.lat_server.specs.Stands as servers;
-ghost use Rattle.lat_tales.specs.Rows.{KeptRows, Keeps};
+ghost use Rattle.lat_tales.specs.Rows.{RowsAfter, Keeps};
 ghost use Rattle.lat_roster.specs.Roster.{Shows};
 ghost use Rattle.lat_report.specs.ReportText.{request_text, grant_text, report_text};
 ghost use Rattle.lat_wire.specs.Kept.{setups_of};
@@ -45,7 +45,7 @@ pub fn report_onto<H: RatingRule>(
     roster: &Roster,
     out: &mut String,
 ) -> Result<(), Memory>
-    ensures { OnOk result ((w : Machines) (k : KeptRows) →
+    ensures { OnOk result ((w : Machines) (k : RowsAfter) →
         Stands wire.now w →
         Keeps (setups_of wire.now) w k →
         Shows roster.now k →

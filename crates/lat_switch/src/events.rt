@@ -27,7 +27,7 @@ impl SwitchCore {
         ensures does { IfOk result (λ a. Simulates (does event.now) self.old self.new a out.old out.new) }
         ensures put { IfOk result (λ a. PutFits a event.now) }
         ensures took { IfOk result (λ a. TookFits (ready self.old) a event.now) }
-        ensures kept { OnErr result (self.new ≡ self.old) }
+        ensures unchanged { OnErr result (self.new ≡ self.old) }
         ensures silent { OnErr result (out.new ≡ []) }
     {
         match event {
@@ -73,7 +73,7 @@ impl SwitchCore {
         ensures does { IfOk result (λ a. Simulates (does (events.Put line bytes.now)) self.old self.new a out.old out.new) }
         ensures put { IfOk result (λ a. PutFits a (events.Put line bytes.now)) }
         ensures took { IfOk result (λ a. TookFits (ready self.old) a (events.Put line bytes.now)) }
-        ensures kept { OnErr result (self.new ≡ self.old) }
+        ensures unchanged { OnErr result (self.new ≡ self.old) }
         ensures silent { OnErr result (out.new ≡ []) }
     {
         if !self.exists(line) {
@@ -111,7 +111,7 @@ impl SwitchCore {
         ensures does { IfOk result (λ a. Simulates (does (events.Take line n)) self.old self.new a out.old out.new) }
         ensures put { IfOk result (λ a. PutFits a (events.Take line n)) }
         ensures took { IfOk result (λ a. TookFits (ready self.old) a (events.Take line n)) }
-        ensures kept { OnErr result (self.new ≡ self.old) }
+        ensures unchanged { OnErr result (self.new ≡ self.old) }
         ensures silent { OnErr result (out.new ≡ []) }
     {
         if !self.exists(line) {

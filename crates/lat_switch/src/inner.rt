@@ -70,7 +70,7 @@ impl SwitchCore {
         ensures does { IfOk result (λ a. Simulates (relays event.now) self.old self.new a out.old out.new) }
         ensures put { IfOk result (λ a. PutFits a event.now) }
         ensures took { IfOk result (λ a. TookFits (lines.ready self.old.inner.lines) a event.now) }
-        ensures kept { OnErr result (self.new ≡ self.old) }
+        ensures unchanged { OnErr result (self.new ≡ self.old) }
         ensures silent { OnErr result (out.new ≡ []) }
     {
         let answer = self.inner.step(alloc, event, out)?;

@@ -47,7 +47,7 @@ impl SwitchCore {
         ensures does { IfOk result (λ a. Simulates (puts line bytes.now) self.old self.new a out.old out.new) }
         ensures put { IfOk result (λ a. PutFits a (events.Put line bytes.now)) }
         ensures took { IfOk result (λ a. TookFits (ready self.old) a (events.Put line bytes.now)) }
-        ensures kept { OnErr result (self.new ≡ self.old) }
+        ensures unchanged { OnErr result (self.new ≡ self.old) }
         ensures silent { OnErr result (out.new ≡ []) }
     {
         if bytes.is_empty() {

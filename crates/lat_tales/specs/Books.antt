@@ -14,8 +14,8 @@ newest_of c line ss =
     None
     (Some (line_session c (newest_place line 0 0 ss) (last_on line no_seat ss)))
 
-abbrev pub newest_told : LineBook → Option LineSession
-newest_told b = told b.present
+abbrev pub newest_info : LineBook → Option LineSession
+newest_info b = told b.present
   where
     told : Option LineSession → Option LineSession
     told None = b.last

@@ -2,5 +2,5 @@ pub mod Items
 pub mod Mates
 pub mod Rows
 pub mod Keeping
-pub mod Told
+pub mod Reported
 pub mod Books

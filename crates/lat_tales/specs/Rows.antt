@@ -18,7 +18,7 @@ pub record Figures : Type 0 where
 abbrev pub figures_of : Core → Seat → Figures
 figures_of c s = record { given = credits (session_of c s).out; used_up = costs (session_of c s).out; end = seat_end c s }
 
-pub record KeptRow : Type 0 where
+pub record RowAfter : Type 0 where
   pub line : ℕ
   pub circuit : ℕ  -- the server's, with the session's id there
   pub id : ℕ
@@ -30,7 +30,7 @@ pub record KeptRow : Type 0 where
   pub server : Figures
   pub node : Figures
 
-pub record KeepsRow (u : Setups) (w : Machines) (s : Seat) (r : KeptRow) : Type 0 where
+pub record KeepsRow (u : Setups) (w : Machines) (s : Seat) (r : RowAfter) : Type 0 where
   pub line : r.line ≡ s.line
   pub circuit : r.circuit ≡ s.circuit
   pub id : r.id ≡ s.id
@@ -44,7 +44,7 @@ pub record KeepsRow (u : Setups) (w : Machines) (s : Seat) (r : KeptRow) : Type 
   pub node : (seat_at w.node.core (partner u w s).line ≡ partner u w s → ⊥) → r.node ≡ figures_of w.node.core (partner u w s)
 
 -- each session with its row, in order
-abbrev pub Pairs : (Seat → KeptRow → Type 0) → List Seat → List KeptRow → Type 0
+abbrev pub Pairs : (Seat → RowAfter → Type 0) → List Seat → List RowAfter → Type 0
 Pairs P [] rs = rs ≡ []
 Pairs P (s ∷ ss) [] = ⊥
 Pairs P (s ∷ ss) (r ∷ rs) = P s r × Pairs P ss rs
@@ -55,12 +55,12 @@ newest_place line place found [] = found
 newest_place line place found (s ∷ ss) = newest_place line (suc place) (cond (nat_eq s.line line) (suc place) found) ss
 
 -- The rows, and for each line the place of the row of its newest session; 0 where it has none
-pub record KeptRows : Type 0 where
-  pub rows : List KeptRow
+pub record RowsAfter : Type 0 where
+  pub rows : List RowAfter
   pub server_lines : ℕ → ℕ
   pub node_lines : ℕ → ℕ
 
-pub record Keeps (u : Setups) (w : Machines) (k : KeptRows) : Type 0 where
+pub record Keeps (u : Setups) (w : Machines) (k : RowsAfter) : Type 0 where
   pub rows : Pairs (KeepsRow u w) w.server.core.seats k.rows
   pub server_lines : (line : ℕ) → k.server_lines line ≡ newest_place line 0 0 w.server.core.seats
   pub node_lines : (line : ℕ) → k.node_lines line ≡ mate u w (seat_at w.node.core line)

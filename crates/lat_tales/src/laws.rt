@@ -4,9 +4,9 @@ ghost use Rattle.std.specs.Prelude.{◌≡◌, Bool, List};
 ghost use Rattle.lat_machines.specs.world.Machines.{Setups, core_of, Move, happens, run, open_machines};
 ghost use Rattle.lat_machines.specs.world.Safe.{Fit};
 ghost use Rattle.lat_machines.specs.world.Reports.{report};
-ghost use Rattle.lat_tales.specs.Rows.{KeptRows, Keeps};
-ghost use Rattle.lat_tales.specs.Keeping.{no_rows, kept_after, kept_all};
-ghost use Rattle.lat_tales.specs.Told.{told_rows};
+ghost use Rattle.lat_tales.specs.Rows.{RowsAfter, Keeps};
+ghost use Rattle.lat_tales.specs.Keeping.{no_rows, rows_after, rows_after_all};
+ghost use Rattle.lat_tales.specs.Reported.{report_rows};
 ghost use Rattle.lat_tales.specs.Books.{Comes, lines_at};
 
 /// In every run of the two machines what is kept by the answers and by the newest sessions of the lines are the rows of the
@@ -14,19 +14,19 @@ ghost use Rattle.lat_tales.specs.Books.{Comes, lines_at};
 /// the figures of each session that is no longer the newest of its line (`all`). So each move goes on from what was kept
 /// before it (`next`).
 pub fn rows_are_kept()
-    ensures all { (u : Setups) (moves : List Move) → Fit u → Keeps u (run u moves (open_machines u)) (kept_all u moves (open_machines u) no_rows) }
-    ensures next { (u : Setups) (moves : List Move) (m : Move) (k : KeptRows) →
+    ensures all { (u : Setups) (moves : List Move) → Fit u → Keeps u (run u moves (open_machines u)) (rows_after_all u moves (open_machines u) no_rows) }
+    ensures next { (u : Setups) (moves : List Move) (m : Move) (k : RowsAfter) →
         Fit u →
         Keeps u (run u moves (open_machines u)) k →
-        Keeps u (happens u (run u moves (open_machines u)) m) (kept_after u (run u moves (open_machines u)) m k) }
+        Keeps u (happens u (run u moves (open_machines u)) m) (rows_after u (run u moves (open_machines u)) m k) }
 {}
 
 /// What is kept, with the figures of the newest session of each line, are the rows of the report.
 pub fn kept_rows_are_the_report()
-    ensures { (u : Setups) (moves : List Move) (k : KeptRows) →
+    ensures { (u : Setups) (moves : List Move) (k : RowsAfter) →
         Fit u →
         Keeps u (run u moves (open_machines u)) k →
-        told_rows (run u moves (open_machines u)) k ≡ (report u (run u moves (open_machines u))).sessions }
+        report_rows (run u moves (open_machines u)) k ≡ (report u (run u moves (open_machines u))).sessions }
 {}
 
 /// A move makes at each end at most as many sessions as it has lines, behind those that were there. The book of the line of

@@ -8,16 +8,16 @@ use Rattle.lat_model.specs.ends.End.{lives}
 use Rattle.lat_machines.specs.values.Timing.{half_range}
 use Rattle.lat_machines.specs.cores.Cores.{Core, Side, span}
 use Rattle.lat_machines.specs.cores.Hearing.{names}
-use Rattle.lat_machines.specs.cores.Lines.{end_of, session_of, seat_at, holds, line_state}
+use Rattle.lat_machines.specs.cores.Lines.{end_of, session_of, seat_at, has_session, line_state}
 use Rattle.lat_seq.specs.declared.span.Span.{Span}
 use Rattle.lat_stream.specs.Kept.{state_shown}
-use Rattle.lat_circuits.specs.Told.{span_told}
+use Rattle.lat_circuits.specs.Info.{some_span}
 use Rattle.lat_ledger.specs.declared.heading.Heading.{Heading}
 use Rattle.lat_wire.specs.Ends.{half_at, half_named, half_span, is_held}
 
 -- half the range of a circuit, by what the core tells of it
 
-told_span : (o : Option Bool) → option_map half_span (span_told o) ≡ option_map half_range o
+told_span : (o : Option Bool) → option_map half_span (some_span o) ≡ option_map half_range o
 told_span None = refl
 told_span (Some true) = refl
 told_span (Some false) = refl
@@ -27,7 +27,7 @@ named_span false live running wide = refl
 named_span true false running wide = refl
 named_span true true running wide = refl
 
-pub half_is : (c : Core) (from : ℕ) (h : Heading) (named : Bool) (s : Option Span) (r : Option ℕ) → r ≡ half_named named s → named ≡ names c.circuits from h.to h.from → s ≡ span_told (span c h.to) → r ≡ half_at c from h
+pub half_is : (c : Core) (from : ℕ) (h : Heading) (named : Bool) (s : Option Span) (r : Option ℕ) → r ≡ half_named named s → named ≡ names c.circuits from h.to h.from → s ≡ some_span (span c h.to) → r ≡ half_at c from h
 half_is c from h named s r e n t =
     e
     ∙ (ap₂ half_named n t
@@ -45,7 +45,7 @@ shown_held true false false true false master = refl
 shown_held true false false false closed true = refl
 shown_held true false false false closed false = refl
 
-pub held_is : (k : Side) (c : Core) (line : ℕ) (state : base.SessionState) (r : Bool) → r ≡ is_held state → state ≡ state_shown (line_state k c line) → r ≡ holds c line
+pub held_is : (k : Side) (c : Core) (line : ℕ) (state : base.SessionState) (r : Bool) → r ≡ is_held state → state ≡ state_shown (line_state k c line) → r ≡ has_session c line
 held_is k c line state r e h =
     e ∙ (ap is_held h ∙ shown_held (lives (end_of c (seat_at c line))) (free s) (gone s) (answered s) (s.closed || has_stop s.came) k.server)
   where

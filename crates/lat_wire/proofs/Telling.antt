@@ -28,7 +28,7 @@ use Rattle.lat_ledger.specs.Books.{ArePosts, Book, Counts, IsBook, IsBookOf, IsR
 use Rattle.lat_ledger.proofs.Behind.{behind_formed, behind_taken, behind_shown, tells_same}
 use Rattle.lat_wire.specs.Ends.{MadeFrames, frames_by}
 use Rattle.lat_wire.specs.Kept.{Holds, Kept, setups_of}
-use Rattle.lat_wire.specs.Notes.{NotesOn, Told, is_noted, note_shown, noted_told}
+use Rattle.lat_wire.specs.Notes.{NotesOn, NoteInfo, is_noted, note_shown, noted_info}
 use Rattle.lat_wire.specs.Stands.{Mirrors}
 use Rattle.lat_wire.proofs.Noting.{noted_same}
 use Rattle.lat_wire.specs.Rates.{rates}
@@ -142,14 +142,14 @@ told_count : (u : Setups) (w : Machines) (b : Bool) (e : Event) (rates : List �
 told_count u w true e rates = refl
 told_count u w false e rates = refl
 
-notes_told : (n : ℕ) (a : Answer) (ns : List NotedEvent) → map noted_told (noted_too n a ns) ≡ cond (is_noted (answer_of a)) (map noted_told ns ++ record { event = n; answer = answer_of a } ∷ []) (map noted_told ns)
+notes_told : (n : ℕ) (a : Answer) (ns : List NotedEvent) → map noted_info (noted_too n a ns) ≡ cond (is_noted (answer_of a)) (map noted_info ns ++ record { event = n; answer = answer_of a } ∷ []) (map noted_info ns)
 notes_told n a ns = go (machines.is_noted a) (is_noted (answer_of a)) (noted_same a)
   where
-    more : Told
+    more : NoteInfo
     more = record { event = n; answer = answer_of a }
 
-    go : (x y : Bool) → x ≡ y → map noted_told (cond x (ns ++ record { event = n; answer = a } ∷ []) ns) ≡ cond y (map noted_told ns ++ more ∷ []) (map noted_told ns)
-    go true true e = map-append noted_told ns (record { event = n; answer = a } ∷ [])
+    go : (x y : Bool) → x ≡ y → map noted_info (cond x (ns ++ record { event = n; answer = a } ∷ []) ns) ≡ cond y (map noted_info ns ++ more ∷ []) (map noted_info ns)
+    go true true e = map-append noted_info ns (record { event = n; answer = a } ∷ [])
     go false false e = refl
     go true false e = let z : ⊥ = cc in absurd z
     go false true e = let z : ⊥ = cc in absurd z
@@ -162,10 +162,10 @@ told_mirrors k new w b e a m u s n book q notes c = record {
   book = subst (λ z. IsBookOf z new.book (tell (setups_of k) w b e (rates (setups_of k) w))) (sym u) book;
   notes =
       notes
-      ∙ (ap₂ (λ x y. cond (is_noted y) (map note_shown k.notes ++ (let t : Told = record { event = x; answer = y } in t) ∷ []) (map note_shown k.notes)) count q
-      ∙ (ap (λ z. cond (is_noted (answer_of (answer_by (setups_of k) w b e))) (z ++ (let t : Told = record { event = suc w.count; answer = answer_of (answer_by (setups_of k) w b e) } in t) ∷ []) z) m.notes
+      ∙ (ap₂ (λ x y. cond (is_noted y) (map note_shown k.notes ++ (let t : NoteInfo = record { event = x; answer = y } in t) ∷ []) (map note_shown k.notes)) count q
+      ∙ (ap (λ z. cond (is_noted (answer_of (answer_by (setups_of k) w b e))) (z ++ (let t : NoteInfo = record { event = suc w.count; answer = answer_of (answer_by (setups_of k) w b e) } in t) ∷ []) z) m.notes
       ∙ (sym (notes_told (suc w.count) (answer_by (setups_of k) w b e) w.noted)
-      ∙ ap (map noted_told) (sym (told_noted (setups_of k) w b e (rates (setups_of k) w))))));
+      ∙ ap (map noted_info) (sym (told_noted (setups_of k) w b e (rates (setups_of k) w))))));
   count = count ∙ sym (told_count (setups_of k) w b e (rates (setups_of k) w));
 }
   where

@@ -54,16 +54,16 @@ abbrev pub noted_of : base.Answer → Option base.Answer
 noted_of a = cond (is_noted a) (Some a) None
 
 -- a note, whichever way it is known
-pub record Told : Type 0 where
+pub record NoteInfo : Type 0 where
   pub event : ℕ
   pub answer : base.Answer
 
-abbrev pub note_shown : Note → Told
+abbrev pub note_shown : Note → NoteInfo
 note_shown n = record { event = n.event; answer = noted_answer n.noted }
 
-abbrev pub noted_told : NotedEvent → Told
-noted_told n = record { event = n.event; answer = answer_of n.answer }
+abbrev pub noted_info : NotedEvent → NoteInfo
+noted_info n = record { event = n.event; answer = answer_of n.answer }
 
 -- the notes behind an event that was answered so
-abbrev pub NotesOn : List Told → ℕ → base.Answer → List Told → Type 0
+abbrev pub NotesOn : List NoteInfo → ℕ → base.Answer → List NoteInfo → Type 0
 NotesOn before event a after = after ≡ cond (is_noted a) (before ++ record { event = event; answer = a } ∷ []) before

@@ -6,14 +6,14 @@ use Rattle.lat_server.specs.Stands as servers
 use Rattle.lat_node.specs.Stands as nodes
 use Rattle.lat_ledger.specs.Books.{IsBookOf}
 use Rattle.lat_wire.specs.Kept.{Kept, setups_of}
-use Rattle.lat_wire.specs.Notes.{note_shown, noted_told}
+use Rattle.lat_wire.specs.Notes.{note_shown, noted_info}
 
 -- the parts are those of the world
 pub record Mirrors {H : Type 0} (k : Kept H) (w : Machines) : Type 0 where
   pub server : servers.Stands k.server w.server
   pub node : nodes.Stands k.node w.node
   pub book : IsBookOf (setups_of k) k.book w
-  pub notes : map note_shown k.notes ≡ map noted_told w.noted
+  pub notes : map note_shown k.notes ≡ map noted_info w.noted
   pub count : k.count ≡ w.count
 
 -- A wire stands for a world: its parts are the world's, and the world is a run of the two machines

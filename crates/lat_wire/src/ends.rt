@@ -3,7 +3,7 @@
 ghost use Rattle.std.specs.Prelude.{◌≡◌, ◌<◌, ◌≤◌, [], length, IfSome, IfOk, OnOk, OnErr};
 ghost use Rattle.lat_base.specs.Answers.{PutFits};
 ghost use Rattle.lat_machines.specs.cores.Hearing.{names};
-ghost use Rattle.lat_machines.specs.cores.Lines.{holds, waiting_at};
+ghost use Rattle.lat_machines.specs.cores.Lines.{has_session, waiting_at};
 ghost use Rattle.lat_machines.specs.values.Addresses.{address};
 ghost use Rattle.lat_machines.specs.values.Timing.{half_range};
 ghost use Rattle.lat_machines.specs.world.Machines.{Machines, core_of, tell};
@@ -103,8 +103,8 @@ impl<H: RatingRule> Ends<H> {
     }
 
     /// Whether a line of the server or of the node has a session.
-    pub(crate) fn held(&self, server: bool, line: u8) -> bool
-        ensures { (w : Machines) → AreEnds self.now w → result ≡ holds (core_of w server) line }
+    pub(crate) fn has_session(&self, server: bool, line: u8) -> bool
+        ensures { (w : Machines) → AreEnds self.now w → result ≡ has_session (core_of w server) line }
     {
         if server {
             is_held(self.server.line(line))

@@ -212,7 +212,7 @@ impl<H: RatingRule> Wire<H> {
 fn reserve(ledger: &mut Ledger, notes: &mut Vec<Note>) -> Result<(), Memory>
     ensures book { ledger.new.book ≡ ledger.old.book }
     ensures notes { notes.new.items ≡ notes.old.items }
-    ensures room { OnOk result (256 ≤ ledger.new.room) }
+    ensures reserved { OnOk result (256 ≤ ledger.new.reserved) }
     ensures spare { OnOk result (vec_len notes.new < vec_capacity notes.new) }
 {
     ledger.posts.reserve()?;
@@ -238,7 +238,7 @@ fn take(ledger: &mut Ledger, server: bool, taker: Option<u16>)
     ensures took { Took taker (tallies_of ledger.old.book server) (tallies_of ledger.new.book server) }
     ensures other { tallies_of ledger.new.book (not server) ≡ tallies_of ledger.old.book (not server) }
     ensures log { ledger.new.book.log ≡ ledger.old.book.log }
-    ensures room { ledger.new.room ≡ ledger.old.room }
+    ensures reserved { ledger.new.reserved ≡ ledger.old.reserved }
 {
     if let Some(circuit) = taker {
         ledger.take(server, circuit);

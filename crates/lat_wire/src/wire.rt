@@ -2,14 +2,14 @@
 
 ghost use Rattle.std.specs.Prelude.{◌≡◌, ◌≢◌, ◌*◌, ◌↔◌, IfOk, IsTrue, MatchOption, None, map, length, slice_get};
 ghost use Rattle.lat_machines.specs.values.Addresses.{address, everyone};
-ghost use Rattle.lat_machines.specs.cores.Lines.{holds, waiting_at};
+ghost use Rattle.lat_machines.specs.cores.Lines.{has_session, waiting_at};
 ghost use Rattle.lat_machines.specs.world.Machines.{Machines, core_of, open_machines};
 ghost use Rattle.lat_server.specs.Config as servers;
 ghost use Rattle.lat_node.specs.Config as nodes;
 ghost use Rattle.lat_wire.specs.Kept.{setups_of};
 ghost use Rattle.lat_rounds.specs.Lossless.{Lossless};
 ghost use Rattle.lat_rounds.specs.Rounds.{undelivered};
-ghost use Rattle.lat_wire.specs.Notes.{note_shown, noted_told};
+ghost use Rattle.lat_wire.specs.Notes.{note_shown, noted_info};
 ghost use Rattle.lat_wire.specs.Rates.{RatesWhatIsLeft};
 ghost use Rattle.lat_wire.specs.Stands.{Stands};
 ghost use Rattle.lat_wire.specs.Told.{ShowsPost};
@@ -164,10 +164,10 @@ impl<H: RatingRule> Wire<H> {
     }
 
     /// Whether a line of the server or of the node exists and has a session.
-    pub fn held(&self, server: bool, line: u8) -> bool
-        ensures { (w : Machines) → Stands self.now w → result ≡ holds (core_of w server) line }
+    pub fn has_session(&self, server: bool, line: u8) -> bool
+        ensures { (w : Machines) → Stands self.now w → result ≡ has_session (core_of w server) line }
     {
-        self.ends.held(server, line)
+        self.ends.has_session(server, line)
     }
 
     /// How many heard items a take on a line of the server or of the node could give now, 0 where it would be refused.
@@ -179,7 +179,7 @@ impl<H: RatingRule> Wire<H> {
 
     /// The events that were noted, in order.
     pub fn notes(&self) -> &[Note]
-        ensures { (w : Machines) → Stands self.now w → map note_shown result.now ≡ map noted_told w.noted }
+        ensures { (w : Machines) → Stands self.now w → map note_shown result.now ≡ map noted_info w.noted }
     {
         self.notes.as_slice()
     }

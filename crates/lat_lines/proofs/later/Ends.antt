@@ -7,7 +7,7 @@ use Rattle.lat_model.specs.sessions.Hearing.{HeardAll, hear_all}
 use Rattle.lat_model.specs.sessions.EndOk.{EndOk}
 use Rattle.lat_model.specs.numbers.Link.{Frame, is_next, is_unsent, window_open, ack_in}
 use Rattle.lat_model.specs.Lists.{is_empty}
-use Rattle.lat_model.specs.ends.End.{End, Step, still, then_do, lives, finish, send_bare, send_message, settle, form_packed, occasion, send_again, send_start, all_known}
+use Rattle.lat_model.specs.ends.End.{End, Step, still, then_do, lives, finish, send_bare, send_message, acknowledge, form_packed, occasion, send_again, send_start, all_known}
 use Rattle.lat_model.specs.ends.Timers.{passed, silent, unused, a_round, rounds_step, may_form, alive_step, due_step, living, note_empty, time_step}
 use Rattle.lat_model.specs.ends.Run.{RunStep, RunRepeated, RunBroke, ack_end, taken_end, broken_end, take_end, body_end, after_run, run_end}
 use Rattle.lat_model.specs.ends.Starting.{Agreed, reply_end, noted, replied, again_start, hear_reply, hear_stop}
@@ -38,15 +38,15 @@ tended_living f e h = tended_cond e (lives e) (f e) (still e) h (end_tended e)
 
 -- forming
 
-tended_settle : (e : End) → EndTended e (settle e).end
-tended_settle e = tended_cond e e.owed (send_bare false e) (still e) (record { sessions = all_tended e.half.sessions; running = refl; peer = refl }) (end_tended e)
+tended_acknowledge : (e : End) → EndTended e (acknowledge e).end
+tended_acknowledge e = tended_cond e e.owed (send_bare false e) (still e) (record { sessions = all_tended e.half.sessions; running = refl; peer = refl }) (end_tended e)
 
 tended_occasion : (e : End) → EndTended e (occasion e).end
 tended_occasion e =
     let p : Packing = pack e.room e.half.sessions in
-    tended_cond e (window_open e.window e.half.link) (form_packed p e) (settle e)
-    (tended_cond e (is_empty p.slots) (settle e) (send_message p e) (tended_settle e) (record { sessions = pack_tended e.room e.half.sessions; running = refl; peer = refl }))
-    (tended_settle e)
+    tended_cond e (window_open e.window e.half.link) (form_packed p e) (acknowledge e)
+    (tended_cond e (is_empty p.slots) (acknowledge e) (send_message p e) (tended_acknowledge e) (record { sessions = pack_tended e.room e.half.sessions; running = refl; peer = refl }))
+    (tended_acknowledge e)
 
 -- a moment
 

@@ -9,14 +9,14 @@ use Rattle.lat_machines.specs.cores.Lines.{over}
 use Rattle.lat_circuits.specs.Kept as circuits
 use Rattle.lat_circuits.specs.Stands as stands
 use Rattle.lat_lines.specs.declared.seat.Seat as own
-use Rattle.lat_lines.specs.Stands.{Present, IsSeat, NoneOn, Latest, end_shown, seat_shown, seat_told, present}
+use Rattle.lat_lines.specs.Stands.{Present, IsSeat, NoneOn, Latest, end_shown, seat_shown, seat_info, present}
 use Rattle.lat_lines.specs.Looks.{Looks, present_after}
 use Rattle.lat_lines.proofs.reaping.Seats.{Between, seat_later, still_over, present_told, told_over}
 
 -- of those that weren't over in c, what they are in d; they come behind the first n
 abbrev pub later : Core → Core → ℕ → List Seat → List Present
 later c d n [] = []
-later c d n (s ∷ ss) = cond (over c s) (later c d (suc n) ss) (seat_told d (suc n) s ∷ later c d (suc n) ss)
+later c d n (s ∷ ss) = cond (over c s) (later c d (suc n) ss) (seat_info d (suc n) s ∷ later c d (suc n) ss)
 
 abbrev pub AllHeld : circuits.Kept → List Present → Type 0
 AllHeld k ps = Each (λ (p : Present). circuits.has_id p.session.circuit k ≡ true) ps
@@ -33,11 +33,11 @@ pub present_later : (k : circuits.Kept) (lines : ℕ) (c d : Core) (n : ℕ) (ss
 present_later k lines c d n [] b e h = refl
 present_later k lines c d n (s ∷ ss) b e h = by (over c s) refl h (present_later k lines c d (suc n) ss b e.1)
   where
-    by : (t : Bool) → over c s ≡ t → AllHeld k (cond t (present c (suc n) ss) (seat_told c (suc n) s ∷ present c (suc n) ss))
+    by : (t : Bool) → over c s ≡ t → AllHeld k (cond t (present c (suc n) ss) (seat_info c (suc n) s ∷ present c (suc n) ss))
         → (AllHeld k (present c (suc n) ss) → map (present_after d) (present c (suc n) ss) ≡ later c d (suc n) ss)
-        → map (present_after d) (cond t (present c (suc n) ss) (seat_told c (suc n) s ∷ present c (suc n) ss)) ≡ cond t (later c d (suc n) ss) (seat_told d (suc n) s ∷ later c d (suc n) ss)
+        → map (present_after d) (cond t (present c (suc n) ss) (seat_info c (suc n) s ∷ present c (suc n) ss)) ≡ cond t (later c d (suc n) ss) (seat_info d (suc n) s ∷ later c d (suc n) ss)
     by true o g ih = ih g
-    by false o g ih = ap (λ p. p ∷ map (present_after d) (present c (suc n) ss)) (present_told k lines c d (suc n) s b e.0 g.0 o) ∙ ap (λ ps. seat_told d (suc n) s ∷ ps) (ih g.1)
+    by false o g ih = ap (λ p. p ∷ map (present_after d) (present c (suc n) ss)) (present_told k lines c d (suc n) s b e.0 g.0 o) ∙ ap (λ ps. seat_info d (suc n) s ∷ ps) (ih g.1)
 
 -- those that aren't over stay
 
@@ -48,8 +48,8 @@ none_some : {A : Type 0} (o : Option A) → is_none o ≡ not (is_some o)
 none_some None = refl
 none_some (Some a) = refl
 
-told_unended : (d : Core) (n : ℕ) (s : Seat) → unended (seat_told d n s) ≡ not (over d s)
-told_unended d n s = none_some (seat_told d n s).session.end ∙ ap not (told_over d n s)
+told_unended : (d : Core) (n : ℕ) (s : Seat) → unended (seat_info d n s) ≡ not (over d s)
+told_unended d n s = none_some (seat_info d n s).session.end ∙ ap not (told_over d n s)
 
 pub later_unended : (k : circuits.Kept) (lines : ℕ) (c d : Core) (n : ℕ) (ss : List Seat) → Between k c d → Each (IsSeat lines c) ss → filter unended (later c d n ss) ≡ present d n ss
 later_unended k lines c d n [] b e = refl
@@ -59,11 +59,11 @@ later_unended k lines c d n (s ∷ ss) b e = by (over c s) refl (later_unended k
     rest = later c d (suc n) ss
 
     by : (t : Bool) → over c s ≡ t → filter unended rest ≡ present d (suc n) ss
-        → filter unended (cond t rest (seat_told d (suc n) s ∷ rest)) ≡ cond (over d s) (present d (suc n) ss) (seat_told d (suc n) s ∷ present d (suc n) ss)
-    by true o ih = ih ∙ sym (ap (λ z. cond z (present d (suc n) ss) (seat_told d (suc n) s ∷ present d (suc n) ss)) (still_over k lines c d s b e.0 o).over)
-    by false o ih = ap (λ z. cond z (seat_told d (suc n) s ∷ filter unended rest) (filter unended rest)) (told_unended d (suc n) s) ∙ turned (over d s) ∙ ap (λ ps. cond (over d s) ps (seat_told d (suc n) s ∷ ps)) ih
+        → filter unended (cond t rest (seat_info d (suc n) s ∷ rest)) ≡ cond (over d s) (present d (suc n) ss) (seat_info d (suc n) s ∷ present d (suc n) ss)
+    by true o ih = ih ∙ sym (ap (λ z. cond z (present d (suc n) ss) (seat_info d (suc n) s ∷ present d (suc n) ss)) (still_over k lines c d s b e.0 o).over)
+    by false o ih = ap (λ z. cond z (seat_info d (suc n) s ∷ filter unended rest) (filter unended rest)) (told_unended d (suc n) s) ∙ turned (over d s) ∙ ap (λ ps. cond (over d s) ps (seat_info d (suc n) s ∷ ps)) ih
       where
-        turned : (t : Bool) → cond (not t) (seat_told d (suc n) s ∷ filter unended rest) (filter unended rest) ≡ cond t (filter unended rest) (seat_told d (suc n) s ∷ filter unended rest)
+        turned : (t : Bool) → cond (not t) (seat_info d (suc n) s ∷ filter unended rest) (filter unended rest) ≡ cond t (filter unended rest) (seat_info d (suc n) s ∷ filter unended rest)
         turned true = refl
         turned false = refl
 

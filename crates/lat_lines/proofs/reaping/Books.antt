@@ -6,11 +6,11 @@ use Rattle.lat_base.specs.declared.book.LineSession as base
 use Rattle.lat_model.specs.Lists.{Each}
 use Rattle.lat_machines.specs.cores.Books.{LineSession, line_session, line_history, book_of, book}
 use Rattle.lat_machines.specs.cores.Cores.{Seat, no_seat, Core}
-use Rattle.lat_machines.specs.cores.Lines.{over, last_on, holds}
+use Rattle.lat_machines.specs.cores.Lines.{over, last_on, has_session}
 use Rattle.lat_circuits.specs.Kept as circuits
 use Rattle.lat_lines.specs.declared.seat.Seat as own
 use Rattle.lat_lines.specs.Kept.{IsLine}
-use Rattle.lat_lines.specs.Stands.{Present, IsSeat, NoneOn, Latest, session_shown, session_told, seat_shown, seat_told, last_shown}
+use Rattle.lat_lines.specs.Stands.{Present, IsSeat, NoneOn, Latest, session_shown, session_info, seat_shown, seat_info, last_shown}
 use Rattle.lat_lines.specs.Looks.{is_over, last_after}
 use Rattle.lat_lines.proofs.reaping.Seats.{Between, still_over, told_over}
 use Rattle.lat_lines.proofs.reaping.After.{later}
@@ -82,7 +82,7 @@ book_last c line n (t ∷ ts) s xs x l h = by (nat_eq t.line line) refl (over c 
 
 pub last_booked : (c : Core) (line : ℕ) → Latest c c.seats → (book c line).last ≡ last_over c line 0 c.seats None
 last_booked c line l =
-    ap (last_of_book (holds c line)) (sym (append-nil (line_history c line 0 c.seats)))
+    ap (last_of_book (has_session c line)) (sym (append-nil (line_history c line 0 c.seats)))
     ∙ book_last c line 0 c.seats no_seat [] None l (record { last = none (not (over c no_seat)); alone = λ p q. absurd (q refl) })
   where
     none : (b : Bool) → last_of_book b [] ≡ None
@@ -150,13 +150,13 @@ none_noted : (c d : Core) (line n : ℕ) (ss : List Seat) (x : Option LineSessio
 none_noted c d line n [] x e = refl
 none_noted c d line n (s ∷ ss) x e = by (over c s) (none_noted c d line (suc n) ss x e.1)
   where
-    by : (t : Bool) → last_of line (later c d (suc n) ss) x ≡ x → last_of line (cond t (later c d (suc n) ss) (seat_told d (suc n) s ∷ later c d (suc n) ss)) x ≡ x
+    by : (t : Bool) → last_of line (later c d (suc n) ss) x ≡ x → last_of line (cond t (later c d (suc n) ss) (seat_info d (suc n) s ∷ later c d (suc n) ss)) x ≡ x
     by true ih = ih
-    by false ih = ap (λ b. last_of line (later c d (suc n) ss) (cond (b && ends (seat_told d (suc n) s)) (Some (seat_told d (suc n) s).session) x)) (ne_eqb s.line line e.0) ∙ ih
+    by false ih = ap (λ b. last_of line (later c d (suc n) ss) (cond (b && ends (seat_info d (suc n) s)) (Some (seat_info d (suc n) s).session) x)) (ne_eqb s.line line e.0) ∙ ih
 
 -- those that became over are the last of their lines
 last_later : (k : circuits.Kept) (lines : ℕ) (c d : Core) (line n : ℕ) (ss : List Seat) (x : Option LineSession) → Between k c d → Each (IsSeat lines c) ss → Latest c ss
-    → last_of line (later c d n ss) (option_map session_told (last_over c line n ss x)) ≡ option_map session_told (last_over d line n ss x)
+    → last_of line (later c d n ss) (option_map session_info (last_over c line n ss x)) ≡ option_map session_info (last_over d line n ss x)
 last_later k lines c d line n [] x b e l = refl
 last_later k lines c d line n (s ∷ ss) x b e l = by (nat_eq s.line line) refl (over c s) refl (over d s) refl (λ z. last_later k lines c d line (suc n) ss z b e.1 l.1)
   where
@@ -164,37 +164,37 @@ last_later k lines c d line n (s ∷ ss) x b e l = by (nat_eq s.line line) refl 
     rest = later c d (suc n) ss
 
     told : Option LineSession → Option LineSession
-    told = option_map session_told
+    told = option_map session_info
 
     by : (q : Bool) → nat_eq s.line line ≡ q → (t : Bool) → over c s ≡ t → (u : Bool) → over d s ≡ u
         → ((z : Option LineSession) → last_of line rest (told (last_over c line (suc n) ss z)) ≡ told (last_over d line (suc n) ss z))
-        → last_of line (cond t rest (seat_told d (suc n) s ∷ rest)) (told (last_over c line (suc n) ss (cond (q && t) (Some (line_session c (suc n) s)) x)))
+        → last_of line (cond t rest (seat_info d (suc n) s ∷ rest)) (told (last_over c line (suc n) ss (cond (q && t) (Some (line_session c (suc n) s)) x)))
         ≡ told (last_over d line (suc n) ss (cond (q && u) (Some (line_session d (suc n) s)) x))
     by false q true t u o ih = ih x
-    by false q false t u o ih = ap (λ y. last_of line rest (cond (y && ends (seat_told d (suc n) s)) (Some (seat_told d (suc n) s).session) (told (last_over c line (suc n) ss x)))) q ∙ ih x
+    by false q false t u o ih = ap (λ y. last_of line rest (cond (y && ends (seat_info d (suc n) s)) (Some (seat_info d (suc n) s).session) (told (last_over c line (suc n) ss x)))) q ∙ ih x
     by true q true t true o ih = ih (Some (line_session c (suc n) s)) ∙ ap (λ y. told (last_over d line (suc n) ss (Some y))) (sym ((still_over k lines c d s b e.0 t).same (suc n)))
     by true q true t false o ih = absurd (both_ways (over d s) o (still_over k lines c d s b e.0 t).over)
     by true q false t u o ih =
-        ap (λ y. last_of line rest (cond (y && ends (seat_told d (suc n) s)) (Some (seat_told d (suc n) s).session) (told (last_over c line (suc n) ss x)))) q
-        ∙ ap (λ y. last_of line rest (cond y (Some (seat_told d (suc n) s).session) (told (last_over c line (suc n) ss x)))) (told_over d (suc n) s ∙ o)
-        ∙ none_noted c d line (suc n) ss (cond u (Some (seat_told d (suc n) s).session) (told (last_over c line (suc n) ss x))) none
+        ap (λ y. last_of line rest (cond (y && ends (seat_info d (suc n) s)) (Some (seat_info d (suc n) s).session) (told (last_over c line (suc n) ss x)))) q
+        ∙ ap (λ y. last_of line rest (cond y (Some (seat_info d (suc n) s).session) (told (last_over c line (suc n) ss x)))) (told_over d (suc n) s ∙ o)
+        ∙ none_noted c d line (suc n) ss (cond u (Some (seat_info d (suc n) s).session) (told (last_over c line (suc n) ss x))) none
         ∙ here u
       where
         none : NoneOn line ss
         none = subst (λ z. NoneOn z ss) (eqb-true s.line line q) (l.0 t)
 
-        here : (v : Bool) → cond v (Some (seat_told d (suc n) s).session) (told (last_over c line (suc n) ss x)) ≡ told (last_over d line (suc n) ss (cond v (Some (line_session d (suc n) s)) x))
+        here : (v : Bool) → cond v (Some (seat_info d (suc n) s).session) (told (last_over c line (suc n) ss x)) ≡ told (last_over d line (suc n) ss (cond v (Some (line_session d (suc n) s)) x))
         here true = ap told (sym (none_over d line (suc n) ss (Some (line_session d (suc n) s)) none))
         here false = ap told (none_over c line (suc n) ss x none ∙ sym (none_over d line (suc n) ss x none))
 
 pub last_told : (k : circuits.Kept) (lines : ℕ) (c d : Core) (line : ℕ) (ss : List own.Seat) (ls : List (Option base.LineSession)) → Between k c d → Each (IsSeat lines c) c.seats → Latest c c.seats → Latest d c.seats → d.seats ≡ c.seats
     → length ls ≡ lines → Each (λ (s : own.Seat). IsLine lines s.line) ss → IsLine lines line → map seat_shown ss ≡ later c d 0 c.seats
-    → last_shown (slice_get ls (line - 1)) ≡ option_map session_told (book c line).last
-    → last_shown (slice_get (last_after ss ls) (line - 1)) ≡ option_map session_told (book d line).last
+    → last_shown (slice_get ls (line - 1)) ≡ option_map session_info (book c line).last
+    → last_shown (slice_get (last_after ss ls) (line - 1)) ≡ option_map session_info (book d line).last
 last_told k lines c d line ss ls b e l m same n each h is was =
     last_noted lines line ss ls n each h
     ∙ ap (λ ps. last_of line ps (last_shown (slice_get ls (line - 1)))) is
-    ∙ ap (last_of line (later c d 0 c.seats)) (was ∙ ap (option_map session_told) (last_booked c line l))
+    ∙ ap (last_of line (later c d 0 c.seats)) (was ∙ ap (option_map session_info) (last_booked c line l))
     ∙ last_later k lines c d line 0 c.seats None b e l
-    ∙ ap (λ zs. option_map session_told (last_over d line 0 zs None)) (sym same)
-    ∙ ap (option_map session_told) (sym (last_booked d line (subst (Latest d) (sym same) m)))
+    ∙ ap (λ zs. option_map session_info (last_over d line 0 zs None)) (sym same)
+    ∙ ap (option_map session_info) (sym (last_booked d line (subst (Latest d) (sym same) m)))

@@ -11,7 +11,7 @@ use Rattle.lat_stream.specs.Kept as stream
 use Rattle.lat_stream.specs.Kept.{state_shown, end_of}
 use Rattle.lat_session.specs.States.{is_asked}
 use Rattle.lat_session.proofs.Counts.{free_shown, WhileAsked, while_asked}
-use Rattle.lat_circuit.specs.Told.{session_end, circuit_end}
+use Rattle.lat_circuit.specs.Info.{session_end, circuit_end}
 use Rattle.lat_lines.specs.Stands.{end_shown}
 
 same_reason_at : (s : Session) (xs : List Slot) → stream.reject_reason (record s { came = xs }) ≡ reject_reason (record s { came = xs })

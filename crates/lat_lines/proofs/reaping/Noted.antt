@@ -6,12 +6,12 @@ use Rattle.lat_base.specs.declared.state.SessionEnd as base_end
 use Rattle.lat_model.specs.Lists.{Each}
 use Rattle.lat_machines.specs.values.Keys as keys
 use Rattle.lat_machines.specs.cores.Cores.{Seat, Core}
-use Rattle.lat_machines.specs.cores.Lines.{over, told_count}
+use Rattle.lat_machines.specs.cores.Lines.{over, saturated_count}
 use Rattle.lat_queue.specs.declared.key.Key.{Key}
 use Rattle.lat_queue.specs.Histories.{key_in, some_key}
 use Rattle.lat_circuits.specs.Kept as circuits
 use Rattle.lat_lines.specs.declared.seat.Seat as own
-use Rattle.lat_lines.specs.Stands.{Present, IsSeat, end_shown, seat_shown, seat_told, freed_key, freed_from}
+use Rattle.lat_lines.specs.Stands.{Present, IsSeat, end_shown, seat_shown, seat_info, freed_key, freed_from}
 use Rattle.lat_lines.specs.Looks.{is_over, finished_after, key_after, freed_after}
 use Rattle.lat_lines.proofs.reaping.Seats.{Between, still_over, told_over}
 use Rattle.lat_lines.proofs.reaping.After.{later}
@@ -30,32 +30,32 @@ same_over s = by s.session.end
 
 abbrev finished_of : List Present → ℕ → ℕ
 finished_of [] n = n
-finished_of (p ∷ ps) n = finished_of ps (cond (ends p) (told_count (suc n)) n)
+finished_of (p ∷ ps) n = finished_of ps (cond (ends p) (saturated_count (suc n)) n)
 
 finished_shown : (ss : List own.Seat) (n : ℕ) → finished_after ss n ≡ finished_of (map seat_shown ss) n
 finished_shown [] n = refl
-finished_shown (s ∷ ss) n = ap (λ t. finished_after ss (cond t (told_count (suc n)) n)) (sym (same_over s)) ∙ finished_shown ss (cond (ends (seat_shown s)) (told_count (suc n)) n)
+finished_shown (s ∷ ss) n = ap (λ t. finished_after ss (cond t (saturated_count (suc n)) n)) (sym (same_over s)) ∙ finished_shown ss (cond (ends (seat_shown s)) (saturated_count (suc n)) n)
 
 -- how many became over
 abbrev newly : Core → Core → List Seat → ℕ
 newly c d [] = 0
 newly c d (s ∷ ss) = cond (over c s) (newly c d ss) (cond (over d s) (suc (newly c d ss)) (newly c d ss))
 
-told_more : (m : ℕ) → told_count (suc (told_count m)) ≡ told_count (suc m)
+told_more : (m : ℕ) → saturated_count (suc (saturated_count m)) ≡ saturated_count (suc m)
 told_more m = omega arith
 
-finished_later : (c d : Core) (n m : ℕ) (ss : List Seat) → finished_of (later c d n ss) (told_count m) ≡ told_count (m + newly c d ss)
-finished_later c d n m [] = ap told_count (omega arith)
+finished_later : (c d : Core) (n m : ℕ) (ss : List Seat) → finished_of (later c d n ss) (saturated_count m) ≡ saturated_count (m + newly c d ss)
+finished_later c d n m [] = ap saturated_count (omega arith)
 finished_later c d n m (s ∷ ss) = by (over c s) (over d s) (told_over d (suc n) s) (finished_later c d (suc n) m ss) (finished_later c d (suc n) (suc m) ss)
   where
     rest : List Present
     rest = later c d (suc n) ss
 
-    by : (t u : Bool) → ends (seat_told d (suc n) s) ≡ u → finished_of rest (told_count m) ≡ told_count (m + newly c d ss) → finished_of rest (told_count (suc m)) ≡ told_count (suc m + newly c d ss)
-        → finished_of (cond t rest (seat_told d (suc n) s ∷ rest)) (told_count m) ≡ told_count (m + cond t (newly c d ss) (cond u (suc (newly c d ss)) (newly c d ss)))
+    by : (t u : Bool) → ends (seat_info d (suc n) s) ≡ u → finished_of rest (saturated_count m) ≡ saturated_count (m + newly c d ss) → finished_of rest (saturated_count (suc m)) ≡ saturated_count (suc m + newly c d ss)
+        → finished_of (cond t rest (seat_info d (suc n) s ∷ rest)) (saturated_count m) ≡ saturated_count (m + cond t (newly c d ss) (cond u (suc (newly c d ss)) (newly c d ss)))
     by true u e x y = x
-    by false true e x y = ap (λ z. finished_of rest (cond z (told_count (suc (told_count m))) (told_count m))) e ∙ ap (finished_of rest) (told_more m) ∙ y ∙ ap told_count (omega arith)
-    by false false e x y = ap (λ z. finished_of rest (cond z (told_count (suc (told_count m))) (told_count m))) e ∙ x
+    by false true e x y = ap (λ z. finished_of rest (cond z (saturated_count (suc (saturated_count m))) (saturated_count m))) e ∙ ap (finished_of rest) (told_more m) ∙ y ∙ ap saturated_count (omega arith)
+    by false false e x y = ap (λ z. finished_of rest (cond z (saturated_count (suc (saturated_count m))) (saturated_count m))) e ∙ x
 
 over_more : (k : circuits.Kept) (lines : ℕ) (c d : Core) (ss : List Seat) → Between k c d → Each (IsSeat lines c) ss → length (filter (over c) ss) + newly c d ss ≡ length (filter (over d) ss)
 over_more k lines c d [] b e = refl
@@ -69,12 +69,12 @@ over_more k lines c d (s ∷ ss) b e = by (over c s) (over d s) (λ h. (still_ov
     by false false h ih = ih
 
 pub finished_told : (k : circuits.Kept) (lines : ℕ) (c d : Core) (ss : List own.Seat) (ts : List Seat) → Between k c d → Each (IsSeat lines c) ts → map seat_shown ss ≡ later c d 0 ts
-    → finished_after ss (told_count (length (filter (over c) ts))) ≡ told_count (length (filter (over d) ts))
+    → finished_after ss (saturated_count (length (filter (over c) ts))) ≡ saturated_count (length (filter (over d) ts))
 finished_told k lines c d ss ts b e is =
-    finished_shown ss (told_count (length (filter (over c) ts)))
-    ∙ ap (λ ps. finished_of ps (told_count (length (filter (over c) ts)))) is
+    finished_shown ss (saturated_count (length (filter (over c) ts)))
+    ∙ ap (λ ps. finished_of ps (saturated_count (length (filter (over c) ts)))) is
     ∙ finished_later c d 0 (length (filter (over c) ts)) ts
-    ∙ ap told_count (over_more k lines c d ts b e)
+    ∙ ap saturated_count (over_more k lines c d ts b e)
 
 -- the requests that they were granted for
 
@@ -112,8 +112,8 @@ freed_later c d n (s ∷ ss) ks = by (over c s) (over d s) (told_over d (suc n) 
     rest : List Present
     rest = later c d (suc n) ss
 
-    by : (t u : Bool) → ends (seat_told d (suc n) s) ≡ u → ((ls : List keys.Key) → freed_of rest ls ≡ ls ++ freed_from c d ss)
-        → freed_of (cond t rest (seat_told d (suc n) s ∷ rest)) ks ≡ ks ++ cond t (freed_from c d ss) (cond u (freed_key s.key (freed_from c d ss)) (freed_from c d ss))
+    by : (t u : Bool) → ends (seat_info d (suc n) s) ≡ u → ((ls : List keys.Key) → freed_of rest ls ≡ ls ++ freed_from c d ss)
+        → freed_of (cond t rest (seat_info d (suc n) s ∷ rest)) ks ≡ ks ++ cond t (freed_from c d ss) (cond u (freed_key s.key (freed_from c d ss)) (freed_from c d ss))
     by true u e ih = ih ks
     by false true e ih = ap (λ z. freed_of rest (cond z (keys_after s.key ks) ks)) e ∙ ih (keys_after s.key ks) ∙ key_more s.key ks (freed_from c d ss)
     by false false e ih = ap (λ z. freed_of rest (cond z (keys_after s.key ks) ks)) e ∙ ih ks

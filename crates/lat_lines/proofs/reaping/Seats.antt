@@ -11,11 +11,11 @@ use Rattle.lat_machines.specs.cores.Lines.{end_of, sessions_of, session_of, over
 use Rattle.lat_stream.specs.Kept.{saturated}
 use Rattle.lat_circuits.specs.Kept as circuits
 use Rattle.lat_circuits.specs.Stands as stands
-use Rattle.lat_circuits.specs.Told.{telling_of, asks}
+use Rattle.lat_circuits.specs.Info.{telling_of, asks}
 use Rattle.lat_lines.specs.Later.{IsAccepted, Replaced, SessionLater, Unheard}
 use Rattle.lat_lines.specs.Cores.{CoreLater}
-use Rattle.lat_lines.specs.Stands.{Present, IsSeat, session_told, seat_told}
-use Rattle.lat_lines.specs.Looks.{session_closed, session_seen, session_after, present_after}
+use Rattle.lat_lines.specs.Stands.{Present, IsSeat, session_info, seat_info}
+use Rattle.lat_lines.specs.Looks.{session_closed, session_reviewed, session_after, present_after}
 use Rattle.lat_lines.proofs.reaping.Held.{IsStood, stood_at}
 use Rattle.lat_lines.proofs.reaping.Ends.{ended, end_told, ended_over, ended_stays, ended_closed, waits_asked, answered_told}
 
@@ -148,10 +148,10 @@ told_as d n s z end = record {
 }
 
 -- under its id
-seen_told : (c d : Core) (n : ℕ) (s : Seat) → IsStood (end_of d s) → (session_of d s).id ≢ 0 → named (sessions_of d s) s.id ≡ session_of d s
-    → session_seen (telling_of d s.circuit s.id) (session_told (line_session c n s)) ≡ session_told (line_session d n s)
-seen_told c d n s st some e =
-    ap (λ z. told_as d n s z (session_seen (telling_of d s.circuit s.id) (session_told (line_session c n s))).end) e
+reviewed_info : (c d : Core) (n : ℕ) (s : Seat) → IsStood (end_of d s) → (session_of d s).id ≢ 0 → named (sessions_of d s) s.id ≡ session_of d s
+    → session_reviewed (telling_of d s.circuit s.id) (session_info (line_session c n s)) ≡ session_info (line_session d n s)
+reviewed_info c d n s st some e =
+    ap (λ z. told_as d n s z (session_reviewed (telling_of d s.circuit s.id) (session_info (line_session c n s))).end) e
     ∙ ap (told_as d n s (session_of d s)) (end_told (end_of d s) s.id st.exists (λ z. some (ap (λ (y : Session). y.id) (sym e) ∙ z)) ∙ ap (ended (end_of d s)) e)
 
 not_asked : (d : Core) (s : Seat) → IsStood (end_of d s) → IsAccepted (sessions_of d s) s.serial → named (sessions_of d s) s.id ≡ session_of d s → asks (sessions_of d s) s.id ≡ false
@@ -161,16 +161,16 @@ not_asked d s st a e = answered_told (sessions_of d s).master (named (sessions_o
     heard m = subst (λ z. cond z (session_of d s).accepted (starts (session_of d s).came) ≡ true) m (st.begun s.serial a.kept)
 
 found_told : (c d : Core) (n : ℕ) (s : Seat) → IsStood (end_of d s) → IsAccepted (sessions_of d s) s.serial → named (sessions_of d s) s.id ≡ session_of d s
-    → session_after (telling_of d s.circuit s.id) (session_told (line_session c n s)) ≡ session_told (line_session d n s)
+    → session_after (telling_of d s.circuit s.id) (session_info (line_session c n s)) ≡ session_info (line_session d n s)
 found_told c d n s st a e =
-    ap (λ b. cond b (session_closed (telling_of d s.circuit s.id) (session_told (line_session c n s))) (session_seen (telling_of d s.circuit s.id) (session_told (line_session c n s)))) (not_asked d s st a e)
-    ∙ seen_told c d n s st ((st.good.each s.serial).id_some a.kept) e
+    ap (λ b. cond b (session_closed (telling_of d s.circuit s.id) (session_info (line_session c n s))) (session_reviewed (telling_of d s.circuit s.id) (session_info (line_session c n s)))) (not_asked d s st a e)
+    ∙ reviewed_info c d n s st ((st.good.each s.serial).id_some a.kept) e
 
 -- replaced under its id
 replaced_told : (c d : Core) (n : ℕ) (s : Seat) → (sessions_of d s).master ≡ (sessions_of c s).master → (session_of c s).id ≡ s.id → Replaced (sessions_of c s) (sessions_of d s) s.serial
-    → session_after (telling_of d s.circuit s.id) (session_told (line_session c n s)) ≡ session_told (line_session d n s)
+    → session_after (telling_of d s.circuit s.id) (session_info (line_session c n s)) ≡ session_info (line_session d n s)
 replaced_told c d n s m i r =
-    ap (λ b. cond b (session_closed (telling_of d s.circuit s.id) (session_told (line_session c n s))) (session_seen (telling_of d s.circuit s.id) (session_told (line_session c n s)))) (waits_asked (sessions_of d s).master (named (sessions_of d s) s.id) (m ∙ r.slave) (subst (λ z. waits (named (sessions_of d s) z) ≡ true) i r.waits))
+    ap (λ b. cond b (session_closed (telling_of d s.circuit s.id) (session_info (line_session c n s))) (session_reviewed (telling_of d s.circuit s.id) (session_info (line_session c n s)))) (waits_asked (sessions_of d s).master (named (sessions_of d s) s.id) (m ∙ r.slave) (subst (λ z. waits (named (sessions_of d s) z) ≡ true) i r.waits))
     ∙ ap (λ z. record (closed z (session_of c s).out) { end = Some EndedClosed }) (sym r.peer)
     ∙ ap (λ z. record (closed (peer (session_of d s)) z) { end = Some EndedClosed }) (sym r.out)
     ∙ ap (told_as d n s (session_of d s)) (sym (ended_closed (end_of d s) (session_of d s) r.free r.closed))
@@ -188,7 +188,7 @@ replaced_told c d n s m i r =
       end = Some EndedClosed;
     }
 
-pub present_told : (k : circuits.Kept) (lines : ℕ) (c d : Core) (n : ℕ) (s : Seat) → Between k c d → IsSeat lines c s → circuits.has_id s.circuit k ≡ true → over c s ≡ false → present_after d (seat_told c n s) ≡ seat_told d n s
+pub present_told : (k : circuits.Kept) (lines : ℕ) (c d : Core) (n : ℕ) (s : Seat) → Between k c d → IsSeat lines c s → circuits.has_id s.circuit k ≡ true → over c s ≡ false → present_after d (seat_info c n s) ≡ seat_info d n s
 present_told k lines c d n s b seat held h = ap present_of told
   where
     present_of : LineSession → Present
@@ -200,12 +200,12 @@ present_told k lines c d n s b seat held h = ap present_of told
     later : SessionLater (sessions_of c s) (sessions_of d s) s.serial
     later = session_later k lines c d s b seat parts.0
 
-    told : session_after (telling_of d s.circuit s.id) (session_told (line_session c n s)) ≡ session_told (line_session d n s)
+    told : session_after (telling_of d s.circuit s.id) (session_info (line_session c n s)) ≡ session_info (line_session d n s)
     told =
-        ⊎_elim {C = session_after (telling_of d s.circuit s.id) (session_told (line_session c n s)) ≡ session_told (line_session d n s)}
+        ⊎_elim {C = session_after (telling_of d s.circuit s.id) (session_info (line_session c n s)) ≡ session_info (line_session d n s)}
         (λ e. found_told c d n s (stood_at k d s.circuit b.stands held) later.still (ap (sessions_of d s).session (ap (sessions_of d s).at_id (sym seat.id) ∙ e)))
         (λ r. replaced_told c d n s (b.later.living s.circuit seat.drawn.1 parts.0).sessions.master seat.id r) (later.found parts.1)
 
 -- it has an end exactly where it is over
-pub told_over : (d : Core) (n : ℕ) (s : Seat) → is_some (seat_told d n s).session.end ≡ over d s
+pub told_over : (d : Core) (n : ℕ) (s : Seat) → is_some (seat_info d n s).session.end ≡ over d s
 told_over d n s = ended_over (end_of d s) (session_of d s)

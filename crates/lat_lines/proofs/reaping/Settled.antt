@@ -5,7 +5,7 @@ use Rattle.lat_base.specs.declared.book.LineSession as base
 use Rattle.lat_base.specs.declared.state.SessionEnd as base_end
 use Rattle.lat_model.specs.Lists.{Each}
 use Rattle.lat_machines.specs.cores.Cores.{Core}
-use Rattle.lat_machines.specs.cores.Lines.{over, told_count}
+use Rattle.lat_machines.specs.cores.Lines.{over, saturated_count}
 use Rattle.lat_queue.specs.declared.key.Key.{Key}
 use Rattle.lat_queue.specs.Histories.{key_in}
 use Rattle.lat_stream.specs.Kept.{saturated}
@@ -109,7 +109,7 @@ settled k ss c d holds seated covers st went z = (
     seats = filter_shown ss ∙ ap (filter unended) shown ∙ later_unended k.circuits k.lines c d 0 c.seats b seated.each ∙ ap (present d 0) (sym went.seats);
     last = λ line l. last_told k.circuits k.lines c d line ss k.last b seated.each seated.latest latest went.seats holds.last (lines_looked k.circuits k.lines k.seats ss z holds.each) l shown (seated.last line l);
     made = seated.made ∙ ap (λ xs. saturated (length xs)) (sym went.seats);
-    finished = ap (finished_after ss) seated.finished ∙ finished_told k.circuits k.lines c d ss c.seats b seated.each shown ∙ ap (λ xs. told_count (length (filter (over d) xs))) (sym went.seats);
+    finished = ap (finished_after ss) seated.finished ∙ finished_told k.circuits k.lines c d ss c.seats b seated.each shown ∙ ap (λ xs. saturated_count (length (filter (over d) xs))) (sym went.seats);
     each = subst (Each (IsSeat k.lines d)) (sym went.seats) (seats_later k.circuits k.lines c d c.seats b seated.each);
     latest = subst (Latest d) (sym went.seats) latest;
     unheard = went.unheard;

@@ -12,7 +12,7 @@ use Rattle.lat_model.specs.circuits.World.{CircuitEntry}
 use Rattle.lat_machines.specs.cores.Acts.{steps_at, idle}
 use Rattle.lat_machines.specs.cores.Cores.{Core, Side}
 use Rattle.lat_stream.specs.Kept.{state_shown}
-use Rattle.lat_circuit.specs.Told.{session_state}
+use Rattle.lat_circuit.specs.Info.{session_state}
 use Rattle.lat_session.specs.declared.call.SessionCall.{SessionCall}
 use Rattle.lat_session.specs.declared.call.SessionCall.TheVariants as calls
 use Rattle.lat_session.specs.Calls.{call_of}

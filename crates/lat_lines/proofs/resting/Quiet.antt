@@ -6,7 +6,7 @@ use Rattle.lat_model.specs.sessions.Slots.{Slot}
 use Rattle.lat_model.specs.sessions.Hearing.{HeardAll, hear_all}
 use Rattle.lat_model.specs.sessions.Packing.{Packing, pack}
 use Rattle.lat_model.specs.numbers.Link.{Frame, is_unsent, ack_in, is_next, window_open}
-use Rattle.lat_model.specs.ends.End.{End, Step, still, then_do, lives, finish, send_bare, all_known, send_message, settle, form_packed, occasion, send_again, send_start}
+use Rattle.lat_model.specs.ends.End.{End, Step, still, then_do, lives, finish, send_bare, all_known, send_message, acknowledge, form_packed, occasion, send_again, send_start}
 use Rattle.lat_model.specs.ends.Timers.{passed, silent, unused, a_round, rounds_step, may_form, alive_step, due_step, living, time_step}
 use Rattle.lat_model.specs.ends.Run.{RunAnswer, RunRepeated, RunBroke, RunStep, ack_end, taken_end, broken_end, take_end, body_end, after_run, run_end}
 use Rattle.lat_machines.specs.values.Answers.{Circuit}
@@ -46,14 +46,14 @@ then_quiet e s f p q none =
     let parts = nil_parts s.sent (f s.end).sent none in
     quiet_trans e s.end (f s.end).end (p parts.0) (q parts.1)
 
-settle_quiet : (e : End) → Quietly e (settle e)
-settle_quiet e = cond_both e.owed (send_bare false e) (still e) (Quietly e) (λ h z. record { sessions = refl; exists = refl; ended = refl; peer = refl }) (λ h z. quiet_refl e)
+acknowledge_quiet : (e : End) → Quietly e (acknowledge e)
+acknowledge_quiet e = cond_both e.owed (send_bare false e) (still e) (Quietly e) (λ h z. record { sessions = refl; exists = refl; ended = refl; peer = refl }) (λ h z. quiet_refl e)
 
 packed_quiet : (p : Packing) (e : End) → Quietly e (form_packed p e)
-packed_quiet p e = cond_both (is_empty p.slots) (settle e) (send_message p e) (Quietly e) (λ h. settle_quiet e) (λ h z. absurd (omega (arith, ap length z)))
+packed_quiet p e = cond_both (is_empty p.slots) (acknowledge e) (send_message p e) (Quietly e) (λ h. acknowledge_quiet e) (λ h z. absurd (omega (arith, ap length z)))
 
 occasion_quiet : (e : End) → Quietly e (occasion e)
-occasion_quiet e = cond_both (window_open e.window e.half.link) (form_packed (pack e.room e.half.sessions) e) (settle e) (Quietly e) (λ h. packed_quiet (pack e.room e.half.sessions) e) (λ h. settle_quiet e)
+occasion_quiet e = cond_both (window_open e.window e.half.link) (form_packed (pack e.room e.half.sessions) e) (acknowledge e) (Quietly e) (λ h. packed_quiet (pack e.room e.half.sessions) e) (λ h. acknowledge_quiet e)
 
 -- a time
 

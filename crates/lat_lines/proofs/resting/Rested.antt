@@ -5,7 +5,7 @@ use Rattle.lat_model.specs.sessions.Session.{free}
 use Rattle.lat_model.specs.Lists.{Each}
 use Rattle.lat_model.specs.ends.End.{lives}
 use Rattle.lat_machines.specs.cores.Cores.{no_seat, Core}
-use Rattle.lat_machines.specs.cores.Lines.{over, session_of, told_count}
+use Rattle.lat_machines.specs.cores.Lines.{over, session_of, saturated_count}
 use Rattle.lat_queue.specs.Histories.{key_in}
 use Rattle.lat_stream.specs.Kept.{saturated}
 use Rattle.lat_circuits.specs.Kept as circuits
@@ -13,7 +13,7 @@ use Rattle.lat_circuits.specs.Stands as stands
 use Rattle.lat_lines.specs.Kept.{Kept}
 use Rattle.lat_lines.specs.Calm.{CoreCalm}
 use Rattle.lat_lines.specs.Cores.{CoreLater}
-use Rattle.lat_lines.specs.Stands.{Seated, Stands, IsSeat, Latest, present, session_told, freed_between}
+use Rattle.lat_lines.specs.Stands.{Seated, Stands, IsSeat, Latest, present, session_info, freed_between}
 use Rattle.lat_lines.proofs.CoresLater.{none_later}
 use Rattle.lat_lines.proofs.Acting.{Acted}
 use Rattle.lat_lines.proofs.reaping.Seats.{Between}
@@ -41,9 +41,9 @@ rested_seated k q c d s h later calm zero = (seated, sym (freed_steady c d c.sea
     seated : Seated (record k { circuits = q; freed = [] }) d
     seated = record {
       seats = s.seats ∙ sym (present_steady c d 0 c.seats steady) ∙ ap (present d 0) (sym later.seats);
-      last = λ line l. s.last line l ∙ ap (λ z. option_map session_told z.last) (sym (book_steady c d line later.seats none steady));
+      last = λ line l. s.last line l ∙ ap (λ z. option_map session_info z.last) (sym (book_steady c d line later.seats none steady));
       made = s.made ∙ ap (λ xs. saturated (length xs)) (sym later.seats);
-      finished = s.finished ∙ ap told_count (sym (ended_steady c d later.seats steady));
+      finished = s.finished ∙ ap saturated_count (sym (ended_steady c d later.seats steady));
       each = subst (Each (IsSeat k.lines d)) (sym later.seats) (seats_later q k.lines c d c.seats b s.each);
       latest = subst (Latest d) (sym later.seats) (latest_later q k.lines c d c.seats b s.each s.latest);
       unheard = later.unheard;

@@ -3,8 +3,8 @@ use Rattle.std.proofs.Common.{◌≡◌, ℕ, suc, Bool, true, false, not, cond,
 use Rattle.lat_model.specs.Lists.{Each}
 use Rattle.lat_machines.specs.cores.Books.{LineSession, line_session, line_history, book_of, book}
 use Rattle.lat_machines.specs.cores.Cores.{Seat, no_seat, Core}
-use Rattle.lat_machines.specs.cores.Lines.{over, last_on, holds, ended}
-use Rattle.lat_lines.specs.Stands.{Present, session_told, present, freed_key, freed_from}
+use Rattle.lat_machines.specs.cores.Lines.{over, last_on, has_session, ended}
+use Rattle.lat_lines.specs.Stands.{Present, session_info, present, freed_key, freed_from}
 
 -- what its line knows of it
 pub record IsSteady (c d : Core) (s : Seat) : Type 0 where
@@ -15,7 +15,7 @@ abbrev pub AllSteady : Core → Core → List Seat → Type 0
 AllSteady c d ss = Each (IsSteady c d) ss
 
 abbrev told_as : Seat → LineSession → Present
-told_as s l = record { line = s.line; key = s.key; session = session_told l }
+told_as s l = record { line = s.line; key = s.key; session = session_info l }
 
 pub present_steady : (c d : Core) (n : ℕ) (ss : List Seat) → AllSteady c d ss → present d n ss ≡ present c n ss
 present_steady c d n [] e = refl
@@ -40,7 +40,7 @@ last_steady c d line s (x ∷ xs) o e = last_steady c d line (cond (nat_eq x.lin
 -- a line that never had a session has none
 pub book_steady : (c d : Core) (line : ℕ) → d.seats ≡ c.seats → over d no_seat ≡ over c no_seat → AllSteady c d c.seats → book d line ≡ book c line
 book_steady c d line same none e =
-    let busy : holds d line ≡ holds c line = ap (λ ss. not (over d (last_on line no_seat ss))) same ∙ ap not (last_steady c d line no_seat c.seats none e) in
+    let busy : has_session d line ≡ has_session c line = ap (λ ss. not (over d (last_on line no_seat ss))) same ∙ ap not (last_steady c d line no_seat c.seats none e) in
     let history = ap (line_history d line 0) same ∙ history_steady c d line 0 c.seats e in
     λ j. book_of (busy j) (history j)
 

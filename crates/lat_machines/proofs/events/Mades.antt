@@ -11,7 +11,7 @@ use Rattle.lat_machines.specs.values.Answers.{Accepted, Took, Done, NoLine, Clos
 use Rattle.lat_machines.specs.cores.Acts.{Acted, idle, steps_at, local_at, time_at}
 use Rattle.lat_machines.specs.cores.Cores.{Seat, Core, Side, sent_frame, Doing, rests, then_doing, with_circuits, acts, passes_time, time_each}
 use Rattle.lat_machines.specs.cores.LineCalls.{Said, says, calls_on, put_on, set_on, attend_on, take_on, close_on, on_line}
-use Rattle.lat_machines.specs.cores.Lines.{line_exists, holds, seat_at, session_of, sessions_of}
+use Rattle.lat_machines.specs.cores.Lines.{line_exists, has_session, seat_at, session_of, sessions_of}
 use Rattle.lat_machines.specs.world.Machines.{Posted, post_all}
 use Rattle.lat_machines.specs.world.Ties.{Shows}
 use Rattle.lat_machines.proofs.events.Leads.{CallFits, Quiet, Leads, leads_none, leads_quiet, leads_then, local_leads, time_leads, table_with, append_nil}
@@ -122,6 +122,6 @@ close_made k c w s q = said_cond w k.server (take_open (session_of c s)) (says (
 
 pub line_made : {L : List ℕ → Type 0} (k : Side) (lines : ℕ) (c : Core) (w : World) (line : ℕ) (f : Seat → Said) → table w k.server ≡ c.circuits → ((s : Seat) → Made L Quiet w k.server (f s).core []) → Made L Quiet w k.server (on_line lines c line f).core []
 line_made k lines c w line f q h =
-    said_cond w k.server (line_exists lines line) (cond (holds c line) (f (seat_at c line)) (says c Closed)) (says c NoLine)
-    (said_cond w k.server (holds c line) (f (seat_at c line)) (says c Closed) (h (seat_at c line)) (made_none w k.server c q))
+    said_cond w k.server (line_exists lines line) (cond (has_session c line) (f (seat_at c line)) (says c Closed)) (says c NoLine)
+    (said_cond w k.server (has_session c line) (f (seat_at c line)) (says c Closed) (h (seat_at c line)) (made_none w k.server c q))
     (made_none w k.server c q)

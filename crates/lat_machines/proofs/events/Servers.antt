@@ -26,7 +26,7 @@ use Rattle.lat_machines.specs.values.Answers.{Connected, NoLine, Busy, SessionsF
 use Rattle.lat_machines.specs.cores.Acts.{call_at}
 use Rattle.lat_machines.specs.cores.Hearing.{HeardAct, names, numbers_at, run_frame, hear_run, hear_stop_at, hear_reply_at}
 use Rattle.lat_machines.specs.cores.Cores.{Seat, Core, setup_of, Doing, rests, acts, at_moment, circuit_to}
-use Rattle.lat_machines.specs.cores.Lines.{over, holds, line_exists}
+use Rattle.lat_machines.specs.cores.Lines.{over, has_session, line_exists}
 use Rattle.lat_machines.specs.cores.LineCalls.{put_on, set_on, attend_on, take_on, close_on}
 use Rattle.lat_machines.specs.server.Server.{Offer, ServerConfig, Server, ServerStep, Passing, server_side, offer_on, has_room, can_open, calls_to, connects_on, opens, connects_to, solicits_for, connect_event, heard_at, hears_message, hears_announcement, hears_command, hears_notice, hears_value, hears, server_event, key_of, status_frame, finish_one, finish_all, finished_requests, grant_frame, fitting, grantable, grants_by, grant_line, grant_lines, grant_pass, server_step, tells, does, offered}
 use Rattle.lat_machines.proofs.events.Leads.{Quiet, Leads, Brings, leads_ignored, any_agreed, run_leads, stop_leads, reply_leads, call_leads, table_with, each_more}
@@ -196,7 +196,7 @@ did_core : {L D : List ℕ → Type 0} (w : World) (st : Server) (c : Core) (fs 
 did_core w st c fs f m = record { made = m; fits = record { heard = f.heard; queue = f.queue } }
 
 did_connect : {L : List ℕ → Type 0} (config : ServerConfig) (w : World) (st : Server) (line : ℕ) (service : Name) → L service → table w true ≡ st.core.circuits → w.setup ≡ setup_of config.timing → ServerFits st → Did L Quiet w (connect_event config st line service).state (connect_event config st line service).frames
-did_connect {L} config w st line service l q s f = go (line_exists config.lines line) (holds st.core line) (best config.groups service st.core.moment st.heard) (best_fits config.groups service st.core.moment st.heard f.heard)
+did_connect {L} config w st line service l q s f = go (line_exists config.lines line) (has_session st.core line) (best config.groups service st.core.moment st.heard) (best_fits config.groups service st.core.moment st.heard f.heard)
   where
     none : Did L Quiet w st []
     none = did_none w st q f
@@ -308,7 +308,7 @@ finish_fits c (s ∷ ss) h p = finish_fits c ss (finish_one c s.key (over c s) h
 
 grantable_fits : (st : Server) (line : ℕ) (o : Option Name) → ServerFits st → RequestFits (grantable st line o)
 grantable_fits st line None f = tt
-grantable_fits st line (Some service) f = go (holds st.core line) (next_request service st.queue) (next_fits service st.queue f.queue)
+grantable_fits st line (Some service) f = go (has_session st.core line) (next_request service st.queue) (next_fits service st.queue f.queue)
   where
     fit : (n : Bool) (r : Request) → r.from ≢ everyone → RequestFits (cond n (Some r) None)
     fit true r p = p

@@ -16,7 +16,7 @@ use Rattle.lat_machines.specs.server.Queue.{Cancels}
 use Rattle.lat_machines.specs.server.Records.{kept_of}
 use Rattle.lat_machines.specs.cores.Hearing.{StartFact, Repeats, Makes, Refuses, start_fact}
 use Rattle.lat_machines.specs.cores.Cores.{Seat, Core, Doing, at_moment, circuit_to}
-use Rattle.lat_machines.specs.cores.Lines.{session_of, seat_at, holds, line_exists}
+use Rattle.lat_machines.specs.cores.Lines.{session_of, seat_at, has_session, line_exists}
 use Rattle.lat_machines.specs.cores.LineCalls.{Said, says, put_on, set_on, attend_on, take_on, close_on, on_line}
 use Rattle.lat_machines.specs.server.Server.{ServerConfig, Server, ServerStep, server_side, opens, does, has_room, connects_to, solicits_for, connect_event, status_frame, key_of, open_server, hears_announcement, hears_command, server_event, passed}
 use Rattle.lat_machines.specs.server.Server as Server
@@ -46,8 +46,8 @@ no_such a p q = absurd (false≢true (sym p ∙ q))
 
 line_same : (lines : ℕ) (c : Core) (line : ℕ) (f : Seat → Said) → ((s : Seat) → SaidSame c (f s)) → SaidSame c (on_line lines c line f)
 line_same lines c line f p =
-    said_cond c (line_exists lines line) (cond (holds c line) (f (seat_at c line)) (says c Closed)) (says c NoLine)
-    (said_cond c (holds c line) (f (seat_at c line)) (says c Closed) (p (seat_at c line)) (says_same c Closed)) (says_same c NoLine)
+    said_cond c (line_exists lines line) (cond (has_session c line) (f (seat_at c line)) (says c Closed)) (says c NoLine)
+    (said_cond c (has_session c line) (f (seat_at c line)) (says c Closed) (p (seat_at c line)) (says_same c Closed)) (says_same c NoLine)
 
 done_same : (c : Core) (n : Bool) (x : Said) → changes_nothing x.answer ≡ false → SaidSame c (cond n x (says c Closed))
 done_same c n x p = said_cond c n x (says c Closed) (no_such x.answer p) (says_same c Closed)
@@ -65,7 +65,7 @@ said_same : (st : Server) (s : Said) → SaidSame st.core s → Same st (Server.
 said_same st s p h = ap (λ c. Server.tells (Server.with_core st c) s.answer) (p h)
 
 connect_same : (config : ServerConfig) (st : Server) (line : ℕ) (service : Name) → Same st (connect_event config st line service)
-connect_same config st line service = go (line_exists config.lines line) (holds st.core line) (best config.groups service st.core.moment st.heard)
+connect_same config st line service = go (line_exists config.lines line) (has_session st.core line) (best config.groups service st.core.moment st.heard)
   where
     told : (a : Answer) → Same st (Server.tells st a)
     told a h = refl

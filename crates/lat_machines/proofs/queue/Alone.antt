@@ -30,7 +30,7 @@ use Rattle.lat_machines.specs.server.Records.{kept_of}
 use Rattle.lat_machines.specs.cores.Acts.{Acted, idle, steps_at, call_at, called, local_at, time_at, move_at}
 use Rattle.lat_machines.specs.cores.Hearing.{HeardAct, foreign, names, fits_kind, numbers_at, run_frame, run_at, hear_run, hear_stop_at, hear_reply_at}
 use Rattle.lat_machines.specs.cores.Cores.{Seat, Core, Doing, rests, then_doing, acts, setup_of, at_moment, time_each, circuit_to}
-use Rattle.lat_machines.specs.cores.Lines.{session_of, seat_at, holds, line_exists}
+use Rattle.lat_machines.specs.cores.Lines.{session_of, seat_at, has_session, line_exists}
 use Rattle.lat_machines.specs.cores.LineCalls.{Said, says, calls_on, put_on, set_on, attend_on, take_on, close_on, on_line}
 use Rattle.lat_machines.specs.server.Server.{ServerConfig, Server, ServerStep, server_side, open_server, offer_on, tells, does, has_room, connects_on, opens, connects_to, solicits_for, connect_event, status_frame, key_of, hears_command, hears_value, server_event, finished_requests, Passing, grantable, grants_by, grant_line, grant_lines, server_step}
 use Rattle.lat_machines.specs.world.Histories.{server_run}
@@ -137,7 +137,7 @@ steady_cond st true s t p q = p
 steady_cond st false s t p q = q
 
 connect_sound : (config : ServerConfig) (st : Server) (line : ℕ) (service : Name) → Sound st.core.circuits → Sound (connect_event config st line service).state.core.circuits
-connect_sound config st line service r = go (line_exists config.lines line) (holds st.core line) (best config.groups service st.core.moment st.heard)
+connect_sound config st line service r = go (line_exists config.lines line) (has_session st.core line) (best config.groups service st.core.moment st.heard)
   where
     reaches : (b : Best) → Sound (connects_to config st line service b).state.core.circuits
     reaches b =
@@ -166,7 +166,7 @@ said_cond true a b p q = p
 said_cond false a b p q = q
 
 line_sound : (lines : ℕ) (c : Core) (line : ℕ) (f : Seat → Said) → Sound c.circuits → ((s : Seat) → Sound (f s).core.circuits) → Sound (on_line lines c line f).core.circuits
-line_sound lines c line f r p = said_cond (line_exists lines line) (cond (holds c line) (f (seat_at c line)) (says c Closed)) (says c NoLine) (said_cond (holds c line) (f (seat_at c line)) (says c Closed) (p (seat_at c line)) r) r
+line_sound lines c line f r p = said_cond (line_exists lines line) (cond (has_session c line) (f (seat_at c line)) (says c Closed)) (says c NoLine) (said_cond (has_session c line) (f (seat_at c line)) (says c Closed) (p (seat_at c line)) r) r
 
 -- a call that a session may refuse, and one that it may refuse twice
 call_sound_if : (config : ServerConfig) (c : Core) (s : Seat) (n : Bool) (x : Call) (a b : Answer) → Sound c.circuits → Sound (cond n (says (calls_on (server_side config) c s x) a) (says c b)).core.circuits

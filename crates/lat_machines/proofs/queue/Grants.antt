@@ -13,7 +13,7 @@ use Rattle.lat_machines.specs.values.Keys.{Key, same_key}
 use Rattle.lat_machines.specs.server.Queue.{QueueEvent, Asks, Cancels, Grants, Finishes, Request, cancels, grants, first_asks, is_waiting, is_overfull, records, waits, first, next_request}
 use Rattle.lat_machines.specs.cores.Acts.{call_at, local_at}
 use Rattle.lat_machines.specs.cores.Cores.{Seat, no_seat, Core, Doing, rests, with_circuits, acts, setup_of, circuit_to}
-use Rattle.lat_machines.specs.cores.Lines.{end_of, session_of, over, last_on, seat_at, holds}
+use Rattle.lat_machines.specs.cores.Lines.{end_of, session_of, over, last_on, seat_at, has_session}
 use Rattle.lat_machines.specs.server.Server.{ServerConfig, Server, Passing, server_side, offer_on, has_room, may_call, can_open, connects_on, opens, granting, fitting, grantable, grants_by, grant_line, grant_lines, grant_pass}
 use Rattle.lat_machines.specs.world.Safe.{NoGrant}
 use Rattle.lat_machines.proofs.events.Servers.{each_filter}
@@ -76,10 +76,10 @@ over_kept c d s g h =
     ap₂ (λ a b. not a || b) k.0 k.1
 
 -- after an opening the line has a session, and those that had one have one still
-holds_opened : (c d : Core) (line other : ℕ) (key : Option Key) → Opened c line key d → (nat_eq line other || holds c other) ≡ true → holds d other ≡ true
-holds_opened c d line other key o h = ap (λ z. not (over d (last_on other no_seat z))) o.seats ∙ (ap (λ z. not (over d z)) (last_more other no_seat c.seats o.seat) ∙ go (nat_eq o.seat.line other) (ap (λ z. nat_eq z other || holds c other) o.here ∙ h))
+holds_opened : (c d : Core) (line other : ℕ) (key : Option Key) → Opened c line key d → (nat_eq line other || has_session c other) ≡ true → has_session d other ≡ true
+holds_opened c d line other key o h = ap (λ z. not (over d (last_on other no_seat z))) o.seats ∙ (ap (λ z. not (over d z)) (last_more other no_seat c.seats o.seat) ∙ go (nat_eq o.seat.line other) (ap (λ z. nat_eq z other || has_session c other) o.here ∙ h))
   where
-    go : (b : Bool) → (b || holds c other) ≡ true → not (over d (cond b o.seat (seat_at c other))) ≡ true
+    go : (b : Bool) → (b || has_session c other) ≡ true → not (over d (cond b o.seat (seat_at c other))) ≡ true
     go true h = ap not o.held
     go false h = ap not (over_kept c d (seat_at c other) o.grown (not_true (over c (seat_at c other)) h))
       where
@@ -256,7 +256,7 @@ next_none c d g h r s service q can n =
     n
 
 pub grant_can : (st : Server) (line : ℕ) (service : Name) (r : Request) → grantable st line (Some service) ≡ Some r → can_open st.core r.from ≡ true
-grant_can st line service r q = go (holds st.core line) (next_request service st.queue) q
+grant_can st line service r q = go (has_session st.core line) (next_request service st.queue) q
   where
     fit : (b : Bool) (x : Request) → can_open st.core x.from ≡ b → cond b (Some x) None ≡ Some r → can_open st.core r.from ≡ true
     fit true x i q = let e : x ≡ r = cc in ap (λ (z : Request). can_open st.core z.from) (sym e) ∙ i
@@ -273,7 +273,7 @@ Quiet st line o = grantable st line o ≡ None
 
 quiet_after : (config : ServerConfig) (p : Passing) (line other : ℕ) (s : Name) (r : Request) (o : Option Name) → 0 < config.timing.sessions → Ready p.state.core → grantable p.state line (Some s) ≡ Some r → Quiet p.state other o → Quiet (granting config line s p r).state other o
 quiet_after config p line other s r None pos rd q n = refl
-quiet_after config p line other s r (Some service) pos rd q n = go (holds p.state.core other) refl n
+quiet_after config p line other s r (Some service) pos rd q n = go (has_session p.state.core other) refl n
   where
     c : Core
     c = p.state.core
@@ -284,7 +284,7 @@ quiet_after config p line other s r (Some service) pos rd q n = go (holds p.stat
     o : Opened c line (Some r.key) st.core
     o = opens_at config line r.from r.key.node s (Some r.key) (Some r.key.request) c pos rd (grant_can p.state line s r q)
 
-    held_still : (nat_eq line other || holds c other) ≡ true → Quiet st other (Some service)
+    held_still : (nat_eq line other || has_session c other) ≡ true → Quiet st other (Some service)
     held_still h = ap (λ b. cond b None (fitting st.core (next_request service st.queue))) (holds_opened c st.core line other (Some r.key) o h)
 
     or_true : (b : Bool) → b || true ≡ true
@@ -295,16 +295,16 @@ quiet_after config p line other s r (Some service) pos rd q n = go (holds p.stat
     either true x q = refl
     either false x q = q
 
-    go : (b : Bool) → holds c other ≡ b → cond b None (fitting c (next_request service p.state.queue)) ≡ None → Quiet st other (Some service)
+    go : (b : Bool) → has_session c other ≡ b → cond b None (fitting c (next_request service p.state.queue)) ≡ None → Quiet st other (Some service)
     go true i n = held_still (ap (λ b. nat_eq line other || b) i ∙ or_true (nat_eq line other))
-    go false i n = either (holds st.core other) (fitting st.core (next_request service st.queue)) (next_none c st.core o.grown p.state.queue r s service (grantable_next p.state line s r q) (grant_can p.state line s r q) n)
+    go false i n = either (has_session st.core other) (fitting st.core (next_request service st.queue)) (next_none c st.core o.grown p.state.queue r s service (grantable_next p.state line s r q) (grant_can p.state line s r q) n)
 
 -- the line itself has a session then
 quiet_own : (config : ServerConfig) (p : Passing) (line : ℕ) (s : Name) (r : Request) → 0 < config.timing.sessions → Ready p.state.core → grantable p.state line (Some s) ≡ Some r → Quiet (granting config line s p r).state line (Some s)
 quiet_own config p line s r pos rd q =
     let st : Server = (granting config line s p r).state in
     let o : Opened p.state.core line (Some r.key) st.core = opens_at config line r.from r.key.node s (Some r.key) (Some r.key.request) p.state.core pos rd (grant_can p.state line s r q) in
-    ap (λ b. cond b None (fitting st.core (next_request s st.queue))) (holds_opened p.state.core st.core line line (Some r.key) o (ap (λ b. b || holds p.state.core line) (eqb_same line)))
+    ap (λ b. cond b None (fitting st.core (next_request s st.queue))) (holds_opened p.state.core st.core line line (Some r.key) o (ap (λ b. b || has_session p.state.core line) (eqb_same line)))
   where
     eqb_same : (n : ℕ) → nat_eq n n ≡ true
     eqb_same n = go (nat_eq n n) refl

@@ -15,7 +15,7 @@ use Rattle.lat_machines.specs.server.Records.{ask_answer, kept_of, is_granted}
 use Rattle.lat_machines.specs.values.Events.{Numbers, Event, Hears, Time, Connects, Puts, Sets, Takes, Attends, Closes, Requests, Withdraws, Announces, is_heard}
 use Rattle.lat_machines.specs.values.Answers.{Connected, NoLine, Busy, SessionsFull, CircuitsFull, IdsOut, Ignored, NotKept, KeptIs}
 use Rattle.lat_machines.specs.cores.Cores.{Seat, Core, Doing, at_moment, circuit_to}
-use Rattle.lat_machines.specs.cores.Lines.{over, holds, line_exists}
+use Rattle.lat_machines.specs.cores.Lines.{over, has_session, line_exists}
 use Rattle.lat_machines.specs.server.Server.{ServerConfig, Server, ServerStep, Passing, offer_on, tells, does, offered, has_room, can_open, opens, connects_to, solicits_for, connect_event, hears_message, hears_command, hears_notice, hears_value, hears, server_event, key_of, status_frame, finish_one, finish_all, finished_requests, fitting, grantable, grants_by, grant_line, grant_lines, server_step}
 use Rattle.lat_machines.specs.world.Machines.{Setups, Machines, Move, Does, HearsFrame, HearsForeign, Posted, tell, is_for_other, comes, is_own, happens, run, counted, marked_delivered, heard_as}
 use Rattle.std.specs.Prelude.{slice_get}
@@ -71,7 +71,7 @@ keeps_cond st true s t p q = p
 keeps_cond st false s t p q = q
 
 keeps_connect : (config : ServerConfig) (st : Server) (line : ℕ) (service : Name) → Keeps st (connect_event config st line service).state
-keeps_connect config st line service = go (line_exists config.lines line) (holds st.core line) (best config.groups service st.core.moment st.heard)
+keeps_connect config st line service = go (line_exists config.lines line) (has_session st.core line) (best config.groups service st.core.moment st.heard)
   where
     reaches : (b : Best) → Keeps st (connects_to config st line service b).state
     reaches b =
@@ -153,7 +153,7 @@ keeps_finish c (s ∷ ss) h l = keeps_finish c ss (finish_one c s.key (over c s)
         step false = l
 
 pub grantable_next : (st : Server) (line : ℕ) (service : Name) (r : Request) → grantable st line (Some service) ≡ Some r → next_request service st.queue ≡ Some r
-grantable_next st line service r q = go (holds st.core line) (next_request service st.queue) refl q
+grantable_next st line service r q = go (has_session st.core line) (next_request service st.queue) refl q
   where
     fit : (n : Bool) (x : Request) → cond n (Some x) None ≡ Some r → Some x ≡ Some r
     fit true x q = q

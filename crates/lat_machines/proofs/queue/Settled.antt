@@ -19,7 +19,7 @@ use Rattle.lat_machines.specs.server.Queue.{QueueEvent, Asks, Cancels, Grants, R
 use Rattle.lat_machines.specs.server.Records.{ask_answer, kept_of}
 use Rattle.lat_machines.specs.cores.Acts.{call_at, time_at}
 use Rattle.lat_machines.specs.cores.Cores.{Seat, Core, Doing, rests, then_doing, acts, setup_of, at_moment, time_each, circuit_to}
-use Rattle.lat_machines.specs.cores.Lines.{session_of, seat_at, over, holds, line_exists}
+use Rattle.lat_machines.specs.cores.Lines.{session_of, seat_at, over, has_session, line_exists}
 use Rattle.lat_machines.specs.cores.LineCalls.{Said, says, calls_on, put_on, set_on, attend_on, take_on, close_on, on_line}
 use Rattle.lat_machines.specs.server.Server.{ServerConfig, Server, ServerStep, server_side, open_server, offered, offer_on, tells, does, has_room, connects_on, opens, connects_to, solicits_for, connect_event, status_frame, key_of, hears_command, hears_value, server_event, finish_all, finished_requests, Passing, granting, grantable, grants_by, grant_line, grant_lines, grant_pass, passed, server_step}
 use Rattle.lat_machines.specs.world.Histories.{server_run}
@@ -64,7 +64,7 @@ opens_served config line address node service c h p = go (nat_eq (circuit_to c a
     go false = one_more h c.seats _ p tt
 
 connect_served : (config : ServerConfig) (st : Server) (line : ℕ) (service : Name) → KeptServed st (connect_event config st line service).state
-connect_served config st line service = go (line_exists config.lines line) (holds st.core line) (best config.groups service st.core.moment st.heard)
+connect_served config st line service = go (line_exists config.lines line) (has_session st.core line) (best config.groups service st.core.moment st.heard)
   where
     reaches : (b : Best) → KeptServed st (connects_to config st line service b).state
     reaches b =
@@ -121,8 +121,8 @@ said_seats ss false x y p q = q
 
 line_seats : (lines : ℕ) (c : Core) (line : ℕ) (f : Seat → Said) → ((s : Seat) → (f s).core.seats ≡ c.seats) → (on_line lines c line f).core.seats ≡ c.seats
 line_seats lines c line f p =
-    said_seats c.seats (line_exists lines line) (cond (holds c line) (f (seat_at c line)) (says c Closed)) (says c NoLine)
-    (said_seats c.seats (holds c line) (f (seat_at c line)) (says c Closed) (p (seat_at c line)) refl) refl
+    said_seats c.seats (line_exists lines line) (cond (has_session c line) (f (seat_at c line)) (says c Closed)) (says c NoLine)
+    (said_seats c.seats (has_session c line) (f (seat_at c line)) (says c Closed) (p (seat_at c line)) refl) refl
 
 call_seats : (config : ServerConfig) (c : Core) (s : Seat) (n : Bool) (x : Call) (a b : Answer) → (cond n (says (calls_on (server_side config) c s x) a) (says c b)).core.seats ≡ c.seats
 call_seats config c s n x a b = said_seats c.seats n (says (calls_on (server_side config) c s x) a) (says c b) refl refl

@@ -11,7 +11,7 @@ use Rattle.lat_model.specs.sessions.EndOk.{EndOk}
 use Rattle.lat_model.specs.sessions.Calls.{Call, call}
 use Rattle.lat_model.specs.Lists.{is_empty, any_up_to}
 use Rattle.lat_model.specs.numbers.Link.{Frame, showing, form_message, window_open, is_unsent, is_next, ack_in, take_message}
-use Rattle.lat_model.specs.ends.End.{wire_of, Sent, Run, CallStart, ReplyStart, Stopped, Half, End, Step, still, then_do, lives, finish, send_bare, all_known, send_message, settle, form_packed, occasion, send_again, send_start, call_end}
+use Rattle.lat_model.specs.ends.End.{wire_of, Sent, Run, CallStart, ReplyStart, Stopped, Half, End, Step, still, then_do, lives, finish, send_bare, all_known, send_message, acknowledge, form_packed, occasion, send_again, send_start, call_end}
 use Rattle.lat_model.specs.ends.Run.{RunStep, RunRepeated, RunBroke, ack_end, take_end, taken_end, broken_end, body_end, after_run, run_end}
 use Rattle.lat_model.specs.ends.Timers.{note_empty, passed, silent, unused, a_round, rounds_step, may_form, alive_step, due_step, living, time_step}
 use Rattle.lat_model.specs.ends.Starting.{Agreed, reply_end, noted, make_master, make_slave, again_start, hear_reply, hear_stop}
@@ -130,14 +130,14 @@ both_cond : (n : Bool) (s t : Step) → Both s.end.half → Both t.end.half → 
 both_cond true s t p q = p
 both_cond false s t p q = q
 
-settle_both : (e : End) → Both e.half → Both (settle e).end.half
-settle_both e b = both_cond e.owed (send_bare false e) (still e) (shown_both e.half b) b
+acknowledge_both : (e : End) → Both e.half → Both (acknowledge e).end.half
+acknowledge_both e b = both_cond e.owed (send_bare false e) (still e) (shown_both e.half b) b
 
 occasion_both : (e : End) → Both e.half → Both (occasion e).end.half
 occasion_both e b =
     let p : Packing = pack e.room e.half.sessions in
-    both_cond (window_open e.window e.half.link) (form_packed p e) (settle e)
-    (both_cond (is_empty p.slots) (settle e) (send_message p e) (settle_both e b) (form_both e.half e.room b)) (settle_both e b)
+    both_cond (window_open e.window e.half.link) (form_packed p e) (acknowledge e)
+    (both_cond (is_empty p.slots) (acknowledge e) (send_message p e) (acknowledge_both e b) (form_both e.half e.room b)) (acknowledge_both e b)
 
 rounds_both : (e : End) → Both e.half → Both (rounds_step e).end.half
 rounds_both e b =

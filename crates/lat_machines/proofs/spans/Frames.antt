@@ -16,7 +16,7 @@ use Rattle.lat_machines.specs.values.Events.{Event, Hears}
 use Rattle.lat_machines.specs.values.Answers.{Answer, Closed, NoLine}
 use Rattle.lat_machines.specs.cores.Acts.{Acted, time_at}
 use Rattle.lat_machines.specs.cores.Cores.{Seat, Side, Core, sent_frame, with_circuits, Doing, then_doing, acts, time_each}
-use Rattle.lat_machines.specs.cores.Lines.{session_of, seat_at, holds, line_exists}
+use Rattle.lat_machines.specs.cores.Lines.{session_of, seat_at, has_session, line_exists}
 use Rattle.lat_machines.specs.cores.LineCalls.{Said, says, calls_on, put_on, set_on, attend_on, take_on, close_on, on_line}
 use Rattle.lat_machines.proofs.events.Leads.{each_more}
 use Rattle.lat_machines.proofs.spans.Tables.{TableOk, WireOk, ActOk, local_ok, time_ok}
@@ -125,8 +125,8 @@ said_cond b p false x y f g = g
 
 pub line_ok : (b : Bool) (p : Facts) (lines : ℕ) (c : Core) (line : ℕ) (f : Seat → Said) → CircuitsOk b p c.circuits → ((s : Seat) → CircuitsOk b p (f s).core.circuits) → CircuitsOk b p (on_line lines c line f).core.circuits
 line_ok b p lines c line f r h =
-    said_cond b p (line_exists lines line) (cond (holds c line) (f (seat_at c line)) (says c Closed)) (says c NoLine)
-    (said_cond b p (holds c line) (f (seat_at c line)) (says c Closed) (h (seat_at c line)) r) r
+    said_cond b p (line_exists lines line) (cond (has_session c line) (f (seat_at c line)) (says c Closed)) (says c NoLine)
+    (said_cond b p (has_session c line) (f (seat_at c line)) (says c Closed) (h (seat_at c line)) r) r
 
 called_ok : (b : Bool) (p : Facts) (t : Timing) (name : Name) (c : Core) (s : Seat) (n : Bool) (x : Call) (y z : Answer) → CircuitsOk b p c.circuits → CircuitsOk b p (cond n (says (calls_on (side_of b t name) c s x) y) (says c z)).core.circuits
 called_ok b p t name c s n x y z r = said_cond b p n (says (calls_on (side_of b t name) c s x) y) (says c z) (local_ok b p.other (both p) c.circuits s.circuit x r).table r

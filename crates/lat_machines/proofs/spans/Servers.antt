@@ -19,7 +19,7 @@ use Rattle.lat_machines.specs.server.Records.{kept_of}
 use Rattle.lat_machines.specs.cores.Acts.{call_at, local_at}
 use Rattle.lat_machines.specs.cores.Hearing.{hear_run, hear_stop_at, hear_reply_at}
 use Rattle.lat_machines.specs.cores.Cores.{Core, Doing, rests, acts, setup_of, at_moment, circuit_to}
-use Rattle.lat_machines.specs.cores.Lines.{holds, line_exists}
+use Rattle.lat_machines.specs.cores.Lines.{has_session, line_exists}
 use Rattle.lat_machines.specs.cores.LineCalls.{put_on, set_on, attend_on, take_on, close_on}
 use Rattle.lat_machines.specs.server.Server.{ServerConfig, Server, ServerStep, server_side, offer_on, tells, does, has_room, connects_on, opens, connects_to, solicits_for, connect_event, status_frame, key_of, hears_command, hears_value, server_event, finished_requests, Passing, granting, grantable, grants_by, grant_line, grant_lines, server_step}
 use Rattle.lat_machines.proofs.spans.Tables.{local_ok, call_ok, run_ok, stop_ok, reply_ok}
@@ -57,7 +57,7 @@ opens_ok p config line address node service key request c i r = go (nat_eq (circ
     go false = connected (rests c) (core_none true p c r)
 
 connect_ok : (p : Facts) (config : ServerConfig) (st : Server) (line : ℕ) (service : Name) → TimingOk true p config.timing → CircuitsOk true p st.core.circuits → StepOk p (connect_event config st line service)
-connect_ok p config st line service i r = go (line_exists config.lines line) (holds st.core line) (best config.groups service st.core.moment st.heard)
+connect_ok p config st line service i r = go (line_exists config.lines line) (has_session st.core line) (best config.groups service st.core.moment st.heard)
   where
     none : CoreOk true p st.core []
     none = core_none true p st.core r

@@ -20,7 +20,7 @@ use Rattle.lat_machines.specs.values.Answers.{Answer, Closed, NoLine, Heard, Run
 use Rattle.lat_machines.specs.cores.Acts.{idle, steps_at, local_at, time_at, move_at}
 use Rattle.lat_machines.specs.cores.Hearing.{HeardAct, foreign, answer_of, names, fits_kind, numbers_at, run_frame, run_at, hear_run, hear_stop_at, hear_reply_at, StartFact, Repeats, Makes, Refuses, start_fact, start_at}
 use Rattle.lat_machines.specs.cores.Cores.{Seat, Side, Core, sent_frame, with_circuits, Doing, then_doing, acts, time_each}
-use Rattle.lat_machines.specs.cores.Lines.{session_of, seat_at, holds, line_exists}
+use Rattle.lat_machines.specs.cores.Lines.{session_of, seat_at, has_session, line_exists}
 use Rattle.lat_machines.specs.cores.LineCalls.{Said, says, calls_on, put_on, set_on, attend_on, take_on, close_on, on_line}
 use Rattle.lat_machines.specs.world.Bears.{BearsValue}
 use Rattle.lat_machines.specs.world.Tally.{formed_in, taken_in, new_of}
@@ -184,8 +184,8 @@ said_cond c false x y f g = g
 
 pub line_counts : (lines : ℕ) (c : Core) (line : ℕ) (f : Seat → Said) → Steady c.circuits → ((s : Seat) → Same c (f s).core []) → Same c (on_line lines c line f).core []
 line_counts lines c line f r h =
-    said_cond c (line_exists lines line) (cond (holds c line) (f (seat_at c line)) (says c Closed)) (says c NoLine)
-    (said_cond c (holds c line) (f (seat_at c line)) (says c Closed) (h (seat_at c line)) (core_none c r)) (core_none c r)
+    said_cond c (line_exists lines line) (cond (has_session c line) (f (seat_at c line)) (says c Closed)) (says c NoLine)
+    (said_cond c (has_session c line) (f (seat_at c line)) (says c Closed) (h (seat_at c line)) (core_none c r)) (core_none c r)
 
 call_if : (b : Bool) (t : Timing) (name : Name) (c : Core) (s : Seat) (n : Bool) (x : Call) (y z : Answer) → Steady c.circuits → Same c (cond n (says (calls_on (side_of b t name) c s x) y) (says c z)).core []
 call_if b t name c s n x y z r = said_cond c n (says (calls_on (side_of b t name) c s x) y) (says c z) (local_quiet b (side_of b t name) c s.circuit x r) (core_none c r)

@@ -9,7 +9,7 @@ use Rattle.lat_model.specs.Lists.{is_empty, Each, IsPrefixOf}
 use Rattle.lat_model.specs.numbers.NetOk.{Stands}
 use Rattle.lat_model.proofs.numbers.Net.{each_append}
 use Rattle.lat_model.specs.numbers.Link.{Link, Frame, frames_from, window_open, is_unsent, is_next, ack_in}
-use Rattle.lat_model.specs.ends.End.{Mark, Fresh, Again, Bare, Sent, Run, CallStart, ReplyStart, Stopped, End, Step, still, then_do, lives, finish, send_bare, all_known, send_message, settle, form_packed, occasion, marked, send_again, send_start, wire_of}
+use Rattle.lat_model.specs.ends.End.{Mark, Fresh, Again, Bare, Sent, Run, CallStart, ReplyStart, Stopped, End, Step, still, then_do, lives, finish, send_bare, all_known, send_message, acknowledge, form_packed, occasion, marked, send_again, send_start, wire_of}
 use Rattle.lat_model.specs.ends.Run.{RunAnswer, RunTaken, RunRepeated, RunAckOnly, RunBroke, RunStep, ack_end, taken_end, broken_end, take_end, body_end, after_run, run_end}
 use Rattle.lat_model.specs.ends.Timers.{passed, silent, unused, a_round, rounds_step, may_form, alive_step, due_step, living, time_step}
 use Rattle.lat_machines.specs.values.Runs.{slots_in}
@@ -229,21 +229,21 @@ counts_bare ask e = record {
   full = λ h. h;
 }
 
-counts_settle : (e : End) → Counts e (settle e)
-counts_settle e = counts_cond e e.owed (send_bare false e) (still e) (counts_bare false e) (counts_still e)
+counts_acknowledge : (e : End) → Counts e (acknowledge e)
+counts_acknowledge e = counts_cond e e.owed (send_bare false e) (still e) (counts_bare false e) (counts_still e)
 
 wire_full : (os : List TaggedSlot) → is_empty os ≡ false → wire_of os ≢ []
 wire_full [] h q = let z : ⊥ = cc in z
 wire_full (o ∷ os) h q = let z : ⊥ = cc in z
 
 counts_occasion : (e : End) → Counts e (occasion e)
-counts_occasion e = counts_cond e (window_open e.window e.half.link) (form_packed p e) (settle e) (packed (is_empty p.slots) refl) (counts_settle e)
+counts_occasion e = counts_cond e (window_open e.window e.half.link) (form_packed p e) (acknowledge e) (packed (is_empty p.slots) refl) (counts_acknowledge e)
   where
     p : Packing
     p = pack e.room e.half.sessions
 
-    packed : (n : Bool) → is_empty p.slots ≡ n → Counts e (cond n (settle e) (send_message p e))
-    packed true q = counts_settle e
+    packed : (n : Bool) → is_empty p.slots ≡ n → Counts e (cond n (acknowledge e) (send_message p e))
+    packed true q = counts_acknowledge e
     packed false q =
         let some : wire_of p.slots ≢ [] = wire_full p.slots q in
         record {

@@ -20,7 +20,7 @@ use Rattle.lat_machines.specs.server.Records.{kept_of}
 use Rattle.lat_machines.specs.cores.Acts.{call_at}
 use Rattle.lat_machines.specs.cores.Hearing.{hear_run}
 use Rattle.lat_machines.specs.cores.Cores.{Core, Doing, rests, acts, setup_of, at_moment, circuit_to}
-use Rattle.lat_machines.specs.cores.Lines.{holds, line_exists}
+use Rattle.lat_machines.specs.cores.Lines.{has_session, line_exists}
 use Rattle.lat_machines.specs.cores.LineCalls.{put_on, set_on, attend_on, take_on, close_on}
 use Rattle.lat_machines.specs.server.Server.{ServerConfig, Server, ServerStep, server_side, open_server, offer_on, tells, does, has_room, connects_on, opens, connects_to, solicits_for, connect_event, status_frame, key_of, hears_command, hears_value, server_event, finished_requests, Passing, grantable, grants_by, grant_line, grant_lines, server_step}
 use Rattle.lat_machines.specs.world.Histories.{server_run}
@@ -64,7 +64,7 @@ opens_counts config line address node service key request c r = go (nat_eq (circ
     go false = connected (rests c) (core_none c r)
 
 connect_counts : (config : ServerConfig) (st : Server) (line : ℕ) (service : Name) → Steady st.core.circuits → StepSame st (connect_event config st line service)
-connect_counts config st line service r = go (line_exists config.lines line) (holds st.core line) (best config.groups service st.core.moment st.heard)
+connect_counts config st line service r = go (line_exists config.lines line) (has_session st.core line) (best config.groups service st.core.moment st.heard)
   where
     none : Same st.core st.core []
     none = core_none st.core r

@@ -4,7 +4,7 @@ use Rattle.lat_model.specs.sessions.Slots.{Slot, credits, costs, Reject}
 use Rattle.lat_model.specs.sessions.Session.{Session, free, rejected, peer}
 use Rattle.lat_model.specs.ends.End.{End, lives}
 use Rattle.lat_machines.specs.cores.Cores.{Seat, Core}
-use Rattle.lat_machines.specs.cores.Lines.{end_of, session_of, holds}
+use Rattle.lat_machines.specs.cores.Lines.{end_of, session_of, has_session}
 
 pub data SessionEnd : Type 0 where
   EndedClosed : SessionEnd
@@ -70,4 +70,4 @@ book_of true (x ∷ []) = record { present = Some x; last = None }
 book_of true (x ∷ y ∷ ys) = record { present = Some x; last = Some y }
 
 abbrev pub book : Core → ℕ → LineBook
-book c line = book_of (holds c line) (line_history c line 0 c.seats)
+book c line = book_of (has_session c line) (line_history c line 0 c.seats)

@@ -5,7 +5,7 @@ use Rattle.lat_model.specs.sessions.Calls.{Call, Put, Set, Attend, Take, Close, 
 use Rattle.lat_machines.specs.values.Answers.{Answer, Done, Accepted, Took, NoLine, Closed, Full}
 use Rattle.lat_machines.specs.cores.Acts.{local_at}
 use Rattle.lat_machines.specs.cores.Cores.{Seat, Core, Side, acts}
-use Rattle.lat_machines.specs.cores.Lines.{sessions_of, session_of, seat_at, holds, line_exists}
+use Rattle.lat_machines.specs.cores.Lines.{sessions_of, session_of, seat_at, has_session, line_exists}
 
 pub record Said : Type 0 where
   pub core : Core
@@ -44,5 +44,5 @@ close_on k c s = cond (take_open (session_of c s)) (says (calls_on k c s (Close 
 abbrev pub on_line : ℕ → Core → ℕ → (Seat → Said) → Said
 on_line lines c line f =
     cond (line_exists lines line)
-    (cond (holds c line) (f (seat_at c line)) (says c Closed))
+    (cond (has_session c line) (f (seat_at c line)) (says c Closed))
     (says c NoLine)

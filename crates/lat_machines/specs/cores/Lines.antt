@@ -28,8 +28,8 @@ abbrev pub seat_at : Core → ℕ → Seat
 seat_at c line = last_on line no_seat c.seats
 
 -- it has a session
-abbrev pub holds : Core → ℕ → Bool
-holds c line = not (over c (seat_at c line))
+abbrev pub has_session : Core → ℕ → Bool
+has_session c line = not (over c (seat_at c line))
 
 -- how many lines are held
 abbrev pub used : Core → ℕ
@@ -40,17 +40,17 @@ abbrev pub ended : Core → ℕ
 ended c = length (filter (over c) c.seats)
 
 -- a count as it is told: it stops at the greatest number of 32 bits
-abbrev pub told_count : ℕ → ℕ
-told_count n = min 4294967295 n
+abbrev pub saturated_count : ℕ → ℕ
+saturated_count n = min 4294967295 n
 
 abbrev pub line_exists : ℕ → ℕ → Bool
 line_exists lines line = nat_lt 0 line && nat_le line lines
 
 abbrev pub line_state : Side → Core → ℕ → SessionState
-line_state k c line = cond (holds c line) (state k.server (session_of c (seat_at c line))) Free
+line_state k c line = cond (has_session c line) (state k.server (session_of c (seat_at c line))) Free
 
 -- the items that a Take could give now
 abbrev pub waiting_at : Core → ℕ → ℕ
 waiting_at c line =
     let s : Session = session_of c (seat_at c line) in
-    cond (holds c line && take_open s) (length (items s.came) - s.taken) 0
+    cond (has_session c line && take_open s) (length (items s.came) - s.taken) 0

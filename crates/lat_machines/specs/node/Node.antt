@@ -19,7 +19,7 @@ use Rattle.lat_machines.specs.values.Answers.{Again, Foreign, Answer, Circuit, S
 use Rattle.lat_machines.specs.cores.Hearing.{HeardAct, names, hear_run, hear_stop_at, StartFact, Repeats, Makes, Refuses, start_fact, start_at}
 use Rattle.lat_machines.specs.cores.Acts.{local_at}
 use Rattle.lat_machines.specs.cores.Cores.{Core, Side, setup_of, open_core, Doing, acts, at_moment, passes_time}
-use Rattle.lat_machines.specs.cores.Lines.{holds, used, ended, told_count}
+use Rattle.lat_machines.specs.cores.Lines.{has_session, used, ended, saturated_count}
 use Rattle.lat_machines.specs.cores.LineCalls.{Said, put_on, set_on, attend_on, take_on, close_on, on_line}
 use Rattle.lat_model.specs.sessions.Calls as Calls
 
@@ -79,7 +79,7 @@ pub data Verdict : Type 0 where
 
 -- the least line without a session; 0 where there is none
 abbrev pub free_line : NodeConfig → Core → ℕ
-free_line config c = least (λ line. not (holds c line)) (upwards 0 config.lines)
+free_line config c = least (λ line. not (has_session c line)) (upwards 0 config.lines)
 
 abbrev pub on_free_line : ℕ → Verdict
 on_free_line line = cond (nat_eq line 0) (Rejects 7) (Accepts line)
@@ -309,7 +309,7 @@ pub record SameButFrames (a : NodeStep) (b : NodeStep) : Type 0 where
 
 -- the sessions that have become free, in any way
 abbrev pub finished : Node → ℕ
-finished state = told_count (ended state.core + state.turned_away)
+finished state = saturated_count (ended state.core + state.turned_away)
 
 -- the ratings of one event: as many as it asks for, each one that the hook allows at the lines then held
 

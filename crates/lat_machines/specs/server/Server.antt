@@ -19,7 +19,7 @@ use Rattle.lat_machines.specs.values.Answers.{Foreign, Answer, Circuit, Announce
 use Rattle.lat_machines.specs.cores.Hearing.{HeardAct, hear_run, hear_stop_at, hear_reply_at}
 use Rattle.lat_machines.specs.cores.Acts.{call_at, local_at}
 use Rattle.lat_machines.specs.cores.Cores.{Seat, Core, Side, setup_of, open_core, Doing, rests, then_doing, acts, at_moment, passes_time, circuit_to}
-use Rattle.lat_machines.specs.cores.Lines.{over, holds, line_exists, ended, told_count}
+use Rattle.lat_machines.specs.cores.Lines.{over, has_session, line_exists, ended, saturated_count}
 use Rattle.lat_machines.specs.cores.LineCalls.{Said, put_on, set_on, attend_on, take_on, close_on, on_line}
 
 pub record Offer : Type 0 where
@@ -130,7 +130,7 @@ solicits_for config state service = record {
 abbrev pub connect_event : ServerConfig → Server → ℕ → Name → ServerStep
 connect_event config state line service =
     cond (line_exists config.lines line)
-    (cond (holds state.core line) (tells state Busy)
+    (cond (has_session state.core line) (tells state Busy)
     (elim (best config.groups service state.core.moment state.heard) [
       | None ↦ solicits_for config state service
       | Some b ↦ connects_to config state line service b
@@ -259,7 +259,7 @@ fitting c (Some r) = cond (can_open c r.from) (Some r) None
 abbrev pub grantable : Server → ℕ → Option Name → Option Request
 grantable state line None = None
 grantable state line (Some service) =
-    cond (holds state.core line)
+    cond (has_session state.core line)
     None
     (fitting state.core (next_request service state.queue))
 
@@ -291,4 +291,4 @@ server_step config state e = passed config (server_event config state e)
 
 -- the sessions that have become free, in any way
 abbrev pub finished : Server → ℕ
-finished state = told_count (ended state.core)
+finished state = saturated_count (ended state.core)

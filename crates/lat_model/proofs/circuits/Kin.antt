@@ -10,7 +10,7 @@ use Rattle.lat_model.specs.sessions.Offers.{Offer, Nothing, Unfit, Offers, offer
 use Rattle.lat_model.specs.sessions.Session.{waits, put_open, take_open, unframed}
 use Rattle.lat_model.specs.sessions.Calls.{Call, Connect, Put, Set, Attend, Take, Close, Answer, Refuse, call, connect, touch, put_items, put_count, take_count, answer, reject}
 use Rattle.lat_model.specs.numbers.Link.{Link, Frame, window_open, is_next, ack_in, take_message}
-use Rattle.lat_model.specs.ends.End.{ReplyStart, Half, End, Step, still, then_do, lives, finish, send_bare, all_known, send_message, settle, form_packed, occasion, send_again, send_start, call_end}
+use Rattle.lat_model.specs.ends.End.{ReplyStart, Half, End, Step, still, then_do, lives, finish, send_bare, all_known, send_message, acknowledge, form_packed, occasion, send_again, send_start, call_end}
 use Rattle.lat_model.specs.ends.Run.{RunTaken, RunRepeated, RunBroke, RunStep, ack_end, take_end, body_end, after_run, run_end}
 use Rattle.lat_model.specs.ends.Timers.{passed, silent, unused, a_round, rounds_step, may_form, alive_step, due_step, living, time_step}
 use Rattle.lat_model.specs.ends.Starting.{again_start, hear_stop, void_sessions}
@@ -107,14 +107,14 @@ kin_finish r e = record { peer = refl; running = refl; master = refl; window = r
 kin_bare : (a : Bool) (e : End) → Kin e (send_bare a e).end
 kin_bare a e = record { peer = refl; running = refl; master = refl; window = refl; wide = refl; sessions = refl }
 
-kin_settle : (e : End) → Kin e (settle e).end
-kin_settle e = kin_cond e e.owed (send_bare false e) (still e) (kin_bare false e) (kin e)
+kin_acknowledge : (e : End) → Kin e (acknowledge e).end
+kin_acknowledge e = kin_cond e e.owed (send_bare false e) (still e) (kin_bare false e) (kin e)
 
 kin_occasion : (e : End) → Kin e (occasion e).end
 kin_occasion e =
-    kin_cond e (window_open e.window e.half.link) (form_packed (pack e.room e.half.sessions) e) (settle e)
-    (kin_cond e (is_empty (pack e.room e.half.sessions).slots) (settle e) (send_message (pack e.room e.half.sessions) e) (kin_settle e) (record { peer = refl; running = refl; master = refl; window = refl; wide = refl; sessions = pack_master e.room e.half.sessions }))
-    (kin_settle e)
+    kin_cond e (window_open e.window e.half.link) (form_packed (pack e.room e.half.sessions) e) (acknowledge e)
+    (kin_cond e (is_empty (pack e.room e.half.sessions).slots) (acknowledge e) (send_message (pack e.room e.half.sessions) e) (kin_acknowledge e) (record { peer = refl; running = refl; master = refl; window = refl; wide = refl; sessions = pack_master e.room e.half.sessions }))
+    (kin_acknowledge e)
 
 kin_rounds : (e : End) → Kin e (rounds_step e).end
 kin_rounds e =

@@ -10,7 +10,7 @@ use Rattle.lat_model.specs.sessions.Session.{blank}
 use Rattle.lat_model.specs.numbers.Link.{Link, Frame, ack_in, is_next, take_message, window_open}
 use Rattle.lat_model.specs.numbers.NetOk.{Stands, BodyIs, FrameOf}
 use Rattle.lat_model.specs.sessions.EndOk.{EndOk, SessionOk, Accounts}
-use Rattle.lat_model.specs.ends.End.{Fresh, Bare, Sent, Run, CallStart, ReplyStart, Stopped, Half, End, Step, still, then_do, lives, finish, send_bare, all_known, send_message, settle, form_packed, occasion, send_again, send_start, call_end}
+use Rattle.lat_model.specs.ends.End.{Fresh, Bare, Sent, Run, CallStart, ReplyStart, Stopped, Half, End, Step, still, then_do, lives, finish, send_bare, all_known, send_message, acknowledge, form_packed, occasion, send_again, send_start, call_end}
 use Rattle.lat_model.specs.ends.Timers.{passed, silent, unused, a_round, rounds_step, may_form, alive_step, due_step, living, time_step}
 use Rattle.lat_model.specs.ends.Run.{RunTaken, RunRepeated, RunBroke, RunStep, ack_end, take_end, body_end, after_run, run_end}
 use Rattle.lat_model.specs.ends.Starting.{Agreed, agree_half, reply_end, make_slave, again_start, hear_start, hear_reply, hear_stop, hear, void_sessions, Setup}
@@ -66,8 +66,8 @@ finish_ok b r e other ps w t = record { sides = plain_frames b e.half other ps (
 bare_ok : (b : Bool) (ask : Bool) (e : End) → StepOk b e.half e.window (send_bare ask e)
 bare_ok b ask e other ps w t = record { sides = sides_bare b e.half other ps Bare ask t; window = w }
 
-settle_ok : (b : Bool) (e : End) → StepOk b e.half e.window (settle e)
-settle_ok b e = cond_ok b e.half e.window e.owed (send_bare false e) (still e) (bare_ok b false e) (still_ok b e)
+acknowledge_ok : (b : Bool) (e : End) → StepOk b e.half e.window (acknowledge e)
+acknowledge_ok b e = cond_ok b e.half e.window e.owed (send_bare false e) (still e) (bare_ok b false e) (still_ok b e)
 
 again_step_ok : (b : Bool) (e : End) → StepOk b e.half e.window (send_again e)
 again_step_ok b e other ps w t = record { sides = sides_again b e.half other ps t; window = w }
@@ -81,13 +81,13 @@ occasion_ok b e other ps w t = go (window_open e.window e.half.link) refl
     message : length e.half.link.sent < e.half.link.known + 8 → After b (send_message (pack e.room e.half.sessions) e) other ps
     message h = record { sides = sides_form b e.half other ps e.room Fresh false h t; window = w }
 
-    packed : length e.half.link.sent < e.half.link.known + 8 → (c : Bool) → After b (cond c (settle e) (send_message (pack e.room e.half.sessions) e)) other ps
-    packed h true = settle_ok b e other ps w t
+    packed : length e.half.link.sent < e.half.link.known + 8 → (c : Bool) → After b (cond c (acknowledge e) (send_message (pack e.room e.half.sessions) e)) other ps
+    packed h true = acknowledge_ok b e other ps w t
     packed h false = message h
 
-    go : (c : Bool) → window_open e.window e.half.link ≡ c → After b (cond c (form_packed (pack e.room e.half.sessions) e) (settle e)) other ps
+    go : (c : Bool) → window_open e.window e.half.link ≡ c → After b (cond c (form_packed (pack e.room e.half.sessions) e) (acknowledge e)) other ps
     go true q = packed (omega (arith, ltb-true (length e.half.link.sent) (e.half.link.known + e.window) q)) (is_empty (pack e.room e.half.sessions).slots)
-    go false q = settle_ok b e other ps w t
+    go false q = acknowledge_ok b e other ps w t
 
 round_ok : (b : Bool) (f : End → Step) (e : End) → StepOk b e.half e.window (f e) → StepOk b e.half e.window (a_round f e)
 round_ok b f e p = cond_ok b e.half e.window (nat_lt e.rounds 8) (f e) (finish 6 e) p (finish_ok b 6 e)

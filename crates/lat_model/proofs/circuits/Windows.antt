@@ -7,7 +7,7 @@ use Rattle.lat_model.specs.sessions.Packing.{pack}
 use Rattle.lat_model.specs.sessions.Hearing.{hear_all}
 use Rattle.lat_model.specs.Lists.{is_empty}
 use Rattle.lat_model.specs.numbers.Link.{Frame, fresh, window_open, is_next}
-use Rattle.lat_model.specs.ends.End.{Sent, Run, CallStart, ReplyStart, Stopped, End, Step, still, then_do, lives, finish, send_bare, all_known, wire_of, send_message, settle, form_packed, occasion, send_again, send_start, call_end}
+use Rattle.lat_model.specs.ends.End.{Sent, Run, CallStart, ReplyStart, Stopped, End, Step, still, then_do, lives, finish, send_bare, all_known, wire_of, send_message, acknowledge, form_packed, occasion, send_again, send_start, call_end}
 use Rattle.lat_model.specs.ends.Run.{RunBroke, RunRepeated, RunStep, ack_end, taken_end, broken_end, take_end, body_end, after_run, run_end}
 use Rattle.lat_model.specs.ends.Timers.{passed, silent, unused, a_round, rounds_step, may_form, alive_step, due_step, living, note_empty, time_step}
 use Rattle.lat_model.specs.ends.Starting.{Agreed, make_master, make_slave, again_start, noted, replied, reply_end, hear_reply, hear_stop}
@@ -33,8 +33,8 @@ within_cond : (c : Bool) (s t : Step) → Within s.end → Within t.end → With
 within_cond true s t p q = p
 within_cond false s t p q = q
 
-within_settle : (e : End) → Within e → Within (settle e).end
-within_settle e h = within_cond e.owed (send_bare false e) (still e) h h
+within_acknowledge : (e : End) → Within e → Within (acknowledge e).end
+within_acknowledge e h = within_cond e.owed (send_bare false e) (still e) h h
 
 within_occasion : (e : End) → Within e → Within (occasion e).end
 within_occasion e h = go (window_open e.window e.half.link) refl
@@ -42,11 +42,11 @@ within_occasion e h = go (window_open e.window e.half.link) refl
     message : length e.half.link.sent < e.half.link.known + e.window → Within (send_message (pack e.room e.half.sessions) e).end
     message i = omega (arith, i, length-append e.half.link.sent (wire_of (pack e.room e.half.sessions).slots ∷ []))
 
-    go : (c : Bool) → window_open e.window e.half.link ≡ c → Within (cond c (form_packed (pack e.room e.half.sessions) e) (settle e)).end
+    go : (c : Bool) → window_open e.window e.half.link ≡ c → Within (cond c (form_packed (pack e.room e.half.sessions) e) (acknowledge e)).end
     go true q =
-        within_cond (is_empty (pack e.room e.half.sessions).slots) (settle e) (send_message (pack e.room e.half.sessions) e) (within_settle e h)
+        within_cond (is_empty (pack e.room e.half.sessions).slots) (acknowledge e) (send_message (pack e.room e.half.sessions) e) (within_acknowledge e h)
         (message (ltb-true (length e.half.link.sent) (e.half.link.known + e.window) q))
-    go false q = within_settle e h
+    go false q = within_acknowledge e h
 
 within_round : (f : End → Step) (e : End) → Within (f e).end → Within e → Within (a_round f e).end
 within_round f e p h = within_cond (nat_lt e.rounds 8) (f e) (finish 6 e) p h

@@ -93,15 +93,15 @@ send_message p e = record {
   sent = Run Fresh false (formed_frame e.half.link (wire_of p.slots)) ∷ [];
 }
 
-abbrev pub settle : End → Step
-settle e = cond e.owed (send_bare false e) (still e)
+abbrev pub acknowledge : End → Step
+acknowledge e = cond e.owed (send_bare false e) (still e)
 
 abbrev pub form_packed : Packing → End → Step
-form_packed p e = cond (is_empty p.slots) (settle e) (send_message p e)
+form_packed p e = cond (is_empty p.slots) (acknowledge e) (send_message p e)
 
 -- a forming occasion
 abbrev pub occasion : End → Step
-occasion e = cond (window_open e.window e.half.link) (form_packed (pack e.room e.half.sessions) e) (settle e)
+occasion e = cond (window_open e.window e.half.link) (form_packed (pack e.room e.half.sessions) e) (acknowledge e)
 
 -- the marks of a round: the k-th of them from the end is k - 1 below the newest
 abbrev pub marked : List (Frame (List Slot)) → List Sent

@@ -5,7 +5,7 @@ use Rattle.lat_model.specs.sessions.Packing.{pack}
 use Rattle.lat_model.specs.sessions.Calls.{Answer}
 use Rattle.lat_model.specs.Lists.{is_empty}
 use Rattle.lat_model.specs.numbers.Link.{Link, bare_frame, window_open, ack_in}
-use Rattle.lat_model.specs.ends.End.{End, still, lives, finish, settle, send_bare, send_message, occasion}
+use Rattle.lat_model.specs.ends.End.{End, still, lives, finish, acknowledge, send_bare, send_message, occasion}
 use Rattle.lat_model.specs.ends.Run.{RunBroke, ack_end, body_end, after_run, run_end}
 use Rattle.lat_model.specs.ends.Timers.{note_empty}
 use Rattle.lat_model.specs.circuits.World.{CircuitEntry, Table}
@@ -93,7 +93,7 @@ hears_bare config rates st q p from now W z y l other named fits drawn past low 
 
 -- when its last session became free is nothing to such a RUN
 
-settle_same : (e : End) → (settle e).end.half.sessions ≡ e.half.sessions
+settle_same : (e : End) → (acknowledge e).end.half.sessions ≡ e.half.sessions
 settle_same e = go e.owed
   where
     go : (b : Bool) → (cond b (send_bare false e) (still e)).end.half.sessions ≡ e.half.sessions
@@ -106,10 +106,10 @@ occasion_empty e n = go (window_open e.window e.half.link) (is_empty (pack e.roo
     d : End
     d = record e { empty_at = n }
 
-    settled : (settle (record e { empty_at = n })).end.half.sessions ≡ (settle e).end.half.sessions
+    settled : (acknowledge (record e { empty_at = n })).end.half.sessions ≡ (acknowledge e).end.half.sessions
     settled = settle_same (record e { empty_at = n }) ∙ sym (settle_same e)
 
-    go : (a b : Bool) → (cond a (cond b (settle (record e { empty_at = n })) (send_message (pack e.room e.half.sessions) (record e { empty_at = n }))) (settle (record e { empty_at = n }))).end.half.sessions ≡ (cond a (cond b (settle e) (send_message (pack e.room e.half.sessions) e)) (settle e)).end.half.sessions
+    go : (a b : Bool) → (cond a (cond b (acknowledge (record e { empty_at = n })) (send_message (pack e.room e.half.sessions) (record e { empty_at = n }))) (acknowledge (record e { empty_at = n }))).end.half.sessions ≡ (cond a (cond b (acknowledge e) (send_message (pack e.room e.half.sessions) e)) (acknowledge e)).end.half.sessions
     go true true = settled
     go true false = refl
     go false b = settled

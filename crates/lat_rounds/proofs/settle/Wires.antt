@@ -13,7 +13,7 @@ use Rattle.lat_machines.specs.values.Events.{Takes}
 use Rattle.lat_machines.specs.server.Queue.{Request}
 use Rattle.lat_machines.specs.cores.Acts.{Acted, idle, steps_at, call_at, local_at}
 use Rattle.lat_machines.specs.cores.Cores.{Core, Side, Doing, rests, acts, with_circuits, setup_of, circuit_to, sent_frame}
-use Rattle.lat_machines.specs.cores.Lines.{holds}
+use Rattle.lat_machines.specs.cores.Lines.{has_session}
 use Rattle.lat_machines.specs.server.Server.{ServerConfig, server_side, server_event, finished_requests, connects_on, opens, offer_on, Passing, grantable, grants_by, grant_line, grant_lines}
 use Rattle.lat_machines.specs.world.Machines.{Setups, Posted, Machines, core_of, post_all, tell}
 use Rattle.lat_machines.proofs.events.Leads.{append_nil, each_more}
@@ -107,7 +107,7 @@ tell_posts u w true line x n l =
 tell_posts u w false line x n l = record { more = []; posts = refl; apart = tt; delivered = refl }
 
 line_posts : (u : Setups) (w : Machines) (b : Bool) (line x : ℕ) → x ≢ 0 → x ≤ w.server.core.circuits.drawn → Posts x w (take_line u b line w)
-line_posts u w b line x n l = go (holds (core_of w b) line)
+line_posts u w b line x n l = go (has_session (core_of w b) line)
   where
     go : (h : Bool) → Posts x w (cond h (tell u w b (Takes line 4096) []) w)
     go true = tell_posts u w b line x n l

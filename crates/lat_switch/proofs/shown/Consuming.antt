@@ -12,7 +12,7 @@ use Rattle.lat_model.specs.sessions.Calls.{put_count}
 use Rattle.lat_model.specs.ends.End.{lives}
 use Rattle.lat_machines.specs.values.Answers.{Answer, Accepted, NoLine, Closed}
 use Rattle.lat_machines.specs.cores.Cores.{Seat, Core}
-use Rattle.lat_machines.specs.cores.Lines.{session_of, end_of, seat_at, holds, line_exists}
+use Rattle.lat_machines.specs.cores.Lines.{session_of, end_of, seat_at, has_session as holds, line_exists}
 use Rattle.lat_machines.specs.cores.LineCalls as calls
 use Rattle.lat_machines.specs.cores.LineCalls.{Said, says}
 use Rattle.lat_machines.specs.server.Server.{server_side}

@@ -11,7 +11,7 @@ use Rattle.lat_model.specs.circuits.World.{Table, CircuitEntry}
 use Rattle.lat_machines.specs.values.Events.{Puts}
 use Rattle.lat_machines.specs.cores.Acts.{local_at, idle, steps_at}
 use Rattle.lat_machines.specs.cores.Cores.{Seat, no_seat, Core, Side}
-use Rattle.lat_machines.specs.cores.Lines.{session_of, over, holds, seat_at, last_on, line_exists}
+use Rattle.lat_machines.specs.cores.Lines.{session_of, over, has_session, seat_at, last_on, line_exists}
 use Rattle.lat_machines.specs.values.Answers.{Accepted, NoLine, Closed}
 use Rattle.lat_machines.specs.cores.LineCalls.{Said, says, calls_on, put_on, on_line}
 use Rattle.lat_machines.specs.server.Server.{ServerConfig, Server, Offer, Passing, server_side, server_event, server_step, finished_requests, grants_by, grant_line, grant_lines, offer_on, grantable}
@@ -79,7 +79,7 @@ said_held k c s bs m = go (put_open (session_of c s))
     go false = record { seats = refl; overs = λ z. refl }
 
 line_held : (lines : ℕ) (c : Core) (line : ℕ) (f : Seat → Said) → SameHeld c (f (seat_at c line)).core → SameHeld c (on_line lines c line f).core
-line_held lines c line f h = go (line_exists lines line) (holds c line)
+line_held lines c line f h = go (line_exists lines line) (has_session c line)
   where
     go : (a b : Bool) → SameHeld c (cond {A = Said} a (cond b (f (seat_at c line)) (says c Closed)) (says c NoLine)).core
     go true true = h
@@ -110,5 +110,5 @@ put_held config st line bs none =
 pub same_seat : (c d : Core) (line : ℕ) → SameHeld c d → seat_at d line ≡ seat_at c line
 same_seat c d line h = ap (last_on line no_seat) h.seats
 
-pub same_holds : (c d : Core) (line : ℕ) → SameHeld c d → holds d line ≡ holds c line
+pub same_holds : (c d : Core) (line : ℕ) → SameHeld c d → has_session d line ≡ has_session c line
 same_holds c d line h = ap not (ap (over d) (same_seat c d line h) ∙ h.overs (seat_at c line))

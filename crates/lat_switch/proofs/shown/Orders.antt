@@ -10,7 +10,7 @@ use Rattle.lat_base.specs.declared.item.Item as base_item
 use Rattle.lat_model.specs.Lists.{Each}
 use Rattle.lat_model.specs.sessions.Slots.{Item}
 use Rattle.lat_machines.specs.cores.Cores.{Seat}
-use Rattle.lat_machines.specs.cores.Lines.{session_of, holds, line_exists}
+use Rattle.lat_machines.specs.cores.Lines.{session_of, has_session, line_exists}
 use Rattle.lat_machines.specs.server.Server.{ServerConfig, Server, open_server}
 use Rattle.lat_rounds.specs.Seated.{IsSeat}
 use Rattle.lat_stream.specs.Kept.{item_shown}
@@ -89,13 +89,13 @@ module _ (x : Seat) (k : ℕ) (s : Switch) (exists : line_exists (length s.lines
       ap (λ z. bytes_for x k s z (take n rs ++ rest)) (sym (nil (flat front)))
       ∙ run_goes x k s (flat front) [] (take n rs) rest (is_shown x k r.course.state)
       (plain_part (take n rs) (drop n rs) (subst (Each (λ y. is_key y ≡ false)) (sym (split_at n rs)) (stand_run false front rs back stand).1))
-      (λ some more e l. at some more e l (holds r.course.state.inner.state.core (line_on k r.course.state).shown) refl)
+      (λ some more e l. at some more e l (has_session r.course.state.inner.state.core (line_on k r.course.state).shown) refl)
     where
       n : ℕ
       n = taken_in k rs r.course
 
       at : (some more : List ℕ) → some ++ more ≡ part k rs r.course → 0 < length more → (b : Bool)
-          → holds r.course.state.inner.state.core (line_on k r.course.state).shown ≡ b
+          → has_session r.course.state.inner.state.core (line_on k r.course.state).shown ≡ b
           → is_shown x k (next s (events.Put k (flat front ++ some))) ≡ is_shown x k r.course.state
       at some more e l false q =
           let none : n ≡ 0 = none_accepted r.course.state.inner (line_on k r.course.state).shown rs q in

@@ -2,11 +2,11 @@
 use Rattle.std.proofs.Common.{◌≡◌, ℕ, suc, ◌+◌, ◌<◌, ◌⊎◌, inl, inr, ⊎_elim, refl, sym, ap, ap₂, ◌∙◌, subst, arith, Bool, true, false, not, cond, List, [], ◌∷◌, ◌++◌, length, Option, Some, None, nat_eq, eqb-true, eq-eqb}
 use Rattle.lat_model.specs.Lists.{Each}
 use Rattle.lat_machines.specs.cores.Cores.{Seat, no_seat, Core}
-use Rattle.lat_machines.specs.cores.Lines.{over, last_on, seat_at, holds}
+use Rattle.lat_machines.specs.cores.Lines.{over, last_on, seat_at, has_session}
 use Rattle.lat_machines.specs.cores.Books.{LineSession, line_session, line_history, book_of, book}
 use Rattle.lat_rounds.specs.Seated.{IsSeat}
 use Rattle.lat_tales.specs.Rows.{newest_place}
-use Rattle.lat_tales.specs.Books.{newest_of, newest_told}
+use Rattle.lat_tales.specs.Books.{newest_of, newest_info}
 use Rattle.lat_tales.proofs.seats.Sound.{Distinct, Sound, IsNew, seat_behind}
 use Rattle.lat_tales.proofs.rows.By.{distinct_apart}
 
@@ -80,11 +80,11 @@ first_is_newest c line xs = ⊎_elim {C = first_of (line_history c line 0 xs) �
         go false q = q
 
 -- the newest session of a line is told by its book
-pub book_newest : (c : Core) (line : ℕ) → newest_told (book c line) ≡ newest_of c line c.seats
+pub book_newest : (c : Core) (line : ℕ) → newest_info (book c line) ≡ newest_of c line c.seats
 unfolding first_of
-book_newest c line = told (holds c line) (line_history c line 0 c.seats) ∙ first_is_newest c line c.seats
+book_newest c line = told (has_session c line) (line_history c line 0 c.seats) ∙ first_is_newest c line c.seats
   where
-    told : (b : Bool) (xs : List LineSession) → newest_told (book_of b xs) ≡ first_of xs
+    told : (b : Bool) (xs : List LineSession) → newest_info (book_of b xs) ≡ first_of xs
     told b [] = refl
     told true (x ∷ []) = refl
     told true (x ∷ y ∷ xs) = refl

@@ -10,12 +10,12 @@ use Rattle.lat_machines.specs.world.Machines.{Setups, Machines}
 use Rattle.lat_machines.specs.world.Reports.{partner}
 use Rattle.lat_rounds.specs.Seated.{IsSeat}
 use Rattle.lat_tales.specs.Items.{taken_of}
-use Rattle.lat_tales.specs.Rows.{figures_of, KeptRow, KeepsRow, newest_place}
+use Rattle.lat_tales.specs.Rows.{figures_of, RowAfter, KeepsRow, newest_place}
 use Rattle.lat_tales.proofs.steps.Goes.{Untouched}
 use Rattle.lat_tales.proofs.seats.Sound.{Apart, Distinct, Sound}
 use Rattle.lat_tales.proofs.mates.Places.{IsAt, at_seat, at_above, one_place, one_seat, newest_at, is_at}
 
-pub record RowBy (u : Setups) (w : Machines) (newest : ℕ → Seat) (node_newest : ℕ → Seat) (t : Seat) (s : Seat) (r : KeptRow) : Type 0 where
+pub record RowBy (u : Setups) (w : Machines) (newest : ℕ → Seat) (node_newest : ℕ → Seat) (t : Seat) (s : Seat) (r : RowAfter) : Type 0 where
   pub line : r.line ≡ s.line
   pub circuit : r.circuit ≡ s.circuit
   pub id : r.id ≡ s.id
@@ -27,10 +27,10 @@ pub record RowBy (u : Setups) (w : Machines) (newest : ℕ → Seat) (node_newes
   pub server : (newest s.line ≡ s → ⊥) → r.server ≡ figures_of w.server.core s
   pub node : (node_newest t.line ≡ t → ⊥) → r.node ≡ figures_of w.node.core t
 
-pub row_by : (u : Setups) (w : Machines) (s : Seat) (r : KeptRow) → KeepsRow u w s r → RowBy u w (seat_at w.server.core) (seat_at w.node.core) (partner u w s) s r
+pub row_by : (u : Setups) (w : Machines) (s : Seat) (r : RowAfter) → KeepsRow u w s r → RowBy u w (seat_at w.server.core) (seat_at w.node.core) (partner u w s) s r
 row_by u w s r k = record { line = k.line; circuit = k.circuit; id = k.id; node_line = k.node_line; put_up = k.put_up; taken_up = k.taken_up; put_down = k.put_down; taken_down = k.taken_down; server = k.server; node = k.node }
 
-pub by_row : (u : Setups) (w : Machines) (s : Seat) (r : KeptRow) → RowBy u w (seat_at w.server.core) (seat_at w.node.core) (partner u w s) s r → KeepsRow u w s r
+pub by_row : (u : Setups) (w : Machines) (s : Seat) (r : RowAfter) → RowBy u w (seat_at w.server.core) (seat_at w.node.core) (partner u w s) s r → KeepsRow u w s r
 by_row u w s r k = record { line = k.line; circuit = k.circuit; id = k.id; node_line = k.node_line; put_up = k.put_up; taken_up = k.taken_up; put_down = k.put_down; taken_down = k.taken_down; server = k.server; node = k.node }
 
 pub append_nil : {A : Type 0} → (xs : List A) → xs ++ [] ≡ xs

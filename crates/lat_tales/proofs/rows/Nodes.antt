@@ -15,8 +15,8 @@ use Rattle.lat_rounds.specs.Seated.{IsSeat}
 use Rattle.lat_rounds.proofs.ready.Seats.{last_more}
 use Rattle.lat_tales.specs.Items.{taken_of, line_of, put_by, taken_by}
 use Rattle.lat_tales.specs.Mates.{mate_in, mate, mate_by_ids}
-use Rattle.lat_tales.specs.Rows.{Figures, figures_of, KeptRow, KeptRows, KeepsRow, Pairs, Keeps, newest_place}
-use Rattle.lat_tales.specs.Keeping.{change, with_items, adds, accepts, accepts_all, new_seats, kept_told}
+use Rattle.lat_tales.specs.Rows.{Figures, figures_of, RowAfter, RowsAfter, KeepsRow, Pairs, Keeps, newest_place}
+use Rattle.lat_tales.specs.Keeping.{change, with_items, adds, accepts, accepts_all, new_seats, rows_at}
 use Rattle.lat_tales.proofs.steps.Goes.{Untouched}
 use Rattle.lat_tales.proofs.seats.Sound.{Distinct, Sound, IsNew, IsFirst, seat_before, seat_behind}
 use Rattle.lat_tales.proofs.seats.Follows.{Follows}
@@ -121,14 +121,14 @@ module _ (u : Setups) (w : Machines) (e : Event) (rates : List ℕ) (r : Reach u
   none_untouched core h = (let z : session_of core no_seat ≡ blank = (h.rest.good 0).none in record { put = ap (λ (y : Session). y.put) z; taken = ap (λ (y : Session). y.taken) z })
 
   -- What is kept beside the sessions `xs` of the node
-  record Beside (xs : List Seat) (k : KeptRows) : Type 0 where
+  record Beside (xs : List Seat) (k : RowsAfter) : Type 0 where
     pub rows : Pairs (λ s y. RowBy u x (seat_at v) (λ line. last_on line no_seat xs) (partner_in u x s xs) s y) v.seats k.rows
     pub server_lines : (line : ℕ) → k.server_lines line ≡ newest_place line 0 0 v.seats
     pub node_lines : (line : ℕ) → k.node_lines line ≡ mate u x (last_on line no_seat xs)
 
   -- the items of the event
 
-  row_adds : (s t : Seat) (y : KeptRow) (p q : List Item) → partner u w s ≡ t → IsSeat t c.seats → Follows c d t p q → KeepsRow u w s y → RowBy u x (seat_at v) (seat_at c) t s (with_items false p q y)
+  row_adds : (s t : Seat) (y : RowAfter) (p q : List Item) → partner u w s ≡ t → IsSeat t c.seats → Follows c d t p q → KeepsRow u w s y → RowBy u x (seat_at v) (seat_at c) t s (with_items false p q y)
   row_adds s t y p q z i f k = record {
     line = k.line;
     circuit = k.circuit;
@@ -142,7 +142,7 @@ module _ (u : Setups) (w : Machines) (e : Event) (rates : List ℕ) (r : Reach u
     node = λ h. k.node (λ g. h (ap (λ (y : Seat). seat_at c y.line) (sym z) ∙ (g ∙ z))) ∙ (ap (figures_of c) z ∙ sym (f.final (older_over false u.node.lines c t r.sound.node i h)).1);
   }
 
-  row_same : (s t : Seat) (y : KeptRow) → partner u w s ≡ t → IsSeat t c.seats → Follows c d t [] [] → KeepsRow u w s y → RowBy u x (seat_at v) (seat_at c) t s y
+  row_same : (s t : Seat) (y : RowAfter) → partner u w s ≡ t → IsSeat t c.seats → Follows c d t [] [] → KeepsRow u w s y → RowBy u x (seat_at v) (seat_at c) t s y
   row_same s t y z i f k = record {
     line = k.line;
     circuit = k.circuit;
@@ -156,7 +156,7 @@ module _ (u : Setups) (w : Machines) (e : Event) (rates : List ℕ) (r : Reach u
     node = λ h. k.node (λ g. h (ap (λ (y : Seat). seat_at c y.line) (sym z) ∙ (g ∙ z))) ∙ (ap (figures_of c) z ∙ sym (f.final (older_over false u.node.lines c t r.sound.node i h)).1);
   }
 
-  row_none : (s : Seat) (y : KeptRow) → partner u w s ≡ no_seat → KeepsRow u w s y → RowBy u x (seat_at v) (seat_at c) no_seat s y
+  row_none : (s : Seat) (y : RowAfter) → partner u w s ≡ no_seat → KeepsRow u w s y → RowBy u x (seat_at v) (seat_at c) no_seat s y
   row_none s y z k = record {
     line = k.line;
     circuit = k.circuit;
@@ -170,7 +170,7 @@ module _ (u : Setups) (w : Machines) (e : Event) (rates : List ℕ) (r : Reach u
     node = λ h. absurd (h (none_on_zero false u.node.lines c r.sound.node));
   }
 
-  added : (k : KeptRows) → Keeps u w k → Beside c.seats (adds false (line_of e) (put_by e a) (taken_by e a) k)
+  added : (k : RowsAfter) → Keeps u w k → Beside c.seats (adds false (line_of e) (put_by e a) (taken_by e a) k)
   added k h = record {
     rows = pairs_change (KeepsRow u w) (λ s y. RowBy u x (seat_at v) (seat_at c) (partner_in u x s c.seats) s y) (with_items false (put_by e a) (taken_by e a)) (k.node_lines (line_of e)) 0 v.seats k.rows at h.rows;
     server_lines = h.server_lines;
@@ -183,7 +183,7 @@ module _ (u : Setups) (w : Machines) (e : Event) (rates : List ℕ) (r : Reach u
       own_mate : mate u x t0 ≡ mate u w t0
       own_mate = mate_same t0 (seat_or_none c (line_of e))
 
-      at : (s : Seat) (y : KeptRow) (j : ℕ) → IsAt s j 0 v.seats → KeepsRow u w s y → Changed (λ s y. RowBy u x (seat_at v) (seat_at c) (partner_in u x s c.seats) s y) s y (with_items false (put_by e a) (taken_by e a)) j (0 + k.node_lines (line_of e))
+      at : (s : Seat) (y : RowAfter) (j : ℕ) → IsAt s j 0 v.seats → KeepsRow u w s y → Changed (λ s y. RowBy u x (seat_at v) (seat_at c) (partner_in u x s c.seats) s y) s y (with_items false (put_by e a) (taken_by e a)) j (0 + k.node_lines (line_of e))
       at s y j i q = record { here = λ z. here (place z) (seat_or_none c (line_of e)); else = λ z. other z (partner_found u w s c.seats) }
         where
           is : IsSeat s v.seats
@@ -207,7 +207,7 @@ module _ (u : Setups) (w : Machines) (e : Event) (rates : List ℕ) (r : Reach u
 
   -- the new sessions
 
-  accepted : (xs : List Seat) (t : Seat) (k : KeptRows) → Distinct (xs ++ t ∷ []) → ((y : Seat) → IsSeat y (xs ++ t ∷ []) → IsSeat y d.seats) → IsNew d t → IsFirst (session_of d t) → Beside xs k → Beside (xs ++ t ∷ []) (accepts t.line (mate_by_ids u x t) (figures_of d (last_on t.line no_seat xs)) k)
+  accepted : (xs : List Seat) (t : Seat) (k : RowsAfter) → Distinct (xs ++ t ∷ []) → ((y : Seat) → IsSeat y (xs ++ t ∷ []) → IsSeat y d.seats) → IsNew d t → IsFirst (session_of d t) → Beside xs k → Beside (xs ++ t ∷ []) (accepts t.line (mate_by_ids u x t) (figures_of d (last_on t.line no_seat xs)) k)
   accepted xs t k ds all new first b = record {
     rows = pairs_change Middle (λ s y. RowBy u x (seat_at v) (λ line. last_on line no_seat (xs ++ t ∷ [])) (partner_in u x s (xs ++ t ∷ [])) s y) (λ y. record y { node_line = t.line }) m 0 v.seats (change (k.node_lines t.line) (λ y. record y { node = f }) k.rows) joined (pairs_change (λ s y. RowBy u x (seat_at v) (λ line. last_on line no_seat xs) (partner_in u x s xs) s y) Middle (λ y. record y { node = f }) (k.node_lines t.line) 0 v.seats k.rows left b.rows);
     server_lines = b.server_lines;
@@ -242,11 +242,11 @@ module _ (u : Setups) (w : Machines) (e : Event) (rates : List ℕ) (r : Reach u
       lines line true = sym m_is
       lines line false = b.node_lines line
 
-      Middle : Seat → KeptRow → Type 0
+      Middle : Seat → RowAfter → Type 0
       Middle s y = RowBy u x (seat_at v) (λ line. last_on line no_seat (xs ++ t ∷ [])) (partner_in u x s xs) s y
 
       -- the line's session before leaves its figures
-      left : (s : Seat) (y : KeptRow) (j : ℕ) → IsAt s j 0 v.seats → RowBy u x (seat_at v) (λ line. last_on line no_seat xs) (partner_in u x s xs) s y → Changed Middle s y (λ y. record y { node = f }) j (0 + k.node_lines t.line)
+      left : (s : Seat) (y : RowAfter) (j : ℕ) → IsAt s j 0 v.seats → RowBy u x (seat_at v) (λ line. last_on line no_seat xs) (partner_in u x s xs) s y → Changed Middle s y (λ y. record y { node = f }) j (0 + k.node_lines t.line)
       left s y j i q = record {
         here = λ z. record { line = q.line; circuit = q.circuit; id = q.id; node_line = q.node_line; put_up = q.put_up; taken_up = q.taken_up; put_down = q.put_down; taken_down = q.taken_down; server = q.server; node = λ o. ap (figures_of d) (sym (was (place z))) };
         else = λ z. record { line = q.line; circuit = q.circuit; id = q.id; node_line = q.node_line; put_up = q.put_up; taken_up = q.taken_up; put_down = q.put_down; taken_down = q.taken_down; server = q.server; node = λ o. q.node (λ g. older z o g (partner_found u x s xs) (nat_eq t.line (partner_in u x s xs).line) refl) };
@@ -275,7 +275,7 @@ module _ (u : Setups) (w : Machines) (e : Event) (rates : List ℕ) (r : Reach u
               z (let l : j ≡ mate u x t1 = mate_there s t1 j i (subst (λ y. IsSeat y d.seats) same (before (partner_in u x s xs) h.is_seat)) (ap (is_partner u x s) (sym same) ∙ h.partner) in omega (arith, l, b.node_lines t.line))
 
       -- and the new one finds its row
-      joined : (s : Seat) (y : KeptRow) (j : ℕ) → IsAt s j 0 v.seats → Middle s y → Changed (λ s y. RowBy u x (seat_at v) (λ line. last_on line no_seat (xs ++ t ∷ [])) (partner_in u x s (xs ++ t ∷ [])) s y) s y (λ y. record y { node_line = t.line }) j (0 + m)
+      joined : (s : Seat) (y : RowAfter) (j : ℕ) → IsAt s j 0 v.seats → Middle s y → Changed (λ s y. RowBy u x (seat_at v) (λ line. last_on line no_seat (xs ++ t ∷ [])) (partner_in u x s (xs ++ t ∷ [])) s y) s y (λ y. record y { node_line = t.line }) j (0 + m)
       joined s y j i q = record { here = λ z. here (omega (arith, z, m_is)); else = λ z. other (is_partner u x s t) refl (λ p. z (let l : j ≡ mate u x t = mate_there s t j i t_seat p in omega (arith, l, m_is))) }
         where
           here : j ≡ mate u x t → RowBy u x (seat_at v) (λ line. last_on line no_seat (xs ++ t ∷ [])) (partner_in u x s (xs ++ t ∷ [])) s (record y { node_line = t.line })
@@ -311,14 +311,14 @@ module _ (u : Setups) (w : Machines) (e : Event) (rates : List ℕ) (r : Reach u
           other true p n = absurd (n p)
           other false p n = subst (λ c. RowBy u x (seat_at v) (λ line. last_on line no_seat (xs ++ t ∷ [])) c s y) (sym (partner_more u x s t xs p)) q
 
-  accepted_all : (xs ts : List Seat) (k : KeptRows) → d.seats ≡ xs ++ ts → Each (IsNew d) ts → Each (λ t. IsFirst (session_of d t)) ts → Beside xs k → Beside d.seats (accepts_all u x xs ts k)
+  accepted_all : (xs ts : List Seat) (k : RowsAfter) → d.seats ≡ xs ++ ts → Each (IsNew d) ts → Each (λ t. IsFirst (session_of d t)) ts → Beside xs k → Beside d.seats (accepts_all u x xs ts k)
   accepted_all xs [] k q new first b = subst (λ z. Beside z k) (sym (q ∙ append_nil xs)) b
   accepted_all xs (t ∷ ts) k q new first b =
       let q2 : d.seats ≡ (xs ++ t ∷ []) ++ ts = q ∙ append_one xs ts t in
       accepted_all (xs ++ t ∷ []) ts (accepts t.line (mate_by_ids u x t) (figures_of d (last_on t.line no_seat xs)) k) q2 new.1 first.1
       (accepted xs t k (distinct_front (xs ++ t ∷ []) ts (subst Distinct q2 rx.sound.node.rest.distinct)) (λ y i. subst (IsSeat y) (sym q2) (seat_before y (xs ++ t ∷ []) ts i)) new.0 first.0 b)
 
-  pub node_keeps : (k : KeptRows) → Keeps u w k → Keeps u (tell u w false e rates) (kept_told u w false e rates k)
+  pub node_keeps : (k : RowsAfter) → Keeps u w k → Keeps u (tell u w false e rates) (rows_at u w false e rates k)
   node_keeps k h = record {
     rows = pairs_each (λ s y. RowBy u x (seat_at v) (seat_at d) (partner u x s) s y) (KeepsRow u x) 0 v.seats kept.rows (λ s y j i q. by_row u x s y q) b.rows;
     server_lines = b.server_lines;
@@ -328,7 +328,7 @@ module _ (u : Setups) (w : Machines) (e : Event) (rates : List ℕ) (r : Reach u
       news : new_seats c d ≡ tale.more
       news = ap (drop (length c.seats)) tale.seats ∙ drop_front c.seats tale.more
 
-      kept : KeptRows
+      kept : RowsAfter
       kept = accepts_all u x c.seats (new_seats c d) (adds false (line_of e) (put_by e a) (taken_by e a) k)
 
       b : Beside d.seats (accepts_all u x c.seats (new_seats c d) (adds false (line_of e) (put_by e a) (taken_by e a) k))

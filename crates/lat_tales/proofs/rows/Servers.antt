@@ -15,8 +15,8 @@ use Rattle.lat_rounds.specs.Seated.{IsSeat}
 use Rattle.lat_rounds.proofs.ready.Seats.{last_more}
 use Rattle.lat_tales.specs.Items.{taken_of, line_of, put_by, taken_by}
 use Rattle.lat_tales.specs.Mates.{mate_in, mate}
-use Rattle.lat_tales.specs.Rows.{Figures, figures_of, KeptRow, KeptRows, KeepsRow, Pairs, Keeps, newest_place}
-use Rattle.lat_tales.specs.Keeping.{change, with_items, adds, new_row, connects, connects_all, new_seats, kept_told}
+use Rattle.lat_tales.specs.Rows.{Figures, figures_of, RowAfter, RowsAfter, KeepsRow, Pairs, Keeps, newest_place}
+use Rattle.lat_tales.specs.Keeping.{change, with_items, adds, new_row, connects, connects_all, new_seats, rows_at}
 use Rattle.lat_tales.proofs.steps.Goes.{Untouched}
 use Rattle.lat_tales.proofs.seats.Sound.{Apart, Distinct, IsNew, seat_before, seat_behind}
 use Rattle.lat_tales.proofs.seats.Follows.{Follows}
@@ -119,7 +119,7 @@ module _ (u : Setups) (w : Machines) (e : Event) (rates : List ℕ) (pos : 0 < u
 
   -- the items of the event
 
-  row_adds : (s : Seat) (v : KeptRow) (p q : List Item) → IsSeat s c.seats → Follows c d s p q → KeepsRow u w s v → RowBy u x (seat_at c) (seat_at n) (partner u x s) s (with_items true p q v)
+  row_adds : (s : Seat) (v : RowAfter) (p q : List Item) → IsSeat s c.seats → Follows c d s p q → KeepsRow u w s v → RowBy u x (seat_at c) (seat_at n) (partner u x s) s (with_items true p q v)
   row_adds s v p q i f k = subst (λ t. RowBy u x (seat_at c) (seat_at n) t s (with_items true p q v)) (sym (partner_old s i)) (record {
     line = k.line;
     circuit = k.circuit;
@@ -133,7 +133,7 @@ module _ (u : Setups) (w : Machines) (e : Event) (rates : List ℕ) (pos : 0 < u
     node = k.node;
   })
 
-  row_none : (s : Seat) (v : KeptRow) → IsSeat s c.seats → Follows c d s [] [] → KeepsRow u w s v → RowBy u x (seat_at c) (seat_at n) (partner u x s) s v
+  row_none : (s : Seat) (v : RowAfter) → IsSeat s c.seats → Follows c d s [] [] → KeepsRow u w s v → RowBy u x (seat_at c) (seat_at n) (partner u x s) s v
   row_none s v i f k = subst (λ t. RowBy u x (seat_at c) (seat_at n) t s v) (sym (partner_old s i)) (record {
     line = k.line;
     circuit = k.circuit;
@@ -148,19 +148,19 @@ module _ (u : Setups) (w : Machines) (e : Event) (rates : List ℕ) (pos : 0 < u
   })
 
   -- What is kept beside the sessions `xs` of the server
-  record Beside (xs : List Seat) (k : KeptRows) : Type 0 where
+  record Beside (xs : List Seat) (k : RowsAfter) : Type 0 where
     pub rows : Pairs (λ s v. RowBy u x (λ line. last_on line no_seat xs) (seat_at n) (partner u x s) s v) xs k.rows
     pub server_lines : (line : ℕ) → k.server_lines line ≡ newest_place line 0 0 xs
     pub node_lines : (line : ℕ) → k.node_lines line ≡ mate u x (seat_at n line)
 
-  added : (k : KeptRows) → Keeps u w k → Beside c.seats (adds true (line_of e) (put_by e a) (taken_by e a) k)
+  added : (k : RowsAfter) → Keeps u w k → Beside c.seats (adds true (line_of e) (put_by e a) (taken_by e a) k)
   added k h = record {
     rows = pairs_change (KeepsRow u w) (λ s v. RowBy u x (seat_at c) (seat_at n) (partner u x s) s v) (with_items true (put_by e a) (taken_by e a)) (k.server_lines (line_of e)) 0 c.seats k.rows (λ s v j i q. at s v j i q) h.rows;
     server_lines = h.server_lines;
     node_lines = λ line. h.node_lines line ∙ sym (mate_same (seat_at n line) (seat_or_none n line));
   }
     where
-      at : (s : Seat) (v : KeptRow) (j : ℕ) → IsAt s j 0 c.seats → KeepsRow u w s v → Changed (λ s v. RowBy u x (seat_at c) (seat_at n) (partner u x s) s v) s v (with_items true (put_by e a) (taken_by e a)) j (0 + k.server_lines (line_of e))
+      at : (s : Seat) (v : RowAfter) (j : ℕ) → IsAt s j 0 c.seats → KeepsRow u w s v → Changed (λ s v. RowBy u x (seat_at c) (seat_at n) (partner u x s) s v) s v (with_items true (put_by e a) (taken_by e a)) j (0 + k.server_lines (line_of e))
       at s v j i q = record {
         here = λ z. row_adds s v (put_by e a) (taken_by e a) (at_seat s j 0 c.seats i) (tale.own s (at_seat s j 0 c.seats i) (at_newest (line_of e) c.seats s j i (place z))) q;
         else = λ z. row_none s v (at_seat s j 0 c.seats i) (tale.other s (at_seat s j 0 c.seats i) (λ y. z (unplace (newest_is_at (line_of e) c.seats s j r.sound.server.rest.distinct (some_line s (at_seat s j 0 c.seats i)) i (sym y))))) q;
@@ -174,7 +174,7 @@ module _ (u : Setups) (w : Machines) (e : Event) (rates : List ℕ) (pos : 0 < u
 
   -- the new sessions
 
-  connected : (xs : List Seat) (s : Seat) (k : KeptRows) → Distinct (xs ++ s ∷ []) → ((y : Seat) → IsSeat y xs → y.line ≢ 0) → IsNew d s → IsSeat s tale.more → Beside xs k → Beside (xs ++ s ∷ []) (connects s (figures_of d (last_on s.line no_seat xs)) k)
+  connected : (xs : List Seat) (s : Seat) (k : RowsAfter) → Distinct (xs ++ s ∷ []) → ((y : Seat) → IsSeat y xs → y.line ≢ 0) → IsNew d s → IsSeat s tale.more → Beside xs k → Beside (xs ++ s ∷ []) (connects s (figures_of d (last_on s.line no_seat xs)) k)
   connected xs s k ds lines new i b = record {
     rows = pairs_more (λ y v. RowBy u x (λ line. last_on line no_seat (xs ++ s ∷ [])) (seat_at n) (partner u x y) y v) xs (change (k.server_lines s.line) (λ v. record v { server = f }) k.rows) s (new_row s) (pairs_change (λ y v. RowBy u x (λ line. last_on line no_seat xs) (seat_at n) (partner u x y) y v) (λ y v. RowBy u x (λ line. last_on line no_seat (xs ++ s ∷ [])) (seat_at n) (partner u x y) y v) (λ v. record v { server = f }) (k.server_lines s.line) 0 xs k.rows at b.rows) fresh;
     server_lines = λ line. updated_line k.server_lines s.line (suc (length k.rows)) line ∙ (ap₂ (λ y z. cond (nat_eq s.line line) y z) (ap suc (pairs_length (λ y v. RowBy u x (λ line. last_on line no_seat xs) (seat_at n) (partner u x y) y v) xs k.rows b.rows)) (b.server_lines line) ∙ sym (newest_more line 0 0 xs s ∙ ap (λ z. cond (nat_eq s.line line) (suc z) (newest_place line 0 0 xs)) (plus (length xs))));
@@ -210,7 +210,7 @@ module _ (u : Setups) (w : Machines) (e : Event) (rates : List ℕ) (pos : 0 < u
           untouched : Untouched (session_of n no_seat)
           untouched = (let z : session_of n no_seat ≡ blank = (r.sound.node.rest.good 0).none in record { put = ap (λ (y : Session). y.put) z; taken = ap (λ (y : Session). y.taken) z })
 
-      at : (y : Seat) (v : KeptRow) (j : ℕ) → IsAt y j 0 xs → RowBy u x (λ line. last_on line no_seat xs) (seat_at n) (partner u x y) y v → Changed (λ y v. RowBy u x (λ line. last_on line no_seat (xs ++ s ∷ [])) (seat_at n) (partner u x y) y v) y v (λ v. record v { server = f }) j (0 + k.server_lines s.line)
+      at : (y : Seat) (v : RowAfter) (j : ℕ) → IsAt y j 0 xs → RowBy u x (λ line. last_on line no_seat xs) (seat_at n) (partner u x y) y v → Changed (λ y v. RowBy u x (λ line. last_on line no_seat (xs ++ s ∷ [])) (seat_at n) (partner u x y) y v) y v (λ v. record v { server = f }) j (0 + k.server_lines s.line)
       at y v j a q = record {
         here = λ z. (let h : y ≡ last_on s.line no_seat xs = at_newest s.line xs y j a (omega (arith, z, b.server_lines s.line)) in record { line = q.line; circuit = q.circuit; id = q.id; node_line = q.node_line; put_up = q.put_up; taken_up = q.taken_up; put_down = q.put_down; taken_down = q.taken_down; server = λ o. ap (figures_of d) (sym h); node = q.node });
         else = λ z. record { line = q.line; circuit = q.circuit; id = q.id; node_line = q.node_line; put_up = q.put_up; taken_up = q.taken_up; put_down = q.put_down; taken_down = q.taken_down; server = λ o. q.server (λ t. older z o t (nat_eq s.line y.line) refl); node = q.node };
@@ -220,14 +220,14 @@ module _ (u : Setups) (w : Machines) (e : Event) (rates : List ℕ) (pos : 0 < u
           older z o t false e = o (newest_is y.line ∙ (ap (λ g. cond g s (last_on y.line no_seat xs)) e ∙ t))
           older z o t true e = z (let l : j ≡ newest_place y.line 0 0 xs = newest_is_at y.line xs y j d_xs (lines y (at_seat y j 0 xs a)) a t in omega (arith, l ∙ ap (λ g. newest_place g 0 0 xs) (sym (eqb-true s.line y.line e)), b.server_lines s.line))
 
-  connected_all : (xs ss : List Seat) (k : KeptRows) → d.seats ≡ xs ++ ss → Each (IsNew d) ss → ((s : Seat) → IsSeat s ss → IsSeat s tale.more) → Beside xs k → Beside d.seats (connects_all d xs ss k)
+  connected_all : (xs ss : List Seat) (k : RowsAfter) → d.seats ≡ xs ++ ss → Each (IsNew d) ss → ((s : Seat) → IsSeat s ss → IsSeat s tale.more) → Beside xs k → Beside d.seats (connects_all d xs ss k)
   connected_all xs [] k q new i b = subst (λ z. Beside z k) (sym (q ∙ append_nil xs)) b
   connected_all xs (s ∷ ss) k q new i b =
       let q2 : d.seats ≡ (xs ++ s ∷ []) ++ ss = q ∙ append_one xs ss s in
       connected_all (xs ++ s ∷ []) ss (connects s (figures_of d (last_on s.line no_seat xs)) k) q2 new.1 (λ y j. i y (inr j))
       (connected xs s k (distinct_front (xs ++ s ∷ []) ss (subst Distinct q2 rx.sound.server.rest.distinct)) (λ y j. line_some u.server.lines y (rx.sound.server.seated.placed y (subst (IsSeat y) (sym q) (seat_before y xs (s ∷ ss) j))).line) new.0 (i s (inl refl)) b)
 
-  pub server_keeps : (k : KeptRows) → Keeps u w k → Keeps u (tell u w true e rates) (kept_told u w true e rates k)
+  pub server_keeps : (k : RowsAfter) → Keeps u w k → Keeps u (tell u w true e rates) (rows_at u w true e rates k)
   server_keeps k h = record {
     rows = pairs_each (λ s v. RowBy u x (seat_at d) (seat_at n) (partner u x s) s v) (KeepsRow u x) 0 d.seats kept.rows (λ s v j i q. by_row u x s v q) b.rows;
     server_lines = b.server_lines;
@@ -237,7 +237,7 @@ module _ (u : Setups) (w : Machines) (e : Event) (rates : List ℕ) (pos : 0 < u
       news : new_seats c d ≡ tale.more
       news = ap (drop (length c.seats)) tale.seats ∙ drop_front c.seats tale.more
 
-      kept : KeptRows
+      kept : RowsAfter
       kept = connects_all d c.seats (new_seats c d) (adds true (line_of e) (put_by e a) (taken_by e a) k)
 
       b : Beside d.seats (connects_all d c.seats (new_seats c d) (adds true (line_of e) (put_by e a) (taken_by e a) k))

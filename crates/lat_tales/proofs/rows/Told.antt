@@ -10,17 +10,17 @@ use Rattle.lat_machines.specs.world.Safe.{Fit}
 use Rattle.lat_machines.specs.world.Reports.{Direction, Row, is_partner, partner_in, partner, row, report}
 use Rattle.lat_rounds.specs.Seated.{IsSeat}
 use Rattle.lat_tales.specs.Mates.{mate}
-use Rattle.lat_tales.specs.Rows.{Figures, figures_of, KeptRow, KeptRows, KeepsRow, Pairs, Keeps}
+use Rattle.lat_tales.specs.Rows.{Figures, figures_of, RowAfter, RowsAfter, KeepsRow, Pairs, Keeps}
 use Rattle.lat_tales.specs.Keeping.{no_figures}
-use Rattle.lat_tales.specs.Told.{server_figures, node_figures, told_row, told_from, told_rows}
+use Rattle.lat_tales.specs.Reported.{server_figures, node_figures, report_row, report_rows_from, report_rows}
 use Rattle.lat_tales.proofs.mates.Reach.{Reach, reach_run}
 use Rattle.lat_tales.proofs.mates.Partners.{one_server, one_node, none_partner}
 use Rattle.lat_tales.proofs.mates.Places.{IsAt, at_seat, at_above, one_seat, mate_at, mate_none, MateFound, mate_found, PartnerFound, partner_found}
 use Rattle.lat_tales.proofs.seats.Calls.{seat_or_none}
 use Rattle.lat_tales.proofs.rows.By.{line_some, newest_is_at, at_newest}
 
-module _ (u : Setups) (w : Machines) (r : Reach u w) (k : KeptRows) (h : Keeps u w k) where
-  figures_server : (s : Seat) (v : KeptRow) (j : ℕ) → IsAt s j 0 w.server.core.seats → KeepsRow u w s v → server_figures w k j v ≡ figures_of w.server.core s
+module _ (u : Setups) (w : Machines) (r : Reach u w) (k : RowsAfter) (h : Keeps u w k) where
+  figures_server : (s : Seat) (v : RowAfter) (j : ℕ) → IsAt s j 0 w.server.core.seats → KeepsRow u w s v → server_figures w k j v ≡ figures_of w.server.core s
   figures_server s v j i q = go (nat_eq (k.server_lines v.line) j) refl
     where
       is : IsSeat s w.server.core.seats
@@ -35,7 +35,7 @@ module _ (u : Setups) (w : Machines) (r : Reach u w) (k : KeptRows) (h : Keeps u
     pub given : a.given ≡ b.given
     pub used_up : a.used_up ≡ b.used_up
 
-  figures_node : (s : Seat) (v : KeptRow) (j : ℕ) → IsAt s j 0 w.server.core.seats → KeepsRow u w s v → SameFigures (node_figures w k j v) (figures_of w.node.core (partner u w s))
+  figures_node : (s : Seat) (v : RowAfter) (j : ℕ) → IsAt s j 0 w.server.core.seats → KeepsRow u w s v → SameFigures (node_figures w k j v) (figures_of w.node.core (partner u w s))
   figures_node s v j i q = ⊎_elim {C = SameFigures (node_figures w k j v) (figures_of w.node.core (partner u w s))} none some (partner_found u w s w.node.core.seats)
     where
       t : Seat
@@ -82,12 +82,12 @@ module _ (u : Setups) (w : Machines) (r : Reach u w) (k : KeptRows) (h : Keeps u
           whole : node_figures w k j v ≡ figures_of w.node.core t
           whole = go (nat_eq v.node_line 0) refl (nat_eq (k.node_lines v.node_line) j) refl
 
-  row_told : (s : Seat) (v : KeptRow) (j : ℕ) → IsAt s j 0 w.server.core.seats → KeepsRow u w s v → told_row w k j v ≡ row u w s
+  row_told : (s : Seat) (v : RowAfter) (j : ℕ) → IsAt s j 0 w.server.core.seats → KeepsRow u w s v → report_row w k j v ≡ row u w s
   row_told s v j i q =
       let a : server_figures w k j v ≡ figures_of w.server.core s = figures_server s v j i q in
       let b : SameFigures (node_figures w k j v) (figures_of w.node.core (partner u w s)) = figures_node s v j i q in
       let same : (x y : Row) → x.line ≡ y.line → x.node_line ≡ y.node_line → x.ended ≡ y.ended → x.up.put ≡ y.up.put → x.up.taken ≡ y.up.taken → x.up.given ≡ y.up.given → x.up.used_up ≡ y.up.used_up → x.down.put ≡ y.down.put → x.down.taken ≡ y.down.taken → x.down.given ≡ y.down.given → x.down.used_up ≡ y.down.used_up → x ≡ y = same_row in
-      same (told_row w k j v) (row u w s) q.line (ap (λ z. cond (nat_eq z 0) None (Some z)) q.node_line) (ap (λ (f : Figures). f.end) a) q.put_up q.taken_up b.given (ap (λ (f : Figures). f.used_up) a) q.put_down q.taken_down (ap (λ (f : Figures). f.given) a) b.used_up
+      same (report_row w k j v) (row u w s) q.line (ap (λ z. cond (nat_eq z 0) None (Some z)) q.node_line) (ap (λ (f : Figures). f.end) a) q.put_up q.taken_up b.given (ap (λ (f : Figures). f.used_up) a) q.put_down q.taken_down (ap (λ (f : Figures). f.given) a) b.used_up
     where
       same_row : (x y : Row) → x.line ≡ y.line → x.node_line ≡ y.node_line → x.ended ≡ y.ended → x.up.put ≡ y.up.put → x.up.taken ≡ y.up.taken → x.up.given ≡ y.up.given → x.up.used_up ≡ y.up.used_up → x.down.put ≡ y.down.put → x.down.taken ≡ y.down.taken → x.down.given ≡ y.down.given → x.down.used_up ≡ y.down.used_up → x ≡ y
       same_row x y a b c d e f g h i j k =
@@ -100,14 +100,14 @@ module _ (u : Setups) (w : Machines) (r : Reach u w) (k : KeptRows) (h : Keeps u
               ap₂ (λ l m. record { put = l; taken = m; given = x.given; used_up = x.used_up }) a b
               ∙ ap₂ (λ l m. record { put = y.put; taken = y.taken; given = l; used_up = m }) c d
 
-  rows_told : (n : ℕ) (ss : List Seat) (rs : List KeptRow) → ((s : Seat) (v : KeptRow) (j : ℕ) → IsAt s j n ss → KeepsRow u w s v → told_row w k j v ≡ row u w s) → Pairs (KeepsRow u w) ss rs → told_from w k n rs ≡ map (row u w) ss
-  rows_told n [] rs f p = ap (told_from w k n) p
+  rows_told : (n : ℕ) (ss : List Seat) (rs : List RowAfter) → ((s : Seat) (v : RowAfter) (j : ℕ) → IsAt s j n ss → KeepsRow u w s v → report_row w k j v ≡ row u w s) → Pairs (KeepsRow u w) ss rs → report_rows_from w k n rs ≡ map (row u w) ss
+  rows_told n [] rs f p = ap (report_rows_from w k n) p
   rows_told n (s ∷ ss) [] f p = absurd p
   rows_told n (s ∷ ss) (v ∷ vs) f p = ap₂ (λ y z. y ∷ z) (f s v (suc n) (inl (refl, refl)) p.0) (rows_told (suc n) ss vs (λ t y j i q. f t y j (inr i) q) p.1)
 
-  pub told_are_rows : told_rows w k ≡ (report u w).sessions
+  pub told_are_rows : report_rows w k ≡ (report u w).sessions
   told_are_rows = rows_told 0 w.server.core.seats k.rows row_told h.rows
 
 -- in a world of a run
-pub run_told : (u : Setups) (ms : List Move) (k : KeptRows) → Fit u → Keeps u (run u ms (open_machines u)) k → told_rows (run u ms (open_machines u)) k ≡ (report u (run u ms (open_machines u))).sessions
+pub run_told : (u : Setups) (ms : List Move) (k : RowsAfter) → Fit u → Keeps u (run u ms (open_machines u)) k → report_rows (run u ms (open_machines u)) k ≡ (report u (run u ms (open_machines u))).sessions
 run_told u ms k f h = told_are_rows u (run u ms (open_machines u)) (reach_run u ms f) k h

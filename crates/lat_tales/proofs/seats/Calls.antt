@@ -13,7 +13,7 @@ use Rattle.lat_model.proofs.sessions.Words.{upd_same, upd_other, upd_all}
 use Rattle.lat_machines.specs.values.Answers.{Answer, NoLine, Closed}
 use Rattle.lat_machines.specs.cores.Acts.{Acted, idle, steps_at, local_at}
 use Rattle.lat_machines.specs.cores.Cores.{Seat, no_seat, Core, Side}
-use Rattle.lat_machines.specs.cores.Lines.{end_of, session_of, over, last_on, seat_at, holds, line_exists}
+use Rattle.lat_machines.specs.cores.Lines.{end_of, session_of, over, last_on, seat_at, has_session, line_exists}
 use Rattle.lat_machines.specs.cores.Books.{EndedClosed, EndedRejected, EndedCircuit, reject_reason, end_reason}
 use Rattle.lat_machines.specs.cores.LineCalls.{Said, says, calls_on, on_line}
 use Rattle.lat_rounds.specs.Seated.{IsSeat, Placed}
@@ -265,9 +265,9 @@ id_leads m lines c s h n o =
     ap (sess c.circuits s.circuit).at_id (sym p.id) ∙ (h.seated.good.found s.circuit).holds s.serial (over_parts c s o).1
 
 pub line_told : (m : Bool) (lines : ℕ) (c : Core) (line : ℕ) (put took : Answer → List Item) (f : Seat → Said) → Sound m lines c → put NoLine ≡ [] → took NoLine ≡ [] → put Closed ≡ [] → took Closed ≡ [] → (IsSeat (seat_at c line) c.seats → over c (seat_at c line) ≡ false → Told m lines c line put took (f (seat_at c line))) → Told m lines c line put took (on_line lines c line f)
-line_told m lines c line put took f h p q r t w = go (line_exists lines line) (holds c line) refl
+line_told m lines c line put took f h p q r t w = go (line_exists lines line) (has_session c line) refl
   where
-    go : (a b : Bool) → holds c line ≡ b → Told m lines c line put took (cond a (cond b (f (seat_at c line)) (says c Closed)) (says c NoLine))
+    go : (a b : Bool) → has_session c line ≡ b → Told m lines c line put took (cond a (cond b (f (seat_at c line)) (says c Closed)) (says c NoLine))
     go false b e = told_none m lines c line put took NoLine h p q
     go true false e = told_none m lines c line put took Closed h r t
     go true true e = (let o : over c (seat_at c line) ≡ false = not-true (over c (seat_at c line)) e in w (held_seat m lines c line h o) o)

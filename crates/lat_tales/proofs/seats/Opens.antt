@@ -13,7 +13,7 @@ use Rattle.lat_machines.specs.values.Names.{Name}
 use Rattle.lat_machines.specs.values.Keys.{Key}
 use Rattle.lat_machines.specs.cores.Acts.{Acted, idle, steps_at, call_at, called, local_at}
 use Rattle.lat_machines.specs.cores.Cores.{Seat, Core, Doing, rests, acts, with_circuits, setup_of, circuit_to}
-use Rattle.lat_machines.specs.cores.Lines.{end_of, session_of, over, holds, line_exists}
+use Rattle.lat_machines.specs.cores.Lines.{end_of, session_of, over, has_session, line_exists}
 use Rattle.lat_machines.specs.server.Server.{ServerConfig, server_side, has_room, may_call, can_open, connects_on, opens}
 use Rattle.lat_machines.proofs.queue.Rooms.{Called, call_opens, test_of, least_true, Grown}
 use Rattle.lat_machines.proofs.queue.Grants.{Opened, opens_at}
@@ -186,7 +186,7 @@ last_same : (xs : List Seat) (a b : Seat) → xs ++ a ∷ [] ≡ xs ++ b ∷ [] 
 last_same [] a b q = cc
 last_same (x ∷ xs) a b q = last_same xs a b (let r : xs ++ a ∷ [] ≡ xs ++ b ∷ [] = cc in r)
 
-pub opens_fresh : (config : ServerConfig) (b : Core) (line address : ℕ) (node service : Name) (key : Option Key) (request : Option ℕ) (c : Core) → 0 < config.timing.sessions → can_open c address ≡ true → line_exists config.lines line ≡ true → holds c line ≡ false → Fresh true config.lines b c → Fresh true config.lines b (opens config line address node service key request c).core
+pub opens_fresh : (config : ServerConfig) (b : Core) (line address : ℕ) (node service : Name) (key : Option Key) (request : Option ℕ) (c : Core) → 0 < config.timing.sessions → can_open c address ≡ true → line_exists config.lines line ≡ true → has_session c line ≡ false → Fresh true config.lines b c → Fresh true config.lines b (opens config line address node service key request c).core
 opens_fresh config b line address node service key request c pos can ex fr f = record {
   sound = record { seated = opens_seated config line address node service key request c pos f.sound.seated can ex fr; rest = r.rest };
   table = turned_then b.circuits c.circuits d.circuits f.table t;

@@ -29,7 +29,7 @@ use Rattle.lat_machines.specs.server.Records.{kept_of}
 use Rattle.lat_machines.specs.cores.Acts.{idle, steps_at, time_at, local_at}
 use Rattle.lat_machines.specs.cores.Hearing.{names, hear_run, hear_stop_at, hear_reply_at, StartFact, Makes, Repeats, Refuses, start_fact, start_at}
 use Rattle.lat_machines.specs.cores.Cores.{Seat, Core, Side, Doing, rests, then_doing, acts, with_circuits, setup_of, at_moment, time_each, circuit_to}
-use Rattle.lat_machines.specs.cores.Lines.{session_of, seat_at, holds, line_exists}
+use Rattle.lat_machines.specs.cores.Lines.{session_of, seat_at, has_session, line_exists}
 use Rattle.lat_machines.specs.cores.LineCalls.{Said, says, calls_on, put_on, set_on, attend_on, take_on, close_on, on_line}
 use Rattle.lat_machines.specs.server.Server.{ServerConfig, Server, ServerStep, server_side, offer_on, tells, does, has_room, may_call, can_open, opens, connects_to, solicits_for, connect_event, status_frame, key_of, hears_command, hears_value, server_event, finished_requests, Passing, fitting, grantable, grants_by, grant_line, grant_lines, server_step}
 use Rattle.lat_machines.specs.node.Node.{NodeConfig, Node, NodeStep, Requested, node_side, request_of, Verdict, Accepts, Rejects, on_free_line, free_line, verdict, was_requested, is_offered, judged, asked_at, answers_one, answers_in, asked_on, answers_asked, requests_again, withdraws, solicited, hears_run, hears_start, node_step}
@@ -51,13 +51,13 @@ pub record ServerActs (config : ServerConfig) (A : Call → Type 0) (P : Core �
   pub acts : Acts (server_side config) A P
   pub replies : (c : Core) (from to source : ℕ) (g : Agreed) → P c → P (with_circuits c (hear_reply_at c.circuits from to source c.moment g).act.table)
   pub done : (c : Core) → P c → Q c
-  pub opens : (line address : ℕ) (node service : Name) (key : Option Key) (request : Option ℕ) (c : Core) → can_open c address ≡ true → line_exists config.lines line ≡ true → holds c line ≡ false → Q c → Q (opens config line address node service key request c).core
+  pub opens : (line address : ℕ) (node service : Name) (key : Option Key) (request : Option ℕ) (c : Core) → can_open c address ≡ true → line_exists config.lines line ≡ true → has_session c line ≡ false → Q c → Q (opens config line address node service key request c).core
 
 pub record NodeActs (config : NodeConfig) (A : Call → Type 0) (P : Core → Type 0) (Q : Core → Type 0) : Type 0 where
   pub acts : Acts (node_side config) A P
   pub starts : (c : Core) (from source : ℕ) (g : Agreed) → P c → P (with_circuits c (start_at (setup_of config.timing) c.circuits from source c.moment g (start_fact c.circuits from source)).table)
   pub done : (c : Core) → P c → Q c
-  pub accepts : (st : Node) (x id line : ℕ) (request : Option ℕ) (service : Name) → waits (asked_at st x id) ≡ true → verdict config st service request ≡ Accepts line → lives (st.core.circuits.circuit_at x).end ≡ true → line_exists config.lines line ≡ true → holds st.core line ≡ false → Q st.core → Q (judged config st x id request (Accepts line)).core
+  pub accepts : (st : Node) (x id line : ℕ) (request : Option ℕ) (service : Name) → waits (asked_at st x id) ≡ true → verdict config st service request ≡ Accepts line → lives (st.core.circuits.circuit_at x).end ≡ true → line_exists config.lines line ≡ true → has_session st.core line ≡ false → Q st.core → Q (judged config st x id request (Accepts line)).core
   pub refuses : (c : Core) (x id reason : ℕ) → Q c → Q (with_circuits c (local_at false c.circuits x (Refuse id reason)).table)
 
 -- what both cores do
@@ -67,7 +67,7 @@ said_cond Q true a b p q = p
 said_cond Q false a b p q = q
 
 line_keeps : (Q : Core → Type 0) (lines : ℕ) (c : Core) (line : ℕ) (f : Seat → Said) → Q c → ((s : Seat) → Q (f s).core) → Q (on_line lines c line f).core
-line_keeps Q lines c line f r p = said_cond Q (line_exists lines line) (cond (holds c line) (f (seat_at c line)) (says c Closed)) (says c NoLine) (said_cond Q (holds c line) (f (seat_at c line)) (says c Closed) (p (seat_at c line)) r) r
+line_keeps Q lines c line f r p = said_cond Q (line_exists lines line) (cond (has_session c line) (f (seat_at c line)) (says c Closed)) (says c NoLine) (said_cond Q (has_session c line) (f (seat_at c line)) (says c Closed) (p (seat_at c line)) r) r
 
 call_if : (A : Call → Type 0) (Q : Core → Type 0) (k : Side) → Acts k A Q → (c : Core) (s : Seat) (n : Bool) (x : Call) (a b : Answer) → A x → Q c → Q (cond n (says (calls_on k c s x) a) (says c b)).core
 call_if A Q k h c s n x a b w r = said_cond Q n (says (calls_on k c s x) a) (says c b) (h.calls c s.circuit x w r) r
@@ -108,12 +108,12 @@ both_true false b p q = p
 
 module _ (config : ServerConfig) (A : Call → Type 0) (P : Core → Type 0) (Q : Core → Type 0) (h : ServerActs config A P Q) where
   connect_keeps : (st : Server) (line : ℕ) (service : Name) → P st.core → Q (connect_event config st line service).state.core
-  connect_keeps st line service p = go (line_exists config.lines line) refl (holds st.core line) refl (best config.groups service st.core.moment st.heard)
+  connect_keeps st line service p = go (line_exists config.lines line) refl (has_session st.core line) refl (best config.groups service st.core.moment st.heard)
     where
       r : Q st.core
       r = h.done st.core p
 
-      reaches : line_exists config.lines line ≡ true → holds st.core line ≡ false → (b : Best) → Q (connects_to config st line service b).state.core
+      reaches : line_exists config.lines line ≡ true → has_session st.core line ≡ false → (b : Best) → Q (connects_to config st line service b).state.core
       reaches ex fr b =
           let x : ℕ = circuit_to st.core b.from in
           let d : Doing = opens config line b.from b.node service None None st.core in
@@ -129,7 +129,7 @@ module _ (config : ServerConfig) (A : Call → Type 0) (P : Core → Type 0) (Q 
           (λ k. h.opens line b.from b.node service None None st.core (ap (λ z. cond z (may_call st.core) (has_room st.core x)) i ∙ k) ex fr r)
           (λ k. r))
 
-      go : (n : Bool) → line_exists config.lines line ≡ n → (m : Bool) → holds st.core line ≡ m → (o : Option Best) → Q (cond n (cond m (tells st Busy) (elim o [ None ↦ solicits_for config st service | Some b ↦ connects_to config st line service b ])) (tells st NoLine)).state.core
+      go : (n : Bool) → line_exists config.lines line ≡ n → (m : Bool) → has_session st.core line ≡ m → (o : Option Best) → Q (cond n (cond m (tells st Busy) (elim o [ None ↦ solicits_for config st service | Some b ↦ connects_to config st line service b ])) (tells st NoLine)).state.core
       go false i m j o = r
       go true i true j o = r
       go true i false j None = r
@@ -183,7 +183,7 @@ module _ (config : ServerConfig) (A : Call → Type 0) (P : Core → Type 0) (Q 
   grants_keep : (line : ℕ) (o : Option Name) (g : Option Request) (p : Passing) → line_exists config.lines line ≡ true → grantable p.state line o ≡ g → Q p.state.core → Q (grants_by config line o g p).state.core
   grants_keep line None g p ex q r = r
   grants_keep line (Some service) None p ex q r = r
-  grants_keep line (Some service) (Some g) p ex q r = go (holds p.state.core line) refl (next_request service p.state.queue) q
+  grants_keep line (Some service) (Some g) p ex q r = go (has_session p.state.core line) refl (next_request service p.state.queue) q
     where
       wrong : None ≡ Some g → ⊥
       wrong e = cc
@@ -191,11 +191,11 @@ module _ (config : ServerConfig) (A : Call → Type 0) (P : Core → Type 0) (Q 
       is_it : (y : Request) → Some y ≡ Some g → y ≡ g
       is_it y e = cc
 
-      opened : (y : Request) (b : Bool) → can_open p.state.core y.from ≡ b → holds p.state.core line ≡ false → cond b (Some y) None ≡ Some g → Q (opens config line g.from g.key.node service (Some g.key) (Some g.key.request) p.state.core).core
+      opened : (y : Request) (b : Bool) → can_open p.state.core y.from ≡ b → has_session p.state.core line ≡ false → cond b (Some y) None ≡ Some g → Q (opens config line g.from g.key.node service (Some g.key) (Some g.key.request) p.state.core).core
       opened y true i f e = h.opens line g.from g.key.node service (Some g.key) (Some g.key.request) p.state.core (ap (λ (z : Request). can_open p.state.core z.from) (sym (is_it y e)) ∙ i) ex f r
       opened y false i f e = absurd (wrong e)
 
-      go : (b : Bool) → holds p.state.core line ≡ b → (o : Option Request) → cond b None (fitting p.state.core o) ≡ Some g → Q (opens config line g.from g.key.node service (Some g.key) (Some g.key.request) p.state.core).core
+      go : (b : Bool) → has_session p.state.core line ≡ b → (o : Option Request) → cond b None (fitting p.state.core o) ≡ Some g → Q (opens config line g.from g.key.node service (Some g.key) (Some g.key.request) p.state.core).core
       go true i o e = absurd (wrong e)
       go false i None e = absurd (wrong e)
       go false i (Some y) e = opened y (can_open p.state.core y.from) refl i e
@@ -228,7 +228,7 @@ node_cond Q true s t p q = p
 node_cond Q false s t p q = q
 
 -- who is accepted gets a line that exists and has no session
-verdict_line : (config : NodeConfig) (st : Node) (service : Name) (request : Option ℕ) (line : ℕ) → verdict config st service request ≡ Accepts line → (line_exists config.lines line ≡ true) × (holds st.core line ≡ false)
+verdict_line : (config : NodeConfig) (st : Node) (service : Name) (request : Option ℕ) (line : ℕ) → verdict config st service request ≡ Accepts line → (line_exists config.lines line ≡ true) × (has_session st.core line ≡ false)
 verdict_line config st service request line e = by request e
   where
     l : ℕ
@@ -240,19 +240,19 @@ verdict_line config st service request line e = by request e
     is_it : Accepts l ≡ Accepts line → l ≡ line
     is_it q = cc
 
-    on_line : (b : Bool) → nat_eq l 0 ≡ b → cond b (Rejects 7) (Accepts l) ≡ Accepts line → (line_exists config.lines line ≡ true) × (holds st.core line ≡ false)
+    on_line : (b : Bool) → nat_eq l 0 ≡ b → cond b (Rejects 7) (Accepts l) ≡ Accepts line → (line_exists config.lines line ≡ true) × (has_session st.core line ≡ false)
     on_line true q r = absurd (wrong 7 r)
     on_line false q r =
         let n : l ≢ 0 = eqb-false l 0 q in
-        let m : l ≤ 0 + config.lines = least_in (λ y. not (holds st.core y)) 0 config.lines in
-        subst (λ y. (line_exists config.lines y ≡ true) × (holds st.core y ≡ false)) (is_it r)
-        (and_from (nat_lt 0 l) (nat_le l config.lines) (lt-ltb 0 l (omega (arith, n))) (le-leb l config.lines (omega (arith, m))), not-true (holds st.core l) (least_true (λ y. not (holds st.core y)) 0 config.lines n))
+        let m : l ≤ 0 + config.lines = least_in (λ y. not (has_session st.core y)) 0 config.lines in
+        subst (λ y. (line_exists config.lines y ≡ true) × (has_session st.core y ≡ false)) (is_it r)
+        (and_from (nat_lt 0 l) (nat_le l config.lines) (lt-ltb 0 l (omega (arith, n))) (le-leb l config.lines (omega (arith, m))), not-true (has_session st.core l) (least_true (λ y. not (has_session st.core y)) 0 config.lines n))
 
-    either : (b : Bool) (n : ℕ) → cond b (on_free_line l) (Rejects n) ≡ Accepts line → (line_exists config.lines line ≡ true) × (holds st.core line ≡ false)
+    either : (b : Bool) (n : ℕ) → cond b (on_free_line l) (Rejects n) ≡ Accepts line → (line_exists config.lines line ≡ true) × (has_session st.core line ≡ false)
     either true n r = on_line (nat_eq l 0) refl r
     either false n r = absurd (wrong n r)
 
-    by : (o : Option ℕ) → verdict config st service o ≡ Accepts line → (line_exists config.lines line ≡ true) × (holds st.core line ≡ false)
+    by : (o : Option ℕ) → verdict config st service o ≡ Accepts line → (line_exists config.lines line ≡ true) × (has_session st.core line ≡ false)
     by None r = either (is_offered config service) 4 r
     by (Some k) r = either (was_requested service (request_of k st) && not (list_any (nat_eq k) st.accepted)) 5 r
 
@@ -268,7 +268,7 @@ module _ (config : NodeConfig) (A : Call → Type 0) (P : Core → Type 0) (Q : 
       go : (v : Verdict) → verdict config st service request ≡ v → Answering Q x (judged config st x id request v).core
       go (Rejects n) e = record { keeps = h.refuses st.core x id n a.keeps; alive = local_alive false st.core.circuits x (Refuse id n) ∙ a.alive }
       go (Accepts line) e =
-          let f : (line_exists config.lines line ≡ true) × (holds st.core line ≡ false) = verdict_line config st service request line e in
+          let f : (line_exists config.lines line ≡ true) × (has_session st.core line ≡ false) = verdict_line config st service request line e in
           record { keeps = h.accepts st x id line request service w e a.alive f.0 f.1 a.keeps; alive = local_alive false st.core.circuits x (Calls.Answer id) ∙ a.alive }
 
   answers_keep : (x : ℕ) (ids : List ℕ) (st : Node) → Answering Q x st.core → Answering Q x (answers_in config x ids st).core

@@ -3,7 +3,7 @@ use Rattle.std.specs.Option.{is_some}
 use Rattle.lat_model.specs.ends.End.{End}
 use Rattle.lat_machines.specs.values.Addresses.{address}
 use Rattle.lat_session.specs.States.{asked_at}
-use Rattle.lat_circuits.specs.Told.{asks}
+use Rattle.lat_circuits.specs.Info.{asks}
 use Rattle.lat_circuits.proofs.Found.{some_if}
 use Rattle.lat_circuits.proofs.getters.tell.Goals as goal
 

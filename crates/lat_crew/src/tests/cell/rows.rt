@@ -8,7 +8,7 @@ use lat_base::{Bytes, Core, Event};
 use lat_cell::{
     Blanks, Cell, CellFault, FullAt, LineDone, LineShare, Receipt, SeatFault, line_worker,
 };
-use lat_history::{MOST, kept_events, seat};
+use lat_history::{MOST, past_events, seat};
 use lat_outside::{FreeGate, MemLine, MemTx, Tx};
 use std::alloc::Global;
 use std::marker::Brand;
@@ -194,7 +194,7 @@ fn failed<E: Ledger, B: Ledger, F: Ledger, R: Wait>(
     let (share, done, _) = line_worker(rt, alloc, &cell, line, end, &FreeGate, None);
     let cell = cell.into_inner();
     let history = cell.history();
-    Some((done, share.events(), kept_events(1, history), share.bytes()))
+    Some((done, share.events(), past_events(1, history), share.bytes()))
 }
 
 #[test]

@@ -1,6 +1,6 @@
 use Rattle.std.proofs.Common.{◌≡◌, suc, ◌+◌, ◌-◌, subst, arith}
 use Rattle.lat_follow.specs.Following.{LeadsTo}
-use Rattle.lat_follow.specs.Room.{HasPlaces}
+use Rattle.lat_follow.specs.Reserved.{HasPlaces}
 use Rattle.lat_follow.proofs.sessions.follow_all.Goals as goal
 
 pub loop-turn-preserved : goal.loop-turn-preserved

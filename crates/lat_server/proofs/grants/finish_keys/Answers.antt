@@ -2,8 +2,8 @@ use Rattle.std.proofs.Common.{◌≡◌, ◌+◌, [], ◌∷◌, ◌++◌, map, 
 use Rattle.std.proofs.lemmas.List.{map_more}
 use Rattle.lat_queue.specs.Histories as queue
 use Rattle.lat_queue.specs.Histories.{key_in}
-use Rattle.lat_server.specs.Settled.{finish_each}
-use Rattle.lat_server.proofs.SettledLemmas.{finish_more_keys}
+use Rattle.lat_server.specs.Concluded.{finish_each}
+use Rattle.lat_server.proofs.ConcludedLemmas.{finish_more_keys}
 use Rattle.lat_server.proofs.grants.finish_keys.Goals as goal
 
 pub loop-key-preserved : goal.loop-key-preserved

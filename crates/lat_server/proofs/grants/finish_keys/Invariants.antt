@@ -2,7 +2,7 @@ use Rattle.std.proofs.Common.{◌≡◌, List, map, take}
 use Rattle.lat_machines.specs.server.Queue.{QueueEvent}
 use Rattle.lat_queue.specs.Histories as queue
 use Rattle.lat_queue.specs.Histories.{key_in}
-use Rattle.lat_server.specs.Settled.{finish_each}
+use Rattle.lat_server.specs.Concluded.{finish_each}
 use Rattle.lat_server.proofs.grants.finish_keys.Given as goal
 
 abbrev pub invariant-loop-key : goal.invariant-loop-key

@@ -1,6 +1,6 @@
 use Rattle.std.proofs.Common.{sym}
 use Rattle.lat_report.specs.Rows.{row_in}
-use Rattle.lat_tales.specs.Told.{server_figures, node_figures}
+use Rattle.lat_tales.specs.Reported.{server_figures, node_figures}
 use Rattle.lat_summary.specs.Rows.{figures_shown}
 use Rattle.lat_summary.proofs.Telling.{row_is}
 use Rattle.lat_summary.proofs.sessions.row_onto.Goals as goal

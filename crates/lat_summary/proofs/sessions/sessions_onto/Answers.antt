@@ -1,7 +1,7 @@
 use Rattle.std.proofs.Common.{◌≡◌, ◌+◌, ◌-◌, sym, subst, ap, ◌∙◌, refl, length, ◌++◌, string_bytes, arith}
 use Rattle.std.specs.Prelude.{slice_get}
 use Rattle.std.proofs.lemmas.Option.{slice_get_read}
-use Rattle.lat_tales.specs.Told.{told_from}
+use Rattle.lat_tales.specs.Reported.{report_rows_from}
 use Rattle.lat_report.specs.ReportText.{rows_text}
 use Rattle.lat_roster.specs.Roster.{ShowsRows}
 use Rattle.lat_roster.proofs.Rows.{shows_length}
@@ -25,4 +25,4 @@ pub returns : goal.returns
 returns g c = λ w k st.
     let shown : ShowsRows c.rows-list.result.now k.rows = subst (λ z. ShowsRows z k.rows) (sym c.rows-list.ensures) st.shows.rows in
     c.loop-row.invariant.text w k st
-    ∙ ap (λ z. string_bytes c.args.out.now ++ rows_text 1 (told_from w k 0 z)) (take_all k.rows c.loop-row.row-index (omega (arith, c.loop-row-test.false, shows_length c.rows-list.result.now k.rows shown)))
+    ∙ ap (λ z. string_bytes c.args.out.now ++ rows_text 1 (report_rows_from w k 0 z)) (take_all k.rows c.loop-row.row-index (omega (arith, c.loop-row-test.false, shows_length c.rows-list.result.now k.rows shown)))

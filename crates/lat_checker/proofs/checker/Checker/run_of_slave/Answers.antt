@@ -11,32 +11,32 @@ returns-in-Err-clause-answer c =
 
 pub returns-then-not-is_new-clause-answer : goal.returns-then-not-is_new-clause-answer
 returns-then-not-is_new-clause-answer c =
-    let told = c.in-Ok.told in
+    let near = c.in-Ok.near in
     let k = c.slave_acknowledges.ensures in
-    let acks : SlaveAcknowledges c.args.self.now c.slave_acknowledges.new.self c.in-Ok.told.ack =
+    let acks : SlaveAcknowledges c.args.self.now c.slave_acknowledges.new.self c.in-Ok.near.ack =
     record { title = k.title; master = k.master; slave = k.slave; sums = k.sums; places = k.places; runs = k.runs } in
-    let old : told.number ≤ c.args.self.now.slave.count = let h = c.if-not-is_new.true in grind (arith, nat_tests) in
-    slave_repeated c.args.self.now c.slave_acknowledges.new.self c.counts.new.self c.args.head.now c.args.slots.now c.args.text.now c.is_empty-bare.result told c.is_empty-bare.ensures c.in-Ok.ensures c.requires old
+    let old : near.number ≤ c.args.self.now.slave.count = let h = c.if-not-is_new.true in grind (arith, nat_tests) in
+    slave_repeated c.args.self.now c.slave_acknowledges.new.self c.counts.new.self c.args.head.now c.args.slots.now c.args.text.now c.is_empty-bare.result near c.is_empty-bare.ensures c.in-Ok.ensures c.requires old
     acks c.counts.ensures
 
 pub returns-then-branch-clause-answer : goal.returns-then-branch-clause-answer
 returns-then-branch-clause-answer c =
-    let told = c.in-Ok.told in
+    let near = c.in-Ok.near in
     let k = c.slave_acknowledges.ensures in
-    let acks : SlaveAcknowledges c.args.self.now c.slave_acknowledges.new.self c.in-Ok.told.ack =
+    let acks : SlaveAcknowledges c.args.self.now c.slave_acknowledges.new.self c.in-Ok.near.ack =
     record { title = k.title; master = k.master; slave = k.slave; sums = k.sums; places = k.places; runs = k.runs } in
     let c1 = c.slave_acknowledges.new.self in
-    let new : c.args.self.now.slave.count < told.number = let h = c.if-not-is_new.false in grind (arith, nat_tests) in
-    slave_went_on c.args.self.now c1 c.slave_sends.new.self c.args.head.now c.args.slots.now c.args.text.now c.is_empty-bare.result told true c.is_empty-bare.ensures c.in-Ok.ensures c.requires new
+    let new : c.args.self.now.slave.count < near.number = let h = c.if-not-is_new.false in grind (arith, nat_tests) in
+    slave_went_on c.args.self.now c1 c.slave_sends.new.self c.args.head.now c.args.slots.now c.args.text.now c.is_empty-bare.result near true c.is_empty-bare.ensures c.in-Ok.ensures c.requires new
     acks (subst (SlaveSent c1 c.slave_sends.new.self c.args.text.now (slave_forms_all c1.places (sums_of c1.accounts) c.args.slots.now)) c.if-branch.true c.in_ok-slave_sends.ensures)
 
 pub returns-else-branch-clause-answer : goal.returns-else-branch-clause-answer
 returns-else-branch-clause-answer c =
-    let told = c.in-Ok.told in
+    let near = c.in-Ok.near in
     let k = c.slave_acknowledges.ensures in
-    let acks : SlaveAcknowledges c.args.self.now c.slave_acknowledges.new.self c.in-Ok.told.ack =
+    let acks : SlaveAcknowledges c.args.self.now c.slave_acknowledges.new.self c.in-Ok.near.ack =
     record { title = k.title; master = k.master; slave = k.slave; sums = k.sums; places = k.places; runs = k.runs } in
     let c1 = c.slave_acknowledges.new.self in
-    let new : c.args.self.now.slave.count < told.number = let h = c.if-not-is_new.false in grind (arith, nat_tests) in
-    slave_went_on c.args.self.now c1 c.slave_sends.new.self c.args.head.now c.args.slots.now c.args.text.now c.is_empty-bare.result told false c.is_empty-bare.ensures c.in-Ok.ensures c.requires new
+    let new : c.args.self.now.slave.count < near.number = let h = c.if-not-is_new.false in grind (arith, nat_tests) in
+    slave_went_on c.args.self.now c1 c.slave_sends.new.self c.args.head.now c.args.slots.now c.args.text.now c.is_empty-bare.result near false c.is_empty-bare.ensures c.in-Ok.ensures c.requires new
     acks (subst (SlaveSent c1 c.slave_sends.new.self c.args.text.now (slave_forms_all c1.places (sums_of c1.accounts) c.args.slots.now)) c.if-branch.false c.in_ok-slave_sends.ensures)

@@ -2,7 +2,7 @@ use Rattle.std.proofs.Common.{◌≡◌, ◌+◌, ◌≤◌, true, ◌++◌, Lis
 use Rattle.lat_base.specs.declared.outbox.Mark.TheVariants.{Fresh}
 use Rattle.lat_base.specs.declared.outbox.OutFrame.{OutFrame}
 use Rattle.lat_base.specs.Lending.{frame_of}
-use Rattle.lat_model.specs.ends.End.{wire_of, settle, occasion}
+use Rattle.lat_model.specs.ends.End.{wire_of, acknowledge, occasion}
 use Rattle.lat_model.specs.sessions.Packing.{pack}
 use Rattle.lat_link.specs.Payloads.{head_size, slots_as_text}
 use Rattle.lat_circuit.specs.Kept.{Facts, Kept}
@@ -14,14 +14,14 @@ use Rattle.lat_circuit.proofs.circuit.Circuit.occasion.Goals as goal
 
 pub returns-then-slots-eq0-clause-did : goal.returns-then-slots-eq0-clause-did
 returns-then-slots-eq0-clause-did c =
-    let after = c.settle-then-slots-eq0.new in
-    let after_did = c.settle-then-slots-eq0.ensures.did in
+    let after = c.acknowledge-then-slots-eq0.new in
+    let after_did = c.acknowledge-then-slots-eq0.ensures.did in
     let run = ap (λ (k : Kept). k.running) c.self.view_is ∙ c.requires.running in
     subst (λ k. Simulates occasion k after.self c.args.out.now after.out) c.self.view_is (
     idle_did c.self.inside c.pack-slots.new.self c.pack-slots.result after.self c.args.out.now after.out
     (window_is c.self.inside true c.is_open.result run c.is_open.ensures.state c.if-not-is_open.false)
     c.pack-slots.ensures.state c.pack-slots.ensures.count c.if-slots-eq0.true
-    (subst (λ out. Simulates settle (shown (record c.self.inside { sessions = c.pack-slots.new.self })) after.self out after.out) (c.withdraw.ensures ∙ take_back c.args.out.now _) after_did)
+    (subst (λ out. Simulates acknowledge (shown (record c.self.inside { sessions = c.pack-slots.new.self })) after.self out after.out) (c.withdraw.ensures ∙ take_back c.args.out.now _) after_did)
     )
 
 pub returns-clause-did : goal.returns-clause-did

@@ -1,6 +1,6 @@
 use Rattle.std.proofs.Common.{◌≡◌, length, ap, ◌∙◌, arith}
 use Rattle.lat_model.specs.ends.Timers.{time_step}
-use Rattle.lat_circuit.specs.Times.{due_told}
+use Rattle.lat_circuit.specs.Times.{due_sent}
 use Rattle.lat_circuit.proofs.Dids.{did_noted, did_length}
 use Rattle.lat_circuit.proofs.circuit.Circuit.time.Goals as goal
 
@@ -19,6 +19,6 @@ returns-clause-answer c = λ e st.
     let all = did_length c.act.new.self.facts c.args.out.now c.act.new.out (time_step c.args.now e).sent d.1 in
     let count : c.saturating_sub-frames.result ≡ length (time_step c.args.now e).sent =
     omega (arith, all, c.saturating_sub-frames.ensures, c.len.ensures.value, c.len-before.ensures.value) in
-    c.told.ensures
-    ∙ ap (λ n. due_told c.note_empty.new.self.ended n) count
-    ∙ ap (λ x. due_told x (length (time_step c.args.now e).sent)) noted.ended
+    c.due_sent.ensures
+    ∙ ap (λ n. due_sent c.note_empty.new.self.ended n) count
+    ∙ ap (λ x. due_sent x (length (time_step c.args.now e).sent)) noted.ended

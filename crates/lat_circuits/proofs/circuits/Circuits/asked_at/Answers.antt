@@ -4,7 +4,7 @@ use Rattle.lat_model.specs.sessions.Session.{waits}
 use Rattle.lat_model.specs.sessions.Sessions.{named}
 use Rattle.lat_session.specs.States.{is_asked, asked_at}
 use Rattle.lat_session.specs.Table.{state_at}
-use Rattle.lat_circuits.specs.Told.{asks_in}
+use Rattle.lat_circuits.specs.Info.{asks_in}
 use Rattle.lat_circuits.proofs.Found.{found_is, none_lives, same_ask, slave_of}
 use Rattle.lat_circuits.proofs.circuits.Circuits.asked_at.Goals as goal
 

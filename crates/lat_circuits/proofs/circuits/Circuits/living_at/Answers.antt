@@ -1,7 +1,7 @@
 use Rattle.std.proofs.Common.{◌≡◌, ◌∙◌, sym, ap, subst, refl, false, length, MatchOption, Some, slice_get, get_or}
 use Rattle.std.proofs.lemmas.Option.{slice_get_read}
 use Rattle.lat_circuits.specs.Kept.{Kept}
-use Rattle.lat_circuits.specs.Told.{held_circuit}
+use Rattle.lat_circuits.specs.Info.{held_circuit}
 use Rattle.lat_circuits.specs.Living.{lives_in, LivesAt}
 use Rattle.lat_circuits.proofs.Found.{has_same, finds_at, finds_none, none_is}
 use Rattle.lat_circuits.proofs.circuits.Circuits.living_at.Goals as goal

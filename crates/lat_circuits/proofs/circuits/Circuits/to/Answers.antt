@@ -5,14 +5,14 @@ use Rattle.lat_model.specs.ends.End.{lives}
 use Rattle.lat_machines.specs.values.Addresses.{address}
 use Rattle.lat_circuit.specs.Kept as circuit
 use Rattle.lat_circuits.specs.Kept.{Kept, Holds}
-use Rattle.lat_circuits.specs.Opens.{id_told}
+use Rattle.lat_circuits.specs.Opens.{id_or_zero}
 use Rattle.lat_circuits.proofs.Called.{one_to}
 use Rattle.lat_circuits.proofs.Found.{alive_found}
 use Rattle.lat_circuits.proofs.circuits.Circuits.to.Goals as goal
 
 pub returns-clause-model : goal.returns-clause-model
 returns-clause-model c = λ d st.
-    ap id_told
+    ap id_or_zero
     (c.id_to.ensures
     ∙ ap (λ qs. option_map (λ (q : circuit.Kept). q.facts.id) (find (λ (q : circuit.Kept). is_none q.ended && nat_eq (address q.facts.config.peer.0) (address c.args.peer.0)) qs))
     (c.deref.ensures.value ∙ ap (λ (z : Kept). z.held) c.self.view_is))

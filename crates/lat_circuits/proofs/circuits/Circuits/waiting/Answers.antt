@@ -3,7 +3,7 @@ use Rattle.lat_model.specs.ends.End.{End, lives}
 use Rattle.lat_model.specs.sessions.Session.{take_open}
 use Rattle.lat_model.specs.sessions.Sessions.{named}
 use Rattle.lat_model.specs.sessions.Slots.{items}
-use Rattle.lat_circuits.specs.Told.{ready_in}
+use Rattle.lat_circuits.specs.Info.{ready_in}
 use Rattle.lat_circuits.proofs.Found.{found_is, none_lives, cond_both}
 use Rattle.lat_circuits.proofs.circuits.Circuits.waiting.Goals as goal
 

@@ -1,6 +1,6 @@
 use Rattle.std.proofs.Common.{◌∙◌, ap, refl, ◌++◌, ◌∷◌, [], ◌≡◌, ◌+◌, length, length-append, arith}
 use Rattle.std.proofs.lemmas.List.Sums.{sum_by_push}
-use Rattle.lat_history.specs.Counts.{past, put_in, bytes_in, bytes_put, bytes_kept}
+use Rattle.lat_history.specs.Counts.{past, put_in, bytes_in, bytes_put, history_bytes}
 use Rattle.lat_history.specs.History.{FramesOf, run_of}
 use Rattle.lat_history.proofs.OneMore.{one_more, last_more, frames_of-push}
 use Rattle.lat_history.proofs.cell.Cell.apply.Goals as goal
@@ -31,7 +31,7 @@ invariant_of-self-2 g c =
       },
       record {
         events = omega (arith, c.len-place.ensures, c.if-place-ge-MOST.false, more);
-        bytes = omega (arith, c.self.invariant.4.bytes, c.bytes-more.ensures, ap bytes_kept now ∙ sum_by_push (λ q. bytes_in q.event) h p);
+        bytes = omega (arith, c.self.invariant.4.bytes, c.bytes-more.ensures, ap history_bytes now ∙ sum_by_push (λ q. bytes_in q.event) h p);
         most = omega (arith, c.self.invariant.4.most, c.if-more-self.false);
         frames = omega (arith, c.self.invariant.4.frames, c.frames-frames.ensures.most, ap length c.frames-frames.ensures.value, more);
       },

@@ -10,7 +10,7 @@ use Rattle.lat_session.specs.declared.call.SessionCall.TheVariants.{Put, Set, At
 use Rattle.lat_session.specs.States.{is_free}
 use Rattle.lat_session.specs.Calls.{call_of, bytes_in}
 use Rattle.lat_circuits.specs.Stands.{calling}
-use Rattle.lat_circuits.specs.Told.{answer_at}
+use Rattle.lat_circuits.specs.Info.{answer_at}
 use Rattle.lat_lines.specs.Kept.{Kept, side_of}
 use Rattle.lat_lines.specs.Answers.{SimulatesCall, answer_shown, seat_or, ready}
 use Rattle.lat_lines.specs.Calls.{call_on, event_of, call_answer}
@@ -38,12 +38,12 @@ took_fits got call (Err faults.Closed) e = tt
 
 pub returns-in-Ok-clause-fits : goal.returns-in-Ok-clause-fits
 returns-in-Ok-clause-fits c =
-    subst (λ a. PutFits a (event_of c.args.line c.args.call.now)) (sym c.call_told.ensures) (put_fits c.args.line c.args.call.now c.call_session-answer.result c.call_session-answer.ensures.most)
+    subst (λ a. PutFits a (event_of c.args.line c.args.call.now)) (sym c.answer_of_call.ensures) (put_fits c.args.line c.args.call.now c.call_session-answer.result c.call_session-answer.ensures.most)
 
 pub returns-in-Ok-clause-took : goal.returns-in-Ok-clause-took
 returns-in-Ok-clause-took c =
     let e : Event = event_of c.args.line c.args.call.now in
-    subst (λ a. TookFits (ready c.args.self.now) a e) (sym c.call_told.ensures) (took_fits (ready c.args.self.now) c.args.call.now c.call_session-answer.result e)
+    subst (λ a. TookFits (ready c.args.self.now) a e) (sym c.answer_of_call.ensures) (took_fits (ready c.args.self.now) c.args.call.now c.call_session-answer.result e)
 
 pub returns-in-Ok-clause-says : goal.returns-in-Ok-clause-says
 returns-in-Ok-clause-says c =
@@ -51,14 +51,14 @@ returns-in-Ok-clause-says c =
     let s = c.in-Ok.seat in
     let a = c.args.call.now in
     let is = is_seat k c.args.line s (ap (λ z. seat_or z c.args.line) c.self.view_is ∙ sym c.seat_on.ensures ∙ c.in-Ok.is) in
-    subst (λ (z : Kept). SimulatesCall (λ d. on_line z.lines d c.args.line (λ t. call_on (side_of z) d t a)) z c.reap_unless.new.self c.call_told.result) c.self.view_is
-    (says_called k c.reap_unless.new.self c.args.line s (λ d t. call_on (side_of k) d t a) (call_of s.session.session a) c.call_told.result is
+    subst (λ (z : Kept). SimulatesCall (λ d. on_line z.lines d c.args.line (λ t. call_on (side_of z) d t a)) z c.reap_unless.new.self c.answer_of_call.result) c.self.view_is
+    (says_called k c.reap_unless.new.self c.args.line s (λ d t. call_on (side_of k) d t a) (call_of s.session.session a) c.answer_of_call.result is
     (λ d st. settled_calling k c.reap_unless.new.self c.call_session-answer.new.self s.session.circuit (call_of s.session.session a) _ d st c.call_session-answer.ensures.same.ids (c.call_session-answer.ensures.state d st.circuits)
     c.reap_unless.ensures.state c.reap_unless.ensures.circuits (λ t. call_calm (side_of k) s.session.circuit s.session.session a d
     (sym (ap is_free (c.state.ensures.model (calling (side_of k) s.session.circuit (call_of s.session.session a) d) (c.call_session-answer.ensures.state d st.circuits))) ∙ sym c.is_free-is_over.ensures ∙ not-true _ t)))
     (λ d t st h p q.
-    agrees_at (λ x i. calling (side_of k) x (call_of i a) d) (λ x i. answer_shown (call_answer a (answer_at d x i a))) s.session.circuit s.session.session t (answer_shown c.call_told.result) (call_on (side_of k) d t a) p q
-    (ap answer_shown (c.call_told.ensures ∙ ap (call_answer a) (c.call_session-answer.ensures.answer d st.circuits)))
+    agrees_at (λ x i. calling (side_of k) x (call_of i a) d) (λ x i. answer_shown (call_answer a (answer_at d x i a))) s.session.circuit s.session.session t (answer_shown c.answer_of_call.result) (call_on (side_of k) d t a) p q
+    (ap answer_shown (c.answer_of_call.ensures ∙ ap (call_answer a) (c.call_session-answer.ensures.answer d st.circuits)))
     (call_agrees (side_of k) d k.lines t a h)))
 
 pub returns-in-Err-clause-says : goal.returns-in-Err-clause-says

@@ -3,7 +3,7 @@ use Rattle.std.specs.Option.{IfSome}
 use Rattle.std.proofs.lemmas.Bool.{true≢false}
 use Rattle.lat_queue.specs.Histories.{some_key}
 use Rattle.lat_stream.specs.Kept.{saturated}
-use Rattle.lat_circuits.specs.Told.{telling, telling_of}
+use Rattle.lat_circuits.specs.Info.{telling, telling_of}
 use Rattle.lat_machines.specs.cores.Cores.{Seat}
 use Rattle.lat_lines.specs.declared.seat.Seat as own
 use Rattle.lat_lines.specs.Kept.{Holds, IsLine}
@@ -51,8 +51,8 @@ returns-in-Some-clause-state c = λ d serial st h l leads.
     let t : Seat = record { line = c.args.line; circuit = c.args.circuit; id = c.args.session; serial = serial; key = some_key c.args.key } in
     let line = subst (λ z. IsLine z.lines c.args.line) (sym c.self.view_is) c.requires.line in
     let st2 : Stands k d = subst (λ z. Stands z d) (sym c.self.view_is) st in
-    let within = subst (λ o. IfSome o (λ u. (1 ≤ c.args.circuit) × (c.args.circuit ≤ k.circuits.drawn))) c.in-Some.is c.told.ensures.within in
-    let tells = subst (λ o. IfSome o (λ u. telling u ≡ telling_of d c.args.circuit c.args.session)) c.in-Some.is (c.told.ensures.model d st2.circuits) in
+    let within = subst (λ o. IfSome o (λ u. (1 ≤ c.args.circuit) × (c.args.circuit ≤ k.circuits.drawn))) c.in-Some.is c.info.ensures.within in
+    let tells = subst (λ o. IfSome o (λ u. telling u ≡ telling_of d c.args.circuit c.args.session)) c.in-Some.is (c.info.ensures.model d st2.circuits) in
     let drawn : (1 ≤ c.args.circuit) × (c.args.circuit ≤ d.circuits.drawn) = (within.0, omega (arith, within.1, st2.circuits.drawn)) in
     let made : c.saturating_add-self-inside.result ≡ saturated (suc (length d.seats)) = let m = st2.seated.made in omega (arith, m, c.saturating_add-self-inside.ensures) in
     let begun = begins k d t c.args.key c.begun-session.result st2 h line l leads drawn refl (c.begun-session.ensures.value ∙ ap₂ (λ n u. session_begun n c.args.circuit c.args.session u) made tells) in

@@ -23,14 +23,14 @@ returns-in_ok-items-in-Ok-clause-says c =
     let long : length given ≡ min c.waiting.result c.args.n = search rules in
     let out = c.take-answer.new.out in
     let whole = refilled c.in_ok-items-in-Ok.items.len out c.in_ok-items-in-Ok.items.items (c.take-answer.ensures.places ∙ c.as_mut_slice.ensures.len) (sym c.in_ok-items-in-Ok.items.ok.0) in
-    subst (λ (z : Kept). SimulatesCall (λ d. on_line z.lines d c.args.line (λ t. take_on (side_of z) d t c.args.n)) z c.reap_unless.new.self c.took_told.result) c.self.view_is
-    (says_called k c.reap_unless.new.self c.args.line s (λ d t. take_on (side_of k) d t c.args.n) (Take s.session.session (length given)) c.took_told.result is
+    subst (λ (z : Kept). SimulatesCall (λ d. on_line z.lines d c.args.line (λ t. take_on (side_of z) d t c.args.n)) z c.reap_unless.new.self c.answer_of_take.result) c.self.view_is
+    (says_called k c.reap_unless.new.self c.args.line s (λ d t. take_on (side_of k) d t c.args.n) (Take s.session.session (length given)) c.answer_of_take.result is
     (λ d st. settled_calling k c.reap_unless.new.self c.take-answer.new.self s.session.circuit (Take s.session.session (length given)) _ d st c.take-answer.ensures.same.ids (c.take-answer.ensures.state d st.circuits)
     c.reap_unless.ensures.state c.reap_unless.ensures.circuits (λ t. take_calm (side_of k) s.session.circuit s.session.session (length given) d
     (sym (ap is_free (c.state.ensures.model (calling (side_of k) s.session.circuit (Take s.session.session (length given)) d) (c.take-answer.ensures.state d st.circuits))) ∙ sym c.is_free-is_over.ensures ∙ not-true _ t)))
     (λ d t st h p q.
-    agrees_at (λ x i. calling (side_of k) x (Take i (length given)) d) (λ x i. answer_shown (took_answer (taking d x i (length given)) (giving d x i given))) s.session.circuit s.session.session t (answer_shown c.took_told.result) (take_on (side_of k) d t c.args.n) p q
-    (ap answer_shown (c.took_told.ensures ∙ ap₂ took_answer (c.take-answer.ensures.answer d st.circuits) (whole ∙ c.take-answer.ensures.items d st.circuits)))
+    agrees_at (λ x i. calling (side_of k) x (Take i (length given)) d) (λ x i. answer_shown (took_answer (taking d x i (length given)) (giving d x i given))) s.session.circuit s.session.session t (answer_shown c.answer_of_take.result) (take_on (side_of k) d t c.args.n) p q
+    (ap answer_shown (c.answer_of_take.ensures ∙ ap₂ took_answer (c.take-answer.ensures.answer d st.circuits) (whole ∙ c.take-answer.ensures.items d st.circuits)))
     (take_agrees (side_of k) d k.lines t c.args.n given h (long ∙ ap (λ w. min w c.args.n) (c.waiting.ensures.model d st.circuits ∙ ap₂ (takes_at d) p q)))))
 
 pub returns-in-Err-clause-says : goal.returns-in-Err-clause-says

@@ -5,7 +5,7 @@ use Rattle.lat_machines.specs.server.Server.{with_core, status_frame, hears_comm
 use Rattle.lat_notices.specs.declared.notice.Outcome.{Outcome}
 use Rattle.lat_payload.specs.Frames.{GoesOutAs}
 use Rattle.lat_payload.specs.Shown.{action_shown, outcome_shown, command_shown}
-use Rattle.lat_server.specs.Commands.{answer_told, outcome_told}
+use Rattle.lat_server.specs.Commands.{kept_answer, kept_outcome}
 use Rattle.lat_server.specs.Kept.{Kept, config_of, AtRest}
 use Rattle.lat_server.specs.Shown.{shown}
 use Rattle.lat_server.specs.Stands.{Stands}
@@ -22,8 +22,8 @@ returns-clause-does c = λ s st.
     let a = action_shown c.args.command.now.action in
     let from = address c.args.from.0 in
     let new : Kept = record k { lines = c.pass.new.self; queue = c.note.new.requests } in
-    let sent : GoesOutAs c.status_frame.result (status_frame from m (outcome_shown (outcome_told c.in_ok-kept.kept))) = subst (λ (o : Outcome). GoesOutAs c.status_frame.result (status_frame from m (outcome_shown o))) c.outcome_kept.ensures.value c.status_frame.ensures in
-    let done : HasDone s (hears_command (config_of k) (with_core s (at_moment c.args.now s.core)) from m a) new (answer_told c.in_ok-kept.kept) c.args.out.now c.push.new.self =
+    let sent : GoesOutAs c.status_frame.result (status_frame from m (outcome_shown (kept_outcome c.in_ok-kept.kept))) = subst (λ (o : Outcome). GoesOutAs c.status_frame.result (status_frame from m (outcome_shown o))) c.outcome_kept.ensures.value c.status_frame.ensures in
+    let done : HasDone s (hears_command (config_of k) (with_core s (at_moment c.args.now s.core)) from m a) new (kept_answer c.in_ok-kept.kept) c.args.out.now c.push.new.self =
     did_command k s c.args.now from m a c.pass.new.self c.note.new.requests c.in_ok-kept.kept c.status_frame.result c.args.out.now c.push.new.self rest in_it (same_offers k c.self.invariant.services) (c.in_ok-kept.ensures.noted s.queue in_it.queue) sent c.push.ensures (c.pass.ensures.state s.core in_it.lines) c.pass.ensures.freed in
     subst (λ z. HasDone s (hears_command (config_of c.args.self.now) (with_core s (at_moment c.args.now s.core)) from m a) new z c.args.out.now c.push.new.self) (sym c.answer_kept.ensures.value)
-    (subst (λ (z : Kept). HasDone s (hears_command (config_of z) (with_core s (at_moment c.args.now s.core)) from m a) new (answer_told c.in_ok-kept.kept) c.args.out.now c.push.new.self) c.self.view_is done)
+    (subst (λ (z : Kept). HasDone s (hears_command (config_of z) (with_core s (at_moment c.args.now s.core)) from m a) new (kept_answer c.in_ok-kept.kept) c.args.out.now c.push.new.self) c.self.view_is done)

@@ -1,6 +1,6 @@
 use Rattle.lat_lines.proofs.OnLines.{found, found_holds, is_seat_of}
 use Rattle.std.proofs.Common.{find, ap, ◌∙◌}
-use Rattle.lat_lines.proofs.lines.Lines.holds.Goals as goal
+use Rattle.lat_lines.proofs.lines.Lines.has_session.Goals as goal
 
 pub returns : goal.returns
 returns c = λ d st.

@@ -3,12 +3,12 @@
 ghost use Rattle.std.specs.Prelude.{◌≡◌, ◌≤◌, ◌<◌, ◌+◌, ◌-◌, ◌^◌, length, IfOk, OnOk};
 ghost use Rattle.lat_machines.specs.world.Machines.{Machines, core_of};
 ghost use Rattle.lat_lines.specs.Events.{event_shown};
-ghost use Rattle.lat_tales.specs.Rows.{KeptRows};
+ghost use Rattle.lat_tales.specs.Rows.{RowsAfter};
 ghost use Rattle.lat_roster.specs.Roster.{Shows};
 ghost use Rattle.lat_wire.specs.Kept.{setups_of};
 ghost use Rattle.lat_wire.specs.Stands.{Stands};
 ghost use Rattle.lat_wire.specs.Told.{answered};
-ghost use Rattle.lat_follow.specs.Room.{line_in, put_count, taken_count, FitsIn, HasPlaces};
+ghost use Rattle.lat_follow.specs.Reserved.{line_in, put_count, taken_count, FitsIn, HasPlaces};
 
 use crate::books::made;
 use lat_base::{Event, Memory};
@@ -25,7 +25,7 @@ pub fn reserve_for<H: RatingRule>(
     event: &Event,
     roster: &mut Roster,
 ) -> Result<u64, Memory>
-    ensures same { (k : KeptRows) → Shows roster.old k → Shows roster.new k }
+    ensures same { (k : RowsAfter) → Shows roster.old k → Shows roster.new k }
     ensures places { OnOk result (HasPlaces lines roster.new) }
     ensures items { OnOk result ((w : Machines) →
         Stands wire.now w →
@@ -52,7 +52,7 @@ pub fn reserve_new<H: RatingRule>(
     lines: u8,
     roster: &mut Roster,
 ) -> Result<u64, Memory>
-    ensures same { (k : KeptRows) → Shows roster.old k → Shows roster.new k }
+    ensures same { (k : RowsAfter) → Shows roster.old k → Shows roster.new k }
     ensures places { OnOk result (HasPlaces lines roster.new) }
     ensures before { IfOk result (λ before. (w : Machines) → Stands wire.now w → before ≡ length (core_of w server).seats) }
     ensures few { IfOk result (λ before. before + lines < 2 ^ 64 - 1) }

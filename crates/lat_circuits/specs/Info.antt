@@ -16,9 +16,9 @@ use Rattle.lat_session.specs.Calls.{answer_of}
 use Rattle.lat_session.specs.States.{is_asked}
 use Rattle.lat_session.specs.Table.{waiting_at, state_at}
 use Rattle.lat_circuit.specs.Kept as circuit
-use Rattle.lat_circuit.specs.Told.{session_end}
+use Rattle.lat_circuit.specs.Info.{session_end}
 use Rattle.lat_circuit.specs.Agrees.{span_of}
-use Rattle.lat_circuits.specs.declared.told.Told.{Told}
+use Rattle.lat_circuits.specs.declared.info.Info.{Info}
 use Rattle.lat_circuits.specs.Kept.{Kept}
 
 abbrev pub sessions_at : Core → ℕ → Sessions
@@ -28,7 +28,7 @@ sessions_at c x = (c.circuits.circuit_at x).end.half.sessions
 abbrev pub session_at : Core → ℕ → ℕ → Session
 session_at c x id = named (sessions_at c x) id
 
--- what is told, with the address as a number
+-- what is known of it, with the address as a number
 pub record Telling : Type 0 where
   pub peer : ℕ
   pub peer_circuit : ℕ
@@ -38,7 +38,7 @@ pub record Telling : Type 0 where
   pub end : Option SessionEnd
   pub is_asked : Bool  -- it waits for this end's answer, or did when its circuit ended
 
-abbrev pub telling : Told → Telling
+abbrev pub telling : Info → Telling
 telling t = record {
   peer = address t.peer.0;
   peer_circuit = t.peer_circuit;
@@ -81,9 +81,9 @@ ready k x id = ready_in (held_circuit k x) id
 abbrev pub is_of_circuit : circuit.Kept → ℕ → ℕ → Bool
 is_of_circuit q from source = nat_eq (address q.facts.config.peer.0) from && nat_eq q.facts.peer source
 
-abbrev pub span_told : Option Bool → Option Span
-span_told None = None
-span_told (Some wide) = Some (span_of wide)
+abbrev pub some_span : Option Bool → Option Span
+some_span None = None
+some_span (Some wide) = Some (span_of wide)
 
 -- the session of the id waits for this end's answer
 abbrev pub asks_in : Option circuit.Kept → ℕ → Bool

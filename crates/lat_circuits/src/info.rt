@@ -4,7 +4,7 @@ use lat_base::{Addr, SessionEnd};
 
 /// The present or last session of an id of a circuit, as the circuit knows it.
 #[derive(Clone, Copy)]
-pub struct Told {
+pub struct Info {
     /// The station at the other end.
     pub peer: Addr,
     /// The ids of circuit and session at the peer, 0 where one isn't known.

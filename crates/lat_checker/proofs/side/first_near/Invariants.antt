@@ -1,7 +1,7 @@
 use Rattle.std.proofs.Common.{◌≡◌, ◌-◌, ◌&&◌, nat_le}
 use Rattle.lat_captures.specs.Audit.{find_from}
 use Rattle.lat_checker.specs.Tests.{bears}
-use Rattle.lat_checker.proofs.side.first_told.Given as goal
+use Rattle.lat_checker.proofs.side.first_near.Given as goal
 
 abbrev pub invariant-loop-number : goal.invariant-loop-number
 invariant-loop-number l =

@@ -1,8 +1,8 @@
 use Rattle.std.proofs.Common.{◌≡◌, ◌+◌, ◌∙◌, sym, arith, Bool, false, ◌&&◌, inl, inr, nat_le}
 use Rattle.lat_checker.specs.Tests.{bears}
 use Rattle.lat_checker.proofs.Finding.{finds_first, finds_later, finds_none, not_passed, passed}
-use Rattle.lat_checker.proofs.side.first_told.Goals as goal
-use Rattle.lat_checker.proofs.side.first_told.Goals.{else-bears-via-then-bears+else-floor-number, else-bears-via-else-bears}
+use Rattle.lat_checker.proofs.side.first_near.Goals as goal
+use Rattle.lat_checker.proofs.side.first_near.Goals.{else-bears-via-then-bears+else-floor-number, else-bears-via-else-bears}
 
 pub loop-number-preserved : goal.loop-number-preserved
 loop-number-preserved c =

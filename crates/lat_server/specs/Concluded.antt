@@ -10,15 +10,15 @@ use Rattle.lat_machines.specs.server.Records.{kept_of}
 use Rattle.lat_queue.specs.Histories.{finish_history}
 
 -- the request that a session was granted for is done, or it is granted still and the session isn't over
-abbrev pub IsSettled : List QueueEvent → Option Key → (is_over : Bool) → Type 0
-IsSettled q None is_over = Unit {0}
-IsSettled q (Some k) is_over = (kept_of k q ≡ Some Done) ⊎ ((is_over ≡ false) × (kept_of k q ≡ Some Granted))
+abbrev pub IsConcluded : List QueueEvent → Option Key → (is_over : Bool) → Type 0
+IsConcluded q None is_over = Unit {0}
+IsConcluded q (Some k) is_over = (kept_of k q ≡ Some Done) ⊎ ((is_over ≡ false) × (kept_of k q ≡ Some Granted))
 
-abbrev pub AreSettled : Core → List QueueEvent → List Seat → Type 0
-AreSettled c q seats = Each (λ (s : Seat). IsSettled q s.key (over c s)) seats
+abbrev pub AreConcluded : Core → List QueueEvent → List Seat → Type 0
+AreConcluded c q seats = Each (λ (s : Seat). IsConcluded q s.key (over c s)) seats
 
-abbrev pub Settled : Core → List QueueEvent → Type 0
-Settled c q = AreSettled c q c.seats
+abbrev pub Concluded : Core → List QueueEvent → Type 0
+Concluded c q = AreConcluded c q c.seats
 
 -- the requests of these keys are finished, in order
 abbrev pub finish_each : List Key → List QueueEvent → List QueueEvent

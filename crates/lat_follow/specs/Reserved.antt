@@ -5,7 +5,7 @@ use Rattle.lat_base.specs.declared.answer.Answer.{Answer}
 use Rattle.lat_base.specs.declared.event.Event.{Event}
 use Rattle.lat_base.specs.declared.event.Event.TheVariants.{Put, Set, Take}
 use Rattle.lat_roster.specs.Roster as rosters
-use Rattle.lat_roster.specs.Roster.{RoomAt}
+use Rattle.lat_roster.specs.Roster.{ReservedAt}
 
 -- the line that an event puts on, or takes from; no line is 0
 abbrev pub line_in : Event → ℕ
@@ -31,9 +31,9 @@ place_of k b line = slice_index (if b then k.server_lines else k.node_lines) lin
 
 -- the row of the event's line has room for the items that the event adds by its answer
 abbrev pub FitsIn : rosters.Kept → Bool → Event → Answer → Type 0
-FitsIn k b e a = RoomAt k.rows (place_of k b (line_in e)) b (put_count e) (taken_count e a)
+FitsIn k b e a = ReservedAt k.rows (place_of k b (line_in e)) b (put_count e) (taken_count e a)
 
 -- room for so many sessions more
 pub record HasPlaces (n : ℕ) (k : rosters.Kept) : Type 0 where
-  pub rows : n ≤ k.room
-  pub names : n ≤ k.names.room
+  pub rows : n ≤ k.reserved
+  pub names : n ≤ k.names.reserved

@@ -1,9 +1,9 @@
 use Rattle.std.proofs.Common.{◌≡◌, ◌≤◌, ◌*◌, take}
-use Rattle.lat_history.specs.Audits.{kept_bytes}
-use Rattle.lat_history.proofs.audit.kept_bytes.Given as goal
+use Rattle.lat_history.specs.Audits.{past_bytes}
+use Rattle.lat_history.proofs.audit.past_bytes.Given as goal
 
 abbrev pub invariant-loop-p : goal.invariant-loop-p
 invariant-loop-p l = record {
-  sofar : l.n ≡ kept_bytes l.at (take l.p-index l.history);
+  sofar : l.n ≡ past_bytes l.at (take l.p-index l.history);
   most : l.n ≤ 65535 * l.p-index;
 }

@@ -1,8 +1,8 @@
 use Rattle.std.proofs.Common.{◌∙◌, sym, ap, Some, None}
 use Rattle.std.specs.Option.{is_some}
 use Rattle.lat_circuits.proofs.Found.{found_is, found_has, side_of_found}
-use Rattle.lat_circuits.specs.Told.{telling_of}
-use Rattle.lat_circuits.proofs.circuits.Circuits.told.Goals as goal
+use Rattle.lat_circuits.specs.Info.{telling_of}
+use Rattle.lat_circuits.proofs.circuits.Circuits.info.Goals as goal
 
 pub returns-in_err-held-clause-held : goal.returns-in_err-held-clause-held
 returns-in_err-held-clause-held c =
