@@ -5,8 +5,8 @@ use Rattle.lat_mind.specs.declared.mind.Move.{Move}
 use Rattle.lat_mind.specs.declared.mind.Move.TheVariants as moves
 use Rattle.lat_history.specs.CellView.{SeatView}
 use Rattle.lat_cell.specs.declared.desk.Desk.{Desk}
-use Rattle.lat_cell.specs.declared.desk.Hold.{Hold}
-use Rattle.lat_cell.specs.declared.desk.Hold.TheVariants as holds
+use Rattle.lat_cell.specs.declared.desk.HoldDone.{HoldDone}
+use Rattle.lat_cell.specs.declared.desk.HoldDone.TheVariants as holds
 use Rattle.lat_outside.specs.LineEnds.{bytes_got}
 
 -- the count rose by at most what the line gave, where it tells; who tells goes on telling
@@ -28,6 +28,6 @@ abbrev pub is_put : Move → Bool
 is_put moves.Put = true
 is_put _ = false
 
-abbrev pub is_read : Hold → Bool
+abbrev pub is_read : HoldDone → Bool
 is_read holds.Read = true
 is_read _ = false

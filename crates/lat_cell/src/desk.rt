@@ -21,7 +21,7 @@ pub struct Desk {
 
 /// What came of one hold of the lock.
 #[derive(Drop)]
-pub enum Hold {
+pub enum HoldDone {
     Finish,
     Applied(u64),
     Took(u64, Items),
@@ -120,25 +120,25 @@ fn applied<C: Core, T: Tx, E: Ledger, B: Ledger, F: Ledger>(
     event: Event,
     go: Move,
     moment: u64,
-) -> Hold
+) -> HoldDone
     requires seat { seat_of event ≡ share.old.seat }
     requires put { put_by event ≤ desk.old.mind.left }
     requires other { is_put go ≡ false → put_by event ≡ 0 }
     ensures counts { in_hand share.new desk.new ≤ in_hand share.old desk.old }
     ensures seat { (share.new.seat ≡ share.old.seat) × (share.new.parts ≡ share.old.parts) }
-    ensures full { result ≡ Hold.Full → share.new.full ≡ true }
+    ensures full { result ≡ HoldDone.Full → share.new.full ≡ true }
     ensures read { is_read result ≡ false }
 {
     match cell.apply(alloc, event, share) {
         Ok(Receipt { place, answer }) => {
             tell(desk, go, &answer, moment);
             match answer {
-                Answer::Took(items) => Hold::Took(place, items),
-                _ => Hold::Applied(place),
+                Answer::Took(items) => HoldDone::Took(place, items),
+                _ => HoldDone::Applied(place),
             }
         }
-        Err(CellFault::Full(_)) => Hold::Full,
-        Err(CellFault::Memory) => Hold::Memory,
+        Err(CellFault::Full(_)) => HoldDone::Full,
+        Err(CellFault::Memory) => HoldDone::Memory,
     }
 }
 
@@ -149,11 +149,11 @@ pub fn hold<C: Core, T: Tx, E: Ledger, B: Ledger, F: Ledger>(
     cell: &mut Cell<C, T, E, B, F>,
     share: &mut LineShare<E, B, F>,
     service: Option<Name>,
-) -> Hold
+) -> HoldDone
     ensures counts { in_hand share.new desk.new ≤ in_hand share.old desk.old }
     ensures seat { (share.new.seat ≡ share.old.seat) × (share.new.parts ≡ share.old.parts) }
-    ensures full { result ≡ Hold.Full → share.new.full ≡ true }
-    ensures read { result ≡ Hold.Read → desk.new.mind.left ≡ 0 }
+    ensures full { result ≡ HoldDone.Full → share.new.full ≡ true }
+    ensures read { result ≡ HoldDone.Read → desk.new.mind.left ≡ 0 }
 {
     let line = share.seat();
     let see = cell.look(line);
@@ -162,14 +162,14 @@ pub fn hold<C: Core, T: Tx, E: Ledger, B: Ledger, F: Ledger>(
     }
     let go = desk.mind.next(&see);
     match go {
-        Move::Finish => Hold::Finish,
-        Move::Read => Hold::Read,
-        Move::Rest => Hold::Rest,
+        Move::Finish => HoldDone::Finish,
+        Move::Read => HoldDone::Read,
+        Move::Rest => HoldDone::Rest,
         Move::Connect | Move::Take | Move::Put | Move::Close => {
             match event_of(alloc, desk, line, service, go) {
                 Ok(Some(event)) => applied(desk, alloc, cell, share, event, go, see.moment),
-                Ok(None) => Hold::Rest,
-                Err(Memory) => Hold::Memory,
+                Ok(None) => HoldDone::Rest,
+                Err(Memory) => HoldDone::Memory,
             }
         }
     }

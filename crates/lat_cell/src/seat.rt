@@ -4,7 +4,7 @@ ghost use Rattle.std.specs.Prelude.{◌≡◌, ◌+◌, ◌≤◌, Some, OnErr, 
 ghost use Rattle.lat_outside.specs.Causes.{Rose};
 ghost use Rattle.lat_cell.specs.Within.{Within, in_hand};
 
-use crate::desk::{Desk, Hold, hold};
+use crate::desk::{Desk, HoldDone, hold};
 use crate::write::write_items;
 use lat_base::{Core, Event, Name};
 use lat_history::{Cell, LineShare};
@@ -79,25 +79,25 @@ impl<L: LineEnd, E: Ledger, B: Ledger, F: Ledger> Seat<L, E, B, F> {
             self.service,
         );
         match held {
-            Hold::Finish => Some(LineDone::End),
-            Hold::Full => Some(LineDone::Full),
-            Hold::Memory => Some(LineDone::Memory),
-            Hold::Applied(place) => {
+            HoldDone::Finish => Some(LineDone::End),
+            HoldDone::Full => Some(LineDone::Full),
+            HoldDone::Memory => Some(LineDone::Memory),
+            HoldDone::Applied(place) => {
                 gate.pass(self.share.seat(), place);
                 None
             }
-            Hold::Took(place, items) => {
+            HoldDone::Took(place, items) => {
                 gate.pass(self.share.seat(), place);
                 match write_items(&mut self.line, items.as_slice()) {
                     Ok(()) => None,
                     Err(Failed) => Some(LineDone::Fault),
                 }
             }
-            Hold::Read => match read_some(&mut self.line, desk) {
+            HoldDone::Read => match read_some(&mut self.line, desk) {
                 Ok(()) => None,
                 Err(Failed) => Some(LineDone::Fault),
             },
-            Hold::Rest => {
+            HoldDone::Rest => {
                 self.line.pause();
                 None
             }

@@ -6,7 +6,7 @@ use Rattle.lat_model.specs.sessions.Slots.{Slot}
 use Rattle.lat_machines.specs.values.Messages.{Head}
 use Rattle.lat_captures.specs.Entries.{Entry}
 use Rattle.lat_captures.specs.Seen.{Both, own, Texts, after, texts_after}
-use Rattle.lat_captures.specs.Legal.{NumberFits, AcknowledgementFits, CreditRule, frame_told}
+use Rattle.lat_captures.specs.Legal.{NumberFits, AcknowledgementFits, CreditRule, frame_noted}
 use Rattle.lat_captures.specs.Audit.{Passes, Fails, run_test, spend_test, credit_test}
 use Rattle.lat_checker.specs.declared.slot.SlotFacts.{SlotFacts}
 use Rattle.lat_checker.specs.declared.slot.OwnedSlot.{OwnedSlot}
@@ -52,7 +52,7 @@ slave_repeats tell t c c1 c2 b x e wide h xs told m stands fit w old acks k = re
 
     credit : credit_test b e.by_master told.number told.ack xs ≡ true
     credit = subst (λ z. credit_test b z told.number told.ack xs ≡ true) (sym m)
-        (ap (λ c. not c || spend_test false (after b (frame_told false told.number told.ack xs)) b.slave told.ack xs) no)
+        (ap (λ c. not c || spend_test false (after b (frame_noted false told.number told.ack xs)) b.slave told.ack xs) no)
 
     here : Stands tell c2 (with_ack false b told.ack) x
     here = runs_on tell c1 c2 (with_ack false b told.ack) x (slave_acks tell c c1 b x told.ack stands fit a.rising a.sent a.near acks) k
@@ -104,7 +104,7 @@ slave_goes_on tell t c c1 d b x e wide h xs facts told sent m stands fit r w new
 
     credit : credit_test b e.by_master told.number told.ack xs ≡ spend_test false b2 b.slave told.ack xs
     credit = ap (λ z. credit_test b z told.number told.ack xs) m
-        ∙ ap (λ c. not c || spend_test false (after b (frame_told false told.number told.ack xs)) b.slave told.ack xs) yes
+        ∙ ap (λ c. not c || spend_test false (after b (frame_noted false told.number told.ack xs)) b.slave told.ack xs) yes
         ∙ ap (λ z. spend_test false z b.slave told.ack xs) (slave_new b x told.number told.ack xs [] yes some a.rising).0
 
     tested : (c : Bool) → spend_test false b2 b.slave told.ack xs ≡ c → run_test (title_shown t) b x e wide h xs ≡ cond c (Passes told.number told.ack) (Fails CreditRule)

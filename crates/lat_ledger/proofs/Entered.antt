@@ -13,7 +13,7 @@ use Rattle.lat_posts.specs.declared.tallies.Tally.{Tally}
 use Rattle.lat_posts.specs.Ways.{Log}
 use Rattle.lat_posts.specs.Logs.{IsLog}
 use Rattle.lat_posts.specs.Tallies.{tally_at}
-use Rattle.lat_ledger.specs.Books.{Book, Counts, ArePosts, IsBook, IsPost, IsReadable, Tells, behind, behind_all, number_told, tallies_of, tally_of, tally_told, with_side}
+use Rattle.lat_ledger.specs.Books.{Book, Counts, ArePosts, IsBook, IsPost, IsReadable, Tells, behind, behind_all, number_by, tallies_of, tally_of, tally_by, with_side}
 
 pub are_more : (ss : List Post) (ps : List Posted) (s : Post) (p : Posted) → ArePosts ss ps → IsPost s p → ArePosts (ss ++ s ∷ []) (ps ++ p ∷ [])
 are_more [] [] s p h q = (q, tt)
@@ -22,7 +22,7 @@ are_more (z ∷ ss) [] s p h q = absurd h
 are_more (z ∷ ss) (x ∷ ps) s p h q = (h.0, are_more ss ps s p h.1 q)
 
 -- the two numbers of a frame are those that are tallied of its mark
-pub numbered_so : (m : FrameMark) (n a number acknowledgement : ℕ) (f : OutFrame) → TalliedBy m n a f → number ≡ number_told m n → acknowledgement ≡ a → is_run m ≡ true → (number ≡ f.number) × (acknowledgement ≡ f.acknowledgement)
+pub numbered_so : (m : FrameMark) (n a number acknowledgement : ℕ) (f : OutFrame) → TalliedBy m n a f → number ≡ number_by m n → acknowledgement ≡ a → is_run m ≡ true → (number ≡ f.number) × (acknowledgement ≡ f.acknowledgement)
 numbered_so (OfRun m) n a number acknowledgement f t e g r = (e ∙ sym t.0, g ∙ sym t.1)
 numbered_so Plain n a number acknowledgement f t e g r = let z : ⊥ = cc in absurd z
 
@@ -41,10 +41,10 @@ pub record Enters (k new : Book) (by : Bool) (post : Post) (circuit : ℕ) (t : 
   pub side : (x : ℕ) → tally_at (tallies_of new by) x ≡ cond (nat_eq x circuit) t (tally_at (tallies_of k by) x)
   pub other : tallies_of new (not by) ≡ tallies_of k (not by)
 
-tells_behind : (old new : List Tally) (n : Counts) (f : OutFrame) (t : Tally) → Tells old n → f.circuit < 2 ^ 16 → t ≡ tally_told f.mark (tally_at old f.circuit) → ((x : ℕ) → tally_at new x ≡ cond (nat_eq x f.circuit) t (tally_at old x)) → Tells new (behind f n)
+tells_behind : (old new : List Tally) (n : Counts) (f : OutFrame) (t : Tally) → Tells old n → f.circuit < 2 ^ 16 → t ≡ tally_by f.mark (tally_at old f.circuit) → ((x : ℕ) → tally_at new x ≡ cond (nat_eq x f.circuit) t (tally_at old x)) → Tells new (behind f n)
 tells_behind old new n f t h c e s x l = s x ∙ go (nat_eq x f.circuit) refl (nat_eq f.circuit x) refl
   where
-    told : (q : Bool) → tally_told f.mark (tally_of n x) ≡ (let r : Tally = record { formed = n.formed x + new_messages f.mark; taken = n.taken x; shown = cond (is_run f.mark) (n.taken x) (n.shown x) } in r)
+    told : (q : Bool) → tally_by f.mark (tally_of n x) ≡ (let r : Tally = record { formed = n.formed x + new_messages f.mark; taken = n.taken x; shown = cond (is_run f.mark) (n.taken x) (n.shown x) } in r)
     told q = refl
 
     still : (r : Bool) → cond (r && false) (n.taken x) (n.shown x) ≡ n.shown x
@@ -57,35 +57,35 @@ tells_behind old new n f t h c e s x l = s x ∙ go (nat_eq x f.circuit) refl (n
 
     go : (a : Bool) → nat_eq x f.circuit ≡ a → (b : Bool) → nat_eq f.circuit x ≡ b → cond a t (tally_at old x) ≡ (let r : Tally = record { formed = n.formed x + cond b (new_messages f.mark) 0; taken = n.taken x; shown = cond (is_run f.mark && b) (n.taken x) (n.shown x) } in r)
     go true p true q =
-        let here : t ≡ tally_told f.mark (tally_of n x) = e ∙ (ap (λ z. tally_told f.mark (tally_at old z)) (sym (eqb-true x f.circuit p)) ∙ ap (tally_told f.mark) (h x l)) in
+        let here : t ≡ tally_by f.mark (tally_of n x) = e ∙ (ap (λ z. tally_by f.mark (tally_at old z)) (sym (eqb-true x f.circuit p)) ∙ ap (tally_by f.mark) (h x l)) in
         here ∙ ap (λ z. let r : Tally = record { formed = n.formed x + new_messages f.mark; taken = n.taken x; shown = z } in r) (sym (both (is_run f.mark)))
     go false p false q = h x l ∙ ap₂ (λ y z. let r : Tally = record { formed = y; taken = n.taken x; shown = z } in r) (omega arith) (sym (still (is_run f.mark)))
     go true p false q = absurd (eqb-false f.circuit x q (sym (eqb-true x f.circuit p)))
     go false p true q = absurd (eqb-false x f.circuit p (sym (eqb-true f.circuit x q)))
 
-pub entered : (u : Setups) (k new : Book) (sent : List Posted) (done : List ℕ) (counts : Bool → Counts) (by : Bool) (post : Post) (f : OutFrame) (t : Tally) → Enters k new by post f.circuit t → f.circuit < 2 ^ 16 → t ≡ tally_told f.mark (tally_at (tallies_of k by) f.circuit) → IsPost post (record { by_server = by; frame = f }) → IsLog u new.log (sent ++ record { by_server = by; frame = f } ∷ []) done → IsBook u k sent done counts → IsBook u new (sent ++ record { by_server = by; frame = f } ∷ []) done (with_side by (behind f (counts by)) counts)
+pub entered : (u : Setups) (k new : Book) (sent : List Posted) (done : List ℕ) (counts : Bool → Counts) (by : Bool) (post : Post) (f : OutFrame) (t : Tally) → Enters k new by post f.circuit t → f.circuit < 2 ^ 16 → t ≡ tally_by f.mark (tally_at (tallies_of k by) f.circuit) → IsPost post (record { by_server = by; frame = f }) → IsLog u new.log (sent ++ record { by_server = by; frame = f } ∷ []) done → IsBook u k sent done counts → IsBook u new (sent ++ record { by_server = by; frame = f } ∷ []) done (with_side by (behind f (counts by)) counts)
 entered u k new sent done counts by post f t h c e p l b = record {
   posts = subst (λ z. ArePosts z (sent ++ record { by_server = by; frame = f } ∷ [])) (sym h.posts) (are_more k.log.posts sent post (record { by_server = by; frame = f }) b.posts p);
   log = l;
   tallies = go by h.side h.other e;
 }
   where
-    go : (by : Bool) → ((x : ℕ) → tally_at (tallies_of new by) x ≡ cond (nat_eq x f.circuit) t (tally_at (tallies_of k by) x)) → tallies_of new (not by) ≡ tallies_of k (not by) → t ≡ tally_told f.mark (tally_at (tallies_of k by) f.circuit) → (s : Bool) → Tells (tallies_of new s) (with_side by (behind f (counts by)) counts s)
+    go : (by : Bool) → ((x : ℕ) → tally_at (tallies_of new by) x ≡ cond (nat_eq x f.circuit) t (tally_at (tallies_of k by) x)) → tallies_of new (not by) ≡ tallies_of k (not by) → t ≡ tally_by f.mark (tally_at (tallies_of k by) f.circuit) → (s : Bool) → Tells (tallies_of new s) (with_side by (behind f (counts by)) counts s)
     go true s o e true = tells_behind k.server new.server (counts true) f t (b.tallies true) c e s
     go true s o e false = subst (λ z. Tells z (counts false)) (sym o) (b.tallies false)
     go false s o e true = subst (λ z. Tells z (counts true)) (sym o) (b.tallies true)
     go false s o e false = tells_behind k.node new.node (counts false) f t (b.tallies false) c e s
 
 -- the same, from the parts of the ledger
-pub entered_all : (u : Setups) (l m : Log) (s n : List Tally) (new : Book) (sent : List Posted) (done : List ℕ) (counts : Bool → Counts) (by : Bool) (post : Post) (circuit : ℕ) (t : Tally) (f : OutFrame) → m.posts ≡ l.posts ++ post ∷ [] → ((x : ℕ) → tally_at (tallies_of new by) x ≡ cond (nat_eq x circuit) t (tally_at (tallies_of (record { log = m; server = s; node = n }) by) x)) → tallies_of new (not by) ≡ tallies_of (record { log = m; server = s; node = n }) (not by) → new.log ≡ m → circuit ≡ f.circuit → f.circuit < 2 ^ 16 → t ≡ tally_told f.mark (tally_at (tallies_of (record { log = l; server = s; node = n }) by) circuit) → IsPost post (record { by_server = by; frame = f }) → IsLog u m (sent ++ record { by_server = by; frame = f } ∷ []) done → IsBook u (record { log = l; server = s; node = n }) sent done counts → IsBook u new (sent ++ record { by_server = by; frame = f } ∷ []) done (with_side by (behind f (counts by)) counts)
+pub entered_all : (u : Setups) (l m : Log) (s n : List Tally) (new : Book) (sent : List Posted) (done : List ℕ) (counts : Bool → Counts) (by : Bool) (post : Post) (circuit : ℕ) (t : Tally) (f : OutFrame) → m.posts ≡ l.posts ++ post ∷ [] → ((x : ℕ) → tally_at (tallies_of new by) x ≡ cond (nat_eq x circuit) t (tally_at (tallies_of (record { log = m; server = s; node = n }) by) x)) → tallies_of new (not by) ≡ tallies_of (record { log = m; server = s; node = n }) (not by) → new.log ≡ m → circuit ≡ f.circuit → f.circuit < 2 ^ 16 → t ≡ tally_by f.mark (tally_at (tallies_of (record { log = l; server = s; node = n }) by) circuit) → IsPost post (record { by_server = by; frame = f }) → IsLog u m (sent ++ record { by_server = by; frame = f } ∷ []) done → IsBook u (record { log = l; server = s; node = n }) sent done counts → IsBook u new (sent ++ record { by_server = by; frame = f } ∷ []) done (with_side by (behind f (counts by)) counts)
 entered_all u l m s n new sent done counts true post circuit t f p side other log is few h i g b =
     entered u (record { log = l; server = s; node = n }) new sent done counts true post f t
     (record { posts = ap (λ z. z.posts) log ∙ p; side = subst (λ z. (x : ℕ) → tally_at new.server x ≡ cond (nat_eq x z) t (tally_at s x)) is side; other = other })
-    few (h ∙ ap (λ z. tally_told f.mark (tally_at s z)) is) i (subst (λ z. IsLog u z (sent ++ record { by_server = true; frame = f } ∷ []) done) (sym log) g) b
+    few (h ∙ ap (λ z. tally_by f.mark (tally_at s z)) is) i (subst (λ z. IsLog u z (sent ++ record { by_server = true; frame = f } ∷ []) done) (sym log) g) b
 entered_all u l m s n new sent done counts false post circuit t f p side other log is few h i g b =
     entered u (record { log = l; server = s; node = n }) new sent done counts false post f t
     (record { posts = ap (λ z. z.posts) log ∙ p; side = subst (λ z. (x : ℕ) → tally_at new.node x ≡ cond (nat_eq x z) t (tally_at n x)) is side; other = other })
-    few (h ∙ ap (λ z. tally_told f.mark (tally_at n z)) is) i (subst (λ z. IsLog u z (sent ++ record { by_server = false; frame = f } ∷ []) done) (sym log) g) b
+    few (h ∙ ap (λ z. tally_by f.mark (tally_at n z)) is) i (subst (λ z. IsLog u z (sent ++ record { by_server = false; frame = f } ∷ []) done) (sym log) g) b
 
 -- more frames of the same end
 

@@ -103,12 +103,12 @@ IsBookOf u k w = IsBook u k w.posts w.delivered (counts_at w)
 
 -- a frame of this mark, by what is counted of its circuit
 
-abbrev pub number_told : FrameMark → ℕ → ℕ
-number_told (OfRun m) n = number_of m n
-number_told Plain n = 0
+abbrev pub number_by : FrameMark → ℕ → ℕ
+number_by (OfRun m) n = number_of m n
+number_by Plain n = 0
 
-abbrev pub tally_told : FrameMark → Tally → Tally
-tally_told m t = record { formed = t.formed + new_messages m; taken = t.taken; shown = cond (is_run m) t.taken t.shown }
+abbrev pub tally_by : FrameMark → Tally → Tally
+tally_by m t = record { formed = t.formed + new_messages m; taken = t.taken; shown = cond (is_run m) t.taken t.shown }
 
 abbrev pub took_one : Tally → Tally
 took_one t = record { formed = t.formed; taken = t.taken + 1; shown = t.shown }

@@ -10,7 +10,7 @@ ghost use Rattle.lat_payload.specs.Frames.{frame_view, expected, mark_of};
 ghost use Rattle.lat_posts.specs.Tallies.{nothing, tally_at};
 ghost use Rattle.lat_posts.specs.Ways.{CameAtMost};
 ghost use Rattle.lat_ledger.specs.Books.{Counts, IsBook, IsPost, IsReadable, no_counts, with_side};
-ghost use Rattle.lat_ledger.specs.Books.{behind, behind_all, number_told, tallies_of, tally_told, took_one};
+ghost use Rattle.lat_ledger.specs.Books.{behind, behind_all, number_by, tallies_of, tally_by, took_one};
 
 use crate::stations::is_for;
 use lat_base::{Addr, Mark, Memory, OutFrame};
@@ -46,7 +46,7 @@ impl Model for Ledger {
 // The number of a frame of this mark behind so many messages of its circuit.
 fn number_of(mark: Mark, formed: u64) -> u64
     requires { formed < 2 ^ 32 }
-    ensures { (m : machines.FrameMark) → mark ≡ mark_of m → result ≡ number_told m formed }
+    ensures { (m : machines.FrameMark) → mark ≡ mark_of m → result ≡ number_by m formed }
 {
     match mark {
         Mark::Fresh => formed + 1,
@@ -59,7 +59,7 @@ fn number_of(mark: Mark, formed: u64) -> u64
 // What is counted of a circuit behind a frame of this mark.
 fn tally_behind(mark: Mark, tally: Tally) -> Tally
     requires { tally.formed < 2 ^ 32 }
-    ensures value { (m : machines.FrameMark) → mark ≡ mark_of m → result ≡ tally_told m tally }
+    ensures value { (m : machines.FrameMark) → mark ≡ mark_of m → result ≡ tally_by m tally }
     ensures formed { result.formed ≤ tally.formed + 1 }
     ensures taken { result.taken ≡ tally.taken }
 {

@@ -10,8 +10,8 @@ abbrev pub figures_shown : own.Figures → Figures
 figures_shown f = record { given = f.given; used_up = f.used; end = option_map end_shown f.end }
 
 -- the row that is told with the figures of the server and of the node
-abbrev pub told_with : RowAfter → Figures → Figures → reports.Row
-told_with r server node = record {
+abbrev pub row_with : RowAfter → Figures → Figures → reports.Row
+row_with r server node = record {
   line = r.line;
   node_line = cond (nat_eq r.node_line 0) None (Some r.node_line);
   ended = server.end;

@@ -7,7 +7,7 @@ ghost use Rattle.lat_report.specs.Rows.{row_in};
 ghost use Rattle.lat_tales.specs.Rows as rows;
 ghost use Rattle.lat_tales.specs.Reported.{report_row, report_rows};
 ghost use Rattle.lat_roster.specs.Rows.{ShowsRow};
-ghost use Rattle.lat_summary.specs.Rows.{figures_shown, told_with};
+ghost use Rattle.lat_summary.specs.Rows.{figures_shown, row_with};
 ghost use Rattle.lat_summary.specs.Standing.{StandsFor, RowAt};
 
 use crate::figures::{exact, node_figures, server_figures};
@@ -25,8 +25,8 @@ fn some_line(line: u8) -> Option<u8>
 }
 
 // The session of a row, with its figures at both ends.
-fn told(row: &Row, server: Figures, node: Figures) -> SessionRow<'_>
-    ensures { (r : rows.RowAfter) → ShowsRow row.now r → row_in result ≡ told_with r (figures_shown server) (figures_shown node) }
+fn session_row(row: &Row, server: Figures, node: Figures) -> SessionRow<'_>
+    ensures { (r : rows.RowAfter) → ShowsRow row.now r → row_in result ≡ row_with r (figures_shown server) (figures_shown node) }
 {
     SessionRow {
         line: row.line,
@@ -65,7 +65,7 @@ fn row_onto<H: RatingRule>(
 {
     let server = exact(server_figures(wire, roster, place, row.line, row.server))?;
     let node = exact(node_figures(wire, roster, place, row.node_line, row.node))?;
-    session_onto(alloc, out, place as u64, &told(row, server, node))?;
+    session_onto(alloc, out, place as u64, &session_row(row, server, node))?;
     Ok(())
 }
 

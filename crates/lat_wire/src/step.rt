@@ -39,7 +39,7 @@ impl<H: RatingRule> Wire<H> {
         ensures setups { setups_of self.new ≡ setups_of self.old }
         ensures err { OnErr result (self.new ≡ self.old) }
     {
-        self.has_room()?;
+        self.may_step()?;
         let moment = self.moment_behind(event)?;
         let answer = self.tell(alloc, server, event)?;
         self.moment = moment;
@@ -60,7 +60,7 @@ impl<H: RatingRule> Wire<H> {
         ensures setups { setups_of self.new ≡ setups_of self.old }
         ensures err { OnErr result (self.new ≡ self.old) }
     {
-        self.has_room()?;
+        self.may_step()?;
         let sent = self.sent(index)?;
         if sent.turn.is_none() {
             self.pass_by(index)?;
@@ -95,7 +95,7 @@ impl<H: RatingRule> Wire<H> {
         ensures setups { setups_of self.new ≡ setups_of self.old }
         ensures err { OnErr result (self.new ≡ self.old) }
     {
-        self.has_room()?;
+        self.may_step()?;
         if self.is_own(&from) {
             return Err(EventFault::OwnAddress);
         }

@@ -56,7 +56,7 @@ use std::alloc::Global;
 
 impl<H: RatingRule> Wire<H> {
     /// Refused where more frames were sent than an event is told at.
-    pub(crate) fn has_room(&self) -> Result<(), EventFault>
+    pub(crate) fn may_step(&self) -> Result<(), EventFault>
         ensures refused { (w : Machines) → Mirrors self.now w → RefusedAs result (full w) }
         ensures ok { OnOk result (length self.now.book.log.posts ≤ 199744) }
     {

@@ -4,7 +4,7 @@ use Rattle.lat_machines.specs.world.Machines.{is_for_other}
 use Rattle.lat_machines.specs.world.Tally.{TalliedBy}
 use Rattle.lat_payload.specs.Frames.{FrameView, mark_of}
 use Rattle.lat_posts.specs.Tallies.{tally_at}
-use Rattle.lat_ledger.specs.Books.{IsBook, IsPost, tallies_of, tally_of, tally_told}
+use Rattle.lat_ledger.specs.Books.{IsBook, IsPost, tallies_of, tally_of, tally_by}
 use Rattle.lat_ledger.proofs.Entered.{entered_all}
 use Rattle.lat_ledger.proofs.ledger.Ledger.enter.Goals as goal
 
@@ -20,5 +20,5 @@ returns-clause-book c = λ u sent done counts f own same readable tallied b.
     let old = subst (λ z. IsBook u z.book sent done counts) (sym c.self.view_is) b in
     entered_all u c.self.inside.posts.log c.push.new.self.log c.self.inside.server c.self.inside.node c.set.new.self.book sent done counts c.args.by_server c.post_of-post.result c.args.frame.now.circuit c.tally_behind.result f
     c.push.ensures.posts c.set.ensures.side c.set.ensures.other c.set.ensures.log circuit few
-    (c.tally_behind.ensures.value f.mark mark ∙ ap (tally_told f.mark) (c.tally-tally.ensures ∙ ap (λ z. tally_at (tallies_of z.book c.args.by_server) c.args.frame.now.circuit) (sym c.self.view_is)))
+    (c.tally_behind.ensures.value f.mark mark ∙ ap (tally_by f.mark) (c.tally-tally.ensures ∙ ap (λ z. tally_at (tallies_of z.book c.args.by_server) c.args.frame.now.circuit) (sym c.self.view_is)))
     post (c.push.ensures.log u sent done (record { by_server = c.args.by_server; frame = f }) old.log (sym post.by_server) other) old

@@ -25,7 +25,7 @@ returns-then-is_none-clause-answer g c = λ w s.
 
 pub returns-then-is_none-clause-refused : goal.returns-then-is_none-clause-refused
 returns-then-is_none-clause-refused g c = λ w s.
-    last_of (full w) (no_frame w c.args.index) (old (setups_of c.args.self.now) w (slice_get w.posts c.args.index)) (c.in_ok-has_room.ensures.refused w s.parts) (c.in_ok-sent.ensures.refused w s.parts)
+    last_of (full w) (no_frame w c.args.index) (old (setups_of c.args.self.now) w (slice_get w.posts c.args.index)) (c.in_ok-may_step.ensures.refused w s.parts) (c.in_ok-sent.ensures.refused w s.parts)
     ∙ old_nobody (setups_of c.args.self.now) w c.args.index c.in_ok-sent.sent.now (c.in_ok-sent.ensures.ok w s.parts) (c.is_none.ensures ∙ ap not c.if-is_none.true)
 
 pub returns-in_err-is_young-clause-refused : goal.returns-in_err-is_young-clause-refused
@@ -35,7 +35,7 @@ returns-in_err-is_young-clause-refused g c = λ w s.
     let q : IsSent (setups_of c.args.self.now) w c.args.index c.in_ok-sent.sent.now = c.in_ok-sent.ensures.ok w s.parts in
     let marks : MarksRun q.post.frame = marks_run c.args.self.now w c.args.index q.post s q.there (sym q.for_other ∙ some) in
     subst (RefusedAs c.from_residual-in_err-is_young.result)
-    (sym (last_of (full w) (no_frame w c.args.index) (old (setups_of c.args.self.now) w (slice_get w.posts c.args.index)) (c.in_ok-has_room.ensures.refused w s.parts) (c.in_ok-sent.ensures.refused w s.parts)
+    (sym (last_of (full w) (no_frame w c.args.index) (old (setups_of c.args.self.now) w (slice_get w.posts c.args.index)) (c.in_ok-may_step.ensures.refused w s.parts) (c.in_ok-sent.ensures.refused w s.parts)
     ∙ old_other (setups_of c.args.self.now) w c.args.index c.in_ok-sent.sent.now q some))
     (same_fault (Unit {0}) c.from_residual-in_err-is_young.result (old_run (setups_of c.args.self.now) w q.post (head_of q.post.frame.value)) c.in_err-is_young.field-0.0 (p.1 ∙ ap (λ z. Err z) p.2) (c.in_err-is_young.ensures w q.post s.parts q.is marks))
 
@@ -65,5 +65,5 @@ returns-clause-refused g c = λ w s.
     let some : is_some c.in_ok-sent.sent.now.turn ≡ true = c.is_none.ensures ∙ ap not c.if-is_none.false in
     let q : IsSent (setups_of c.args.self.now) w c.args.index c.in_ok-sent.sent.now = c.in_ok-sent.ensures.ok w s.parts in
     let marks : MarksRun q.post.frame = marks_run c.args.self.now w c.args.index q.post s q.there (sym q.for_other ∙ some) in
-    last_of (full w) (no_frame w c.args.index) (old (setups_of c.args.self.now) w (slice_get w.posts c.args.index)) (c.in_ok-has_room.ensures.refused w s.parts) (c.in_ok-sent.ensures.refused w s.parts)
+    last_of (full w) (no_frame w c.args.index) (old (setups_of c.args.self.now) w (slice_get w.posts c.args.index)) (c.in_ok-may_step.ensures.refused w s.parts) (c.in_ok-sent.ensures.refused w s.parts)
     ∙ (old_other (setups_of c.args.self.now) w c.args.index c.in_ok-sent.sent.now q some ∙ c.in_ok-is_young.ensures w q.post s.parts q.is marks)

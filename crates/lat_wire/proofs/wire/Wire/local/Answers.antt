@@ -16,4 +16,4 @@ returns-clause-stands g c = λ w s.
     (local_stands c.args.self.now c.tell.new.self c.in_ok-moment.moment w c.args.server (event_shown c.args.event.now) c.requires c.in_ok-answer.ensures.setups (c.in_ok-answer.ensures.mirrors w) s)
 
 pub returns-clause-refused : goal.returns-clause-refused
-returns-clause-refused g c = λ w s. none_of (full w) (backward c.args.self.now.moment (event_shown c.args.event.now)) (c.in_ok-has_room.ensures.refused w s.parts) c.in_ok-moment.ensures.refused
+returns-clause-refused g c = λ w s. none_of (full w) (backward c.args.self.now.moment (event_shown c.args.event.now)) (c.in_ok-may_step.ensures.refused w s.parts) c.in_ok-moment.ensures.refused

@@ -1,6 +1,6 @@
 use Rattle.std.proofs.Common.{◌≡◌, ◌∙◌, ap, arith, length}
 use Rattle.lat_wire.proofs.Refusing.{posts_length, is_full, is_not_full}
-use Rattle.lat_wire.proofs.wire.Wire.has_room.Goals as goal
+use Rattle.lat_wire.proofs.wire.Wire.may_step.Goals as goal
 
 pub returns-then-len-gt-FRAMES-clause-refused : goal.returns-then-len-gt-FRAMES-clause-refused
 returns-then-len-gt-FRAMES-clause-refused g c = λ w m.

@@ -1,7 +1,7 @@
 use Rattle.std.proofs.Common.{◌∙◌}
 use Rattle.lat_summary.specs.Rows.{figures_shown}
 use Rattle.lat_summary.proofs.Telling.{told_is}
-use Rattle.lat_summary.proofs.sessions.told.Goals as goal
+use Rattle.lat_summary.proofs.sessions.session_row.Goals as goal
 
 pub returns : goal.returns
 returns c = λ r s.
