@@ -8,3 +8,4 @@ pub mod HeardStarts
 pub mod Answering
 pub mod HeardRun
 pub mod HeardParts
+pub mod Holding

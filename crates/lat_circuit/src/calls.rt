@@ -26,7 +26,8 @@ impl Circuit {
         self.sessions.is_any_held()
     }
 
-    /// Where a session was held before and none is now, the time without one begins.
+    /// Where a session was held before and none is now, the time without one begins. No call can free a session but a take, a
+    /// close and a reject.
     pub(crate) fn note_empty(&mut self, was_held: bool)
         ensures state { (d e : End) →
             Stands self.old e →
@@ -55,10 +56,7 @@ impl Circuit {
         ensures keeps { Keeps self.old self.new }
         ensures ended { self.new.ended ≡ self.old.ended }
     {
-        let was_held = self.is_held();
-        let answer = self.sessions.connect(service, request);
-        self.note_empty(was_held);
-        answer
+        self.sessions.connect(service, request)
     }
 
     /// Accepts an asked session, which is live at once.
@@ -69,9 +67,7 @@ impl Circuit {
         ensures keeps { Keeps self.old self.new }
         ensures ended { self.new.ended ≡ self.old.ended }
     {
-        let was_held = self.is_held();
         self.sessions.answer(id);
-        self.note_empty(was_held);
     }
 
     /// Rejects an asked session for a reason, 0 to 15. Its id is free at once, and its reject waits to be sent.
@@ -98,10 +94,16 @@ impl Circuit {
         ensures keeps { Keeps self.old self.new }
         ensures ended { self.new.ended ≡ self.old.ended }
     {
-        let was_held = self.is_held();
-        let answer = self.sessions.call(id, call);
-        self.note_empty(was_held);
-        answer
+        match call {
+            // Of these a close alone can free a session.
+            SessionCall::Close => {
+                let was_held = self.is_held();
+                let answer = self.sessions.call(id, call);
+                self.note_empty(was_held);
+                answer
+            }
+            _ => self.sessions.call(id, call),
+        }
     }
 
     /// Moves the first heard items to the front of `out`, as many as there are places and items. `Closed` exactly where the session

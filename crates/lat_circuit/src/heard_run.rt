@@ -47,7 +47,8 @@ impl Circuit {
         requires moment { self.old.moments.now ≤ now }
         requires fields { wide ≡ false → (head.seq < 256) × (head.ack < 256) }
         requires slots { (length slots.now < 256) × AllByRecursion IsWritable slots.now }
-        ensures did { SimulatesHearing (hears_run self.old.facts.id now wide (wide_head_shown head) (map slot_heard slots.now)) result self.old self.new out.old out.new }
+        ensures did { SimulatesHearing (hears_run self.old.facts.id now wide (wide_head_shown head) (map slot_heard slots.now)) result
+            self.old self.new out.old out.new }
         ensures remains { Remains now self.old self.new }
         ensures most { length out.new ≤ length out.old + 1 }
     {

@@ -18,18 +18,6 @@ fn passed(since: u64, ms: u64, now: u64) -> bool
     now - since >= ms
 }
 
-fn both(a: bool, b: bool) -> bool
-    ensures { result ≡ (a && b) }
-{
-    a && b
-}
-
-fn all(a: bool, b: bool, c: bool) -> bool
-    ensures { result ≡ (a && b && c) }
-{
-    a && b && c
-}
-
 impl Circuit {
     /// Whether it runs, and has heard no frame for three times the keep-alive.
     pub(crate) fn is_silent(&self) -> bool
@@ -37,17 +25,14 @@ impl Circuit {
     {
         let time = 3000 * u64::from(self.keepalive);
         let is_over = passed(self.moments.heard_at, time, self.moments.now);
-        both(self.running, is_over)
+        self.running && is_over
     }
 
     /// Whether it is a master that runs, and has held no session for the keep-alive.
     pub(crate) fn is_unused(&self) -> bool
         ensures { (e : End) → Stands self.now e → result ≡ unused e }
     {
-        let time = 1000 * u64::from(self.keepalive);
-        let is_over = passed(self.moments.empty_at, time, self.moments.now);
-        let master = self.is_master();
-        all(master, self.running, is_over) && !self.is_held()
+        self.keepalive_is_over(self.moments.empty_at) && !self.is_held()
     }
 
     /// Whether messages are unacknowledged, and it is time that they go out again.
@@ -56,7 +41,7 @@ impl Circuit {
     {
         let is_over = passed(self.moments.since, REPEAT, self.moments.now);
         let waits = !self.all_known();
-        both(waits, is_over)
+        waits && is_over
     }
 
     /// Whether it is time that START goes out again.
@@ -79,10 +64,19 @@ impl Circuit {
         ensures model { (e : End) → Stands self.now e → result ≡ (e.master && e.running && passed e.sent_at (1000 * e.keepalive) e) }
         ensures running { result ≡ true → self.now.running ≡ true }
     {
+        self.keepalive_is_over(self.moments.sent_at)
+    }
+
+    // Whether it is a master that runs, and the keep-alive has passed since a moment.
+    fn keepalive_is_over(&self, since: u64) -> bool
+        requires { since ≤ self.now.moments.now }
+        ensures model { (e : End) → Stands self.now e → result ≡ (e.master && e.running && passed since (1000 * e.keepalive) e) }
+        ensures running { result ≡ true → self.now.running ≡ true }
+    {
         let time = 1000 * u64::from(self.keepalive);
-        let is_over = passed(self.moments.sent_at, time, self.moments.now);
+        let is_over = passed(since, time, self.moments.now);
         let master = self.is_master();
-        all(master, self.running, is_over)
+        master && self.running && is_over
     }
 
     /// Whether a due timer gives it an occasion: a slave only once it has heard a RUN.

@@ -42,7 +42,9 @@ impl<H: RatingRule> NodeCore<H> {
         requires rest { AtRest self.old }
         requires fact { H.fact self.old.rule }
         requires room { length out.old + 16 ≤ 256 }
-        ensures steps { IfOk result (λ a. SimulatesRated H.may (Hears (address from.0) (reads.reading_of payload.now) None now) self.old self.new a out.old out.new) }
+        ensures steps { IfOk result (λ a.
+            SimulatesRated H.may (Hears (address from.0) (reads.reading_of payload.now) None now)
+            self.old self.new a out.old out.new) }
         ensures same { SameConfig self.old self.new }
         ensures plain { IfOk result IsPlain }
         ensures most { length out.new ≤ length out.old + 2 }
@@ -93,7 +95,9 @@ impl<H: RatingRule> NodeCore<H> {
         requires fact { H.fact self.old.rule }
         requires room { length out.old + 16 ≤ 256 }
         requires ok { texts.IsWritable value.now }
-        ensures steps { IfOk result (λ a. SimulatesRated H.may (Hears (address from.0) (Whole (value_shown value.now)) None now) self.old self.new a out.old out.new) }
+        ensures steps { IfOk result (λ a.
+            SimulatesRated H.may (Hears (address from.0) (Whole (value_shown value.now)) None now)
+            self.old self.new a out.old out.new) }
         ensures same { SameConfig self.old self.new }
         ensures plain { IfOk result IsPlain }
         ensures most { length out.new ≤ length out.old + 2 }

@@ -1,18 +1,17 @@
 use Rattle.std.proofs.Common.{sym, subst}
-use Rattle.lat_model.specs.ends.End.{call_end}
-use Rattle.lat_model.specs.sessions.Calls.{call, Connect}
+use Rattle.lat_model.specs.sessions.Calls.{Connect}
 use Rattle.lat_circuit.specs.Stands.{Stands}
-use Rattle.lat_circuit.proofs.Sends.{with_sessions}
+use Rattle.lat_circuit.proofs.Holding.{connect_frees_none, called_stands}
 use Rattle.lat_circuit.proofs.circuit.Circuit.connect.Goals as goal
 
 pub returns-clause-state : goal.returns-clause-state
 returns-clause-state c = λ e st.
     let here = subst (λ k. Stands k e) (sym c.self.view_is) st in
-    c.note_empty.ensures.state e (call_end (Connect c.args.service.now c.args.request) e)
-    (with_sessions c.self.inside c.connect-answer.new.self e (call e.half.sessions (Connect c.args.service.now c.args.request)) here (c.connect-answer.ensures.state e.half.sessions here.sessions))
-    (c.is_held-was_held.ensures e st)
+    called_stands c.self.inside c.connect.new.self e (Connect c.args.service.now c.args.request) here
+    (connect_frees_none e.half.sessions c.args.service.now c.args.request)
+    (c.connect.ensures.state e.half.sessions here.sessions)
 
 pub returns-clause-answer : goal.returns-clause-answer
 returns-clause-answer c = λ e st.
     let here = subst (λ k. Stands k e) (sym c.self.view_is) st in
-    c.connect-answer.ensures.answer e.half.sessions here.sessions
+    c.connect.ensures.answer e.half.sessions here.sessions

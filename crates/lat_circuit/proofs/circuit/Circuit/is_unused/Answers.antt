@@ -9,33 +9,21 @@ twice : (y : Bool) → not (not y) ≡ y
 twice true = refl
 twice false = refl
 
-pub returns-then-all : goal.returns-then-all
-returns-then-all c = λ e st.
+pub returns-then-keepalive_is_over : goal.returns-then-keepalive_is_over
+returns-then-keepalive_is_over c = λ e st.
     let here = subst (λ k. Stands k e) (sym c.self.view_is) st in
-    let over : c.passed-is_over.result ≡ passed e.empty_at (1000 * e.keepalive) e = cc in
     let free = nat_eq (held e.half.sessions) 0 in
+    let over = ap (λ n. e.master && e.running && passed n (1000 * e.keepalive) e) here.moments.empty_at in
     ap not (c.is_held.ensures e st)
     ∙ twice free
-    ∙ ap (λ b. b && free) (
-    sym c.if-all.true
-    ∙ c.all.ensures
-    ∙ ap (λ b. b && c.self.inside.running && c.passed-is_over.result) (c.is_master-master.ensures.model e st)
-    ∙ ap (λ b. e.master && b && c.passed-is_over.result) here.running
-    ∙ ap (λ b. e.master && e.running && b) over
-    )
+    ∙ ap (λ b. b && free) (sym c.if-keepalive_is_over.true ∙ c.keepalive_is_over.ensures.model e st ∙ over)
     ∙ cheap_first e.master e.running (passed e.empty_at (1000 * e.keepalive) e) free
 
-pub returns-else-all : goal.returns-else-all
-returns-else-all c = λ e st.
+pub returns-else-keepalive_is_over : goal.returns-else-keepalive_is_over
+returns-else-keepalive_is_over c = λ e st.
     let here = subst (λ k. Stands k e) (sym c.self.view_is) st in
-    let over : c.passed-is_over.result ≡ passed e.empty_at (1000 * e.keepalive) e = cc in
     let free = nat_eq (held e.half.sessions) 0 in
-    c.if-all.false
-    ∙ ap (λ b. b && free) (
-    sym c.if-all.false
-    ∙ c.all.ensures
-    ∙ ap (λ b. b && c.self.inside.running && c.passed-is_over.result) (c.is_master-master.ensures.model e st)
-    ∙ ap (λ b. e.master && b && c.passed-is_over.result) here.running
-    ∙ ap (λ b. e.master && e.running && b) over
-    )
+    let over = ap (λ n. e.master && e.running && passed n (1000 * e.keepalive) e) here.moments.empty_at in
+    c.if-keepalive_is_over.false
+    ∙ ap (λ b. b && free) (sym c.if-keepalive_is_over.false ∙ c.keepalive_is_over.ensures.model e st ∙ over)
     ∙ cheap_first e.master e.running (passed e.empty_at (1000 * e.keepalive) e) free

@@ -1,9 +1,0 @@
-use Rattle.std.proofs.Common.{sym, subst}
-use Rattle.lat_circuit.specs.Stands.{Stands}
-use Rattle.lat_circuit.proofs.circuit.Circuit.repeats_are_due.Goals as goal
-
-pub returns : goal.returns
-returns c = λ e st.
-    let here = subst (λ k. Stands k e) (sym c.self.view_is) st in
-    let known = c.all_known-waits.ensures e st in
-    cc
