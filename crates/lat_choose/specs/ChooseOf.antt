@@ -27,7 +27,9 @@ entries_of number last (Line line more) = do
 -- what entries print, of which the first is on the line of this number, where these announcements were heard before
 unfoldable pub entries_printed : List ℕ → ℕ → List HeardAnnouncement → List Entry → List ℕ
 entries_printed groups number h [] = []
-entries_printed groups number h (entry ∷ entries) = entry_printed groups number h entry ++ entries_printed groups (number + 1) (heard_after groups h entry) entries
+entries_printed groups number h (entry ∷ entries) =
+    entry_printed groups number h entry
+    ++ entries_printed groups (number + 1) (heard_after groups h entry) entries
 
 -- the groups that are listened to, and the lines of the entries, of which the first has this number
 pub record Opening : Type 0 where

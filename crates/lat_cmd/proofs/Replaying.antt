@@ -28,7 +28,7 @@ use Rattle.lat_cmd.specs.declared.outcome.Outcome.{Outcome}
 use Rattle.lat_cmd.specs.Answers.{Answer, Tale, plain, misread, told_to, told_of, told_at, told_behind, HandsBack}
 use Rattle.lat_cmd.specs.Courses.{Leaves, Runs}
 use Rattle.lat_cmd.specs.Outcomes.{IsOutcome}
-use Rattle.lat_cmd.specs.Refusals.{refused_of}
+use Rattle.lat_replay.specs.Refusals.{refused_of}
 
 -- what a new world stands for
 pub opens : {H : Type 0} (k : Kept H) → Stands k (open_machines (setups_of k)) → moment_of k ≡ 0 → StandsAt k (open_state (setups_of k))

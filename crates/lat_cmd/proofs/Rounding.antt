@@ -7,7 +7,6 @@ use Rattle.lat_rounds.specs.Lossless.{Lossless}
 use Rattle.lat_rounds.specs.Settles.{Enough, Settled}
 use Rattle.lat_settle.specs.Rounds as rounds
 use Rattle.lat_settle.specs.Laws.{BeginsAt, IsFullOrMemory}
-use Rattle.lat_settle.specs.Texts as texts
 use Rattle.lat_settle.specs.Texts.{told_of, Prints}
 use Rattle.lat_settle.proofs.Refusing.{enough_settle, full_or_memory}
 use Rattle.lat_report.specs.RefusedText.{status}
@@ -15,6 +14,7 @@ use Rattle.lat_wire.specs.declared.fault.EventFault.{EventFault}
 use Rattle.lat_wire.specs.declared.fault.EventFault.TheVariants as faults
 use Rattle.lat_replay.specs.Kept.{Kept, setups_of, moment_of}
 use Rattle.lat_replay.specs.Played.{State, Played, Through, Refused, StandsAt}
+use Rattle.lat_replay.specs.Refusals.{refused_of}
 use Rattle.lat_cmd.specs.declared.course.Course.{Course}
 use Rattle.lat_cmd.specs.declared.course.Course.TheVariants as courses
 use Rattle.lat_cmd.specs.declared.outcome.Outcome.{Outcome}
@@ -96,13 +96,13 @@ not_stopped answer c o tale e is runs some =
 
 -- a round is refused for the number of frames alone, or memory was wanted, of which the same is told
 
-full_status : (fault : EventFault) → IsFullOrMemory fault → status (texts.refused_of fault) ≡ 6
-full_status fault (inl is) = ap (λ (f : EventFault). status (texts.refused_of f)) is
-full_status fault (inr is) = ap (λ (f : EventFault). status (texts.refused_of f)) is
+full_status : (fault : EventFault) → IsFullOrMemory fault → status (refused_of fault) ≡ 6
+full_status fault (inl is) = ap (λ (f : EventFault). status (refused_of f)) is
+full_status fault (inr is) = ap (λ (f : EventFault). status (refused_of f)) is
 
 refused_status :
     (u : Setups) (t : State) (count round : ℕ) (fault : EventFault) (b : State) → BeginsAt u t → rounds.settled u t count ≡ Refused round fault b →
-    status (texts.refused_of fault) ≡ 6
+    status (refused_of fault) ≡ 6
 refused_status u t count round faults.Memory b begins is = refl
 refused_status u t count round faults.FramesFull b begins is = refl
 refused_status u t count round (faults.Backward at last) b begins is =

@@ -23,7 +23,7 @@ use Rattle.lat_text.specs.WrongLine.{wrong_line}
 use Rattle.lat_cmd.specs.declared.command.Command.{Command}
 use Rattle.lat_cmd.specs.declared.command.Command.TheVariants.{Show, Choose, Replay, Capture, Settle, Audit, Gen, Bench}
 use Rattle.lat_cmd.specs.Commands.{reads}
-use Rattle.lat_cmd.specs.Refusals.{refused_of}
+use Rattle.lat_replay.specs.Refusals.{refused_of}
 
 -- the two machines, what they are made of, and the moment of the schedule
 pub record Ended : Type 0 where

@@ -1,5 +1,4 @@
 pub mod Commands
-pub mod Refusals
 pub mod Answers
 pub mod Outcomes
 pub mod Courses

@@ -7,16 +7,14 @@ ghost use Rattle.lat_schedule.specs.Events.{IsEvent};
 ghost use Rattle.lat_schedule.specs.Setups.{IsSetup};
 ghost use Rattle.lat_schedule.specs.declared.schedule.ScheduleFault.TheVariants as reading;
 ghost use Rattle.lat_wire.specs.Rates.{RatesWhatIsLeft};
-ghost use Rattle.lat_wire.specs.declared.fault.EventFault.TheVariants as faults;
 ghost use Rattle.lat_cmd.specs.Answers.{plain, misread, told_of, told_behind};
 ghost use Rattle.lat_cmd.specs.Outcomes.{IsOutcome};
 ghost use Rattle.lat_cmd.specs.Courses.{Runs};
-ghost use Rattle.lat_cmd.specs.Refusals.{refused_of};
 
 use crate::outcome::Outcome;
 use lat_base::Memory;
 use lat_node::RatingRule;
-use lat_replay::{EventFault, Schedule, ScheduleFault, World, read_schedule};
+use lat_replay::{Schedule, ScheduleFault, World, read_schedule, refused_of};
 use lat_report::{Refused, refused_onto};
 use lat_text::wrong_line;
 use std::alloc::Global;
@@ -26,29 +24,6 @@ use std::alloc::Global;
 pub(crate) enum Course<H: RatingRule> {
     Through(World<H>),
     Stopped(Outcome<H>),
-}
-
-// How the line of a refused event says why. Want of memory has no line.
-fn refused_of(fault: EventFault) -> Result<Refused, Memory>
-    ensures value { IfOk result (λ refused. refused ≡ refused_of fault) }
-    ensures kept { IfOk result (λ refused. fault ≢ faults.Memory) }
-{
-    match fault {
-        EventFault::FramesFull => Ok(Refused::FramesLimit),
-        EventFault::Backward { at, last } => Ok(Refused::Backward { at, last }),
-        EventFault::OwnAddress => Ok(Refused::OwnAddress),
-        EventFault::NoFrame { index, sent } => Ok(Refused::NoFrame { index, sent }),
-        EventFault::Old {
-            acknowledgement,
-            number,
-            newest,
-        } => Ok(Refused::Old {
-            acknowledgement,
-            number,
-            newest,
-        }),
-        EventFault::Memory => Err(Memory),
-    }
 }
 
 // The line that says why the event of a line is refused.

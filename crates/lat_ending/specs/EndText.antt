@@ -26,7 +26,11 @@ abbrev pub took_items : ℕ → List Past → ℕ
 took_items line h = sum_by (took_at line) h
 
 abbrev pub line_text : ℕ → List Past → LineDone → List ℕ
-line_text k h d = codes "line " ++ (decimal k ++ (codes " put " ++ (decimal (past_bytes k h) ++ (codes " took " ++ (decimal (took_items k h) ++ (codes " end " ++ (word_of d ++ codes "\n")))))))
+line_text k h d =
+    codes "line " ++ (decimal k
+    ++ (codes " put " ++ (decimal (past_bytes k h)
+    ++ (codes " took " ++ (decimal (took_items k h)
+    ++ (codes " end " ++ (word_of d ++ codes "\n")))))))
 
 -- the lines from this number on
 abbrev pub lines_text : ℕ → List Past → List LineDone → List ℕ
@@ -51,8 +55,11 @@ status_of None None = 0
 
 -- What was written and answered at the end of a cell with these shares and ends: the whole text; or status 5, where the sink's
 -- count of faults rose and a prefix was written; or status 9, want of memory, where nothing was
-pub record Ended (told_before told_now : Option (List ℕ)) (faults_before faults_now : ℕ) (h : List Past) (full : Option FullAt) (shares : List SeatView) (ends : List LineDone) (status : ℕ) : Type 0 where
-  pub written : (status ≡ 5) ⊎ ((status ≡ 9) ⊎ (Appends told_before told_now (shown_of (audit_of h shares) h ends) × (status ≡ status_of (audit_of h shares) full)))
+pub record Ended (told_before told_now : Option (List ℕ)) (faults_before faults_now : ℕ) (h : List Past)
+    (full : Option FullAt) (shares : List SeatView) (ends : List LineDone) (status : ℕ) : Type 0 where
+  pub written : (status ≡ 5) ⊎ ((status ≡ 9)
+      ⊎ (Appends told_before told_now (shown_of (audit_of h shares) h ends)
+      × (status ≡ status_of (audit_of h shares) full)))
   pub fault : status ≡ 5 → Rose faults_before faults_now
   pub part : status ≡ 5 → (n : ℕ) × Appends told_before told_now (take n (shown_of (audit_of h shares) h ends))
   pub silent : status ≡ 9 → told_now ≡ told_before

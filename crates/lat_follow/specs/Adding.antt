@@ -11,4 +11,8 @@ use Rattle.lat_roster.specs.Roster.{Shows}
 
 -- the rows that the roster shows get the items that the line's session puts and takes by the answer
 abbrev pub HasAdded : rosters.Kept → rosters.Kept → Bool → ℕ → Answer → (machines.Answer → List Item) → (machines.Answer → List Item) → Type 0
-HasAdded old new server line answer put taken = (a : machines.Answer) (k : RowsAfter) → answer ≡ answer_of a → Shows old k → Shows new (adds server line (put a) (taken a) k)
+HasAdded old new server line answer put taken =
+    (a : machines.Answer) (k : RowsAfter)
+    → answer ≡ answer_of a
+    → Shows old k
+    → Shows new (adds server line (put a) (taken a) k)

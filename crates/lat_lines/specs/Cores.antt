@@ -13,8 +13,10 @@ pub record CoreLater (c d : Core) : Type 0 where
   pub seats : d.seats ≡ c.seats
   pub drawn : c.circuits.drawn ≤ d.circuits.drawn
   pub address : (x : ℕ) → x ≤ c.circuits.drawn → (d.circuits.circuit_at x).address ≡ (c.circuits.circuit_at x).address
-  pub living : (x : ℕ) → x ≤ c.circuits.drawn → lives (c.circuits.circuit_at x).end ≡ true → EndLater (c.circuits.circuit_at x).end (d.circuits.circuit_at x).end
-  pub dead : (x : ℕ) → x ≤ c.circuits.drawn → lives (c.circuits.circuit_at x).end ≡ false → (d.circuits.circuit_at x).end ≡ (c.circuits.circuit_at x).end
+  pub living : (x : ℕ) → x ≤ c.circuits.drawn → lives (c.circuits.circuit_at x).end ≡ true →
+      EndLater (c.circuits.circuit_at x).end (d.circuits.circuit_at x).end
+  pub dead : (x : ℕ) → x ≤ c.circuits.drawn → lives (c.circuits.circuit_at x).end ≡ false →
+      (d.circuits.circuit_at x).end ≡ (c.circuits.circuit_at x).end
   pub unheard : (x : ℕ) → Unheard (d.circuits.circuit_at x).end
 
 -- the circuit of each session that a line has is held

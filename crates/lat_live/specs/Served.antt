@@ -1,15 +1,17 @@
 -- What a daemon hands back.
-use Rattle.std.specs.Prelude.{◌≡◌, ℕ, ◌⊎◌, List, Option, Some, None, true, false, is_some, codes}
+use Rattle.std.specs.Prelude.{◌≡◌, ℕ, ◌⊎◌, List, Option, Some, None, true, false, is_some, codes, IfSome}
 use Rattle.lat_words.specs.Configs.{config_of}
 use Rattle.lat_words.specs.declared.config.Config.{Config}
 use Rattle.lat_words.specs.declared.config.Role.{Role}
 use Rattle.lat_words.specs.declared.config.Role.TheVariants as roles
 use Rattle.lat_cell.specs.declared.seat.LineDone.{LineDone}
 use Rattle.lat_history.specs.CellView.{SeatView}
-use Rattle.lat_live.specs.Printed.{Printed, printed}
+use Rattle.lat_live.specs.Printed.{Printed, printed, printed_in}
 use Rattle.lat_live.specs.Seating.{GivenBack}
 use Rattle.lat_live.specs.declared.ran.Ran.{Ran}
 use Rattle.lat_live.specs.declared.ran.Ran.TheVariants as ran
+use Rattle.lat_live.specs.declared.ran.Served.{Served}
+use Rattle.lat_live.specs.declared.serving.CoreServed.{CoreServed}
 
 -- what is printed of the cell that ran, whatever its core
 abbrev pub printed_of : {H P T E B F : Type 0} → Ran H P T E B F → Option Printed
@@ -26,6 +28,16 @@ role_of (ran.Switch cell) = Some roles.Switch
 role_of (ran.Node cell) = Some roles.Node
 role_of (ran.Tariff cell) = Some roles.Tariff
 role_of ran.Not = None
+
+-- what a daemon of this role hands back is what came of its core
+pub record CameOf {H P C T L E B F : Type 0} (its_role : Role) (done : CoreServed C T L E B F) (served : Served H P T L E B F) : Type 0 where
+  pub status : served.status ≡ done.status
+  pub printed : printed_of served.ran ≡ printed_in done.ran
+  pub role : IfSome (role_of served.ran) (λ role. role ≡ its_role)
+  pub none : served.ran ≡ ran.Not → done.ran ≡ None
+  pub shares : served.shares ≡ done.given.shares.items
+  pub ends : served.ends ≡ done.given.ends.items
+  pub lines : served.lines ≡ done.given.lines.items
 
 abbrev pub AreRight : List (List ℕ) → Type 0
 AreRight words = is_some (config_of words) ≡ true

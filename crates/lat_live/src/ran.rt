@@ -1,10 +1,9 @@
 //! What became of a daemon.
 
-ghost use Rattle.std.specs.Prelude.{◌≡◌, IfSome, None, []};
+ghost use Rattle.std.specs.Prelude.{◌≡◌, []};
 ghost use Rattle.lat_words.specs.declared.config.Role.TheVariants as roles;
 ghost use Rattle.lat_live.specs.declared.ran.Ran.TheVariants as rans;
-ghost use Rattle.lat_live.specs.Printed.{printed_in};
-ghost use Rattle.lat_live.specs.Served.{printed_of, role_of};
+ghost use Rattle.lat_live.specs.Served.{CameOf};
 
 use crate::lists::{Ends, Lines};
 use crate::seats::Given;
@@ -96,13 +95,7 @@ impl<H: RatingRule, P: SteadyRule, T: Tx, L: LineEnd, E: Ledger, B: Ledger, F: L
     pub(crate) fn of_server(
         done: CoreServed<ServerCore, T, L, E, B, F>,
     ) -> Served<H, P, T, L, E, B, F>
-        ensures status { result.status ≡ done.status }
-        ensures printed { printed_of result.ran ≡ printed_in done.ran }
-        ensures role { IfSome (role_of result.ran) (λ role. role ≡ roles.Server) }
-        ensures none { result.ran ≡ rans.Not → done.ran ≡ None }
-        ensures shares { result.shares ≡ done.given.shares.items }
-        ensures ends { result.ends ≡ done.given.ends.items }
-        ensures lines { result.lines ≡ done.given.lines.items }
+        ensures { CameOf roles.Server done result }
     {
         let CoreServed { status, ran, given } = done;
         match ran {
@@ -115,13 +108,7 @@ impl<H: RatingRule, P: SteadyRule, T: Tx, L: LineEnd, E: Ledger, B: Ledger, F: L
     pub(crate) fn of_switch(
         done: CoreServed<SwitchCore, T, L, E, B, F>,
     ) -> Served<H, P, T, L, E, B, F>
-        ensures status { result.status ≡ done.status }
-        ensures printed { printed_of result.ran ≡ printed_in done.ran }
-        ensures role { IfSome (role_of result.ran) (λ role. role ≡ roles.Switch) }
-        ensures none { result.ran ≡ rans.Not → done.ran ≡ None }
-        ensures shares { result.shares ≡ done.given.shares.items }
-        ensures ends { result.ends ≡ done.given.ends.items }
-        ensures lines { result.lines ≡ done.given.lines.items }
+        ensures { CameOf roles.Switch done result }
     {
         let CoreServed { status, ran, given } = done;
         match ran {
@@ -134,13 +121,7 @@ impl<H: RatingRule, P: SteadyRule, T: Tx, L: LineEnd, E: Ledger, B: Ledger, F: L
     pub(crate) fn of_node(
         done: CoreServed<NodeCore<H>, T, L, E, B, F>,
     ) -> Served<H, P, T, L, E, B, F>
-        ensures status { result.status ≡ done.status }
-        ensures printed { printed_of result.ran ≡ printed_in done.ran }
-        ensures role { IfSome (role_of result.ran) (λ role. role ≡ roles.Node) }
-        ensures none { result.ran ≡ rans.Not → done.ran ≡ None }
-        ensures shares { result.shares ≡ done.given.shares.items }
-        ensures ends { result.ends ≡ done.given.ends.items }
-        ensures lines { result.lines ≡ done.given.lines.items }
+        ensures { CameOf roles.Node done result }
     {
         let CoreServed { status, ran, given } = done;
         match ran {
@@ -153,13 +134,7 @@ impl<H: RatingRule, P: SteadyRule, T: Tx, L: LineEnd, E: Ledger, B: Ledger, F: L
     pub(crate) fn of_tariff(
         done: CoreServed<TariffCore<H, P>, T, L, E, B, F>,
     ) -> Served<H, P, T, L, E, B, F>
-        ensures status { result.status ≡ done.status }
-        ensures printed { printed_of result.ran ≡ printed_in done.ran }
-        ensures role { IfSome (role_of result.ran) (λ role. role ≡ roles.Tariff) }
-        ensures none { result.ran ≡ rans.Not → done.ran ≡ None }
-        ensures shares { result.shares ≡ done.given.shares.items }
-        ensures ends { result.ends ≡ done.given.ends.items }
-        ensures lines { result.lines ≡ done.given.lines.items }
+        ensures { CameOf roles.Tariff done result }
     {
         let CoreServed { status, ran, given } = done;
         match ran {

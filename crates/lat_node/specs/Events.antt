@@ -25,7 +25,8 @@ Simulates event old new answer before after =
 
 -- Ratings, as many as are asked for, each one that the rule may give at the lines held, with which the frames of such an
 -- event went out
-pub record Rated {H : Type 0} (may : H → ℕ → ℕ → ℕ → Type 0) (k : Kept H) (s : Node) (event : List ℕ → NodeStep) (asked : ℕ) (before after : List OutFrame) : Type 0 where
+pub record Rated {H : Type 0} (may : H → ℕ → ℕ → ℕ → Type 0) (k : Kept H) (s : Node)
+    (event : List ℕ → NodeStep) (asked : ℕ) (before after : List OutFrame) : Type 0 where
   pub rates : List ℕ
   pub count : length rates ≡ asked
   pub each : Each (may k.rule (used s.core) k.lines.lines) rates

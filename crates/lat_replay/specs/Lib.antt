@@ -4,3 +4,4 @@ pub mod Stands
 pub mod Moves
 pub mod Played
 pub mod Promises
+pub mod Refusals

@@ -4,6 +4,7 @@
 
 pub mod laws;
 mod play;
+mod refused;
 mod step;
 mod world;
 
@@ -15,4 +16,5 @@ pub use lat_wire::{
     EventFault, NodeConfig, NodeCore, RateHook, RatingRule, ServerConfig, ServerCore, Wire,
 };
 pub use play::Stopped;
+pub use refused::refused_of;
 pub use world::World;

@@ -6,6 +6,7 @@ use Rattle.lat_machines.specs.world.Reports.{report}
 use Rattle.lat_model.specs.Lists.{IsPrefixOf}
 use Rattle.lat_replay.specs.Kept.{Kept}
 use Rattle.lat_replay.specs.Played.{State, Through, Refused, StandsAt}
+use Rattle.lat_replay.specs.Refusals.{refused_of}
 use Rattle.lat_replay.specs.Stands.{Stands}
 use Rattle.lat_report.specs.RefusedText.{status}
 use Rattle.lat_report.specs.ReportText.{report_text}
@@ -15,7 +16,7 @@ use Rattle.lat_rounds.specs.Lossless.{Lossless, sent_from, came_first}
 use Rattle.lat_wire.specs.declared.fault.EventFault.{EventFault}
 use Rattle.lat_wire.specs.declared.fault.EventFault.TheVariants.{FramesFull, Backward, OwnAddress, NoFrame, Old, Memory}
 use Rattle.lat_settle.specs.Rounds.{settled, StopsIn}
-use Rattle.lat_settle.specs.Texts.{begin, came_in_order, is_lossless, lossless_text, refused_of, round_text, told_of, Prints}
+use Rattle.lat_settle.specs.Texts.{begin, came_in_order, is_lossless, lossless_text, round_text, told_of, Prints}
 
 -- the test is one
 

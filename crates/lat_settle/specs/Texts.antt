@@ -4,14 +4,12 @@ use Rattle.lat_machines.specs.world.Machines.{Setups, Machines}
 use Rattle.lat_machines.specs.world.Reports.{report}
 use Rattle.lat_replay.specs.Kept.{Kept}
 use Rattle.lat_replay.specs.Played.{State, Played, Through, Refused, StandsAt}
+use Rattle.lat_replay.specs.Refusals.{refused_of}
 use Rattle.lat_report.specs.RefusedText.{status, why_text}
 use Rattle.lat_report.specs.ReportText.{report_text}
 use Rattle.lat_report.specs.declared.refused.Refused.{Refused as Line}
-use Rattle.lat_report.specs.declared.refused.Refused.TheVariants as lines
 use Rattle.lat_rounds.specs.Lossless.{sent_from, came_first}
 use Rattle.lat_text.specs.Line.{line}
-use Rattle.lat_wire.specs.declared.fault.EventFault.{EventFault}
-use Rattle.lat_wire.specs.declared.fault.EventFault.TheVariants as faults
 use Rattle.lat_settle.specs.Rounds.{settled}
 
 -- these numbers are the first of those
@@ -37,15 +35,6 @@ lossless_text lossless = line (codes "lossless " ∷ flag_text lossless ∷ [])
 -- why a round was refused
 abbrev pub round_text : (round : ℕ) → Line → List ℕ
 round_text round why = line (codes "round " ∷ decimal round ∷ codes " " ∷ why_text why ∷ [])
-
--- what the line says; want of memory has no line
-abbrev pub refused_of : EventFault → Line
-refused_of faults.FramesFull = lines.FramesLimit
-refused_of (faults.Backward at last) = lines.Backward at last
-refused_of faults.OwnAddress = lines.OwnAddress
-refused_of (faults.NoFrame index sent) = lines.NoFrame index sent
-refused_of (faults.Old acknowledgement number newest) = lines.Old acknowledgement number newest
-refused_of faults.Memory = lines.FramesLimit
 
 -- A status and a text: whether nothing was lost before, and the report of the state behind the rounds; or the line of the
 -- round in which an event is refused

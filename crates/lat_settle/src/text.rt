@@ -1,16 +1,15 @@
 //! What is printed of rounds.
 
-ghost use Rattle.std.specs.Prelude.{◌≡◌, ◌≢◌, ◌<◌, ◌^◌, ◌++◌, OnOk, IfOk, string_bytes};
+ghost use Rattle.std.specs.Prelude.{◌≡◌, ◌<◌, ◌^◌, ◌++◌, OnOk, IfOk, string_bytes};
 ghost use Rattle.lat_replay.specs.Kept.{moment_of, setups_of};
 ghost use Rattle.lat_replay.specs.Played.{State, StandsAt};
 ghost use Rattle.lat_report.specs.RefusedText.{old_word};
-ghost use Rattle.lat_wire.specs.declared.fault.EventFault.TheVariants as faults;
 ghost use Rattle.lat_settle.specs.Rounds.{rounds_moment};
-ghost use Rattle.lat_settle.specs.Texts.{Prints, flag_text, lossless_text, refused_of, round_text};
+ghost use Rattle.lat_settle.specs.Texts.{Prints, flag_text, lossless_text, round_text};
 
 use crate::settling::{Unsettled, run_rounds};
 use lat_base::Memory;
-use lat_replay::{EventFault, RatingRule, World};
+use lat_replay::{RatingRule, World, refused_of};
 use lat_report::Refused;
 use std::alloc::{AllocError, Global};
 
@@ -56,29 +55,6 @@ fn round_onto(text: &mut String, round: u32, refused: Refused) -> Result<(), All
         }
         Refused::FramesLimit => write!(text, "round {round} limit frames\n"),
         Refused::EventsLimit => write!(text, "round {round} limit events\n"),
-    }
-}
-
-// How the line of a refused event says why. Want of memory has no line.
-fn refused_of(fault: EventFault) -> Result<Refused, Memory>
-    ensures value { IfOk result (λ refused. refused ≡ refused_of fault) }
-    ensures kept { IfOk result (λ refused. fault ≢ faults.Memory) }
-{
-    match fault {
-        EventFault::FramesFull => Ok(Refused::FramesLimit),
-        EventFault::Backward { at, last } => Ok(Refused::Backward { at, last }),
-        EventFault::OwnAddress => Ok(Refused::OwnAddress),
-        EventFault::NoFrame { index, sent } => Ok(Refused::NoFrame { index, sent }),
-        EventFault::Old {
-            acknowledgement,
-            number,
-            newest,
-        } => Ok(Refused::Old {
-            acknowledgement,
-            number,
-            newest,
-        }),
-        EventFault::Memory => Err(Memory),
     }
 }
 

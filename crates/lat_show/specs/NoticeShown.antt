@@ -50,12 +50,17 @@ node_shown node description = concat (codes " node " ∷ name_text node ∷ desc
 
 unfoldable pub announcement_shown : Announcement → List ℕ
 announcement_shown announcement =
-    line (announcer_shown announcement ∷ groups_shown announcement.groups ∷ node_shown announcement.node announcement.description ∷ codes " services " ∷ decimal (length announcement.services) ∷ [])
+    line (announcer_shown announcement
+    ∷ groups_shown announcement.groups
+    ∷ node_shown announcement.node announcement.description
+    ∷ codes " services " ∷ decimal (length announcement.services) ∷ [])
     ++ flat_map service_shown announcement.services
 
 unfoldable pub command_shown : Command → List ℕ
 command_shown command =
-    line (request_shown (codes "command") command.incarnation command.request ∷ codes " action " ∷ decimal (action_number command.action) ∷ offer_shown command.node command.service ∷ [])
+    line (request_shown (codes "command") command.incarnation command.request
+    ∷ codes " action " ∷ decimal (action_number command.action)
+    ∷ offer_shown command.node command.service ∷ [])
 
 -- an outcome, with the place in the queue, which is 0 unless the request waits
 unfoldable pub outcome_shown : ℕ → ℕ → List ℕ
@@ -75,7 +80,10 @@ solicit_shown solicit = line (question_shown (codes "solicit") solicit.id ∷ of
 
 unfoldable pub response_shown : Response → List ℕ
 response_shown response =
-    line (question_shown (codes "response") response.id ∷ offer_shown response.node response.service ∷ codes " rating " ∷ decimal response.rating ∷ codes " timer " ∷ decimal response.timer ∷ [])
+    line (question_shown (codes "response") response.id
+    ∷ offer_shown response.node response.service
+    ∷ codes " rating " ∷ decimal response.rating
+    ∷ codes " timer " ∷ decimal response.timer ∷ [])
 
 -- the line of a notice, and behind that of an announcement the lines of its services
 abbrev pub notice_shown : Notice → List ℕ

@@ -31,8 +31,14 @@ setting_shown flag chars = concat (codes " flag " ∷ byte_text flag ∷ codes "
 abbrev pub slot_shown : Slot → List ℕ
 slot_shown (Start to from credits attention size service subject params) =
     line (ends_shown (codes "start") to from ∷ sizes_shown credits attention size ∷ asked_shown service subject params ∷ [])
-slot_shown (DataA to from credits bytes) = line (ends_shown (codes "data_a") to from ∷ codes " credits " ∷ decimal credits ∷ codes " bytes " ∷ hex_text bytes ∷ [])
-slot_shown (DataB to from credits flag chars) = line (ends_shown (codes "data_b") to from ∷ codes " credits " ∷ decimal credits ∷ setting_shown flag chars ∷ [])
+slot_shown (DataA to from credits bytes) =
+    line (ends_shown (codes "data_a") to from
+    ∷ codes " credits " ∷ decimal credits
+    ∷ codes " bytes " ∷ hex_text bytes ∷ [])
+slot_shown (DataB to from credits flag chars) =
+    line (ends_shown (codes "data_b") to from
+    ∷ codes " credits " ∷ decimal credits
+    ∷ setting_shown flag chars ∷ [])
 slot_shown (Attention to from flag) = line (ends_shown (codes "attention") to from ∷ codes " flag " ∷ byte_text flag ∷ [])
 slot_shown (Reject to from reason) = line (ends_shown (codes "reject") to from ∷ codes " reason " ∷ decimal reason ∷ [])
 slot_shown (Stop to from reason) = line (ends_shown (codes "stop") to from ∷ codes " reason " ∷ decimal reason ∷ [])

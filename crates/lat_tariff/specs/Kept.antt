@@ -23,7 +23,8 @@ pub record Kept (H R : Type 0) : Type 0 where
   pub rules : List (Rule R)
 
 -- what is kept beside the node agrees with its configuration
-pub record Agrees {R : Type 0} (config : NodeConfig) (rules : List (Rule R)) (its_name : Name) (its_incarnation its_timer its_lines : ℕ) (its_groups : List ℕ) : Type 0 where
+pub record Agrees {R : Type 0} (config : NodeConfig) (rules : List (Rule R)) (its_name : Name)
+    (its_incarnation its_timer its_lines : ℕ) (its_groups : List ℕ) : Type 0 where
   pub name : its_name ≡ config.name
   pub incarnation : its_incarnation ≡ config.incarnation
   pub timer : its_timer ≡ config.timer

@@ -8,30 +8,10 @@ ghost use Rattle.lat_schedule.specs.Setups.{IsSetup};
 
 use lat_base::Memory;
 use lat_replay::{
-    EventFault, RateHook, RatingRule, Schedule, ScheduleFault, Stopped, World, read_schedule,
+    RateHook, RatingRule, Schedule, ScheduleFault, Stopped, World, read_schedule, refused_of,
 };
 use lat_report::{Refused, refused_onto};
 use std::alloc::Global;
-
-// How the line of a refused event says why.
-fn refused_of(fault: EventFault) -> Result<Refused, Memory> {
-    match fault {
-        EventFault::FramesFull => Ok(Refused::FramesLimit),
-        EventFault::Backward { at, last } => Ok(Refused::Backward { at, last }),
-        EventFault::OwnAddress => Ok(Refused::OwnAddress),
-        EventFault::NoFrame { index, sent } => Ok(Refused::NoFrame { index, sent }),
-        EventFault::Old {
-            acknowledgement,
-            number,
-            newest,
-        } => Ok(Refused::Old {
-            acknowledgement,
-            number,
-            newest,
-        }),
-        EventFault::Memory => Err(Memory),
-    }
-}
 
 // The line of the event that was refused, counted in the schedule.
 fn stopped_onto(first: u32, stopped: Stopped, out: &mut String) -> Result<(), Memory> {
