@@ -14,7 +14,7 @@ use std::marker::Model;
 pub const OUTBOX_FRAMES: usize = 256;
 
 /// What kind of frame it is, as its sender knows it. It isn't part of the frame's bytes.
-#[derive(Clone, Copy, PartialEq, Eq)]
+#[derive(Clone, Copy)]
 pub enum Mark {
     /// A numbered message that goes out for the first time.
     Fresh,

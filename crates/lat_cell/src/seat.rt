@@ -15,7 +15,7 @@ use std::sync::ledger::Ledger;
 use std::sync::{Mutex, Wait};
 
 /// How a line's worker ended.
-#[derive(Clone, Copy, PartialEq, Eq)]
+#[derive(Clone, Copy, Debug, PartialEq, Eq)]
 pub enum LineDone {
     /// Its work was done.
     End,

@@ -4,7 +4,7 @@ ghost use Rattle.std.specs.Prelude.{◌≡◌};
 ghost use Rattle.lat_checker.specs.Tests.{ids_hold};
 
 /// The circuit of a capture.
-#[derive(Clone, Copy, PartialEq, Eq)]
+#[derive(Clone, Copy)]
 pub struct Title {
     /// Its id at the master, and at the slave.
     pub master: u16,
@@ -14,7 +14,7 @@ pub struct Title {
 }
 
 /// The head of a RUN, of either span.
-#[derive(Clone, Copy, PartialEq, Eq)]
+#[derive(Clone, Copy)]
 pub struct RunHead {
     /// Whether its message numbers have two bytes.
     pub wide: bool,

@@ -4,7 +4,7 @@ ghost use Rattle.std.specs.Prelude.{◌≡◌};
 ghost use Rattle.lat_checker.specs.Rules.{rule_shown, rule_text};
 
 /// A rule that an entry may break, in the order in which they are tested. `docs/MODEL.md`, "Captures", says what each asks for.
-#[derive(Clone, Copy, PartialEq, Eq)]
+#[derive(Clone, Copy)]
 pub enum Rule {
     /// The payload is a message or a notice.
     Layout,

@@ -1,7 +1,7 @@
 //! What the rules look at in a slot.
 
 /// What is to be known of a slot of a RUN.
-#[derive(Clone, Copy, PartialEq, Eq)]
+#[derive(Clone, Copy)]
 pub struct SlotFacts {
     /// The id of its session at the end that hears it, and at the end that sends it.
     pub to: u8,
@@ -17,7 +17,7 @@ pub struct SlotFacts {
 }
 
 /// A slot of a message that was sent, with the session that it belongs to.
-#[derive(Clone, Copy, PartialEq, Eq)]
+#[derive(Clone, Copy)]
 pub struct OwnedSlot {
     /// The place of its session's reply among all slots of the slave, from 1 on; 0 is none.
     pub session: u128,

@@ -4,7 +4,7 @@ use lat_base::{Addr, Name};
 
 /// The numbers that an end states in its STARTs. Valid where the timer is 1 to 100, the keep-alive at least 1, the sessions
 /// 1 to 64 and the ceiling 1 to 15. See "Circuits" in docs/PROTOCOL.md.
-#[derive(Clone, Copy, PartialEq, Eq)]
+#[derive(Clone, Copy)]
 pub struct Timing {
     /// The circuit timer in 10 ms.
     pub timer: u8,

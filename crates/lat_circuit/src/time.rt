@@ -16,7 +16,7 @@ use lat_frames::CircuitEnd;
 const ROUNDS: u8 = 8;
 
 /// What a circuit did at a time event.
-#[derive(Clone, Copy, PartialEq, Eq)]
+#[derive(Clone, Copy)]
 pub enum Due {
     /// It made no frame, and lives.
     Quiet,

@@ -23,7 +23,7 @@ use lat_frames::{Message, StartInfo};
 use lat_payload::is_same;
 
 /// What became of a circuit message.
-#[derive(Clone, Copy, PartialEq, Eq)]
+#[derive(Clone, Copy)]
 pub enum Hearing {
     /// A circuit heard it and answered so; `Foreign` where it names none.
     Circuit(Heard),

@@ -7,7 +7,7 @@ ghost use Rattle.lat_cmd.specs.Commands.{command_of, plain_of, numbered_of, read
 use lat_text::number_within;
 
 /// A command of the program.
-#[derive(Clone, Copy, PartialEq, Eq)]
+#[derive(Clone, Copy)]
 pub enum Command {
     /// `show`: prints the payloads that the input's lines spell.
     Show,

@@ -6,11 +6,11 @@ ghost use Rattle.lat_credit.specs.Account.{Account, Keeps, due, none, given_more
 use std::marker::Model;
 
 /// No credit is left for this slot.
-#[derive(Clone, Copy, PartialEq, Eq)]
+#[derive(Clone, Copy)]
 pub struct NoCredit;
 
 /// More than 255 credits would be unused.
-#[derive(Clone, Copy, PartialEq, Eq)]
+#[derive(Clone, Copy)]
 pub struct TooMany;
 
 /// The account of one session: what this end gives, and what was given to it. It stands for an account of totals, by the

@@ -16,7 +16,7 @@ use std::alloc::{AllocError, AllocFailed, Global};
 use std::marker::Model;
 
 /// Why an announcement isn't kept.
-#[derive(Clone, Copy, PartialEq, Eq)]
+#[derive(Clone, Copy)]
 pub enum DirFault {
     /// 256 other nodes are live.
     Full,

@@ -7,7 +7,7 @@ use lat_base::{Bad, Memory};
 use std::alloc::{AllocError, AllocFailed};
 
 /// Why no value was read.
-#[derive(Clone, Copy, PartialEq, Eq)]
+#[derive(Clone, Copy)]
 pub enum LayoutFault {
     /// The bytes have no layout: this is the first bad field, with its place.
     Bad(Bad),

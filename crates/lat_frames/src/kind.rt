@@ -4,7 +4,7 @@ ghost use Rattle.std.specs.Prelude.{◌≡◌, ◌<◌};
 ghost use Rattle.lat_frames.specs.Kinds.{bits_of, kind_of};
 
 /// The type of a circuit message.
-#[derive(Clone, Copy, PartialEq, Eq)]
+#[derive(Clone, Copy)]
 pub enum MessageKind {
     /// Carries slots.
     Run,

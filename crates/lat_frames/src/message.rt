@@ -5,7 +5,7 @@ use lat_base::{Bytes, Name};
 use lat_fields::Params;
 
 /// The head of a RUN message.
-#[derive(Clone, Copy, PartialEq, Eq)]
+#[derive(Clone, Copy)]
 pub struct Head {
     /// Whether the circuit's master sent it.
     pub master: bool,
@@ -21,7 +21,7 @@ pub struct Head {
 }
 
 /// The head of a wide RUN message, whose numbers have two bytes.
-#[derive(Clone, Copy, PartialEq, Eq)]
+#[derive(Clone, Copy)]
 pub struct WideHead {
     /// Whether the circuit's master sent it.
     pub master: bool,

@@ -4,7 +4,7 @@ ghost use Rattle.std.specs.Prelude.{◌≡◌};
 ghost use Rattle.lat_frames.specs.Reasons.{end_bits};
 
 /// Why an end ends a circuit, or turns a START away.
-#[derive(Clone, Copy, PartialEq, Eq)]
+#[derive(Clone, Copy)]
 pub enum CircuitEnd {
     /// The peer broke the rules of the circuit.
     Broken,

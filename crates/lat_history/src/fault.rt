@@ -3,7 +3,7 @@
 use lat_base::{Answer, Memory};
 
 /// What was kept when an event found no room: events, the bytes in them, and the bytes of the event that was refused.
-#[derive(Clone, Copy, PartialEq, Eq)]
+#[derive(Clone, Copy, Debug, PartialEq, Eq)]
 pub struct FullAt {
     pub events: u64,
     pub bytes: u64,
@@ -11,7 +11,7 @@ pub struct FullAt {
 }
 
 /// Why an event wasn't applied.
-#[derive(Clone, Copy, PartialEq, Eq)]
+#[derive(Clone, Copy)]
 pub enum CellFault {
     /// The history keeps as many events, or as many bytes, as it can.
     Full(FullAt),
@@ -38,7 +38,7 @@ pub struct Receipt {
 }
 
 /// A seat whose count in the history differs from its share: its events, or else its bytes put.
-#[derive(Clone, Copy, PartialEq, Eq)]
+#[derive(Clone, Copy, Debug, PartialEq, Eq)]
 pub struct SeatFault {
     pub seat: u8,
     pub kept: u64,

@@ -8,7 +8,7 @@ use std::alloc::Global;
 use std::sync::ledger::Ledger;
 
 /// Why there is nothing to print.
-#[derive(Clone, Copy, PartialEq, Eq)]
+#[derive(Clone, Copy)]
 pub enum Wrong {
     /// No memory was found.
     Memory,

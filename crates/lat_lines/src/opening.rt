@@ -28,7 +28,7 @@ use lat_circuits::{Circuits, Info};
 use lat_queue::Key;
 
 /// Why no session can be had with a station.
-#[derive(Clone, Copy, PartialEq, Eq)]
+#[derive(Clone, Copy)]
 pub enum OpenFault {
     /// The circuit to it holds as many sessions as were agreed.
     SessionsFull,

@@ -1,7 +1,7 @@
 //! The ids of a circuit.
 
 /// The ids of a circuit, as one of its ends knows them.
-#[derive(Clone, Copy, PartialEq, Eq)]
+#[derive(Clone, Copy)]
 pub struct Ids {
     /// Whether this end is the circuit's master.
     pub master: bool,

@@ -8,7 +8,7 @@ use lat_outside::{Failed, LineEnd, Opener};
 use std::alloc::{AllocError, Global};
 
 /// Why no worker was started.
-#[derive(Clone, Copy, PartialEq, Eq)]
+#[derive(Clone, Copy)]
 pub enum OpenFault {
     /// The carrier or a line wasn't opened.
     Failed,

@@ -9,7 +9,7 @@ use lat_base::SessionState;
 const AGAIN_MS: u64 = 1000;
 
 /// What a cell shows of a line at one moment.
-#[derive(Clone, Copy, PartialEq, Eq)]
+#[derive(Clone, Copy)]
 pub struct Seen {
     /// The state of the line's session, `Free` where it has none.
     pub state: SessionState,
@@ -22,7 +22,7 @@ pub struct Seen {
 }
 
 /// What a worker does next.
-#[derive(Clone, Copy, PartialEq, Eq)]
+#[derive(Clone, Copy, Debug, PartialEq, Eq)]
 pub enum Move {
     /// It ends.
     Finish,
@@ -41,7 +41,7 @@ pub enum Move {
 }
 
 /// What a mind is told.
-#[derive(Clone, Copy, PartialEq, Eq)]
+#[derive(Clone, Copy)]
 pub enum Fact {
     /// A connect was answered at this moment; `ok` where the line has a session now.
     Connect { ok: bool, moment: u64 },
@@ -58,7 +58,7 @@ pub enum Fact {
 }
 
 /// What a line's worker knows of its line. See "Workers" in docs/PROTOCOL.md.
-#[derive(Clone, Copy, PartialEq, Eq)]
+#[derive(Clone, Copy)]
 pub struct LineMind {
     calls: bool,
     connected: bool,

@@ -4,7 +4,7 @@ ghost use Rattle.std.specs.Prelude.{◌≡◌, ◌<◌};
 ghost use Rattle.lat_notices.specs.Kinds.{bits_of, kind_of};
 
 /// The type of a notice.
-#[derive(Clone, Copy, PartialEq, Eq)]
+#[derive(Clone, Copy)]
 pub enum NoticeKind {
     /// A node tells everyone its services.
     Announcement,

@@ -34,7 +34,7 @@ impl Drop for Announcement {
 }
 
 /// What a node wants of its request.
-#[derive(Clone, Copy, PartialEq, Eq)]
+#[derive(Clone, Copy)]
 pub enum Action {
     /// For a session.
     Ask,
@@ -67,7 +67,7 @@ pub struct Command {
 }
 
 /// What a server answers to a command.
-#[derive(Clone, Copy, PartialEq, Eq)]
+#[derive(Clone, Copy)]
 pub enum Outcome {
     /// What it keeps of the request.
     Kept(Kept),

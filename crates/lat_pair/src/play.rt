@@ -9,7 +9,7 @@ use lat_script::{ScriptFault, word};
 use std::alloc::Global;
 
 /// The one core or the other.
-#[derive(Clone, Copy, PartialEq, Eq)]
+#[derive(Clone, Copy)]
 pub enum Side {
     Server,
     Node,

@@ -13,7 +13,7 @@ use lat_wire::EventFault;
 use std::alloc::Global;
 
 /// The event that was refused, and why.
-#[derive(Drop, PartialEq, Eq)]
+#[derive(Drop)]
 pub struct Stopped {
     /// How many events were played before it.
     pub index: usize,

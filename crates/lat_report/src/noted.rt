@@ -10,7 +10,7 @@ use lat_base::{Answer, Bad, Heard, Kept};
 use std::alloc::AllocError;
 
 /// Why what was asked of a core wasn't done.
-#[derive(Clone, Copy, PartialEq, Eq)]
+#[derive(Clone, Copy)]
 pub enum Refusal {
     NoLine,
     Busy,

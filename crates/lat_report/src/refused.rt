@@ -6,7 +6,7 @@ ghost use Rattle.lat_report.specs.RefusedText.{refused_text, old_word, status};
 use std::alloc::AllocError;
 
 /// Why an event of a schedule isn't made.
-#[derive(Clone, Copy, PartialEq, Eq)]
+#[derive(Clone, Copy)]
 pub enum Refused {
     /// Its moment is below the last one.
     Backward {

@@ -3,7 +3,7 @@
 use lat_base::SessionEnd;
 
 /// What one end tells of a session: the credits that it has given and those that it has used, and how the session ended.
-#[derive(Clone, Copy, PartialEq, Eq)]
+#[derive(Clone, Copy)]
 pub struct Figures {
     pub given: u64,
     pub used: u64,

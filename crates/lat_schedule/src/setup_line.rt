@@ -35,7 +35,7 @@ use lat_text::{LineFault, address_of, behind_word, bytes_of, first_word, mask_of
 use std::alloc::Global;
 
 /// The version of a schedule's text.
-#[derive(Clone, Copy, PartialEq, Eq)]
+#[derive(Clone, Copy)]
 pub enum Version {
     One,
     /// Spans and groups may be told.

@@ -7,7 +7,7 @@ use lat_base::Memory;
 use std::alloc::{AllocError, AllocFailed};
 
 /// Why a line of a script isn't done. Words are counted from 0.
-#[derive(Clone, Copy, PartialEq, Eq)]
+#[derive(Clone, Copy)]
 pub enum ScriptFault {
     /// The word at this place isn't a number, or is one above `most`.
     Number { place: u8, most: u64 },

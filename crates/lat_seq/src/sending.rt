@@ -10,7 +10,7 @@ use crate::span::Span;
 use std::marker::Model;
 
 /// What an acknowledgement says.
-#[derive(Clone, Copy, PartialEq, Eq)]
+#[derive(Clone, Copy)]
 pub enum AckFact {
     /// So many more messages are taken, at least one.
     New(u8),

@@ -5,7 +5,7 @@ ghost use Rattle.lat_model.specs.numbers.Near.{ahead};
 ghost use Rattle.lat_seq.specs.Spans.{half, field};
 
 /// How many bytes a number has in a frame; see "Messages and numbers" in docs/PROTOCOL.md.
-#[derive(Clone, Copy, PartialEq, Eq)]
+#[derive(Clone, Copy)]
 pub enum Span {
     /// One byte: numbers count modulo 256.
     Byte,

@@ -1,7 +1,7 @@
 //! The asks that a slave has heard.
 
 /// An ask for a session that was neither answered nor told its reject.
-#[derive(Clone, Copy, PartialEq, Eq)]
+#[derive(Clone, Copy)]
 pub enum Ask {
     /// Of the session of this id, which waits to be answered.
     Waits(u8),

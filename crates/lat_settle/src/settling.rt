@@ -11,7 +11,7 @@ use lat_replay::{EventFault, RatingRule, World};
 use std::alloc::Global;
 
 /// An event of a round was refused.
-#[derive(Drop, PartialEq, Eq)]
+#[derive(Drop)]
 pub struct Unsettled {
     /// The round, counted from 1.
     pub round: u32,

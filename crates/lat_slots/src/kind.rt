@@ -4,7 +4,7 @@ ghost use Rattle.std.specs.Prelude.{◌≡◌, ◌<◌};
 ghost use Rattle.lat_slots.specs.Kinds.{bits_of, kind_of};
 
 /// The type of a slot.
-#[derive(Clone, Copy, PartialEq, Eq)]
+#[derive(Clone, Copy)]
 pub enum SlotKind {
     /// Bytes of the session, or credits alone.
     DataA,

@@ -4,7 +4,7 @@ ghost use Rattle.std.specs.Prelude.{◌≡◌, ◌≤◌};
 ghost use Rattle.lat_slots.specs.Reasons.{reject_bits, stop_bits};
 
 /// Why a session that a peer asks for is rejected.
-#[derive(Clone, Copy, PartialEq, Eq)]
+#[derive(Clone, Copy)]
 pub enum RejectReason {
     /// Its service isn't offered here.
     NotOffered,
@@ -29,7 +29,7 @@ impl RejectReason {
 }
 
 /// Why a session is stopped.
-#[derive(Clone, Copy, PartialEq, Eq)]
+#[derive(Clone, Copy)]
 pub enum StopReason {
     /// Its user closed it.
     Closed,

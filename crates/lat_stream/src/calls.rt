@@ -17,7 +17,7 @@ use crate::stream::{Stream, UNFRAMED_ITEMS};
 use lat_base::{Item, SessionEnd, SessionState};
 
 /// Why a session refuses a call.
-#[derive(Clone, Copy, PartialEq, Eq)]
+#[derive(Clone, Copy)]
 pub enum SessionFault {
     /// 4,096 items wait to be framed.
     Full,

@@ -28,7 +28,7 @@ use lat_base::{Item, Payload, SessionEnd, SessionState};
 use lat_slots::SlotKind;
 
 /// What became of a session's turn in a message.
-#[derive(Clone, Copy, PartialEq, Eq)]
+#[derive(Clone, Copy)]
 pub enum Formed {
     /// It has nothing to send.
     Nothing,

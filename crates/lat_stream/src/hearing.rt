@@ -18,7 +18,7 @@ use lat_base::{Item, SessionEnd, SessionState};
 use lat_credit::{NoCredit, TooMany};
 
 /// A slot that breaks its circuit. See "Bad slots" in docs/PROTOCOL.md.
-#[derive(Clone, Copy, PartialEq, Eq)]
+#[derive(Clone, Copy)]
 pub struct BadSlot;
 
 impl From<NoCredit> for BadSlot {

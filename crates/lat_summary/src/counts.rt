@@ -15,7 +15,7 @@ use lat_roster::{Roster, Row};
 use lat_wire::{RatingRule, Wire};
 
 /// How much is told of a world. The sums stop at the greatest number of 64 bits.
-#[derive(Clone, Copy, PartialEq, Eq)]
+#[derive(Clone, Copy)]
 pub struct Counts {
     /// The frames that were sent.
     pub frames: u64,

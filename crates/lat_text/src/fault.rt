@@ -3,7 +3,7 @@
 use lat_base::Memory;
 
 /// Why a line, or a part of it, wasn't read.
-#[derive(Clone, Copy, PartialEq, Eq)]
+#[derive(Clone, Copy)]
 pub enum LineFault {
     /// It hasn't its form.
     Form,

@@ -7,7 +7,7 @@ ghost use Rattle.lat_wire.specs.Notes.{noted_answer, noted_of};
 use lat_base::{Answer, Bad, Heard, Kept};
 
 /// Why an event was answered with a refusal.
-#[derive(Clone, Copy, PartialEq, Eq)]
+#[derive(Clone, Copy)]
 pub enum Refusal {
     NoLine,
     Busy,

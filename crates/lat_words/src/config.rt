@@ -4,7 +4,7 @@ use crate::peers::Peers;
 use lat_base::{Addr, Name};
 
 /// Which kind of core it runs.
-#[derive(Clone, Copy, PartialEq, Eq)]
+#[derive(Clone, Copy, Debug, PartialEq, Eq)]
 pub enum Role {
     Server,
     /// A server with several sessions on each line.

@@ -10,9 +10,9 @@ fn names(rt: HostRuntime) {
         (b"A ", NameFault::Byte(1)),
     ];
     for (bytes, fault) in wrong {
-        assert_eq!(rt; Name::read(bytes).err(), Some(fault), "{bytes:?}");
+        assert!(rt; Name::read(bytes).err() == Some(fault), "{bytes:?}");
     }
     let small = Name::read(b"vax").ok();
     let large = Name::read(b"VAX").ok();
-    assert_eq!(rt; small.map(|name| name.folded()), large);
+    assert!(rt; small.map(|name| name.folded()) == large);
 }
