@@ -23,7 +23,7 @@ returns-then-has_session-clause-does c = λ s st.
     let k : Kept = c.args.self.now in
     let e : line_exists k.lines.lines c.args.line ≡ true = ap (λ (z : Kept). line_exists z.lines.lines c.args.line) (sym c.self.view_is) ∙ sym c.exists.ensures.value ∙ c.if-not-exists.false in
     let in_it : Stands (shown c.self.inside) s = subst (λ (z : Kept). Stands z s) (sym c.self.view_is) st in
-    let h : has_session s.core c.args.line ≡ true = sym (c.has_session.ensures s.core in_it.lines) ∙ c.if-holds.true in
+    let h : has_session s.core c.args.line ≡ true = sym (c.has_session.ensures s.core in_it.lines) ∙ c.if-has_session.true in
     subst (λ (t : ServerStep). HasDone s t k base.Busy c.args.out.now c.args.out.now) (sym (at_busy (config_of k) s c.args.line c.args.service.now e h)) (record { state = idle k s Busy c.args.out.now c.requires.rest st; answered = refl })
 
 pub returns-in-Some-clause-does : goal.returns-in-Some-clause-does
@@ -31,7 +31,7 @@ returns-in-Some-clause-does c = λ s st.
     let k : Kept = c.args.self.now in
     let e : line_exists k.lines.lines c.args.line ≡ true = ap (λ (z : Kept). line_exists z.lines.lines c.args.line) (sym c.self.view_is) ∙ sym c.exists.ensures.value ∙ c.if-not-exists.false in
     let in_it : Stands (shown c.self.inside) s = subst (λ (z : Kept). Stands z s) (sym c.self.view_is) st in
-    let h : has_session s.core c.args.line ≡ false = sym (c.has_session.ensures s.core in_it.lines) ∙ c.if-holds.false in
+    let h : has_session s.core c.args.line ≡ false = sym (c.has_session.ensures s.core in_it.lines) ∙ c.if-has_session.false in
     let b : best (config_of k).groups c.args.service.now s.core.moment s.heard ≡ Some (best_shown c.in-Some.best) =
     ap (λ (z : Kept). best z.directory.groups c.args.service.now s.core.moment s.heard) (sym c.self.view_is)
     ∙ ap (λ m. best c.self.inside.directory.groups c.args.service.now m s.heard) (sym (c.moment.ensures.model s.core in_it.lines))
@@ -44,7 +44,7 @@ returns-in-None-clause-does c = λ s st.
     let k : Kept = c.args.self.now in
     let e : line_exists k.lines.lines c.args.line ≡ true = ap (λ (z : Kept). line_exists z.lines.lines c.args.line) (sym c.self.view_is) ∙ sym c.exists.ensures.value ∙ c.if-not-exists.false in
     let in_it : Stands (shown c.self.inside) s = subst (λ (z : Kept). Stands z s) (sym c.self.view_is) st in
-    let h : has_session s.core c.args.line ≡ false = sym (c.has_session.ensures s.core in_it.lines) ∙ c.if-holds.false in
+    let h : has_session s.core c.args.line ≡ false = sym (c.has_session.ensures s.core in_it.lines) ∙ c.if-has_session.false in
     let b : best (config_of k).groups c.args.service.now s.core.moment s.heard ≡ None =
     ap (λ (z : Kept). best z.directory.groups c.args.service.now s.core.moment s.heard) (sym c.self.view_is)
     ∙ ap (λ m. best c.self.inside.directory.groups c.args.service.now m s.heard) (sym (c.moment.ensures.model s.core in_it.lines))
