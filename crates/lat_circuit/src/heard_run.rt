@@ -88,7 +88,8 @@ impl Circuit {
         requires room { length out.old < 256 }
         requires fields { (head.now.seq < 2 * half self.old.link.sending.span) × (head.now.ack < 2 * half self.old.link.sending.span) }
         requires slots { (length slots.now < 256) × AllByRecursion IsWritable slots.now }
-        ensures did { SimulatesHearing (λ e. applied_step (apply (wide_head_shown head.now) (map slot_heard slots.now) e)) result self.old self.new out.old out.new }
+        ensures did { SimulatesHearing (λ e. applied_step (apply (wide_head_shown head.now) (map slot_heard slots.now) e)) result
+            self.old self.new out.old out.new }
         ensures keeps { Keeps self.old self.new }
         ensures most { length out.new ≤ length out.old + 1 }
     {

@@ -134,7 +134,8 @@ impl Roster {
         taken: usize,
     ) -> Result<(), Memory>
         ensures same { (r : rows.RowsAfter) → Shows self.old r → Shows self.new r }
-        ensures items { OnOk result (ReservedAt self.new.rows (slice_index (if server then self.new.server_lines else self.new.node_lines) line) server put taken) }
+        ensures items { OnOk result
+            (ReservedAt self.new.rows (slice_index (if server then self.new.server_lines else self.new.node_lines) line) server put taken) }
         ensures rows { self.old.reserved ≡ self.new.reserved }
         ensures names { self.new.names ≡ self.old.names }
     {
