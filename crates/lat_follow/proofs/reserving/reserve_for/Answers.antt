@@ -5,7 +5,7 @@ use Rattle.lat_wire.specs.Kept.{setups_of}
 use Rattle.lat_wire.specs.Told.{answered}
 use Rattle.lat_follow.specs.Reserved.{line_in, put_count, taken_count, place_of}
 use Rattle.lat_follow.proofs.Taking.{room_less}
-use Rattle.lat_follow.proofs.reserved.reserve_for.Goals as goal
+use Rattle.lat_follow.proofs.reserving.reserve_for.Goals as goal
 
 pub returns-clause-items : goal.returns-clause-items
 returns-clause-items g c = λ w st.
