@@ -1,10 +1,12 @@
 -- What a grant makes of a server.
 use Rattle.std.proofs.Common.{◌≡◌, ℕ, suc, refl, sym, ap, ◌∙◌, subst, Bool, true, false, cond, ◌&&◌, List, [], ◌∷◌, ◌++◌, map, zero, ◌+◌, ◌-◌, ◌≤◌, arith, Option, Some, None, find, option_map, nat_eq, nat_lt, true≢false}
 use Rattle.std.specs.Prelude.{Result, Ok, Err, OnOk, IfSome}
+use Rattle.lat_base.specs.declared.addr.Addr.{Addr}
 use Rattle.lat_base.specs.declared.outbox.OutFrame.{OutFrame}
 use Rattle.lat_model.specs.sessions.Sessions.{least_free}
 use Rattle.lat_model.specs.circuits.Arriving.{living}
 use Rattle.lat_model.specs.Lists.{upwards}
+use Rattle.lat_machines.specs.values.Addresses.{address}
 use Rattle.lat_machines.specs.values.Names.{Name}
 use Rattle.lat_machines.specs.values.Keys.{Key}
 use Rattle.lat_machines.specs.cores.Cores.{Core, Doing, circuit_to}
@@ -25,7 +27,7 @@ use Rattle.lat_lines.specs.declared.opening.OpenFault.TheVariants as faults
 use Rattle.lat_server.specs.Config.{offer_shown}
 use Rattle.lat_server.specs.declared.config.Offer.{Offer}
 use Rattle.lat_server.specs.Kept.{Kept, config_of}
-use Rattle.lat_server.specs.Events.{HasPassed}
+use Rattle.lat_server.specs.Events.{HasPassed, IsShut}
 use Rattle.lat_server.proofs.Openings.{opening_of}
 use Rattle.lat_server.proofs.GrantLemmas.{granted_then, grant_concluded}
 
@@ -96,6 +98,11 @@ at_can config line service p o r e h = rw (e, h)
 
 pub at_cannot : (config : ServerConfig) (line : ℕ) (service : Name) (p : Passing) (o : Option Request) (r : Request) → o ≡ Some r → can_open p.state.core r.from ≡ false → grants_by config line (Some service) (fitting p.state.core o) p ≡ p
 at_cannot config line service p o r e h = rw (e, h)
+
+-- no session to the station that is told can be had
+pub at_shut : (shut : Option Addr) (k : Kept) (c : Core) (x : ℕ) → IsShut shut k → option_map (λ (a : Addr). address a.0) shut ≡ Some x → stands.Stands k.lines c → can_open c x ≡ false
+at_shut None k c x h e s = let z : ⊥ = cc in absurd z
+at_shut (Some a) k c x h e s = let i : x ≡ address a.0 = cc in ap (can_open c) i ∙ h c s
 
 -- the lines
 

@@ -1,13 +1,14 @@
 -- Parts of an event of the server machine.
-use Rattle.std.specs.Prelude.{◌≡◌, ℕ, List, map}
+use Rattle.std.specs.Prelude.{◌≡◌, ℕ, false, List, map, Option, Some, None}
+use Rattle.lat_base.specs.declared.addr.Addr.{Addr}
 use Rattle.lat_base.specs.declared.answer.Answer.{Answer}
-use Rattle.lat_base.specs.declared.answer.Answer.TheVariants as answers
 use Rattle.lat_base.specs.declared.event.Event.{Event}
 use Rattle.lat_base.specs.declared.event.Event.TheVariants as events
 use Rattle.lat_base.specs.declared.outbox.OutFrame.{OutFrame}
 use Rattle.lat_model.specs.Lists.{upwards}
-use Rattle.lat_machines.specs.cores.Cores.{at_moment}
-use Rattle.lat_machines.specs.server.Server.{ServerConfig, Server, ServerStep, Passing, with_core, grant_lines, passed}
+use Rattle.lat_machines.specs.cores.Cores.{Core, at_moment}
+use Rattle.lat_machines.specs.server.Server.{ServerConfig, Server, ServerStep, Passing, with_core, can_open, grant_lines, passed}
+use Rattle.lat_machines.specs.values.Addresses.{address}
 use Rattle.lat_payload.specs.Frames.{Emits}
 use Rattle.lat_dir.specs.Stands as dir
 use Rattle.lat_queue.specs.Histories as queue
@@ -53,6 +54,11 @@ pub record HasPassed (p : Passing) (new : Kept) (before after : List OutFrame) :
 abbrev pub Passes : (ServerConfig → Passing → Passing) → (old new : Kept) → (before after : List OutFrame) → Type 0
 Passes step old new before after =
     (p : Passing) (start : List OutFrame) → HasPassed p old start before → HasPassed (step (config_of old) p) new start after
+
+-- no session to this station can be had
+abbrev pub IsShut : Option Addr → Kept → Type 0
+IsShut None k = Unit {0}
+IsShut (Some a) k = (c : Core) → lines.Stands k.lines c → can_open c (address a.0) ≡ false
 
 abbrev pub all_lines : ServerConfig → Passing → Passing
 all_lines config p = grant_lines config (upwards 0 config.lines) p

@@ -1,23 +1,27 @@
 //! Granting requests, and finishing them.
 
 ghost use Rattle.std.specs.Prelude.{◌≡◌, ◌≤◌, ◌+◌, ◌||◌, is_none, length, map, false, true, List, Some, find, option_map, nat_eq};
+ghost use Rattle.lat_base.specs.declared.addr.Addr.{Addr};
 ghost use Rattle.lat_base.specs.declared.outbox.OutFrame.{OutFrame};
+ghost use Rattle.lat_machines.specs.cores.Cores.{Core};
 ghost use Rattle.lat_machines.specs.cores.Lines.{has_session};
 ghost use Rattle.lat_machines.specs.server.Queue.{QueueEvent, Request, next_request};
 ghost use Rattle.lat_machines.specs.server.Records.{record_at};
 ghost use Rattle.lat_machines.specs.server.Server.{Passing, can_open, fitting, grants_by, granting, grant_line};
+ghost use Rattle.lat_machines.specs.values.Addresses.{address};
 ghost use Rattle.lat_queue.specs.Histories as queue;
 ghost use Rattle.lat_queue.specs.Histories.{key_in, address_in};
 ghost use Rattle.lat_lines.specs.Kept.{IsLine};
+ghost use Rattle.lat_lines.specs.Stands as lines;
 ghost use Rattle.lat_server.specs.declared.config.Offer.{Offer};
-ghost use Rattle.lat_server.specs.Events.{HasPassed, Passes, all_lines};
+ghost use Rattle.lat_server.specs.Events.{HasPassed, Passes, IsShut, all_lines};
 ghost use Rattle.lat_server.specs.Kept.{config_of, AtRest, SameConfig, with_queue};
 ghost use Rattle.lat_server.specs.Concluded.{finish_each};
 
 use crate::server::ServerCore;
 use lat_base::{Addr, Kept, Name, OutBox};
 use lat_notices::Outcome;
-use lat_payload::status_frame;
+use lat_payload::{is_same, status_frame};
 use lat_queue::{Key, Queue};
 
 // Finishes the requests of these keys, in order.
@@ -29,6 +33,16 @@ fn finish_keys(requests: &mut Queue, keys: &[Key])
 {
     for key in keys {
         requests.finish(key);
+    }
+}
+
+// Whether a station is this one.
+fn is_station(station: Option<Addr>, other: Addr) -> bool
+    ensures { result ≡ true → option_map (λ (a : Addr). address a.0) station ≡ Some (address other.0) }
+{
+    match station {
+        Some(station) => is_same(&station.0, &other.0),
+        None => false,
     }
 }
 
@@ -45,7 +59,8 @@ impl ServerCore {
     }
 
     /// Goes over the lines by rising number: one without a session that offers a service grants the first that waits for it,
-    /// where a session to that station can be had.
+    /// where a session to that station can be had. Nothing but a grant changes whether one can, so the station that was last
+    /// found to have none isn't looked for again until something is granted.
     pub(crate) fn grant_pass(&mut self, out: &mut OutBox)
         requires rest { AtRest self.old }
         requires room { length out.old + 80 ≤ 256 }
@@ -57,8 +72,9 @@ impl ServerCore {
             return;
         }
         let count = self.lines.count();
+        let mut shut = None;
         for line in 1..count + 1 {
-            self.grant_line(line, out);
+            shut = self.grant_line(line, shut, out);
         }
     }
 
@@ -89,25 +105,47 @@ impl ServerCore {
             .map(|offer| offer.service)
     }
 
-    fn grant_line(&mut self, line: u8, out: &mut OutBox)
+    // A line grants what it can. It is told a station to which no session can be had, and tells one.
+    fn grant_line(&mut self, line: u8, shut: Option<Addr>, out: &mut OutBox) -> Option<Addr>
         requires rest { AtRest self.old }
+        requires shut { IsShut shut self.old }
         requires line { IsLine self.old.lines.lines line }
         requires room { length out.old + 17 ≤ 256 }
         ensures passes { Passes (λ config p. grant_line config p line) self.old self.new out.old out.new }
+        ensures shut { IsShut result self.new }
         ensures rest { AtRest self.new }
         ensures same { SameConfig self.old self.new }
         ensures most { length out.new ≤ length out.old + 2 }
     {
         if let Some(service) = self.offer_on(line) {
             if !self.lines.has_session(line) {
-                self.grant_first(line, &service, out);
+                return self.grant_first(line, &service, shut, out);
             }
         }
+        shut
+    }
+
+    // Whether a session to the station can be had, where to this one none can.
+    fn can_open(&self, shut: Option<Addr>, from: Addr) -> bool
+        requires { IsShut shut self.now }
+        ensures { (c : Core) → lines.Stands self.now.lines c → result ≡ can_open c (address from.0) }
+    {
+        if is_station(shut, from) {
+            return false;
+        }
+        self.lines.can_open(from)
     }
 
     // Grants the first that waits for the service, where a session to its station can be had. The line has no session.
-    fn grant_first(&mut self, line: u8, service: &Name, out: &mut OutBox)
+    fn grant_first(
+        &mut self,
+        line: u8,
+        service: &Name,
+        shut: Option<Addr>,
+        out: &mut OutBox,
+    ) -> Option<Addr>
         requires rest { AtRest self.old }
+        requires shut { IsShut shut self.old }
         requires line { IsLine self.old.lines.lines line }
         requires room { length out.old + 17 ≤ 256 }
         ensures passes { (p : Passing) (start : List OutFrame) →
@@ -117,14 +155,19 @@ impl ServerCore {
             (grants_by (config_of self.old) line (Some service.now)
             (fitting p.state.core (next_request service.now p.state.queue)) p)
             self.new start out.new }
+        ensures shut { IsShut result self.new }
         ensures rest { AtRest self.new }
         ensures same { SameConfig self.old self.new }
         ensures most { length out.new ≤ length out.old + 2 }
     {
-        if let Some((key, from)) = self.queue.first(service) {
-            if self.lines.can_open(from) {
-                self.grant(line, service, key, from, out);
-            }
+        let Some((key, from)) = self.queue.first(service) else {
+            return shut;
+        };
+        if self.can_open(shut, from) {
+            self.grant(line, service, key, from, out);
+            None
+        } else {
+            Some(from)
         }
     }
 

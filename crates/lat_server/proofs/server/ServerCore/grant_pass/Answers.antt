@@ -9,17 +9,18 @@ use Rattle.lat_server.proofs.server.ServerCore.grant_pass.Goals as goal
 
 pub loop-line-preserved : goal.loop-line-preserved
 loop-line-preserved c = record {
-  rest = c.grant_line.ensures.rest;
-  same = c.grant_line.ensures.same ∙ c.loop-line.invariant.same;
-  room = omega (arith, c.grant_line.ensures.most, c.loop-line.invariant.room);
+  rest = c.grant_line-shut.ensures.rest;
+  same = c.grant_line-shut.ensures.same ∙ c.loop-line.invariant.same;
+  shut = c.grant_line-shut.ensures.shut;
+  room = omega (arith, c.grant_line-shut.ensures.most, c.loop-line.invariant.room);
   passes = λ p start h.
       let config : ServerConfig = config_of c.args.self.now in
       let n : ℕ = c.loop-line.line in
       let one : 1 ≤ n = omega arith in
       let before : Passing = grant_lines config (upwards 0 (n - 1)) p in
-      subst (λ (z : Passing). HasPassed z c.grant_line.new.self start c.grant_line.new.out) (sym (lines_next config n p one))
-      (subst (λ (z : ServerConfig). HasPassed (grant_line z before n) c.grant_line.new.self start c.grant_line.new.out) c.loop-line.invariant.same
-      (c.grant_line.ensures.passes before start (c.loop-line.invariant.passes p start h)));
+      subst (λ (z : Passing). HasPassed z c.grant_line-shut.new.self start c.grant_line-shut.new.out) (sym (lines_next config n p one))
+      (subst (λ (z : ServerConfig). HasPassed (grant_line z before n) c.grant_line-shut.new.self start c.grant_line-shut.new.out) c.loop-line.invariant.same
+      (c.grant_line-shut.ensures.passes before start (c.loop-line.invariant.passes p start h)));
 }
 
 pub returns-clause-passes : goal.returns-clause-passes
