@@ -59,12 +59,11 @@ fn times_ok(master: bool, timer: u8, keepalive: u8) -> bool
     }
 }
 
-// Names meet their condition by their type.
 fn info_ok(master: bool, info: &StartInfo) -> bool
+    requires slave { IsName info.now.slave }
+    requires name { IsName info.now.name }
     ensures { IsTrue result ↔ InfoFits master info.now }
 {
-    let _ = info.slave.bytes();
-    let _ = info.name.bytes();
     info.size >= 576
         && info.size <= 1518
         && info.sessions > 0
@@ -73,9 +72,11 @@ fn info_ok(master: bool, info: &StartInfo) -> bool
         && params_ok(&info.params)
 }
 
-// How many bytes its text has, up to the greatest `usize`.
+// How many bytes its text has, up to the greatest `usize`. Both names are names by their type.
 fn info_len(info: &StartInfo) -> usize
-    ensures { result ≡ min (length (info_text info.now)) usize.MAX }
+    ensures len { result ≡ min (length (info_text info.now)) usize.MAX }
+    ensures slave { IsName info.now.slave }
+    ensures name { IsName info.now.name }
 {
     let names = info.slave.bytes().len() + info.name.bytes().len();
     params_len(&info.params)
@@ -84,9 +85,12 @@ fn info_len(info: &StartInfo) -> usize
 }
 
 fn start_ok(master: bool, to: u16, from: u16, info: &StartInfo) -> bool
-    ensures { IsTrue result ↔ (DestinationFits master to × (0 < from) × InfoFits master info.now × (length (info_text info.now) ≤ 1492)) }
+    ensures { IsTrue result ↔ (
+        DestinationFits master to × (0 < from) × InfoFits master info.now
+        × (length (info_text info.now) ≤ 1492)) }
 {
-    destination_ok(master, to) && from > 0 && info_ok(master, info) && info_len(info) <= 1492
+    let len = info_len(info);
+    destination_ok(master, to) && from > 0 && info_ok(master, info) && len <= 1492
 }
 
 fn stop_ok(to: u16, text: &Bytes) -> bool

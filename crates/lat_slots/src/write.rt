@@ -3,7 +3,7 @@
 ghost use Rattle.std.specs.Prelude.{◌≡◌, ◌+◌, ◌<◌, ◌≤◌, ◌++◌, ◌*◌, ◌↔◌, List, ℕ, length, min, IsTrue};
 ghost use Rattle.std.specs.List.{AllByRecursion};
 ghost use Rattle.lat_base.specs.Names.{IsName};
-ghost use Rattle.lat_fields.specs.Params.{IsEntry};
+ghost use Rattle.lat_fields.specs.Params.{IsEntry, params_text};
 ghost use Rattle.lat_slots.specs.Layout.{Fits, SlotText, IsWritable, body_of, from_of, low_of, slot_text, to_of, type_of};
 
 use crate::head::SERVICE_CLASS;
@@ -78,17 +78,29 @@ fn setting_ok(to: u8, from: u8, chars: &[u8; 4]) -> bool
     ids_ok(to, from) && chars.len() == 4
 }
 
-// A name meets its condition by its type.
-fn start_ok(from: u8, size: u8, service: &Name, subject: &[u8], params: &Params) -> bool
-    ensures { IsTrue result ↔ ((0 < from) × (0 < size) × IsName service.now × (length subject.now < 256) × AllByRecursion IsEntry params.now) }
+// How many bytes the body of a start has, up to the greatest `usize`. Its service is a name by its type.
+fn start_len(service: &Name, subject: &[u8], params: &Params) -> usize
+    ensures len { result ≡ min (5 + length service.now + length subject.now + length (params_text params.now)) usize.MAX }
+    ensures service { IsName service.now }
 {
-    let _ = service.bytes();
-    from > 0 && size > 0 && subject.len() < 256 && params_ok(params)
+    // three bytes and two length bytes stand beside the texts
+    let texts = 5 + service.bytes().len() + subject.len();
+    params_len(params).saturating_add(texts)
 }
 
-// Whether its fields meet their conditions.
+// Whether the fields of a start meet their conditions, and its body has at most 255 bytes.
+fn start_ok(from: u8, size: u8, service: &Name, subject: &[u8], params: &Params) -> bool
+    ensures { IsTrue result ↔ (
+        (0 < from) × (0 < size) × IsName service.now × (length subject.now < 256) × AllByRecursion IsEntry params.now
+        × (5 + length service.now + length subject.now + length (params_text params.now) < 256)) }
+{
+    let len = start_len(service, subject, params);
+    from > 0 && size > 0 && subject.len() < 256 && params_ok(params) && len < 256
+}
+
+// Whether its fields meet their conditions, and its body has at most 255 bytes.
 fn fits(slot: &Slot) -> bool
-    ensures { IsTrue result ↔ Fits slot.now }
+    ensures { IsTrue result ↔ (Fits slot.now × (length (body_of slot.now) < 256)) }
 {
     match slot {
         Slot::Start {
@@ -99,7 +111,9 @@ fn fits(slot: &Slot) -> bool
             params,
             ..
         } => start_ok(*from, *size, service, subject.as_slice(), params),
-        Slot::DataA { to, from, .. } => ids_ok(*to, *from),
+        Slot::DataA {
+            to, from, bytes, ..
+        } => ids_ok(*to, *from) && bytes.as_slice().len() < 256,
         Slot::DataB {
             to,
             from,
@@ -127,11 +141,7 @@ fn body_len(slot: &Slot) -> usize
             subject,
             params,
             ..
-        } => {
-            // three bytes and two length bytes stand beside the texts
-            let texts = 5 + service.bytes().len() + subject.as_slice().len();
-            params_len(params).saturating_add(texts)
-        }
+        } => start_len(service, subject.as_slice(), params),
         Slot::DataA { bytes, .. } => bytes.as_slice().len(),
         Slot::DataB { chars, .. } => setting_len(chars),
         Slot::Attention { .. } => 1,
@@ -142,7 +152,7 @@ fn body_len(slot: &Slot) -> usize
 fn writable(slot: &Slot) -> bool
     ensures { IsTrue result ↔ IsWritable slot.now }
 {
-    fits(slot) && body_len(slot) < 256 && low(slot) < 16
+    fits(slot) && low(slot) < 16
 }
 
 /// Whether the slot has a text: whether its fields meet the conditions of `docs/FORMATS.md`, part Slots, its credits or
