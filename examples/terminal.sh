@@ -4,11 +4,13 @@
 #
 #     examples/terminal.sh [LATD]
 #
-# It needs a built `latd` ((cd crates/latd && rt run) builds it), `nc` and `mktemp`, and ends by itself within seconds.
+# It needs a built `latd` ((cd crates/latd && rt run) builds it), OpenBSD's `nc` and `mktemp`, and ends by itself within seconds.
 set -eu
 latd=${1:-$(dirname "$0")/../crates/latd/out/latd}
+command -v nc > /dev/null || { echo "this needs nc (OpenBSD's, which has -N)"; exit 1; }
 folder=$(mktemp -d)
-trap 'rm -rf "$folder"' EXIT
+node= server=
+trap 'kill $node $server 2> /dev/null || true; rm -rf "$folder"' EXIT
 
 "$latd" --role node --name VAX1 --address aa0004000204 --port 27001 --lines 1 --line-port 27201 --service VAX --sessions 1 27000 \
     > "$folder/node" &

@@ -7,8 +7,8 @@
 #        tools/want_of_memory.sh CRATE ARGS STDIN     one case: ARGS are words with blanks between them, STDIN is a file or -
 #
 # Each program is proved and built by `rt run`, which the kit brings. A library of a few lines, which `cc` builds here, stands
-# before the C library's `malloc` and refuses the request of the number that it is given. `rt try --fail-alloc N` refuses the same
-# requests, but builds the program anew for each.
+# before the C library's `malloc` and refuses the request of the number that it is given. `rt try --fail-alloc 1..` refuses the same
+# requests of the unproved program.
 set -eu
 
 top=$(cd "$(dirname "$0")/.." && pwd)
