@@ -12,7 +12,7 @@ use crate::node::Node;
 use crate::nodes::Nodes;
 use lat_base::{Addr, Memory, Name};
 use lat_notices::Announcement;
-use std::alloc::{AllocError, AllocFailed, Global};
+use std::alloc::Global;
 use std::marker::Model;
 
 /// Why an announcement isn't kept.
@@ -31,28 +31,6 @@ impl From<Memory> for DirFault {
     ghost from_gives = { λ _ fault. fault ≡ faults.Memory };
 
     fn from(_e: Memory) -> DirFault {
-        DirFault::Memory
-    }
-}
-
-impl From<AllocError> for DirFault {
-    ghost use Rattle.std.specs.Prelude.{◌≡◌};
-    ghost use Rattle.lat_dir.specs.declared.directory.DirFault.TheVariants as faults;
-
-    ghost from_gives = { λ _ fault. fault ≡ faults.Memory };
-
-    fn from(_e: AllocError) -> DirFault {
-        DirFault::Memory
-    }
-}
-
-impl<T: Drop> From<AllocFailed<T>> for DirFault {
-    ghost use Rattle.std.specs.Prelude.{◌≡◌};
-    ghost use Rattle.lat_dir.specs.declared.directory.DirFault.TheVariants as faults;
-
-    ghost from_gives = { λ _ fault. fault ≡ faults.Memory };
-
-    fn from(_e: AllocFailed<T>) -> DirFault {
         DirFault::Memory
     }
 }
