@@ -1,19 +1,20 @@
 -- The checker stands for what is seen once an end has acknowledged more messages.
-use Rattle.std.proofs.Common.{◌≡◌, ℕ, zero, suc, ◌+◌, ◌-◌, ◌^◌, ◌<◌, ◌≤◌, le_trans, sym, ap, ap₂, ◌∙◌, refl, arith, subst, Bool, true, false, cond, List, [], ◌∷◌, ◌++◌, length, take, drop, map}
+use Rattle.std.proofs.Common.{◌≡◌, ℕ, zero, suc, ◌+◌, ◌-◌, ◌^◌, ◌<◌, ◌≤◌, le_trans, sym, ap, ap₂, ◌∙◌, refl, arith, subst, Bool, true, false, not, cond, List, [], ◌∷◌, ◌++◌, length, take, drop, map}
+use Rattle.std.specs.List.{flat_map}
 use Rattle.std.proofs.lemmas.List.{take-append-drop, drop-drop, drop-take, take-map, drop-map, length-map, length-take-le}
 use Rattle.lat_model.specs.Lists.{Each, IsPrefixOf}
 use Rattle.lat_model.specs.sessions.Slots.{Slot, destination, credits_of, credits}
-use Rattle.lat_captures.specs.Seen.{Seen, Both, Texts}
+use Rattle.lat_captures.specs.Seen.{Seen, Both, own, Texts}
 use Rattle.lat_captures.specs.Belonging.{all_slots, last_place, replies_as, session_at, word_at, Owned, of_session, slave_owned, message_owned, master_owned, ask_credits, ask_of}
+use Rattle.lat_captures.specs.Legal.{AcknowledgementFits}
 use Rattle.lat_captures.proofs.Growing.{all_slots-append, InReach}
-use Rattle.lat_checker.specs.declared.slot.OwnedSlot.{OwnedSlot}
 use Rattle.lat_checker.specs.declared.side.Side.{Side}
 use Rattle.lat_checker.specs.declared.checker.Checker.{Checker}
 use Rattle.lat_checker.specs.Facts.{kept_of}
 use Rattle.lat_checker.specs.Recent.{Message, last_eight, between}
-use Rattle.lat_checker.specs.Sums.{Sums, greatest, sums_of, slave_takes, slave_takes_all, master_takes, master_takes_all, slave_hears, master_hears}
+use Rattle.lat_checker.specs.Sums.{Sums, greatest, sums_of, takes_all, hears}
 use Rattle.lat_checker.specs.Stands.{Under, Holds, master_lists, slave_lists, SideStands, Bounded, Stands}
-use Rattle.lat_checker.specs.Steps.{messages_between, acknowledging, MasterAcknowledges, SlaveAcknowledges}
+use Rattle.lat_checker.specs.Steps.{messages_between, acknowledging, Acknowledges}
 use Rattle.lat_checker.proofs.Holding.{AskIsNone, each_append}
 use Rattle.lat_checker.proofs.Lists.{all_of, all_of-map, all_of-append, all_master, all_slave, take_master, take_slave, drop_slave, length_slave, length_master, take_on, slots_in, slots_in-master, credits_less, credits_prefix, slots_prefix}
 use Rattle.lat_checker.proofs.Messages.{holds_slave_takes_all, holds_master_takes_all}
@@ -41,22 +42,9 @@ keeps_ack false b a = record { sessions = λ r l. refl; asks = λ r n l. refl; s
     masters k (x ∷ xs) = ap₂ (λ u v. u ∷ v) refl (masters k xs)
 
 -- messages one after another are all their slots in a row
-
-slave_takes_on : (ks js : List OwnedSlot) (s : Sums) → slave_takes_all s (ks ++ js) ≡ slave_takes_all (slave_takes_all s ks) js
-slave_takes_on [] js s = refl
-slave_takes_on (k ∷ ks) js s = slave_takes_on ks js (slave_takes s k)
-
-master_takes_on : (ks js : List OwnedSlot) (s : Sums) → master_takes_all s (ks ++ js) ≡ master_takes_all (master_takes_all s ks) js
-master_takes_on [] js s = refl
-master_takes_on (k ∷ ks) js s = master_takes_on ks js (master_takes s k)
-
-slave_hears_all : (ms : List Message) (s : Sums) → slave_hears s ms ≡ slave_takes_all s (all_of (map (λ m. m.slots) ms))
-slave_hears_all [] s = refl
-slave_hears_all (m ∷ ms) s = slave_hears_all ms (slave_takes_all s m.slots) ∙ sym (slave_takes_on m.slots (all_of (map (λ m. m.slots) ms)) s)
-
-master_hears_all : (ms : List Message) (s : Sums) → master_hears s ms ≡ master_takes_all s (all_of (map (λ m. m.slots) ms))
-master_hears_all [] s = refl
-master_hears_all (m ∷ ms) s = master_hears_all ms (master_takes_all s m.slots) ∙ sym (master_takes_on m.slots (all_of (map (λ m. m.slots) ms)) s)
+heard_slots : (ms : List Message) → flat_map (λ m. m.slots) ms ≡ all_of (map (λ m. m.slots) ms)
+heard_slots [] = refl
+heard_slots (m ∷ ms) = ap (λ z. m.slots ++ z) (heard_slots ms)
 
 -- of the last eight, those from one number on up to another
 pub between_eight : {X : Type 0} (xs : List X) (n a c : ℕ) → length xs ≡ n → n ≤ a + 8 → a ≤ c → between (last_eight xs) (a - (n - 8)) (c - (n - 8)) ≡ take (c - a) (drop a xs)
@@ -70,9 +58,10 @@ between_eight xs n a c e l k =
 
 -- the kept slots of those messages
 kept_between : (s : Side) (lists : List (List Owned)) (a c : ℕ) → s.count ≡ length lists → map (λ m. m.slots) s.recent ≡ last_eight (map (map kept_of) lists) → s.count ≤ a + 8 → a ≤ c
-    → all_of (map (λ m. m.slots) (messages_between s a c)) ≡ map kept_of (all_of (take (c - a) (drop a lists)))
+    → flat_map (λ m. m.slots) (messages_between s a c) ≡ map kept_of (all_of (take (c - a) (drop a lists)))
 kept_between s lists a c e k l j =
-    ap all_of (
+    heard_slots (messages_between s a c)
+    ∙ ap all_of (
     sym (drop-map (λ (m : Message). m.slots) (a - (s.count - 8)) (take (c - (s.count - 8)) s.recent))
     ∙ ap (drop (a - (s.count - 8))) (sym (take-map (λ (m : Message). m.slots) (c - (s.count - 8)) s.recent))
     ∙ ap (λ z. between z (a - (s.count - 8)) (c - (s.count - 8))) k
@@ -107,11 +96,11 @@ each_right P (x ∷ xs) ys e = each_right P xs ys e.1
 abbrev pub runs_fit : Checker → Type 0
 runs_fit c = c.runs < 2 ^ 64
 
-pub master_acks : (tell : List ℕ → List Slot) (c d : Checker) (b : Both) (x : Texts) (a : ℕ) → Stands tell c b x → runs_fit c → b.master.acknowledged ≤ a → a ≤ length b.slave.messages → length b.slave.messages ≤ a + 8
-    → MasterAcknowledges c d a → Stands tell d (with_ack true b a) x
+master_acks : (tell : List ℕ → List Slot) (c d : Checker) (b : Both) (x : Texts) (a : ℕ) → Stands tell c b x → runs_fit c → b.master.acknowledged ≤ a → a ≤ length b.slave.messages → length b.slave.messages ≤ a + 8
+    → Acknowledges true c d a → Stands tell d (with_ack true b a) x
 master_acks tell c d b x a h fit rise sent near k = record {
-  master = subst (λ s. SideStands tell s b1.master x.master (master_lists b1 ms bs)) (sym k.master) (side_acks tell c.master b.master x.master (master_lists b ms bs) (master_lists b1 ms bs) a (master_lists_again b b1 ms bs keep reach.near_master) h.master);
-  slave = subst (λ s. SideStands tell s b.slave x.slave (slave_lists b1 [] ss)) (sym k.slave) (side_stays tell c.slave b.slave x.slave (slave_lists b [] ss) (slave_lists b1 [] ss) (slave_lists_again b b1 [] ss keep (omega arith)) h.slave);
+  master = subst (λ s. SideStands tell s b1.master x.master (master_lists b1 ms bs)) (sym k.own) (side_acks tell c.master b.master x.master (master_lists b ms bs) (master_lists b1 ms bs) a (master_lists_again b b1 ms bs keep reach.near_master) h.master);
+  slave = subst (λ s. SideStands tell s b.slave x.slave (slave_lists b1 [] ss)) (sym k.other) (side_stays tell c.slave b.slave x.slave (slave_lists b [] ss) (slave_lists b1 [] ss) (slave_lists_again b b1 [] ss keep (omega arith)) h.slave);
   sums = subst (Holds b1 (all_slots ss) (all_slots (take a ss)) (master_owned b1 ms bs) (master_owned b1 (take b.slave.acknowledged ms) bs)) (sym sums_are) sums;
   places = k.places ∙ h.places;
   master_shows = record { sent = sent; near = near; each = h.master_shows.each; rising = each_rise b.master.acknowledged a bs rise h.master_shows.rising };
@@ -148,7 +137,7 @@ master_acks tell c d b x a h fit rise sent near k = record {
     whole = sym (ap all_slots (take_on b.master.acknowledged a ss rise) ∙ all_slots-append (take b.master.acknowledged ss) (take (a - b.master.acknowledged) (drop b.master.acknowledged ss)))
 
     taken : Sums
-    taken = master_takes_all (sums_of c.accounts) (map kept_of (slave_owned b old new))
+    taken = takes_all true (sums_of c.accounts) (map kept_of (slave_owned b old new))
 
     small : credits (all_slots ss) ≤ greatest
     small = omega (arith, h.slave_bounded.credits, fit)
@@ -173,9 +162,8 @@ master_acks tell c d b x a h fit rise sent near k = record {
     sums_are : sums_of d.accounts ≡ taken
     sums_are =
         k.sums
-        ∙ ap (λ z. master_hears (sums_of c.accounts) (messages_between c.slave z a)) h.master.acknowledged
-        ∙ master_hears_all (messages_between c.slave b.master.acknowledged a) (sums_of c.accounts)
-        ∙ ap (master_takes_all (sums_of c.accounts)) (
+        ∙ ap (λ z. hears true (sums_of c.accounts) (messages_between c.slave z a)) h.master.acknowledged
+        ∙ ap (takes_all true (sums_of c.accounts)) (
         kept_between c.slave (slave_lists b [] ss) b.master.acknowledged a (h.slave.count ∙ sym (length_slave b [] ss)) h.slave.slots_are (omega (arith, h.slave.count, h.master_shows.near)) rise
         ∙ ap (map kept_of) listed
         )
@@ -197,11 +185,11 @@ all_none_asked b [] bs = tt
 all_none_asked b (m ∷ ms) [] = tt
 all_none_asked b (m ∷ ms) (a ∷ bs) = each_append AskIsNone (message_owned b a m) (master_owned b ms bs) (none_asked b a m) (all_none_asked b ms bs)
 
-pub slave_acks : (tell : List ℕ → List Slot) (c d : Checker) (b : Both) (x : Texts) (a : ℕ) → Stands tell c b x → runs_fit c → b.slave.acknowledged ≤ a → a ≤ length b.master.messages → length b.master.messages ≤ a + 8
-    → SlaveAcknowledges c d a → Stands tell d (with_ack false b a) x
+slave_acks : (tell : List ℕ → List Slot) (c d : Checker) (b : Both) (x : Texts) (a : ℕ) → Stands tell c b x → runs_fit c → b.slave.acknowledged ≤ a → a ≤ length b.master.messages → length b.master.messages ≤ a + 8
+    → Acknowledges false c d a → Stands tell d (with_ack false b a) x
 slave_acks tell c d b x a h fit rise sent near k = record {
-  master = subst (λ s. SideStands tell s b.master x.master (master_lists b1 ms bs)) (sym k.master) (side_stays tell c.master b.master x.master (master_lists b ms bs) (master_lists b1 ms bs) (master_lists_again b b1 ms bs keep reach.near_master) h.master);
-  slave = subst (λ s. SideStands tell s b1.slave x.slave (slave_lists b1 [] ss)) (sym k.slave) (side_acks tell c.slave b.slave x.slave (slave_lists b [] ss) (slave_lists b1 [] ss) a (slave_lists_again b b1 [] ss keep (omega arith)) h.slave);
+  master = subst (λ s. SideStands tell s b.master x.master (master_lists b1 ms bs)) (sym k.other) (side_stays tell c.master b.master x.master (master_lists b ms bs) (master_lists b1 ms bs) (master_lists_again b b1 ms bs keep reach.near_master) h.master);
+  slave = subst (λ s. SideStands tell s b1.slave x.slave (slave_lists b1 [] ss)) (sym k.own) (side_acks tell c.slave b.slave x.slave (slave_lists b [] ss) (slave_lists b1 [] ss) a (slave_lists_again b b1 [] ss keep (omega arith)) h.slave);
   sums = subst (Holds b1 (all_slots ss) (all_slots (take b.master.acknowledged ss)) (master_owned b1 ms bs) (master_owned b1 (take a ms) bs)) (sym sums_are) sums;
   places = k.places ∙ h.places;
   master_shows = record { sent = h.master_shows.sent; near = h.master_shows.near; each = h.master_shows.each; rising = h.master_shows.rising };
@@ -270,7 +258,7 @@ slave_acks tell c d b x a h fit rise sent near k = record {
         omega (arith, asked, given, fewer, h.master_bounded.credits, fit)
 
     taken : Sums
-    taken = slave_takes_all (sums_of c.accounts) (map kept_of os)
+    taken = takes_all false (sums_of c.accounts) (map kept_of os)
 
     held : Holds b (all_slots ss) ys (master_owned b ms bs) (old ++ os) taken
     held = holds_slave_takes_all b (all_slots ss) ys (master_owned b ms bs) old os (sums_of c.accounts) h.sums under none fits
@@ -285,7 +273,12 @@ slave_acks tell c d b x a h fit rise sent near k = record {
     sums_are : sums_of d.accounts ≡ taken
     sums_are =
         k.sums
-        ∙ ap (λ z. slave_hears (sums_of c.accounts) (messages_between c.master z a)) h.slave.acknowledged
-        ∙ slave_hears_all (messages_between c.master b.slave.acknowledged a) (sums_of c.accounts)
-        ∙ ap (slave_takes_all (sums_of c.accounts))
+        ∙ ap (λ z. hears false (sums_of c.accounts) (messages_between c.master z a)) h.slave.acknowledged
+        ∙ ap (takes_all false (sums_of c.accounts))
         (kept_between c.master lists b.slave.acknowledged a (h.master.count ∙ sym (length_master b ms bs h.master_shows.each)) h.master.slots_are (omega (arith, h.master.count, h.slave_shows.near)) rise)
+
+-- an end acknowledges
+pub acks : (m : Bool) (tell : List ℕ → List Slot) (c d : Checker) (b : Both) (x : Texts) (a : ℕ) → Stands tell c b x → runs_fit c → AcknowledgementFits (own b m) (own b (not m)) a → Acknowledges m c d a
+    → Stands tell d (with_ack m b a) x
+acks true tell c d b x a h fit f k = master_acks tell c d b x a h fit f.rising f.sent f.near k
+acks false tell c d b x a h fit f k = slave_acks tell c d b x a h fit f.rising f.sent f.near k

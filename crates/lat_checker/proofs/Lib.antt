@@ -13,7 +13,5 @@ pub mod Sends
 pub mod SlaveSends
 pub mod Testing
 pub mod Runs
-pub mod SlaveRuns
 pub mod Starts
 pub mod Exits
-pub mod SlaveExits

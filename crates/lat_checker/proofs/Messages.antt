@@ -10,7 +10,7 @@ use Rattle.lat_captures.specs.Audit.{paid_test}
 use Rattle.lat_captures.proofs.Growing.{of_session-append}
 use Rattle.lat_checker.specs.declared.slot.OwnedSlot.{OwnedSlot}
 use Rattle.lat_checker.specs.Facts.{is_reply, facts_of, kept_of}
-use Rattle.lat_checker.specs.Sums.{Sums, greatest, opening, slave_takes, slave_takes_all, master_takes_all, kept_before, next_place, slave_forms, slave_forms_all, master_forms, master_forms_all}
+use Rattle.lat_checker.specs.Sums.{Sums, greatest, opening, slave_takes, takes_all, slave_forms, master_forms, next_place, kept_before, forms_all}
 use Rattle.lat_checker.specs.Stands.{last_ask, Under, Holds}
 use Rattle.lat_checker.proofs.Holding.{AskIsNone, holds_slave_takes}
 use Rattle.lat_checker.proofs.Takings.{owned_push, holds_master_takes}
@@ -23,17 +23,17 @@ front_less : (r : ℕ) (xs ys : List Owned) → credits (of_session r xs) ≤ cr
 front_less r xs ys = omega (arith, ap credits (of_session-append r xs ys), credits-append (of_session r xs) (of_session r ys))
 
 pub holds_slave_takes_all : (b : Both) (F TM : List Slot) (MO TS os : List Owned) (s : Sums) → Holds b F TM MO TS s → Each (Under destination TM) os → Each AskIsNone os
-    → ((r : ℕ) → ask_credits b r + credits (of_session r (TS ++ os)) ≤ greatest) → Holds b F TM MO (TS ++ os) (slave_takes_all s (map kept_of os))
+    → ((r : ℕ) → ask_credits b r + credits (of_session r (TS ++ os)) ≤ greatest) → Holds b F TM MO (TS ++ os) (takes_all false s (map kept_of os))
 holds_slave_takes_all b F TM MO TS [] s h u n fits = subst (λ z. Holds b F TM MO z s) (sym (append-nil TS)) h
 holds_slave_takes_all b F TM MO TS (o ∷ os) s h u n fits =
     let whole : (TS ++ o ∷ []) ++ os ≡ TS ++ o ∷ os = append_assoc TS (o ∷ []) os in
     let rest : (r : ℕ) → ask_credits b r + credits (of_session r ((TS ++ o ∷ []) ++ os)) ≤ greatest = λ r. subst (λ z. ask_credits b r + credits (of_session r z) ≤ greatest) (sym whole) (fits r) in
     let one : Holds b F TM MO (TS ++ o ∷ []) (slave_takes s (kept_of o)) =
     holds_slave_takes b F TM MO TS s o h u.0 n.0 (λ r. le_trans (let l = front_less r (TS ++ o ∷ []) os in omega (arith, l)) (rest r)) in
-    subst (λ z. Holds b F TM MO z (slave_takes_all (slave_takes s (kept_of o)) (map kept_of os))) whole (holds_slave_takes_all b F TM MO (TS ++ o ∷ []) os (slave_takes s (kept_of o)) one u.1 n.1 rest)
+    subst (λ z. Holds b F TM MO z (takes_all false (slave_takes s (kept_of o)) (map kept_of os))) whole (holds_slave_takes_all b F TM MO (TS ++ o ∷ []) os (slave_takes s (kept_of o)) one u.1 n.1 rest)
 
 pub holds_master_takes_all : (b : Both) (F TM : List Slot) (MO TS : List Owned) (xs : List Slot) (s : Sums) → Holds b F TM MO TS s → IsPrefixOf (TM ++ xs) F → credits F ≤ greatest
-    → Holds b F (TM ++ xs) MO TS (master_takes_all s (map kept_of (slave_owned b TM xs)))
+    → Holds b F (TM ++ xs) MO TS (takes_all true s (map kept_of (slave_owned b TM xs)))
 holds_master_takes_all b F TM MO TS [] s h p l = subst (λ z. Holds b F z MO TS s) (sym (append-nil TM)) h
 holds_master_takes_all b F TM MO TS (x ∷ xs) s h p l =
     let whole : (TM ++ x ∷ []) ++ xs ≡ TM ++ x ∷ xs = append_assoc TM (x ∷ []) xs in
@@ -43,7 +43,7 @@ holds_master_takes_all b F TM MO TS (x ∷ xs) s h p l =
     λ r. le_trans (credits_less r (slave_owned b [] (TM ++ x ∷ [])))
     (le_trans (subst (λ z. credits z ≤ credits F) (sym (slots_in-slave b [] (TM ++ x ∷ []))) (credits_prefix (TM ++ x ∷ []) F first)) l) in
     let o : Owned = record { session = slave_session b TM x; slot = x } in
-    subst (λ z. Holds b F z MO TS (master_takes_all s (map kept_of (slave_owned b TM (x ∷ xs))))) whole
+    subst (λ z. Holds b F z MO TS (takes_all true s (map kept_of (slave_owned b TM (x ∷ xs))))) whole
     (holds_master_takes_all b F (TM ++ x ∷ []) MO TS xs _ (holds_master_takes b F TM MO TS s x h first fits) q l)
 
 -- formed slots of the slave
@@ -68,7 +68,7 @@ opens_on b F TS x xs w done y rest e r =
     subst (λ z. Opens b (suc (length z)) (opening (suc (length z)) (last_ask (destination y) TS))) (sym (append_assoc F (x ∷ []) done)) (w (x ∷ done) y rest (ap (λ z. x ∷ z) e) r)
 
 pub holds_slave_forms_all : (b : Both) (F TM : List Slot) (MO TS : List Owned) (xs : List Slot) (places : ℕ) (s : Sums) → Holds b F TM MO TS s → places ≡ length F → length F + length xs ≤ greatest
-    → OpensAll b F TS xs → SlaveFormsAll b F TM MO TS xs (slave_forms_all places s (map facts_of xs))
+    → OpensAll b F TS xs → SlaveFormsAll b F TM MO TS xs (forms_all false places s (map facts_of xs))
 holds_slave_forms_all b F TM MO TS [] places s h e l w = (refl, refl, subst (λ z. Holds b z TM MO TS s) (sym (append-nil F)) h)
 holds_slave_forms_all b F TM MO TS (x ∷ xs) places s h e l w =
     go (slave_forms (next_place places) s (facts_of x)) (subst (λ z. SlaveFormsAs b F TM MO TS x (slave_forms z s (facts_of x))) (sym place) one)
@@ -99,10 +99,10 @@ holds_slave_forms_all b F TM MO TS (x ∷ xs) places s h e l w =
         (here true true c v.0, ap₂ (λ y ys. y ∷ ys) k v.1, subst (λ z. Holds b z TM MO TS q.0) (append_assoc F (x ∷ []) xs) v.2)
 
     go : (q : Option (Sums × OwnedSlot)) → SlaveFormsAs b F TM MO TS x q
-        → ((t : Sums) → Holds b (F ++ x ∷ []) TM MO TS t → SlaveFormsAll b (F ++ x ∷ []) TM MO TS xs (slave_forms_all (next_place places) t (map facts_of xs)))
-        → SlaveFormsAll b F TM MO TS (x ∷ xs) (option_and_then (λ r. kept_before r.1 (slave_forms_all (next_place places) r.0 (map facts_of xs))) q)
+        → ((t : Sums) → Holds b (F ++ x ∷ []) TM MO TS t → SlaveFormsAll b (F ++ x ∷ []) TM MO TS xs (forms_all false (next_place places) t (map facts_of xs)))
+        → SlaveFormsAll b F TM MO TS (x ∷ xs) (option_and_then (λ r. kept_before r.1 (forms_all false (next_place places) r.0 (map facts_of xs))) q)
     go None v ih = ap (λ c. c && paid_test (slave_gives b TS) (slave_owned b [] F ++ o ∷ []) (slave_owned b (F ++ x ∷ []) xs)) v
-    go (Some r) v ih = behind r v.0 v.1 (slave_forms_all (next_place places) r.0 (map facts_of xs)) (ih r.0 v.2)
+    go (Some r) v ih = behind r v.0 v.1 (forms_all false (next_place places) r.0 (map facts_of xs)) (ih r.0 v.2)
 
 -- formed slots of the master
 
@@ -117,10 +117,10 @@ MasterFormsAll b F TM MO TS xs None = paid_test (master_gives b TM) MO (all_sent
 MasterFormsAll b F TM MO TS xs (Some r) =
     (paid_test (master_gives b TM) MO (all_sent b TM xs) ≡ true) × (r.1 ≡ map kept_of (all_sent b TM xs)) × Holds b F TM (MO ++ all_sent b TM xs) TS r.0
 
-pub holds_master_forms_all : (b : Both) (F TM : List Slot) (MO TS : List Owned) (xs : List Slot) (s : Sums) → Holds b F TM MO TS s → MasterFormsAll b F TM MO TS xs (master_forms_all s (map facts_of xs))
-holds_master_forms_all b F TM MO TS [] s h = (refl, refl, subst (λ z. Holds b F TM z TS s) (sym (append-nil MO)) h)
-holds_master_forms_all b F TM MO TS (x ∷ xs) s h =
-    go (master_forms s (facts_of x)) (holds_master_forms b F TM MO TS s x h) (λ t h. holds_master_forms_all b F TM (MO ++ o ∷ []) TS xs t h)
+pub holds_master_forms_all : (b : Both) (F TM : List Slot) (MO TS : List Owned) (xs : List Slot) (places : ℕ) (s : Sums) → Holds b F TM MO TS s → MasterFormsAll b F TM MO TS xs (forms_all true places s (map facts_of xs))
+holds_master_forms_all b F TM MO TS [] places s h = (refl, refl, subst (λ z. Holds b F TM z TS s) (sym (append-nil MO)) h)
+holds_master_forms_all b F TM MO TS (x ∷ xs) places s h =
+    go (master_forms s (facts_of x)) (holds_master_forms b F TM MO TS s x h) (λ t h. holds_master_forms_all b F TM (MO ++ o ∷ []) TS xs (next_place places) t h)
   where
     o : Owned
     o = sent_as b TM x
@@ -131,7 +131,7 @@ holds_master_forms_all b F TM MO TS (x ∷ xs) s h =
     behind r c k (Some q) v = (ap₂ (λ u v. u && v) c v.0, ap₂ (λ y ys. y ∷ ys) k v.1, subst (λ z. Holds b F TM z TS q.0) (append_assoc MO (o ∷ []) (all_sent b TM xs)) v.2)
 
     go : (q : Option (Sums × OwnedSlot)) → MasterFormsAs b F TM MO TS x q
-        → ((t : Sums) → Holds b F TM (MO ++ o ∷ []) TS t → MasterFormsAll b F TM (MO ++ o ∷ []) TS xs (master_forms_all t (map facts_of xs)))
-        → MasterFormsAll b F TM MO TS (x ∷ xs) (option_and_then (λ r. kept_before r.1 (master_forms_all r.0 (map facts_of xs))) q)
+        → ((t : Sums) → Holds b F TM (MO ++ o ∷ []) TS t → MasterFormsAll b F TM (MO ++ o ∷ []) TS xs (forms_all true (next_place places) t (map facts_of xs)))
+        → MasterFormsAll b F TM MO TS (x ∷ xs) (option_and_then (λ r. kept_before r.1 (forms_all true (next_place places) r.0 (map facts_of xs))) q)
     go None v ih = ap (λ c. c && paid_test (master_gives b TM) (MO ++ o ∷ []) (all_sent b TM xs)) v
-    go (Some r) v ih = behind r v.0 v.1 (master_forms_all r.0 (map facts_of xs)) (ih r.0 v.2)
+    go (Some r) v ih = behind r v.0 v.1 (forms_all true (next_place places) r.0 (map facts_of xs)) (ih r.0 v.2)

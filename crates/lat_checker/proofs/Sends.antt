@@ -6,19 +6,19 @@ use Rattle.std.proofs.lemmas.List.{take-append-le, drop-drop, drop-append-le, dr
 use Rattle.lat_model.specs.Lists.{Each}
 use Rattle.lat_model.specs.sessions.Slots.{Slot, credits_of, credits}
 use Rattle.lat_model.proofs.sessions.Words.{credits-append}
-use Rattle.lat_captures.specs.Seen.{Seen, Both, Texts}
+use Rattle.lat_captures.specs.Seen.{Seen, Both, own, Texts}
 use Rattle.lat_captures.specs.Belonging.{all_slots, Owned, message_owned, master_owned}
 use Rattle.lat_captures.specs.Legal.{given_to_master}
-use Rattle.lat_captures.specs.Audit.{paid_test}
+use Rattle.lat_captures.specs.Audit.{paid_test, spend_test}
 use Rattle.lat_captures.proofs.Growing.{all_slots-append, master_owned-append, InReach}
 use Rattle.lat_checker.specs.declared.slot.OwnedSlot.{OwnedSlot}
 use Rattle.lat_checker.specs.declared.side.Side.{Side}
 use Rattle.lat_checker.specs.declared.checker.Checker.{Checker}
 use Rattle.lat_checker.specs.Facts.{facts_of, kept_of}
 use Rattle.lat_checker.specs.Recent.{Message, last_eight, pushed}
-use Rattle.lat_checker.specs.Sums.{Sums, sums_of, master_forms_all}
+use Rattle.lat_checker.specs.Sums.{Sums, sums_of, forms_all}
 use Rattle.lat_checker.specs.Stands.{Holds, master_lists, slave_lists, SideStands, Bounded, Stands}
-use Rattle.lat_checker.specs.Steps.{sending, MasterSends}
+use Rattle.lat_checker.specs.Steps.{sending, Sends}
 use Rattle.lat_checker.proofs.Holding.{each_push}
 use Rattle.lat_checker.proofs.Lists.{master_lists_push}
 use Rattle.lat_checker.proofs.Messages.{master_gives, all_sent, MasterFormsAll, holds_master_forms_all}
@@ -108,19 +108,21 @@ bounded_later seen runs h = record { messages = omega (arith, h.messages); slots
 
 -- the master sends
 
-abbrev pub MasterSentAs : (List ℕ → List Slot) → Checker → Both → Texts → List ℕ → List Slot → Option (Sums × List OwnedSlot) → Type 0
-MasterSentAs tell c b x text xs q =
-    let b2 : Both = with_message true b xs b.master.acknowledged in
-    let test : Bool = paid_test (given_to_master b2 b.master.acknowledged) (master_owned b2 b.master.messages b.master.beside) (message_owned b2 b.master.acknowledged xs) in
-    Sent q test (λ d r. MasterSends c d text r.0 r.1 → Stands tell d b2 (record { master = x.master ++ text ∷ []; slave = x.slave }))
-  where
-    Sent : Option (Sums × List OwnedSlot) → Bool → (Checker → Sums × List OwnedSlot → Type 0) → Type 0
-    Sent None test P = test ≡ false
-    Sent (Some r) test P = (test ≡ true) × ((d : Checker) → P d r)
+-- with one more text
+abbrev pub with_text : Bool → Texts → List ℕ → Texts
+with_text true x text = record { master = x.master ++ text ∷ []; slave = x.slave }
+with_text false x text = record { master = x.master; slave = x.slave ++ text ∷ [] }
+
+-- an end sends what could be formed: its sessions have the credits, and the checker stands for what is seen then; or they haven't
+abbrev pub SentAs : Bool → (List ℕ → List Slot) → Checker → Both → Texts → ℕ → List ℕ → List Slot → Option (Sums × List OwnedSlot) → Type 0
+SentAs m tell c b x a text xs None = spend_test m (with_message m b xs a) (own b m) a xs ≡ false
+SentAs m tell c b x a text xs (Some r) =
+    (spend_test m (with_message m b xs a) (own b m) a xs ≡ true)
+    × ((d : Checker) → Sends m c d text r.0 r.1 → Stands tell d (with_message m b xs a) (with_text m x text))
 
 pub master_sends : (tell : List ℕ → List Slot) (c : Checker) (b : Both) (x : Texts) (text : List ℕ) (xs : List Slot) → Stands tell c b x → tell text ≡ xs → IsSmall xs
-    → length b.master.messages + 1 ≤ b.slave.acknowledged + 8 → MasterSentAs tell c b x text xs (master_forms_all (sums_of c.accounts) (map facts_of xs))
-master_sends tell c b x text xs h told small window = go (master_forms_all (sums_of c.accounts) (map facts_of xs)) (holds_master_forms_all b2 (all_slots ss) ys os ts xs (sums_of c.accounts) held)
+    → length b.master.messages + 1 ≤ b.slave.acknowledged + 8 → SentAs true tell c b x b.master.acknowledged text xs (forms_all true c.places (sums_of c.accounts) (map facts_of xs))
+master_sends tell c b x text xs h told small window = go (forms_all true c.places (sums_of c.accounts) (map facts_of xs)) (holds_master_forms_all b2 (all_slots ss) ys os ts xs c.places (sums_of c.accounts) held)
   where
     ms : List (List Slot)
     ms = b.master.messages
@@ -177,12 +179,12 @@ master_sends tell c b x text xs h told small window = go (master_forms_all (sums
     lists : master_lists b2 (ms ++ xs ∷ []) (bs ++ a ∷ []) ≡ master_lists b ms bs ++ message_owned b2 a xs ∷ []
     lists = master_lists_push b2 ms bs xs a h.master_shows.each ∙ ap (λ z. z ++ message_owned b2 a xs ∷ []) (master_lists_again b b2 ms bs keep reach.near_master)
 
-    stands : (r : Sums × List OwnedSlot) → r.1 ≡ map kept_of (all_sent b2 ys xs) → Holds b2 (all_slots ss) ys (os ++ all_sent b2 ys xs) ts r.0 → (d : Checker) → MasterSends c d text r.0 r.1
+    stands : (r : Sums × List OwnedSlot) → r.1 ≡ map kept_of (all_sent b2 ys xs) → Holds b2 (all_slots ss) ys (os ++ all_sent b2 ys xs) ts r.0 → (d : Checker) → Sends true c d text r.0 r.1
         → Stands tell d b2 (record { master = x.master ++ text ∷ []; slave = x.slave })
     stands r kept sums d k = record {
-      master = subst (λ s. SideStands tell s b2.master (x.master ++ text ∷ []) (master_lists b2 (ms ++ xs ∷ []) (bs ++ a ∷ []))) (sym k.master)
+      master = subst (λ s. SideStands tell s b2.master (x.master ++ text ∷ []) (master_lists b2 (ms ++ xs ∷ []) (bs ++ a ∷ []))) (sym k.own)
           (side_sends tell c.master b.master x.master (master_lists b ms bs) (master_lists b2 (ms ++ xs ∷ []) (bs ++ a ∷ [])) text xs r.1 (message_owned b2 a xs) (bs ++ a ∷ []) lists (kept ∙ ap (map kept_of) (sym (sent_all b2 a xs))) told h.master);
-      slave = subst (λ s. SideStands tell s b.slave x.slave (slave_lists b2 [] ss)) (sym k.slave) (subst (SideStands tell c.slave b.slave x.slave) (sym (slave_lists_again b b2 [] ss keep (omega arith))) h.slave);
+      slave = subst (λ s. SideStands tell s b.slave x.slave (slave_lists b2 [] ss)) (sym k.other) (subst (SideStands tell c.slave b.slave x.slave) (sym (slave_lists_again b b2 [] ss keep (omega arith))) h.slave);
       sums = subst (Holds b2 (all_slots ss) ys (master_owned b2 (ms ++ xs ∷ []) (bs ++ a ∷ [])) (master_owned b2 (take b.slave.acknowledged (ms ++ xs ∷ [])) (bs ++ a ∷ []))) (sym k.sums_are)
           (subst (λ z. Holds b2 (all_slots ss) ys z (master_owned b2 (take b.slave.acknowledged (ms ++ xs ∷ [])) (bs ++ a ∷ [])) r.0) all (subst (λ z. Holds b2 (all_slots ss) ys (os ++ all_sent b2 ys xs) z r.0) taken sums));
       places = k.places ∙ h.places;
@@ -202,6 +204,6 @@ master_sends tell c b x text xs h told small window = go (master_forms_all (sums
       slave_bounded = subst (Bounded b2.slave) (sym k.runs) (bounded_later b.slave c.runs h.slave_bounded);
     }
 
-    go : (q : Option (Sums × List OwnedSlot)) → MasterFormsAll b2 (all_slots ss) ys os ts xs q → MasterSentAs tell c b x text xs q
+    go : (q : Option (Sums × List OwnedSlot)) → MasterFormsAll b2 (all_slots ss) ys os ts xs q → SentAs true tell c b x a text xs q
     go None w = test ∙ w
     go (Some r) w = (test ∙ w.0, stands r w.1 w.2)

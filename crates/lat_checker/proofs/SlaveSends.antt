@@ -1,10 +1,10 @@
--- The checker stands for what is seen once the slave has sent its next message.
-use Rattle.std.proofs.Common.{◌≡◌, ◌≢◌, ℕ, zero, suc, ◌+◌, ◌-◌, ◌<◌, ◌≤◌, sym, ap, ap₂, ◌∙◌, refl, arith, subst, Bool, true, false, cond, List, [], ◌∷◌, ◌++◌, length, take, drop, map, nat_eq, nat_le, append_assoc, append-nil, length-append}
+-- The checker stands for what is seen once the slave has sent its next message, and so for either end.
+use Rattle.std.proofs.Common.{◌≡◌, ◌≢◌, ℕ, zero, suc, ◌+◌, ◌-◌, ◌<◌, ◌≤◌, sym, ap, ap₂, ◌∙◌, refl, arith, subst, Bool, true, false, not, cond, List, [], ◌∷◌, ◌++◌, length, take, drop, map, nat_eq, nat_le, append_assoc, append-nil, length-append}
 use Rattle.std.specs.Prelude.{Option, Some, None}
 use Rattle.std.proofs.lemmas.Bool.{leb-true, le-leb}
 use Rattle.std.proofs.lemmas.List.{take-append-drop, take-append-le, length-take-le}
 use Rattle.lat_model.specs.sessions.Slots.{Slot, destination, credits_of, credits}
-use Rattle.lat_captures.specs.Seen.{Both, Texts}
+use Rattle.lat_captures.specs.Seen.{Both, own, Texts}
 use Rattle.lat_captures.specs.Belonging.{all_slots, place_on, last_place, word_at, beside_at, asks_as, ask_of, session_at, Owned, of_session, slave_owned, master_owned, ask_credits}
 use Rattle.lat_captures.specs.Legal.{given_to_slave}
 use Rattle.lat_captures.specs.Audit.{paid_test}
@@ -12,16 +12,16 @@ use Rattle.lat_captures.proofs.Growing.{all_slots-append, word_more, place_bound
 use Rattle.lat_checker.specs.declared.slot.OwnedSlot.{OwnedSlot}
 use Rattle.lat_checker.specs.declared.checker.Checker.{Checker}
 use Rattle.lat_checker.specs.Facts.{facts_of, kept_of}
-use Rattle.lat_checker.specs.Sums.{Sums, greatest, opening, sums_of, slave_forms_all}
+use Rattle.lat_checker.specs.Sums.{Sums, greatest, opening, sums_of, forms_all}
 use Rattle.lat_checker.specs.Stands.{last_ask, Holds, master_lists, slave_lists, SideStands, Bounded, Stands}
-use Rattle.lat_checker.specs.Steps.{SlaveSends}
+use Rattle.lat_checker.specs.Steps.{Sends}
 use Rattle.lat_checker.proofs.Holding.{differ_false}
 use Rattle.lat_checker.proofs.Formings.{Opens}
 use Rattle.lat_checker.proofs.Lists.{slave_lists_push, slots_in, slots_in-master}
 use Rattle.lat_checker.proofs.Messages.{slave_gives, SlaveFormsAll, OpensAll, holds_slave_forms_all}
-use Rattle.lat_checker.proofs.Growth.{with_message, Keeps, in_reach, keeps_message, holds_again, slave_lists_again, master_lists_again, master_owned_again}
+use Rattle.lat_checker.proofs.Growth.{with_ack, with_message, Keeps, in_reach, keeps_message, holds_again, slave_lists_again, master_lists_again, master_owned_again}
 use Rattle.lat_checker.proofs.Acks.{runs_fit}
-use Rattle.lat_checker.proofs.Sends.{side_sends, each_grown, IsSmall, bounded_more, bounded_later}
+use Rattle.lat_checker.proofs.Sends.{side_sends, each_grown, IsSmall, bounded_more, bounded_later, SentAs, master_sends}
 
 -- the slot behind others, and what stands beside the last message
 
@@ -93,20 +93,10 @@ length_kept b front (x ∷ xs) = ap suc (length_kept b (front ++ x ∷ []) xs)
 
 -- the slave sends
 
-abbrev pub SlaveSentAs : (List ℕ → List Slot) → Checker → Both → Texts → List ℕ → List Slot → Option (Sums × List OwnedSlot) → Type 0
-SlaveSentAs tell c b x text xs q =
-    let b2 : Both = with_message false b xs b.slave.acknowledged in
-    let test : Bool = paid_test (given_to_slave b2 b.slave.acknowledged) (slave_owned b2 [] (all_slots b.slave.messages)) (slave_owned b2 (all_slots b.slave.messages) xs) in
-    Sent q test (λ d r. SlaveSends c d text r.0 r.1 → Stands tell d b2 (record { master = x.master; slave = x.slave ++ text ∷ [] }))
-  where
-    Sent : Option (Sums × List OwnedSlot) → Bool → (Checker → Sums × List OwnedSlot → Type 0) → Type 0
-    Sent None test P = test ≡ false
-    Sent (Some r) test P = (test ≡ true) × ((d : Checker) → P d r)
-
-pub slave_sends : (tell : List ℕ → List Slot) (c : Checker) (b : Both) (x : Texts) (text : List ℕ) (xs : List Slot) → Stands tell c b x → runs_fit c → tell text ≡ xs → IsSmall xs
-    → length b.slave.messages + 1 ≤ b.master.acknowledged + 8 → SlaveSentAs tell c b x text xs (slave_forms_all c.places (sums_of c.accounts) (map facts_of xs))
+slave_sends : (tell : List ℕ → List Slot) (c : Checker) (b : Both) (x : Texts) (text : List ℕ) (xs : List Slot) → Stands tell c b x → runs_fit c → tell text ≡ xs → IsSmall xs
+    → length b.slave.messages + 1 ≤ b.master.acknowledged + 8 → SentAs false tell c b x b.slave.acknowledged text xs (forms_all false c.places (sums_of c.accounts) (map facts_of xs))
 slave_sends tell c b x text xs h fit told small window =
-    go (slave_forms_all c.places (sums_of c.accounts) (map facts_of xs)) (holds_slave_forms_all b2 front ys os ts xs c.places (sums_of c.accounts) held h.places room opens)
+    go (forms_all false c.places (sums_of c.accounts) (map facts_of xs)) (holds_slave_forms_all b2 front ys os ts xs c.places (sums_of c.accounts) held h.places room opens)
   where
     ms : List (List Slot)
     ms = b.master.messages
@@ -193,11 +183,11 @@ slave_sends tell c b x text xs h fit told small window =
     lists : slave_lists b2 [] (ss ++ xs ∷ []) ≡ slave_lists b [] ss ++ slave_owned b2 front xs ∷ []
     lists = slave_lists_push b2 [] ss xs ∙ ap (λ z. z ++ slave_owned b2 front xs ∷ []) (slave_lists_again b b2 [] ss keep (omega arith))
 
-    stands : (r : Sums × List OwnedSlot) → r.1 ≡ map kept_of (slave_owned b2 front xs) → Holds b2 (front ++ xs) ys os ts r.0 → (d : Checker) → SlaveSends c d text r.0 r.1
+    stands : (r : Sums × List OwnedSlot) → r.1 ≡ map kept_of (slave_owned b2 front xs) → Holds b2 (front ++ xs) ys os ts r.0 → (d : Checker) → Sends false c d text r.0 r.1
         → Stands tell d b2 (record { master = x.master; slave = x.slave ++ text ∷ [] })
     stands r kept sums d k = record {
-      master = subst (λ s. SideStands tell s b.master x.master (master_lists b2 ms bs)) (sym k.master) (subst (SideStands tell c.master b.master x.master) (sym (master_lists_again b b2 ms bs keep reach.near_master)) h.master);
-      slave = subst (λ s. SideStands tell s b2.slave (x.slave ++ text ∷ []) (slave_lists b2 [] (ss ++ xs ∷ []))) (sym k.slave)
+      master = subst (λ s. SideStands tell s b.master x.master (master_lists b2 ms bs)) (sym k.other) (subst (SideStands tell c.master b.master x.master) (sym (master_lists_again b b2 ms bs keep reach.near_master)) h.master);
+      slave = subst (λ s. SideStands tell s b2.slave (x.slave ++ text ∷ []) (slave_lists b2 [] (ss ++ xs ∷ []))) (sym k.own)
           (side_sends tell c.slave b.slave x.slave (slave_lists b [] ss) (slave_lists b2 [] (ss ++ xs ∷ [])) text xs r.1 (slave_owned b2 front xs) (b.slave.beside ++ a ∷ []) lists kept told h.slave);
       sums = subst (Holds b2 (all_slots (ss ++ xs ∷ [])) (all_slots (take b.master.acknowledged (ss ++ xs ∷ []))) (master_owned b2 ms bs) (master_owned b2 (take a ms) bs)) (sym k.sums_are)
           (subst (λ z. Holds b2 z (all_slots (take b.master.acknowledged (ss ++ xs ∷ []))) (master_owned b2 ms bs) (master_owned b2 (take a ms) bs) r.0) (sym whole)
@@ -220,6 +210,23 @@ slave_sends tell c b x text xs h fit told small window =
       slave_bounded = subst (Bounded b2.slave) (sym k.runs) (bounded_more b.slave c.runs xs (b.slave.beside ++ a ∷ []) a small h.slave_bounded);
     }
 
-    go : (q : Option (Sums × List OwnedSlot)) → SlaveFormsAll b2 front ys os ts xs q → SlaveSentAs tell c b x text xs q
+    go : (q : Option (Sums × List OwnedSlot)) → SlaveFormsAll b2 front ys os ts xs q → SentAs false tell c b x a text xs q
     go None w = test ∙ w
     go (Some r) w = (test ∙ w.0, stands r w.1 w.2)
+
+-- an end sends behind an acknowledgement
+
+pub sends : (m : Bool) (tell : List ℕ → List Slot) (c : Checker) (b : Both) (x : Texts) (a : ℕ) (text : List ℕ) (xs : List Slot) → Stands tell c (with_ack m b a) x → runs_fit c → tell text ≡ xs → IsSmall xs
+    → length (own b m).messages + 1 ≤ (own b (not m)).acknowledged + 8 → SentAs m tell c b x a text xs (forms_all m c.places (sums_of c.accounts) (map facts_of xs))
+sends true tell c b x a text xs h fit told small window =
+    at (forms_all true c.places (sums_of c.accounts) (map facts_of xs)) (master_sends tell c (with_ack true b a) x text xs h told small window)
+  where
+    at : (q : Option (Sums × List OwnedSlot)) → SentAs true tell c (with_ack true b a) x a text xs q → SentAs true tell c b x a text xs q
+    at None w = w
+    at (Some r) w = w
+sends false tell c b x a text xs h fit told small window =
+    at (forms_all false c.places (sums_of c.accounts) (map facts_of xs)) (slave_sends tell c (with_ack false b a) x text xs h fit told small window)
+  where
+    at : (q : Option (Sums × List OwnedSlot)) → SentAs false tell c (with_ack false b a) x a text xs q → SentAs false tell c b x a text xs q
+    at None w = w
+    at (Some r) w = w

@@ -40,12 +40,14 @@ pub record TakesRun (tell : List ℕ → List Slot) (t : Title) (b : Both) (x : 
   pub stands : Stands tell d (after b (frame_of e slots number ack)) (texts_after b x (frame_of e slots number ack))
 
 -- or the first rule that it breaks is answered
-abbrev pub AnswersRun : (List ℕ → List Slot) → Title → Both → Texts → Entry → Bool → Head → List Slot → Checker → Option Rule → Type 0
+abbrev pub AnswersRun : (List ℕ → List Slot) → Title → Both → Texts → Entry → Bool → Head → List Slot → Checker → Option Rule
+    → Type 0
 AnswersRun tell t b x e wide h slots d None = TakesRun tell t b x e wide h slots d
 AnswersRun tell t b x e wide h slots d (Some rule) = run_test (title_shown t) b x e wide h slots ≡ Fails (rule_shown rule)
 
 -- whatever was seen that a checker stands for, it answers a RUN of the master or of the slave like this
-abbrev pub AnswersRunBy : Bool → Checker → RunHead → List SlotFacts → List ℕ → Checker → Result (Option Rule) Memory → Type 0
+abbrev pub AnswersRunBy : Bool → Checker → RunHead → List SlotFacts → List ℕ → Checker → Result (Option Rule) Memory
+    → Type 0
 AnswersRunBy by_master c head facts text d result =
     (tell : List ℕ → List Slot) (ask : Bool) (b : Both) (x : Texts) (xs : List Slot) (r : Reading)
     → Stands tell c b x

@@ -9,7 +9,14 @@ abbrev pub is_reply : Slot → Bool
 is_reply x = is_start x && not (is_ask x)
 
 abbrev pub facts_of : Slot → SlotFacts
-facts_of x = record { to = destination x; from = source x; credits = credits_of x; cost = cost_of x; asks = is_ask x; replies = is_reply x }
+facts_of x = record {
+  to = destination x;
+  from = source x;
+  credits = credits_of x;
+  cost = cost_of x;
+  asks = is_ask x;
+  replies = is_reply x;
+}
 
 -- with its session
 abbrev pub kept_of : Owned → OwnedSlot

@@ -30,7 +30,8 @@ pub record AccountOf (a : Account) (r : ℕ) (gives spends : ℕ → ℕ) : Type
   pub given : r ≢ 0 → a.given ≡ gives r
   pub spent : r ≢ 0 → a.spent ≡ spends r
 
--- a slot and its session, whose place is among these slots of the slave: the source of its reply is the id that the slot has for it
+-- a slot and its session, whose place is among these slots of the slave: the source of its reply is the id that the slot has
+-- for it
 pub record Under (w : Slot → ℕ) (xs : List Slot) (o : Owned) : Type 0 where
   pub bound : o.session ≤ length xs
   pub word : o.session ≢ 0 → word_at source xs o.session ≡ w o.slot
@@ -62,7 +63,8 @@ slave_lists b front [] = []
 slave_lists b front (m ∷ ms) = slave_owned b front m ∷ slave_lists b (front ++ m) ms
 
 -- What is kept of one end: counts, and of the last eight messages the texts and the slots. A text tells the slots of its message
-pub record SideStands (tell : List ℕ → List Slot) (s : Side) (seen : Seen) (texts : List (List ℕ)) (lists : List (List Owned)) : Type 0 where
+pub record SideStands (tell : List ℕ → List Slot) (s : Side) (seen : Seen)
+    (texts : List (List ℕ)) (lists : List (List Owned)) : Type 0 where
   pub count : s.count ≡ length seen.messages
   pub acknowledged : s.acknowledged ≡ seen.acknowledged
   pub told : map tell texts ≡ seen.messages
@@ -77,7 +79,8 @@ pub record Shows (seen other : Seen) : Type 0 where
   pub each : length seen.beside ≡ length seen.messages
   pub rising : Each (λ a. a ≤ seen.acknowledged) seen.beside
 
--- so many RUNs have so many messages, slots and credits at most: a message has at most 255 slots, and a slot gives at most 255 credits
+-- so many RUNs have so many messages, slots and credits at most: a message has at most 255 slots, and a slot gives at most
+-- 255 credits
 pub record Bounded (seen : Seen) (runs : ℕ) : Type 0 where
   pub messages : length seen.messages ≤ runs
   pub slots : length (all_slots seen.messages) ≤ 255 * runs
@@ -89,7 +92,8 @@ pub record Stands (tell : List ℕ → List Slot) (c : Checker) (b : Both) (x : 
   pub slave : SideStands tell c.slave b.slave x.slave (slave_lists b [] b.slave.messages)
   pub sums :
       Holds b (all_slots b.slave.messages) (all_slots (take b.master.acknowledged b.slave.messages))
-      (master_owned b b.master.messages b.master.beside) (master_owned b (take b.slave.acknowledged b.master.messages) b.master.beside)
+      (master_owned b b.master.messages b.master.beside)
+      (master_owned b (take b.slave.acknowledged b.master.messages) b.master.beside)
       (sums_of c.accounts)
   pub places : c.places ≡ length (all_slots b.slave.messages)
   pub master_shows : Shows b.master b.slave

@@ -1,6 +1,9 @@
 -- What is kept of the sessions of a capture in place of its lists of slots: under each id the session that a slot with it would
 -- belong to, with the credits that it was given and those that it spent.
-use Rattle.std.specs.Prelude.{ℕ, ◌+◌, ◌-◌, ◌^◌, min, not, cond, ◌&&◌, List, [], ◌∷◌, Option, Some, None, option_map, option_and_then, nat_eq, nat_le, get_or}
+use Rattle.std.specs.Prelude.{◌≡◌, ℕ, ◌+◌, ◌-◌, ◌^◌, Bool, min, not, cond, ◌&&◌, List, [], ◌∷◌, fold}
+use Rattle.std.specs.Prelude.{Option, Some, None, option_map, option_and_then, nat_eq, nat_le, get_or}
+use Rattle.std.specs.List.{flat_map}
+use Rattle.std.specs.Global.{Vec}
 use Rattle.lat_model.specs.Lists.{updated}
 use Rattle.lat_checker.specs.declared.slot.SlotFacts.{SlotFacts}
 use Rattle.lat_checker.specs.declared.slot.OwnedSlot.{OwnedSlot}
@@ -11,7 +14,7 @@ use Rattle.lat_checker.specs.Recent.{Message}
 pub record Sums : Type 0 where
   pub asked : ℕ → Option ℕ  -- under a source of the master, the credits of the last ask that the slave has acknowledged
   pub slave : ℕ → Account  -- under a source of the slave, the session of its last reply
-  pub master : ℕ → Account  -- under a destination of the master, the session of the last reply that the master has acknowledged
+  pub master : ℕ → Account  -- under a destination of the master, the session of the last reply that it has acknowledged
 
 abbrev pub no_account : Account
 no_account = record { session = 0; given = 0; spent = 0 }
@@ -20,7 +23,11 @@ abbrev pub no_sums : Sums
 no_sums = record { asked = λ x. None; slave = λ y. no_account; master = λ y. no_account }
 
 abbrev pub sums_of : Accounts → Sums
-sums_of a = record { asked = λ x. get_or a.asked x None; slave = λ y. get_or a.slave y no_account; master = λ y. get_or a.master y no_account }
+sums_of a = record {
+  asked = λ x. get_or a.asked x None;
+  slave = λ y. get_or a.slave y no_account;
+  master = λ y. get_or a.master y no_account;
+}
 
 -- sums stop at the greatest number that a program keeps; no capture reaches it
 abbrev pub greatest : ℕ
@@ -43,6 +50,18 @@ taken_account a k = cond k.slot.replies (record { session = k.session; given = k
 
 abbrev pub master_takes : Sums → OwnedSlot → Sums
 master_takes s k = record s { master = updated s.master k.slot.from (taken_account (s.master k.slot.from) k) }
+
+-- an end acknowledges a slot of the other
+abbrev pub takes : Bool → Sums → OwnedSlot → Sums
+takes by_master s k = cond by_master (master_takes s k) (slave_takes s k)
+
+-- slots in order
+abbrev pub takes_all : Bool → Sums → List OwnedSlot → Sums
+takes_all by_master s ks = fold (takes by_master) s ks
+
+-- messages, which are all their slots in order
+abbrev pub hears : Bool → Sums → List Message → Sums
+hears by_master s ms = takes_all by_master s (flat_map (λ m. m.slots) ms)
 
 -- an account that is left after a cost, where it covers it
 abbrev pub pays : Account → ℕ → Option Account
@@ -72,37 +91,26 @@ master_forms s x =
     (λ a. (record s { master = updated s.master x.to a }, record { session = cond x.asks 0 a.session; slot = x }))
     (pays (s.master x.to) x.cost)
 
--- slots in order
-abbrev pub slave_takes_all : Sums → List OwnedSlot → Sums
-slave_takes_all s [] = s
-slave_takes_all s (k ∷ ks) = slave_takes_all (slave_takes s k) ks
-
-abbrev pub master_takes_all : Sums → List OwnedSlot → Sums
-master_takes_all s [] = s
-master_takes_all s (k ∷ ks) = master_takes_all (master_takes s k) ks
-
-abbrev pub kept_before : OwnedSlot → Option (Sums × List OwnedSlot) → Option (Sums × List OwnedSlot)
-kept_before k rest = option_map (λ r. (r.0, k ∷ r.1)) rest
-
--- messages in order
-abbrev pub slave_hears : Sums → List Message → Sums
-slave_hears s [] = s
-slave_hears s (m ∷ ms) = slave_hears (slave_takes_all s m.slots) ms
-
-abbrev pub master_hears : Sums → List Message → Sums
-master_hears s [] = s
-master_hears s (m ∷ ms) = master_hears (master_takes_all s m.slots) ms
+-- an end forms a slot; the place, which is that of a slot of the slave, is nothing to the master
+abbrev pub forms : Bool → ℕ → Sums → SlotFacts → Option (Sums × OwnedSlot)
+forms by_master place s x = cond by_master (master_forms s x) (slave_forms place s x)
 
 -- the place of the next slot behind so many
 abbrev pub next_place : ℕ → ℕ
 next_place places = min (places + 1) greatest
 
--- the slots of a message, behind so many slots of the slave
-abbrev pub slave_forms_all : ℕ → Sums → List SlotFacts → Option (Sums × List OwnedSlot)
-slave_forms_all places s [] = Some (s, [])
-slave_forms_all places s (x ∷ xs) =
-    option_and_then (λ r. kept_before r.1 (slave_forms_all (next_place places) r.0 xs)) (slave_forms (next_place places) s x)
+abbrev pub kept_before : OwnedSlot → Option (Sums × List OwnedSlot) → Option (Sums × List OwnedSlot)
+kept_before k rest = option_map (λ r. (r.0, k ∷ r.1)) rest
 
-abbrev pub master_forms_all : Sums → List SlotFacts → Option (Sums × List OwnedSlot)
-master_forms_all s [] = Some (s, [])
-master_forms_all s (x ∷ xs) = option_and_then (λ r. kept_before r.1 (master_forms_all r.0 xs)) (master_forms s x)
+-- the slots of a message, behind so many of the slave
+abbrev pub forms_all : Bool → ℕ → Sums → List SlotFacts → Option (Sums × List OwnedSlot)
+forms_all by_master places s [] = Some (s, [])
+forms_all by_master places s (x ∷ xs) =
+    option_and_then
+    (λ r. kept_before r.1 (forms_all by_master (next_place places) r.0 xs))
+    (forms by_master (next_place places) s x)
+
+-- the accounts are left as the forming of these slots leaves them
+abbrev pub FormsAll : Bool → ℕ → Accounts → Accounts → List SlotFacts → Option (Vec OwnedSlot) → Type 0
+FormsAll by_master places a b slots formed =
+    forms_all by_master places (sums_of a) slots ≡ option_map (λ owned. (sums_of b, owned.items)) formed

@@ -9,14 +9,13 @@ ghost use Rattle.lat_checker.specs.Sums.{
   sums_of,
   slave_takes,
   master_takes,
+  takes,
+  takes_all,
+  hears,
   slave_forms,
   master_forms,
-  slave_takes_all,
-  master_takes_all,
-  slave_hears,
-  master_hears,
-  slave_forms_all,
-  master_forms_all,
+  forms,
+  FormsAll,
 };
 
 use crate::recent::SentMessage;
@@ -111,8 +110,8 @@ impl Accounts {
         }
     }
 
-    /// The slave acknowledges a slot of the master.
-    pub fn slave_takes(&mut self, owned: &OwnedSlot)
+    // The slave acknowledges a slot of the master.
+    fn slave_takes(&mut self, owned: &OwnedSlot)
         ensures { sums_of self.new ≡ slave_takes (sums_of self.old) owned.now }
     {
         if owned.slot.asks {
@@ -122,8 +121,8 @@ impl Accounts {
         }
     }
 
-    /// The master acknowledges a slot of the slave.
-    pub fn master_takes(&mut self, owned: &OwnedSlot)
+    // The master acknowledges a slot of the slave.
+    fn master_takes(&mut self, owned: &OwnedSlot)
         ensures { sums_of self.new ≡ master_takes (sums_of self.old) owned.now }
     {
         let account = &mut self.master[owned.slot.from as usize];
@@ -138,8 +137,37 @@ impl Accounts {
         }
     }
 
-    /// The slave forms a slot, which is that of this place. None where its session hasn't the credit.
-    pub fn slave_forms(&mut self, place: u128, slot: &SlotFacts) -> Option<OwnedSlot>
+    // An end acknowledges a slot of the other.
+    fn takes(&mut self, by_master: bool, owned: &OwnedSlot)
+        ensures { sums_of self.new ≡ takes by_master (sums_of self.old) owned.now }
+    {
+        if by_master {
+            self.master_takes(owned);
+        } else {
+            self.slave_takes(owned);
+        }
+    }
+
+    // An end acknowledges slots of the other.
+    fn takes_all(&mut self, by_master: bool, slots: &[OwnedSlot])
+        ensures { sums_of self.new ≡ takes_all by_master (sums_of self.old) slots.now }
+    {
+        for owned in slots {
+            self.takes(by_master, owned);
+        }
+    }
+
+    /// An end acknowledges messages of the other.
+    pub fn hears(&mut self, by_master: bool, messages: &[SentMessage])
+        ensures { sums_of self.new ≡ hears by_master (sums_of self.old) messages.now }
+    {
+        for message in messages {
+            self.takes_all(by_master, message.slots());
+        }
+    }
+
+    // The slave forms a slot, which is that of this place. None where its session hasn't the credit.
+    fn slave_forms(&mut self, place: u128, slot: &SlotFacts) -> Option<OwnedSlot>
         ensures { slave_forms place (sums_of self.old) slot.now ≡ option_map (λ owned. (sums_of self.new, owned)) result }
     {
         let mut account = self.slave[slot.from as usize];
@@ -156,8 +184,8 @@ impl Accounts {
         })
     }
 
-    /// The master forms a slot. None where its session hasn't the credit.
-    pub fn master_forms(&mut self, slot: &SlotFacts) -> Option<OwnedSlot>
+    // The master forms a slot. None where its session hasn't the credit.
+    fn master_forms(&mut self, slot: &SlotFacts) -> Option<OwnedSlot>
         ensures { master_forms (sums_of self.old) slot.now ≡ option_map (λ owned. (sums_of self.new, owned)) result }
     {
         let account = &mut self.master[slot.to as usize];
@@ -171,74 +199,33 @@ impl Accounts {
         })
     }
 
-    fn slave_takes_all(&mut self, slots: &[OwnedSlot])
-        ensures { sums_of self.new ≡ slave_takes_all (sums_of self.old) slots.now }
+    // An end forms a slot, which is that of this place where the end is the slave. None where its session hasn't the credit.
+    fn forms(&mut self, by_master: bool, place: u128, slot: &SlotFacts) -> Option<OwnedSlot>
+        ensures { forms by_master place (sums_of self.old) slot.now ≡ option_map (λ owned. (sums_of self.new, owned)) result }
     {
-        for owned in slots {
-            self.slave_takes(owned);
+        if by_master {
+            self.master_forms(slot)
+        } else {
+            self.slave_forms(place, slot)
         }
     }
 
-    fn master_takes_all(&mut self, slots: &[OwnedSlot])
-        ensures { sums_of self.new ≡ master_takes_all (sums_of self.old) slots.now }
-    {
-        for owned in slots {
-            self.master_takes(owned);
-        }
-    }
-
-    /// The slave acknowledges messages of the master.
-    pub fn slave_hears(&mut self, messages: &[SentMessage])
-        ensures { sums_of self.new ≡ slave_hears (sums_of self.old) messages.now }
-    {
-        for message in messages {
-            self.slave_takes_all(message.slots());
-        }
-    }
-
-    /// The master acknowledges messages of the slave.
-    pub fn master_hears(&mut self, messages: &[SentMessage])
-        ensures { sums_of self.new ≡ master_hears (sums_of self.old) messages.now }
-    {
-        for message in messages {
-            self.master_takes_all(message.slots());
-        }
-    }
-
-    /// The slave forms the slots of a message, behind so many. None where a session hasn't its credit. Takes memory for the slots
-    /// with their sessions.
-    pub fn slave_forms_all(
+    /// An end forms the slots of a message, behind so many of the slave. None where a session hasn't its credit. Takes memory for
+    /// the slots with their sessions.
+    pub fn forms_all(
         &mut self,
         alloc: Global,
+        by_master: bool,
         places: u128,
         slots: &[SlotFacts],
     ) -> Result<Option<Vec<OwnedSlot>>, Memory>
-        ensures { IfOk result (λ formed. slave_forms_all places (sums_of self.old) slots.now ≡ option_map (λ owned. (sums_of self.new, owned.items)) formed) }
+        ensures { IfOk result (λ formed. FormsAll by_master places self.old self.new slots.now formed) }
     {
         let mut formed = Vec::with_capacity(alloc, slots.len())?;
         let mut place = places;
         for slot in slots {
             place = place.saturating_add(1);
-            let Some(owned) = self.slave_forms(place, slot) else {
-                return Ok(None);
-            };
-            formed.push(owned)?;
-        }
-        Ok(Some(formed))
-    }
-
-    /// The master forms the slots of a message. None where a session hasn't its credit. Takes memory for the slots with their
-    /// sessions.
-    pub fn master_forms_all(
-        &mut self,
-        alloc: Global,
-        slots: &[SlotFacts],
-    ) -> Result<Option<Vec<OwnedSlot>>, Memory>
-        ensures { IfOk result (λ formed. master_forms_all (sums_of self.old) slots.now ≡ option_map (λ owned. (sums_of self.new, owned.items)) formed) }
-    {
-        let mut formed = Vec::with_capacity(alloc, slots.len())?;
-        for slot in slots {
-            let Some(owned) = self.master_forms(slot) else {
+            let Some(owned) = self.forms(by_master, place, slot) else {
                 return Ok(None);
             };
             formed.push(owned)?;

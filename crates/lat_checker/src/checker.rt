@@ -1,13 +1,12 @@
 //! The checker.
 
-ghost use Rattle.std.specs.Prelude.{◌≡◌, ◌-◌, ◌≤◌, take, drop};
-ghost use Rattle.lat_checker.specs.Recent.{between};
+ghost use Rattle.std.specs.Prelude.{◌≡◌, ◌≤◌};
 
 use crate::accounts::Accounts;
 use crate::head::{RunHead, Title};
 use crate::recent::{Recent, SentMessage};
 use crate::rule::Rule;
-use crate::side::{Side, tests};
+use crate::side::{Near, Side, side_of, tests};
 use crate::slot::SlotFacts;
 use lat_base::Memory;
 use std::alloc::Global;
@@ -38,98 +37,69 @@ impl Drop for Checker {
     }
 }
 
-// The first so many messages.
-fn first(messages: &[SentMessage], count: u64) -> &[SentMessage]
-    ensures { result.now ≡ take count messages.now }
-{
-    if count < messages.len() as u64 {
-        &messages[..count as usize]
-    } else {
-        messages
-    }
-}
-
-// The messages behind so many.
-fn behind(messages: &[SentMessage], count: u64) -> &[SentMessage]
-    ensures { result.now ≡ drop count messages.now }
-{
-    if count < messages.len() as u64 {
-        &messages[count as usize..]
-    } else {
-        &[]
-    }
-}
-
-// Of the messages that a side keeps, those from one number on up to another.
-fn between(side: &Side, from: u64, to: u64) -> &[SentMessage]
-    ensures { result.now ≡ between side.now.recent (from - (side.now.count - 8)) (to - (side.now.count - 8)) }
-{
-    let gone = side.count.saturating_sub(8);
-    let front = first(side.recent.as_slice(), to.saturating_sub(gone));
-    behind(front, from.saturating_sub(gone))
-}
-
 impl Checker {
-    ghost use Rattle.std.specs.Prelude.{◌+◌, ◌^◌, ◌<◌, IfOk};
-    ghost use Rattle.lat_checker.specs.Sums.{sums_of, slave_forms_all, master_forms_all};
-    ghost use Rattle.lat_checker.specs.Steps.{Counts, MasterAcknowledges, SlaveAcknowledges, MasterSent, SlaveSent};
+    ghost use Rattle.std.specs.Prelude.{◌+◌, ◌^◌, ◌<◌, nat_lt, IfOk};
+    ghost use Rattle.lat_checker.specs.Steps.{side_of, tested, Counts, Acknowledges, SendsSlots};
 
-    // The master acknowledges so many messages.
-    fn master_acknowledges(&mut self, ack: u64)
-        ensures { MasterAcknowledges self.old self.new ack }
+    // Tests a RUN of an end, up to the rule on the window, and tells its numbers.
+    fn tested(&self, by_master: bool, head: &RunHead, bare: bool, text: &[u8]) -> Result<Near, Rule>
+        requires { self.now.runs + 3 < 2 ^ 64 }
+        ensures { result ≡ tested self.now by_master head.now bare text.now }
     {
-        let messages = between(&self.slave, self.master.acknowledged, ack);
-        self.accounts.master_hears(messages);
-        self.master.acknowledged = ack;
+        let own = side_of(by_master, &self.master, &self.slave);
+        let other = side_of(!by_master, &self.master, &self.slave);
+        tests(&self.title, own, other, by_master, head, bare, text)
     }
 
-    // The slave acknowledges so many messages.
-    fn slave_acknowledges(&mut self, ack: u64)
-        ensures { SlaveAcknowledges self.old self.new ack }
+    // Whether an end hasn't sent the message with this number.
+    fn is_new(&self, by_master: bool, number: u64) -> bool
+        ensures { result ≡ nat_lt (side_of self.now by_master).count number }
     {
-        let messages = between(&self.master, self.slave.acknowledged, ack);
-        self.accounts.slave_hears(messages);
-        self.slave.acknowledged = ack;
+        number > side_of(by_master, &self.master, &self.slave).count
     }
 
-    // The master sends its next message, where the sessions have the credits for it.
-    fn master_sends(
+    // An end acknowledges so many messages of the other.
+    fn acknowledge(&mut self, by_master: bool, ack: u64)
+        ensures { Acknowledges by_master self.old self.new ack }
+    {
+        let own = side_of(by_master, &self.master, &self.slave);
+        let other = side_of(!by_master, &self.master, &self.slave);
+        let messages = other.between(own.acknowledged, ack);
+        self.accounts.hears(by_master, messages);
+        if by_master {
+            self.master.acknowledged = ack;
+        } else {
+            self.slave.acknowledged = ack;
+        }
+    }
+
+    // An end sends its next message, where the sessions have the credits for it.
+    fn send(
         &mut self,
         alloc: Global,
+        by_master: bool,
         slots: &[SlotFacts],
         text: &[u8],
     ) -> Result<bool, Memory>
         requires { self.old.runs + 1 < 2 ^ 64 }
-        ensures { IfOk result (λ sent. MasterSent self.old self.new text.now (master_forms_all (sums_of self.old.accounts) slots.now) sent) }
+        ensures { IfOk result (λ sent. SendsSlots by_master self.old self.new slots.now text.now sent) }
     {
-        let Some(owned) = self.accounts.master_forms_all(alloc, slots)? else {
+        let Some(owned) = self
+            .accounts
+            .forms_all(alloc, by_master, self.places, slots)?
+        else {
             return Ok(false);
         };
+        if !by_master {
+            self.places = self.places.saturating_add(owned.len() as u128);
+        }
         let message = SentMessage::make(alloc, text, owned)?;
-        self.master.recent.push(message)?;
         self.runs += 1;
-        self.master.count += 1;
-        Ok(true)
-    }
-
-    // The slave sends its next message, where the sessions have the credits for it.
-    fn slave_sends(
-        &mut self,
-        alloc: Global,
-        slots: &[SlotFacts],
-        text: &[u8],
-    ) -> Result<bool, Memory>
-        requires { self.old.runs + 1 < 2 ^ 64 }
-        ensures { IfOk result (λ sent. SlaveSent self.old self.new text.now (slave_forms_all self.old.places (sums_of self.old.accounts) slots.now) sent) }
-    {
-        let Some(owned) = self.accounts.slave_forms_all(alloc, self.places, slots)? else {
-            return Ok(false);
-        };
-        self.places = self.places.saturating_add(owned.len() as u128);
-        let message = SentMessage::make(alloc, text, owned)?;
-        self.slave.recent.push(message)?;
-        self.runs += 1;
-        self.slave.count += 1;
+        if by_master {
+            self.master.send(message)?;
+        } else {
+            self.slave.send(message)?;
+        }
         Ok(true)
     }
 
@@ -143,7 +113,7 @@ impl Checker {
 }
 
 impl Checker {
-    ghost use Rattle.std.specs.Prelude.{◌+◌, ◌^◌, ◌<◌, ℕ, true, false, List, None, IfOk};
+    ghost use Rattle.std.specs.Prelude.{◌+◌, ◌^◌, ◌<◌, ℕ, List, None, IfOk};
     ghost use Rattle.lat_model.specs.sessions.Slots.{Slot};
     ghost use Rattle.lat_captures.specs.Seen.{nothing, no_texts};
     ghost use Rattle.lat_checker.specs.Stands.{Stands};
@@ -180,82 +150,6 @@ impl Checker {
         self.runs
     }
 
-    fn run_of_master(
-        &mut self,
-        alloc: Global,
-        head: &RunHead,
-        slots: &[SlotFacts],
-        text: &[u8],
-    ) -> Result<Option<Rule>, Memory>
-        requires { runs_of self.old + 3 < 2 ^ 64 }
-        ensures answer { AnswersRunBy true self.old head.now slots.now text.now self.new result }
-        ensures runs { IfOk result (λ broken. broken ≡ None → runs_of self.new ≡ runs_of self.old + 1) }
-        ensures title { IfOk result (λ broken. broken ≡ None → title_of self.new ≡ title_of self.old) }
-    {
-        let bare = slots.is_empty();
-        let near = match tests(
-            &self.title,
-            &self.master,
-            &self.slave,
-            true,
-            head,
-            bare,
-            text,
-        ) {
-            Ok(near) => near,
-            Err(rule) => return Ok(Some(rule)),
-        };
-        let is_new = near.number > self.master.count;
-        self.master_acknowledges(near.ack);
-        if !is_new {
-            self.counts();
-            return Ok(None);
-        }
-        if self.master_sends(alloc, slots, text)? {
-            Ok(None)
-        } else {
-            Ok(Some(Rule::Credit))
-        }
-    }
-
-    fn run_of_slave(
-        &mut self,
-        alloc: Global,
-        head: &RunHead,
-        slots: &[SlotFacts],
-        text: &[u8],
-    ) -> Result<Option<Rule>, Memory>
-        requires { runs_of self.old + 3 < 2 ^ 64 }
-        ensures answer { AnswersRunBy false self.old head.now slots.now text.now self.new result }
-        ensures runs { IfOk result (λ broken. broken ≡ None → runs_of self.new ≡ runs_of self.old + 1) }
-        ensures title { IfOk result (λ broken. broken ≡ None → title_of self.new ≡ title_of self.old) }
-    {
-        let bare = slots.is_empty();
-        let near = match tests(
-            &self.title,
-            &self.slave,
-            &self.master,
-            false,
-            head,
-            bare,
-            text,
-        ) {
-            Ok(near) => near,
-            Err(rule) => return Ok(Some(rule)),
-        };
-        let is_new = near.number > self.slave.count;
-        self.slave_acknowledges(near.ack);
-        if !is_new {
-            self.counts();
-            return Ok(None);
-        }
-        if self.slave_sends(alloc, slots, text)? {
-            Ok(None)
-        } else {
-            Ok(Some(Rule::Credit))
-        }
-    }
-
     /// Takes a RUN of one end behind those before, or answers the first rule that it breaks, of those behind the rule on the layout;
     /// then the checker is of no more use. `text` is any text that tells the slots with all their fields; a message has 255 slots at
     /// most. Takes memory for a message that is new, or for nothing; without it the checker is of no more use either.
@@ -272,10 +166,20 @@ impl Checker {
         ensures runs { IfOk result (λ broken. broken ≡ None → runs_of self.new ≡ runs_of self.old + 1) }
         ensures title { IfOk result (λ broken. broken ≡ None → title_of self.new ≡ title_of self.old) }
     {
-        if by_master {
-            self.run_of_master(alloc, head, slots, text)
+        let near = match self.tested(by_master, head, slots.is_empty(), text) {
+            Ok(near) => near,
+            Err(rule) => return Ok(Some(rule)),
+        };
+        let is_new = self.is_new(by_master, near.number);
+        self.acknowledge(by_master, near.ack);
+        if !is_new {
+            self.counts();
+            return Ok(None);
+        }
+        if self.send(alloc, by_master, slots, text)? {
+            Ok(None)
         } else {
-            self.run_of_slave(alloc, head, slots, text)
+            Ok(Some(Rule::Credit))
         }
     }
 }

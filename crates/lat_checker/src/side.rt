@@ -1,12 +1,13 @@
 //! What is kept of one end, and the tests of a RUN that look at no session.
 
-ghost use Rattle.std.specs.Prelude.{◌≡◌, ◌+◌, ◌^◌, ◌<◌, ◌&&◌, nat_le};
+ghost use Rattle.std.specs.Prelude.{◌≡◌, ◌+◌, ◌^◌, ◌<◌, ◌&&◌, nat_le, cond, take, drop};
 ghost use Rattle.lat_captures.specs.Audit.{find_from};
 ghost use Rattle.lat_checker.specs.Tests.{bears, number_near, ack_near, repeats, tests_hold};
 
 use crate::head::{RunHead, Title};
-use crate::recent::Recent;
+use crate::recent::{Recent, SentMessage};
 use crate::rule::Rule;
+use lat_base::Memory;
 
 /// What is kept of one end.
 pub struct Side {
@@ -27,11 +28,40 @@ impl Drop for Side {
     }
 }
 
+/// Of what is kept of both ends, that of the one, or of the other.
+pub fn side_of<'a>(by_master: bool, master: &'a Side, slave: &'a Side) -> &'a Side
+    ensures { result.now ≡ cond by_master master.now slave.now }
+{
+    if by_master { master } else { slave }
+}
+
 /// The number and the acknowledgement of a RUN, those that their fields mean.
 #[derive(Clone, Copy)]
 pub struct Near {
     pub number: u64,
     pub ack: u64,
+}
+
+// The first so many messages.
+fn first(messages: &[SentMessage], count: u64) -> &[SentMessage]
+    ensures { result.now ≡ take count messages.now }
+{
+    if count < messages.len() as u64 {
+        &messages[..count as usize]
+    } else {
+        messages
+    }
+}
+
+// The messages behind so many.
+fn behind(messages: &[SentMessage], count: u64) -> &[SentMessage]
+    ensures { result.now ≡ drop count messages.now }
+{
+    if count < messages.len() as u64 {
+        &messages[count as usize..]
+    } else {
+        &[]
+    }
 }
 
 // Whether the field bears the number.
@@ -59,6 +89,29 @@ fn first_near(wide: bool, field: u16, floor: u64, least: u64, count: u64) -> Opt
 }
 
 impl Side {
+    ghost use Rattle.std.specs.Prelude.{OnOk, OnErr};
+    ghost use Rattle.lat_checker.specs.Steps.{messages_between, sending};
+
+    /// The messages that are kept, from one number on up to another.
+    pub fn between(&self, from: u64, to: u64) -> &[SentMessage]
+        ensures { result.now ≡ messages_between self.now from to }
+    {
+        let gone = self.count.saturating_sub(8);
+        let front = first(self.recent.as_slice(), to.saturating_sub(gone));
+        behind(front, from.saturating_sub(gone))
+    }
+
+    /// Sends its next message. Takes memory for it.
+    pub fn send(&mut self, message: SentMessage) -> Result<(), Memory>
+        requires { self.old.count + 1 < 2 ^ 64 }
+        ensures sent { OnOk result (self.new ≡ sending self.old message.text message.slots) }
+        ensures kept { OnErr result (self.new.count ≡ self.old.count) }
+    {
+        self.recent.push(message)?;
+        self.count += 1;
+        Ok(())
+    }
+
     // The number of a RUN of this end, with slots or without.
     fn number_near(&self, wide: bool, seq: u16, bare: bool) -> Option<u64>
         requires { self.now.count + 2 < 2 ^ 64 }
