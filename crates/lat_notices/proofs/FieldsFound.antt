@@ -13,7 +13,7 @@ use Rattle.lat_notices.specs.declared.notice.Action.{Action}
 use Rattle.lat_notices.specs.declared.notice.Outcome.{Outcome}
 use Rattle.lat_notices.specs.declared.services.Service.{Service}
 use Rattle.lat_notices.specs.Outcomes.{action_number, is_action, action_of, outcome_number, outcome_place, IsOutcome, is_outcome, place_fits, outcome_of}
-use Rattle.lat_notices.specs.Services.{IsService, service_text}
+use Rattle.lat_notices.specs.Services.{HasName, HasShortDescription, service_text}
 use Rattle.lat_notices.specs.Fields.{byte_for, groups_at, action_at, outcome_at}
 use Rattle.lat_notices.specs.ServicesReading.{service, service_at, services_at}
 
@@ -131,7 +131,8 @@ outcome_found place bytes x all h =
 
 pub record FoundService (bytes : List ℕ) (x : Service × ℕ × List ℕ) : Type 0 where
   pub is : bytes ≡ service_text x.0 ++ x.2
-  pub fits : IsService x.0
+  pub named : HasName x.0
+  pub short : HasShortDescription x.0
   pub others : IsBytes x.2
 
 abbrev after_description : ℕ → List ℕ → (List ℕ × ℕ × List ℕ) → Result (Service × ℕ × List ℕ) Bad
@@ -154,14 +155,16 @@ service_found place bytes x all h =
     let P : (Service × ℕ × List ℕ) → Type 0 = FoundService bytes in
     subst P e (record {
       is = one.is ∙ ap (λ bs. r.0.0 ∷ bs) (two.0.is ∙ ap (λ bs. counted n.0.0 ++ bs) three.is) ∙ regroup;
-      fits = record { name = two.1; description = three.short };
+      named = two.1;
+      short = three.short;
       others = three.others;
     })
 
 pub record FoundServices (count : ℕ) (bytes : List ℕ) (x : List Service × ℕ × List ℕ) : Type 0 where
   pub is : bytes ≡ flat_map service_text x.0 ++ x.2
   pub all : length x.0 ≡ count
-  pub fits : AllByRecursion IsService x.0
+  pub named : AllByRecursion HasName x.0
+  pub short : AllByRecursion HasShortDescription x.0
   pub others : IsBytes x.2
 
 pub services_found : (count place : ℕ) (bytes : List ℕ) (x : List Service × ℕ × List ℕ) → IsBytes bytes → services_at count place bytes ≡ Ok x → FoundServices count bytes x
@@ -169,7 +172,7 @@ unfolding services_at
 services_found zero place bytes x all h =
     let e : ([], place, bytes) ≡ x = let same = h in cc in
     let P : (List Service × ℕ × List ℕ) → Type 0 = FoundServices 0 bytes in
-    subst P e (record { is = refl; all = refl; fits = tt; others = all })
+    subst P e (record { is = refl; all = refl; named = tt; short = tt; others = all })
 services_found (suc count) place bytes x all h =
     let s = bind_ok (service_at place bytes) (λ s. (services_at count s.1 s.2 >>= (λ m. Ok (s.0 ∷ m.0, m.1, m.2)))) x h in
     let one = service_found place bytes s.0 all s.1 in
@@ -180,6 +183,7 @@ services_found (suc count) place bytes x all h =
     subst P e (record {
       is = one.is ∙ ap (λ bs. service_text s.0.0 ++ bs) more.is ∙ sym (append_assoc (service_text s.0.0) (flat_map service_text m.0.0) m.0.2);
       all = ap suc more.all;
-      fits = (one.fits, more.fits);
+      named = (one.named, more.named);
+      short = (one.short, more.short);
       others = more.others;
     })

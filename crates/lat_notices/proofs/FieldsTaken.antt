@@ -13,7 +13,7 @@ use Rattle.lat_notices.specs.declared.notice.Outcome.{Outcome}
 use Rattle.lat_notices.specs.declared.notice.Outcome.TheVariants.{Kept, Unknown}
 use Rattle.lat_notices.specs.declared.services.Service.{Service}
 use Rattle.lat_notices.specs.Outcomes.{action_number, outcome_number, outcome_place, IsOutcome}
-use Rattle.lat_notices.specs.Services.{IsService, service_text}
+use Rattle.lat_notices.specs.Services.{HasName, service_text}
 use Rattle.lat_notices.specs.Fields.{byte_for, groups_at, action_at, outcome_at}
 use Rattle.lat_notices.specs.ServicesReading.{service_at, services_at}
 
@@ -45,16 +45,16 @@ outcome_taken (Kept RecordsFull) place rest h = rw (number_taken fields.Place (p
 outcome_taken (Kept Done) place rest h = rw (number_taken fields.Place (place + 1) 0 rest) refl
 outcome_taken Unknown place rest h = rw (number_taken fields.Place (place + 1) 0 rest) refl
 
-pub service_taken : (s : Service) (place : ℕ) (rest : List ℕ) → IsService s → service_at place (service_text s ++ rest) ≡ Ok (s, place + length (service_text s), rest)
+pub service_taken : (s : Service) (place : ℕ) (rest : List ℕ) → HasName s → service_at place (service_text s ++ rest) ≡ Ok (s, place + length (service_text s), rest)
 unfolding service_at
 service_taken s place rest h =
     let regroup : service_text s ++ rest ≡ s.rating ∷ (counted s.name ++ (counted s.description ++ rest)) = simp append_assoc in
     let at = place + 1 + 1 + length s.name in
     let places : at + 1 + length s.description ≡ place + length (service_text s) = simp length-append (omega arith) in
     ap (service_at place) regroup
-    ∙ rw (name_taken fields.Service (place + 1) s.name (counted s.description ++ rest) h.name, counted_taken fields.ServiceDescription at at s.description rest) (ap (λ (n : ℕ). Ok (s, n, rest)) places)
+    ∙ rw (name_taken fields.Service (place + 1) s.name (counted s.description ++ rest) h, counted_taken fields.ServiceDescription at at s.description rest) (ap (λ (n : ℕ). Ok (s, n, rest)) places)
 
-pub services_taken : (ss : List Service) (place : ℕ) (rest : List ℕ) → AllByRecursion IsService ss
+pub services_taken : (ss : List Service) (place : ℕ) (rest : List ℕ) → AllByRecursion HasName ss
     → services_at (length ss) place (flat_map service_text ss ++ rest) ≡ Ok (ss, place + length (flat_map service_text ss), rest)
 unfolding services_at
 services_taken [] place rest all = let none : place ≡ place + 0 = omega arith in ap (λ (n : ℕ). Ok ([], n, rest)) none

@@ -118,12 +118,14 @@ announcement_found bytes x all h =
     finish kinds.Announcement bytes (announcement t.0.0 i.0.0 g.0.0 n.0.0 d.0.0 s.0.0) s.0.1 s.0.2 x refl
     (announcement_joined bytes t.0 v.0 i.0 g.0 n.0 d.0 c.0 s.0 t_text.0.is v_text.0.is (five v.0.0 v_text.1) i_text.is g_text.0.is n_text.0.is d_text.is c_text.is s_text.all s_text.is)
     (record {
-      timer = timer_some t.0.0 t_text.1;
-      groups = g_text.1;
-      node = n_text.1;
-      description = d_text.short;
-      count = below s_text.all c_text.byte;
-      services = s_text.fits;
+      names = (n_text.1, s_text.named);
+      suits = record {
+        timer = timer_some t.0.0 t_text.1;
+        groups = g_text.1;
+        description = d_text.short;
+        count = below s_text.all c_text.byte;
+        services = s_text.short;
+      };
     })
     s.2
 
@@ -173,7 +175,7 @@ command_found bytes x all h =
     let s_text = name_found fields.Service n.0.1 n.0.2 s.0 n_text.0.others s.1 in
     finish kinds.Command bytes (command i.0.0 r.0.0 a.0.0 n.0.0 s.0.0) s.0.1 s.0.2 x refl
     (command_joined bytes v.0 i.0 r.0 a.0 n.0 s.0 v_text.0.is (five v.0.0 v_text.1) i_text.is r_text.is a_text.is n_text.0.is s_text.0.is)
-    (record { node = n_text.1; service = s_text.1 })
+    (record { names = (n_text.1, s_text.1); suits = tt })
     s.2
 
 -- what follows each field of a status
@@ -214,7 +216,7 @@ status_found bytes x all h =
     let n_text = name_found fields.NodeName o.0.1 o.0.2 n.0 o_text.others n.1 in
     finish kinds.Status bytes (status i.0.0 r.0.0 o.0.0 n.0.0) n.0.1 n.0.2 x refl
     (status_joined bytes v.0 i.0 r.0 o.0 n.0 v_text.0.is (five v.0.0 v_text.1) i_text.is r_text.is o_text.is n_text.0.is)
-    (record { outcome = o_text.fits; node = n_text.1 })
+    (record { names = n_text.1; suits = o_text.fits })
     n.2
 
 -- what follows each field of a solicit
@@ -251,7 +253,7 @@ solicit_found bytes x all h =
     let s_text = name_found fields.Service n.0.1 n.0.2 s.0 n_text.0.others s.1 in
     finish kinds.Solicit bytes (solicit i.0.0 n.0.0 s.0.0) s.0.1 s.0.2 x refl
     (solicit_joined bytes v.0 i.0 n.0 s.0 v_text.0.is (five v.0.0 v_text.1) i_text.is n_text.0.is s_text.0.is)
-    (record { asker = n_text.1; service = s_text.1 })
+    (record { names = (n_text.1, s_text.1); suits = tt })
     s.2
 
 -- what follows each field of a response
@@ -300,7 +302,7 @@ response_found bytes x all h =
     let t_text = right_byte_found is_timer fields.Timer r.0.1 r.0.2 t.0 r_text.others t.1 in
     finish kinds.Response bytes (response i.0.0 n.0.0 s.0.0 r.0.0 t.0.0) t.0.1 t.0.2 x refl
     (response_joined bytes v.0 i.0 n.0 s.0 r.0 t.0 v_text.0.is (five v.0.0 v_text.1) i_text.is n_text.0.is s_text.0.is r_text.is t_text.0.is)
-    (record { node = n_text.1; service = s_text.1; timer = timer_some t.0.0 t_text.1 })
+    (record { names = (n_text.1, s_text.1); suits = timer_some t.0.0 t_text.1 })
     t.2
 
 -- the fields that are read are those of the notice

@@ -14,7 +14,7 @@ use Rattle.lat_notices.specs.declared.notice.Notice.{Notice}
 use Rattle.lat_notices.specs.declared.notice.Notice.TheVariants as notices
 use Rattle.lat_notices.specs.Outcomes.{action_number, outcome_number, outcome_place}
 use Rattle.lat_notices.specs.Services.{service_text}
-use Rattle.lat_notices.specs.Texts.{IsAnnouncement, IsCommand, IsStatus, IsSolicit, IsResponse, Fits, announcement_text, command_text, status_text, solicit_text, response_text, fields_text, type_of}
+use Rattle.lat_notices.specs.Texts.{Fits, announcement_text, command_text, status_text, solicit_text, response_text, fields_text, type_of}
 use Rattle.lat_notices.specs.Fields.{is_version, is_timer}
 use Rattle.lat_notices.specs.Reading.{announcement_at, command_at, status_at, solicit_at, response_at, fields_at}
 use Rattle.lat_notices.proofs.FieldsTaken.{byte_taken, groups_taken, action_taken, outcome_taken, services_taken}
@@ -22,7 +22,7 @@ use Rattle.lat_notices.proofs.FieldsTaken.{byte_taken, groups_taken, action_take
 timer_right : (seconds : ℕ) → 0 < seconds → is_timer seconds ≡ true
 timer_right seconds h = grind (arith, nat_tests)
 
-announcement_taken : (a : Announcement) (rest : List ℕ) → IsAnnouncement a → announcement_at (announcement_text a ++ rest) ≡ Ok (notices.Announcement a, 1 + length (announcement_text a), rest)
+announcement_taken : (a : Announcement) (rest : List ℕ) → Fits (notices.Announcement a) → announcement_at (announcement_text a ++ rest) ≡ Ok (notices.Announcement a, 1 + length (announcement_text a), rest)
 unfolding announcement_at
 announcement_taken a rest h =
     let services = flat_map service_text a.services ++ rest in
@@ -36,16 +36,16 @@ announcement_taken a rest h =
     let places : count_at + 1 + length (flat_map service_text a.services) ≡ 1 + length (announcement_text a) = simp length-append (omega arith) in
     ap announcement_at regroup
     ∙ rw (
-      byte_taken is_timer fields.Timer 1 a.timer (5 ∷ number a.incarnation ++ masked) (timer_right a.timer h.timer),
+      byte_taken is_timer fields.Timer 1 a.timer (5 ∷ number a.incarnation ++ masked) (timer_right a.timer h.suits.timer),
       byte_taken is_version fields.Version 2 5 (number a.incarnation ++ masked) refl,
       number_taken fields.Incarnation 3 a.incarnation masked,
-      groups_taken 5 a.groups named h.groups,
-      name_taken fields.NodeName node_at a.node described h.node,
+      groups_taken 5 a.groups named h.suits.groups,
+      name_taken fields.NodeName node_at a.node described h.names.0,
       counted_taken fields.Description description_at description_at a.description (length a.services ∷ services),
-      services_taken a.services (count_at + 1) rest h.services,
+      services_taken a.services (count_at + 1) rest h.names.1,
     ) (ap (λ (n : ℕ). Ok (notices.Announcement a, n, rest)) places)
 
-command_taken : (c : Command) (rest : List ℕ) → IsCommand c → command_at (command_text c ++ rest) ≡ Ok (notices.Command c, 1 + length (command_text c), rest)
+command_taken : (c : Command) (rest : List ℕ) → Fits (notices.Command c) → command_at (command_text c ++ rest) ≡ Ok (notices.Command c, 1 + length (command_text c), rest)
 unfolding command_at
 command_taken c rest h =
     let service = counted c.service ++ rest in
@@ -61,11 +61,11 @@ command_taken c rest h =
       number_taken fields.Incarnation 2 c.incarnation requested,
       number_taken fields.RequestId 4 c.request acted,
       action_taken c.action 6 named,
-      name_taken fields.NodeName 7 c.node service h.node,
-      name_taken fields.Service service_at c.service rest h.service,
+      name_taken fields.NodeName 7 c.node service h.names.0,
+      name_taken fields.Service service_at c.service rest h.names.1,
     ) (ap (λ (n : ℕ). Ok (notices.Command c, n, rest)) places)
 
-status_taken : (s : Status) (rest : List ℕ) → IsStatus s → status_at (status_text s ++ rest) ≡ Ok (notices.Status s, 1 + length (status_text s), rest)
+status_taken : (s : Status) (rest : List ℕ) → Fits (notices.Status s) → status_at (status_text s ++ rest) ≡ Ok (notices.Status s, 1 + length (status_text s), rest)
 unfolding status_at
 status_taken s rest h =
     let named = counted s.node ++ rest in
@@ -78,11 +78,11 @@ status_taken s rest h =
       byte_taken is_version fields.Version 1 5 (number s.incarnation ++ requested) refl,
       number_taken fields.Incarnation 2 s.incarnation requested,
       number_taken fields.RequestId 4 s.request placed,
-      outcome_taken s.outcome 6 named h.outcome,
-      name_taken fields.NodeName 9 s.node rest h.node,
+      outcome_taken s.outcome 6 named h.suits,
+      name_taken fields.NodeName 9 s.node rest h.names,
     ) (ap (λ (n : ℕ). Ok (notices.Status s, n, rest)) places)
 
-solicit_taken : (s : Solicit) (rest : List ℕ) → IsSolicit s → solicit_at (solicit_text s ++ rest) ≡ Ok (notices.Solicit s, 1 + length (solicit_text s), rest)
+solicit_taken : (s : Solicit) (rest : List ℕ) → Fits (notices.Solicit s) → solicit_at (solicit_text s ++ rest) ≡ Ok (notices.Solicit s, 1 + length (solicit_text s), rest)
 unfolding solicit_at
 solicit_taken s rest h =
     let service = counted s.service ++ rest in
@@ -94,11 +94,11 @@ solicit_taken s rest h =
     ∙ rw (
       byte_taken is_version fields.Version 1 5 (number s.id ++ named) refl,
       number_taken fields.SolicitId 2 s.id named,
-      name_taken fields.NodeName 4 s.asker service h.asker,
-      name_taken fields.Service service_at s.service rest h.service,
+      name_taken fields.NodeName 4 s.asker service h.names.0,
+      name_taken fields.Service service_at s.service rest h.names.1,
     ) (ap (λ (n : ℕ). Ok (notices.Solicit s, n, rest)) places)
 
-response_taken : (r : Response) (rest : List ℕ) → IsResponse r → response_at (response_text r ++ rest) ≡ Ok (notices.Response r, 1 + length (response_text r), rest)
+response_taken : (r : Response) (rest : List ℕ) → Fits (notices.Response r) → response_at (response_text r ++ rest) ≡ Ok (notices.Response r, 1 + length (response_text r), rest)
 unfolding response_at
 response_taken r rest h =
     let service = counted r.service ++ (r.rating ∷ r.timer ∷ rest) in
@@ -111,9 +111,9 @@ response_taken r rest h =
     ∙ rw (
       byte_taken is_version fields.Version 1 5 (number r.id ++ named) refl,
       number_taken fields.SolicitId 2 r.id named,
-      name_taken fields.NodeName 4 r.node service h.node,
-      name_taken fields.Service service_at r.service (r.rating ∷ r.timer ∷ rest) h.service,
-      byte_taken is_timer fields.Timer (rating_at + 1) r.timer rest (timer_right r.timer h.timer),
+      name_taken fields.NodeName 4 r.node service h.names.0,
+      name_taken fields.Service service_at r.service (r.rating ∷ r.timer ∷ rest) h.names.1,
+      byte_taken is_timer fields.Timer (rating_at + 1) r.timer rest (timer_right r.timer h.suits),
     ) (ap (λ (n : ℕ). Ok (notices.Response r, n, rest)) places)
 
 -- the fields of a notice are read as it

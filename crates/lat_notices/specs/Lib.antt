@@ -2,6 +2,7 @@ pub mod Kinds
 pub mod Outcomes
 pub mod Services
 pub mod Texts
+pub mod Writing
 pub mod Fields
 pub mod ServicesReading
 pub mod Reading

@@ -4,10 +4,12 @@ use Rattle.lat_base.specs.Names.{IsName}
 use Rattle.lat_fields.specs.Texts.{counted}
 use Rattle.lat_notices.specs.declared.services.Service.{Service}
 
--- what a service must be to have a text
-pub record IsService (s : Service) : Type 0 where
-  pub name : IsName s.name
-  pub description : length s.description < 256
+-- its name is a name, as its type has it
+abbrev pub HasName : Service → Type 0
+HasName s = IsName s.name
+
+abbrev pub HasShortDescription : Service → Type 0
+HasShortDescription s = length s.description < 256
 
 abbrev pub service_text : Service → List ℕ
 service_text s = s.rating ∷ counted s.name ++ counted s.description

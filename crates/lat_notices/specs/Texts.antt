@@ -14,40 +14,35 @@ use Rattle.lat_notices.specs.declared.notice.Notice.{Notice}
 use Rattle.lat_notices.specs.declared.notice.Notice.TheVariants as notices
 use Rattle.lat_notices.specs.Kinds.{bits_of}
 use Rattle.lat_notices.specs.Outcomes.{action_number, outcome_number, outcome_place, IsOutcome}
-use Rattle.lat_notices.specs.Services.{IsService, service_text}
+use Rattle.lat_notices.specs.Services.{HasName, HasShortDescription, service_text}
 
--- What a notice must be to have a text. That each number fits in its one or two bytes is in its type.
+-- its names are names, as its type has it
+abbrev pub HasNames : Notice → Type 0
+HasNames (notices.Announcement a) = IsName a.node × AllByRecursion HasName a.services
+HasNames (notices.Command c) = IsName c.node × IsName c.service
+HasNames (notices.Status s) = IsName s.node
+HasNames (notices.Solicit s) = IsName s.asker × IsName s.service
+HasNames (notices.Response r) = IsName r.node × IsName r.service
+
+-- what an announcement must be beside its names
 pub record IsAnnouncement (a : Announcement) : Type 0 where
   pub timer : 0 < a.timer
   pub groups : length a.groups ≤ 32
-  pub node : IsName a.node
   pub description : length a.description < 256
   pub count : length a.services < 256
-  pub services : AllByRecursion IsService a.services
+  pub services : AllByRecursion HasShortDescription a.services
 
-pub record IsCommand (c : Command) : Type 0 where
-  pub node : IsName c.node
-  pub service : IsName c.service
+-- What a notice must be beside its names to have a text. That each number fits in its one or two bytes is in its type.
+abbrev pub Suits : Notice → Type 0
+Suits (notices.Announcement a) = IsAnnouncement a
+Suits (notices.Command c) = Unit {0}
+Suits (notices.Status s) = IsOutcome s.outcome
+Suits (notices.Solicit s) = Unit {0}
+Suits (notices.Response r) = 0 < r.timer
 
-pub record IsStatus (s : Status) : Type 0 where
-  pub outcome : IsOutcome s.outcome
-  pub node : IsName s.node
-
-pub record IsSolicit (s : Solicit) : Type 0 where
-  pub asker : IsName s.asker
-  pub service : IsName s.service
-
-pub record IsResponse (r : Response) : Type 0 where
-  pub node : IsName r.node
-  pub service : IsName r.service
-  pub timer : 0 < r.timer
-
-abbrev pub Fits : Notice → Type 0
-Fits (notices.Announcement a) = IsAnnouncement a
-Fits (notices.Command c) = IsCommand c
-Fits (notices.Status s) = IsStatus s
-Fits (notices.Solicit s) = IsSolicit s
-Fits (notices.Response r) = IsResponse r
+pub record Fits (n : Notice) : Type 0 where
+  pub names : HasNames n
+  pub suits : Suits n
 
 -- The five layouts behind their first byte. Each has the version 5.
 abbrev pub announcement_text : Announcement → List ℕ

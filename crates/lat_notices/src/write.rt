@@ -2,7 +2,9 @@
 
 ghost use Rattle.std.specs.Prelude.{◌≡◌, ◌+◌, ◌≤◌, ◌++◌, [], length};
 ghost use Rattle.lat_fields.specs.Payloads.{padded};
-ghost use Rattle.lat_notices.specs.Texts.{IsAnnouncement, IsCommand, IsStatus, IsSolicit, IsResponse, Fits, announcement_text, command_text, status_text, solicit_text, response_text, fields_text, notice_text, type_of, IsWritable};
+ghost use Rattle.lat_notices.specs.Texts.{HasNames, IsAnnouncement, Suits, announcement_text, command_text, status_text, solicit_text, response_text, fields_text, notice_text, type_of, IsWritable};
+ghost use Rattle.lat_notices.specs.Writing.{fields_len, CanBeWritten};
+ghost use Rattle.lat_notices.specs.declared.notice.Notice.TheVariants as notices;
 
 use crate::fields::VERSION;
 use crate::kind::NoticeKind;
@@ -12,9 +14,10 @@ use lat_base::Payload;
 use lat_fields::{write_counted, write_number, write_padding};
 
 fn write_announcement(out: &mut Payload, a: &Announcement)
-    requires fits { IsAnnouncement a.now }
-    requires room { length out.old + length (announcement_text a.now) ≤ 1500 }
-    ensures { out.new ≡ out.old ++ announcement_text a.now }
+    requires suits { IsAnnouncement a.now }
+    requires room { length out.old + fields_len (notices.Announcement a.now) ≤ 1500 }
+    ensures text { out.new ≡ out.old ++ announcement_text a.now }
+    ensures names { HasNames (notices.Announcement a.now) }
 {
     out.push(a.timer);
     out.push(VERSION);
@@ -27,9 +30,9 @@ fn write_announcement(out: &mut Payload, a: &Announcement)
 }
 
 fn write_command(out: &mut Payload, c: &Command)
-    requires fits { IsCommand c.now }
-    requires room { length out.old + length (command_text c.now) ≤ 1500 }
-    ensures { out.new ≡ out.old ++ command_text c.now }
+    requires room { length out.old + fields_len (notices.Command c.now) ≤ 1500 }
+    ensures text { out.new ≡ out.old ++ command_text c.now }
+    ensures names { HasNames (notices.Command c.now) }
 {
     out.push(VERSION);
     write_number(out, c.incarnation);
@@ -40,9 +43,9 @@ fn write_command(out: &mut Payload, c: &Command)
 }
 
 fn write_status(out: &mut Payload, s: &Status)
-    requires fits { IsStatus s.now }
-    requires room { length out.old + length (status_text s.now) ≤ 1500 }
-    ensures { out.new ≡ out.old ++ status_text s.now }
+    requires room { length out.old + fields_len (notices.Status s.now) ≤ 1500 }
+    ensures text { out.new ≡ out.old ++ status_text s.now }
+    ensures names { HasNames (notices.Status s.now) }
 {
     out.push(VERSION);
     write_number(out, s.incarnation);
@@ -53,9 +56,9 @@ fn write_status(out: &mut Payload, s: &Status)
 }
 
 fn write_solicit(out: &mut Payload, s: &Solicit)
-    requires fits { IsSolicit s.now }
-    requires room { length out.old + length (solicit_text s.now) ≤ 1500 }
-    ensures { out.new ≡ out.old ++ solicit_text s.now }
+    requires room { length out.old + fields_len (notices.Solicit s.now) ≤ 1500 }
+    ensures text { out.new ≡ out.old ++ solicit_text s.now }
+    ensures names { HasNames (notices.Solicit s.now) }
 {
     out.push(VERSION);
     write_number(out, s.id);
@@ -64,9 +67,9 @@ fn write_solicit(out: &mut Payload, s: &Solicit)
 }
 
 fn write_response(out: &mut Payload, r: &Response)
-    requires fits { IsResponse r.now }
-    requires room { length out.old + length (response_text r.now) ≤ 1500 }
-    ensures { out.new ≡ out.old ++ response_text r.now }
+    requires room { length out.old + fields_len (notices.Response r.now) ≤ 1500 }
+    ensures text { out.new ≡ out.old ++ response_text r.now }
+    ensures names { HasNames (notices.Response r.now) }
 {
     out.push(VERSION);
     write_number(out, r.id);
@@ -88,11 +91,12 @@ fn kind(n: &Notice) -> NoticeKind
     }
 }
 
-// The fields behind the first byte.
+// The fields behind the first byte. The names are names by their type.
 fn write_fields(out: &mut Payload, n: &Notice)
-    requires fits { Fits n.now }
-    requires room { length out.old + length (fields_text n.now) ≤ 1500 }
-    ensures { out.new ≡ out.old ++ fields_text n.now }
+    requires suits { Suits n.now }
+    requires room { length out.old + fields_len n.now ≤ 1500 }
+    ensures text { out.new ≡ out.old ++ fields_text n.now }
+    ensures names { HasNames n.now }
 {
     match n {
         Notice::Announcement(a) => write_announcement(out, a),
@@ -106,9 +110,11 @@ fn write_fields(out: &mut Payload, n: &Notice)
 /// Writes the notice into a place with no byte in it: its text, with 0 in all bits that aren't kept, and zeros behind
 /// it up to 46 bytes. Takes no memory. `notice_ok` tells whether it may be called.
 pub fn write_notice(n: &Notice, out: &mut Payload)
-    requires ok { IsWritable n.now }
+    requires ok { CanBeWritten n.now }
     requires empty { out.old ≡ [] }
-    ensures { out.new ≡ padded (notice_text n.now) }
+    ensures text { out.new ≡ padded (notice_text n.now) }
+    // Its names are names by their type, so there is a text.
+    ensures writable { IsWritable n.now }
 {
     out.push(kind(n).bits() * 4);
     write_fields(out, n);

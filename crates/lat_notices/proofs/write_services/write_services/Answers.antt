@@ -1,7 +1,9 @@
 use Rattle.std.proofs.Common.{length, take, ap, arith, length-append}
-use Rattle.std.specs.List.{flat_map}
+use Rattle.std.specs.List.{flat_map, sum_by}
 use Rattle.lat_notices.specs.Services.{service_text}
+use Rattle.lat_notices.specs.Writing.{service_len}
 use Rattle.lat_notices.proofs.Room.{room_at}
+use Rattle.lat_notices.proofs.Writable.{services_len_is}
 use Rattle.lat_notices.proofs.write_services.write_services.Goals as goal
 
 pub write_service-requires-clause-room : goal.write_service-requires-clause-room
@@ -11,8 +13,9 @@ write_service-requires-clause-room c =
     omega (
       arith,
       room_at ss i c.service-item.result c.loop-service-test.true c.service-item.is,
-      ap length c.loop-service.invariant,
+      ap length c.loop-service.invariant.text,
       length-append c.args.out.now (flat_map service_text (take i ss)),
-      ap (λ es. length (flat_map service_text es)) c.as_slice-service-items.ensures,
+      services_len_is (take i ss) c.loop-service.invariant.names,
+      ap (sum_by service_len) c.as_slice-service-items.ensures,
       c.requires.room,
     )
