@@ -100,6 +100,14 @@ impl Credits {
         self.held -= 1;
     }
 
+    /// Is a credit left that was granted to this end?
+    pub fn has_unused(&self) -> bool
+        ensures value { result ≡ nat_lt 0 self.now.unused }
+        ensures answer { (a : Account) → Keeps self.now a → result ≡ nat_lt a.used a.granted }
+    {
+        self.unused > 0
+    }
+
     /// Uses one credit, for a slot that costs one. Refused, with nothing changed, exactly where all those granted to this end
     /// are used.
     pub fn spend(&mut self) -> Result<(), NoCredit>

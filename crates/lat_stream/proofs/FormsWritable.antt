@@ -1,5 +1,5 @@
 -- What a session forms can be written, and tells what was formed.
-use Rattle.std.proofs.Common.{◌≡◌, ◌≢◌, ℕ, zero, suc, ◌+◌, ◌-◌, ◌*◌, ◌/◌, ◌%◌, ◌<◌, ◌≤◌, sym, ap, ◌∙◌, refl, subst, arith, Bool, true, false, not, cond, ◌&&◌, List, [], ◌∷◌, ◌++◌, length, take, min, Option, Some, None, nat_lt, nat_le, length-append, length-take}
+use Rattle.std.proofs.Common.{◌≡◌, ◌≢◌, ℕ, zero, suc, ◌+◌, ◌*◌, ◌/◌, ◌%◌, ◌<◌, ◌≤◌, sym, ap, ◌∙◌, refl, subst, arith, Bool, true, false, not, cond, List, [], ◌∷◌, ◌++◌, length, min, Option, Some, None, nat_lt, nat_le, length-append, length-take}
 use Rattle.std.proofs.lemmas.Bool.{false≢true, and_parts}
 use Rattle.std.specs.List.{AllByRecursion}
 use Rattle.lat_base.specs.Names.{IsName}
@@ -8,7 +8,7 @@ use Rattle.lat_base.specs.declared.state.SessionState.TheVariants as kept_states
 use Rattle.lat_fields.specs.Params.{IsEntry, params_text}
 use Rattle.lat_model.specs.sessions.Slots.{Slot, Start, DataA, DataB, Attention, Reject, Stop, starts, slot_len}
 use Rattle.lat_model.specs.sessions.Session.{Session, answered, gone, peer, runs, state}
-use Rattle.lat_model.specs.sessions.Offers.{Offer, Nothing, Unfit, Offers, fit, offer, byte_room, reject_offer, start_offer, later_offer}
+use Rattle.lat_model.specs.sessions.Offers.{Nothing, Unfit, Offers, fit, offer, byte_room, reject_offer, start_offer, later_offer}
 use Rattle.lat_model.specs.Lists.{is_empty}
 use Rattle.lat_stream.specs.declared.opening.Opening.{Opening}
 use Rattle.lat_stream.specs.declared.forming.Turn.{Turn}
@@ -19,7 +19,6 @@ use Rattle.lat_stream.specs.Sound.{Sound}
 use Rattle.lat_stream.specs.Steps.{runs_in}
 use Rattle.lat_stream.specs.Turns.{turn_in, turn_of, later_turn, offer_at, leading, next_bytes, bytes_offer, start_slot, due}
 use Rattle.lat_stream.specs.Wire.{IsFormed, slot_heard, formed_as, request_params}
-use Rattle.lat_stream.proofs.Texts.{params_have}
 use Rattle.lat_stream.proofs.Running.{runs_in_is}
 use Rattle.lat_stream.proofs.FormsTurns.{Agrees, turn_agrees, no_reject}
 

@@ -42,6 +42,12 @@ turn_in _ _ later = turns.Nothing
 abbrev pub turn_of : Kept → Turn
 turn_of k = turn_in k.state k.start (later_turn k)
 
+-- a slot with items goes, which costs a credit
+abbrev pub spends : Turn → Bool
+spends (turns.Setting t) = true
+spends turns.Bytes = true
+spends _ = false
+
 -- the credits due
 abbrev pub due : Kept → ℕ
 due k = k.credits.ceiling - (k.credits.outstanding + k.credits.held)
@@ -55,12 +61,6 @@ leading (Set t ∷ xs) = []
 abbrev pub is_byte : Item → Bool
 is_byte (Byte b) = true
 is_byte (Set t) = false
-
--- the bytes among the items
-abbrev pub bytes_in : List Item → List ℕ
-bytes_in [] = []
-bytes_in (Byte b ∷ xs) = b ∷ bytes_in xs
-bytes_in (Set t ∷ xs) = bytes_in xs
 
 -- those that one slot takes
 abbrev pub next_bytes : ℕ → Kept → List ℕ

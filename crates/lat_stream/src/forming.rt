@@ -15,7 +15,7 @@ ghost use Rattle.lat_stream.specs.Kept.{kept_of};
 ghost use Rattle.lat_stream.specs.Sound.{Sound};
 ghost use Rattle.lat_stream.specs.Wire.{IsFormed};
 ghost use Rattle.lat_stream.specs.Turns.{Meets, turn_of, later_turn, data_turn, offer_at, start_slot, bytes_offer, credits_offer, kept_after};
-ghost use Rattle.lat_stream.specs.Turns.{over, due, gave, framed, stopped, is_byte, leading, bytes_in, next_bytes};
+ghost use Rattle.lat_stream.specs.Turns.{spends, over, due, gave, framed, stopped, is_byte, leading, next_bytes};
 
 use crate::opening::Opening;
 use crate::stream::Stream;
@@ -100,6 +100,7 @@ impl Stream {
         ensures value { result ≡ turn_of self.now }
         ensures most { self.now.credits.ceiling ≤ 15 }
         ensures start { (opening : Opening) → result ≡ turns.Start opening → self.now.state ≢ states.Asked }
+        ensures unused { spends result ≡ true → 0 < self.now.credits.unused }
     {
         match (self.state, self.start) {
             (SessionState::Calling | SessionState::Live | SessionState::Closing, Some(opening)) =>
@@ -111,7 +112,8 @@ impl Stream {
 
     // What stands behind its start, until its stop was formed.
     fn later_turn(&self) -> Turn
-        ensures { result ≡ later_turn self.now }
+        ensures value { result ≡ later_turn self.now }
+        ensures unused { spends result ≡ true → 0 < self.now.credits.unused }
     {
         if self.stop_formed {
             return Turn::Nothing;
@@ -130,11 +132,10 @@ impl Stream {
     }
 
     fn data_turn(&self) -> Turn
-        ensures { result ≡ data_turn (nat_lt 0 self.now.credits.unused) self.now.unframed }
+        ensures value { result ≡ data_turn (nat_lt 0 self.now.credits.unused) self.now.unframed }
+        ensures unused { spends result ≡ true → 0 < self.now.credits.unused }
     {
-        // a copy tells whether a credit is left
-        let mut after = self.credits;
-        let may_spend = after.spend().is_ok();
+        let may_spend = self.credits.has_unused();
         match self.unframed.front() {
             Some(Item::Byte(_)) if may_spend => Turn::Bytes,
             Some(Item::Set(setting)) if may_spend => Turn::Setting(*setting),
@@ -173,7 +174,7 @@ impl Stream {
     {
         let to = if master { 0 } else { self.peer };
         let request = if master { opening.request } else { None };
-        if !fits(start_len(&opening.service, request), room) {
+        if start_len(&opening.service, request) > room {
             return Formed::Unfit;
         }
         let credits = self.give_due();
@@ -190,7 +191,7 @@ impl Stream {
             self.old self.new out.old out.new result }
         ensures room { (length out.old ≤ length out.new) × (length out.new ≤ length out.old + room) }
     {
-        if !fits(6, room) {
+        if room < 6 {
             return Formed::Unfit;
         }
         self.attention = None;
@@ -218,7 +219,7 @@ impl Stream {
             self.old self.new out.old out.new result }
         ensures room { (length out.old ≤ length out.new) × (length out.new ≤ length out.old + room) }
     {
-        if !fits(4, room) {
+        if room < 4 {
             return Formed::Unfit;
         }
         self.stop_formed = true;
@@ -231,27 +232,31 @@ impl Stream {
 
     // Counts a slot with items: a credit is used, of those that are left.
     fn spend(&mut self)
+        requires { 0 < self.old.credits.unused }
         ensures { self.new ≡ framed 0 self.old }
     {
-        let _ = self.credits.spend();
+        let Ok(()) = self.credits.spend() else {
+            unreachable!()
+        };
         self.used = self.used.saturating_add(1);
     }
 
     // Forms the setting that stands next, with the credits due.
     fn form_setting(&mut self, id: u8, setting: &[u8; 5], room: u16, out: &mut Payload) -> Formed
-        requires { length out.old + room ≤ 1500 }
+        requires room { length out.old + room ≤ 1500 }
+        requires unused { 0 < self.old.credits.unused }
         ensures meets { Meets
             (offers.fit room (sessions.DataB self.old.peer id (due self.old) setting.now))
             (framed 1 (gave self.old))
             self.old self.new out.old out.new result }
         ensures room { (length out.old ≤ length out.new) × (length out.new ≤ length out.old + room) }
     {
-        if !fits(10, room) {
+        if room < 10 {
             return Formed::Unfit;
         }
         let credits = self.give_due();
         self.spend();
-        let _ = self.unframed.pop_front();
+        self.unframed.pop_front();
         write_setting(out, self.peer, id, credits, setting);
         Formed::Slot
     }
@@ -259,7 +264,8 @@ impl Stream {
     // Forms as many of the bytes that stand next as one slot takes, with the credits due. Where the room cuts them to
     // none they don't fit.
     fn form_bytes(&mut self, id: u8, room: u16, out: &mut Payload) -> Formed
-        requires { length out.old + room ≤ 1500 }
+        requires room { length out.old + room ≤ 1500 }
+        requires unused { 0 < self.old.credits.unused }
         ensures meets { Meets
             (bytes_offer id self.old (next_bytes room self.old))
             (framed (length (next_bytes room self.old)) (gave self.old))
@@ -287,19 +293,13 @@ impl Stream {
         if self.credits.due() == 0 {
             return Formed::Nothing;
         }
-        if !fits(4, room) {
+        if room < 4 {
             return Formed::Unfit;
         }
         let credits = self.give_due();
         write_credits(out, self.peer, id, credits);
         Formed::Slot
     }
-}
-
-fn fits(len: u16, room: u16) -> bool
-    ensures { result ≡ nat_le len room }
-{
-    len <= room
 }
 
 // The most bytes that one slot takes: what the peer's start states, cut to the room so that the slot fits with its pad.
@@ -331,29 +331,10 @@ fn move_bytes(items: &mut HeapCircularBuffer<Item>, count: u8, out: &mut Payload
     ensures items { items.new ≡ buffer (drop count items.old.items) items.old.capacity }
     ensures bytes { out.new ≡ out.old ++ take count (leading items.old.items) }
 {
-    let count = usize::from(count);
-    let (front, back) = items.as_slices();
-    let from_front = count.min(front.len());
-    write_bytes(&front[..from_front], out);
-    write_bytes(&back[..count - from_front], out);
-    items.truncate_front(items.len() - count);
-}
-
-// Writes the bytes among the items.
-fn write_bytes(items: &[Item], out: &mut Payload)
-    requires { length out.old + length items.now ≤ 1500 }
-    ensures { out.new ≡ out.old ++ bytes_in items.now }
-{
-    for item in items {
-        write_byte(item, out);
-    }
-}
-
-fn write_byte(item: &Item, out: &mut Payload)
-    requires { length out.old < 1500 }
-    ensures { out.new ≡ out.old ++ bytes_in (item.now ∷ []) }
-{
-    if let Item::Byte(b) = item {
-        out.push(*b);
+    for _ in 0..count {
+        let Some(Item::Byte(b)) = items.pop_front() else {
+            unreachable!()
+        };
+        out.push(b);
     }
 }

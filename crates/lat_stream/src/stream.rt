@@ -182,7 +182,9 @@ impl Stream {
         self.forget();
         self.wait(SessionState::Asked, opening);
         self.know(from, size);
-        let _ = self.grant(credits);
+        let Ok(()) = self.grant(credits) else {
+            unreachable!()
+        };
     }
 
     fn forget(&mut self)

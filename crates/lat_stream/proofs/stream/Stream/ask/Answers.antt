@@ -1,4 +1,5 @@
-use Rattle.std.proofs.Common.{◌≡◌, ◌≤◌, ◌+◌, false, Some, ap, ◌∙◌, arith, le-leb}
+use Rattle.std.proofs.Common.{◌≡◌, ℕ, ◌≤◌, ◌+◌, false, Some, ap, ◌∙◌, arith, le-leb}
+use Rattle.std.proofs.lemmas.Bool.{false≢true}
 use Rattle.lat_base.specs.declared.state.SessionState.TheVariants as kept_states
 use Rattle.lat_stream.specs.Kept.{Kept, kept_of}
 use Rattle.lat_stream.specs.Steps.{granted}
@@ -6,6 +7,12 @@ use Rattle.lat_model.specs.sessions.Session.{blank}
 use Rattle.lat_stream.proofs.Begun.{asked_is}
 use Rattle.lat_stream.proofs.Answered.{then_ok}
 use Rattle.lat_stream.proofs.stream.Stream.ask.Goals as goal
+
+pub unreachable-requires : goal.unreachable-requires
+unreachable-requires c =
+    let unused : Kept → ℕ = λ (k : Kept). k.credits.unused in
+    let none : c.know.new.self.credits.unused ≡ 0 = ap unused c.know.ensures ∙ ap unused c.wait.ensures ∙ ap unused (c.forget.ensures false) in
+    false≢true (c.in_default.ensures.answer ∙ le-leb _ _ (omega (arith, c.requires, none)))
 
 pub returns : goal.returns
 returns c = λ id generation n.
