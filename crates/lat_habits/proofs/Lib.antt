@@ -1,0 +1,3 @@
+pub mod Lone
+pub mod Circuits
+pub mod Accepted
