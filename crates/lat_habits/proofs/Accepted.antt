@@ -1,14 +1,12 @@
 -- What a node accepts: a start with a request only where none was accepted for it.
-use Rattle.std.proofs.Common.{◌≡◌, ℕ, suc, ◌+◌, refl, Bool, true, false, not, cond, ◌&&◌, List, [], ◌∷◌, ◌++◌, Option, Some, None, nat_eq, nat_lt, find}
+use Rattle.std.proofs.Common.{◌≡◌, ℕ, ◌+◌, refl, Bool, true, false, not, cond, ◌&&◌, List, [], ◌∷◌, Option, Some, None, nat_eq, find}
 use Rattle.std.specs.List.{list_any, IsDistinct}
-use Rattle.std.proofs.lemmas.Bool.{and_parts}
 use Rattle.std.proofs.lemmas.Cmp.{nat_eq_equiv}
 use Rattle.std.proofs.lemmas.Map.Keys.{IsDistinct-push}
 use Rattle.lat_model.specs.sessions.Slots.{Slot}
 use Rattle.lat_model.specs.sessions.Session.{Session, waits}
 use Rattle.lat_model.specs.Lists.{upwards}
 use Rattle.lat_model.specs.ends.End.{lives}
-use Rattle.lat_model.specs.circuits.Arriving.{living, slave_of}
 use Rattle.lat_machines.specs.values.Names.{Name, same}
 use Rattle.lat_machines.specs.values.Addresses.{everyone}
 use Rattle.lat_machines.specs.values.Messages.{Head, RunMessage, WideMessage, StartMessage, StopMessage}
@@ -18,7 +16,7 @@ use Rattle.lat_machines.specs.values.Events.{Numbers, Event, Hears, Time, Connec
 use Rattle.lat_machines.specs.values.Answers.{Ignored, IdUsed}
 use Rattle.lat_machines.specs.cores.Hearing.{names, hear_run}
 use Rattle.lat_machines.specs.cores.Cores.{at_moment}
-use Rattle.lat_machines.specs.node.Node.{NodeConfig, Node, NodeStep, Requested, tells, open_node, request_of, Verdict, Accepts, Rejects, on_free_line, free_line, was_requested, is_offered, verdict, accepted_too, judged, asked_at, answers_one, answers_in, asked_on, answers_asked, heard_at, hears_run, hears_value, solicited, requests_again, withdraws, node_step}
+use Rattle.lat_machines.specs.node.Node.{NodeConfig, Node, NodeStep, Requested, tells, open_node, request_of, Verdict, Accepts, Rejects, on_free_line, free_line, was_requested, verdict, judged, asked_at, answers_one, answers_in, asked_on, answers_asked, heard_at, hears_run, hears_value, solicited, requests_again, withdraws, node_step}
 use Rattle.lat_machines.specs.world.Histories.{RatedEvent, node_run}
 use Rattle.lat_habits.specs.Accepted.{AcceptedOnce}
 

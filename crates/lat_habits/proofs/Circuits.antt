@@ -1,10 +1,10 @@
 -- What every event leaves of the circuits that live: a new one is made only where none has its address, or its address and
 -- its peer's id.
-use Rattle.std.proofs.Common.{◌≡◌, ◌≢◌, ℕ, suc, ◌<◌, ◌≤◌, arith, refl, sym, ap, ap₂, ◌∙◌, Bool, true, false, not, cond, ◌&&◌, ◌||◌, List, [], ◌∷◌, Option, nat_eq, nat_lt, eqb-true, eq-eqb}
-use Rattle.std.proofs.lemmas.Bool.{and_parts, true≢false, false≢true, eqb-false}
+use Rattle.std.proofs.Common.{◌≡◌, ℕ, suc, arith, refl, sym, ap, ap₂, ◌∙◌, Bool, true, false, not, cond, ◌&&◌, ◌||◌, List, [], ◌∷◌, Option, nat_eq, nat_lt, eqb-true, eq-eqb}
+use Rattle.std.proofs.lemmas.Bool.{and_parts, true≢false, eqb-false}
 use Rattle.lat_model.specs.sessions.Slots.{Slot}
 use Rattle.lat_model.specs.sessions.Calls.{Call, Connect, Answer, Refuse}
-use Rattle.lat_model.specs.Lists.{updated, upwards}
+use Rattle.lat_model.specs.Lists.{updated}
 use Rattle.lat_model.specs.ends.End.{End, Step, lives, call_end}
 use Rattle.lat_model.specs.ends.Timers.{note_empty, time_step}
 use Rattle.lat_model.specs.ends.Run.{run_end}
@@ -19,7 +19,7 @@ use Rattle.lat_machines.specs.values.Keys.{Key}
 use Rattle.lat_machines.specs.values.Events.{Numbers, Event, Hears, Time, Connects, Puts, Sets, Takes, Attends, Closes, Requests, Withdraws, Announces}
 use Rattle.lat_machines.specs.values.Answers.{Again, Running, Ended}
 use Rattle.lat_machines.specs.cores.Acts.{Acted, idle, steps_at, call_at, called, local_at, time_at, move_at}
-use Rattle.lat_machines.specs.cores.Hearing.{HeardAct, foreign, names, fits_kind, numbers_at, run_frame, run_at, hear_run, hear_stop_at, hear_reply_at, start_at, StartFact, Repeats, Makes, Refuses, start_fact}
+use Rattle.lat_machines.specs.cores.Hearing.{HeardAct, foreign, names, fits_kind, numbers_at, run_frame, run_at, hear_run, hear_stop_at, hear_reply_at, start_at, Repeats, Makes, Refuses, start_fact}
 use Rattle.lat_machines.specs.cores.Cores.{Core, Side, Doing, rests, acts, setup_of, circuit_to}
 use Rattle.lat_machines.specs.server.Server.{ServerConfig, Server, server_side, open_server, connects_on, opens, server_step}
 use Rattle.lat_machines.specs.node.Node.{NodeConfig, Node, node_side, open_node, node_step}

@@ -1,3 +1,5 @@
 pub mod Lone
 pub mod Circuits
 pub mod Accepted
+pub mod Orders
+pub mod Chosen

@@ -1,7 +1,7 @@
 -- A table in which no two circuits that live have one key: what is done at a circuit that lives, and a new circuit.
 use Rattle.std.proofs.Common.{◌≡◌, ◌≢◌, ℕ, zero, suc, ◌+◌, ◌<◌, ◌≤◌, arith, refl, sym, ap, ◌∙◌, Bool, true, false, cond, nat_eq, nat_lt, eqb-true}
 use Rattle.std.proofs.lemmas.Bool.{true≢false, eqb-false, ltb-true, ltb-false}
-use Rattle.lat_model.specs.Lists.{updated, upwards, least}
+use Rattle.lat_model.specs.Lists.{upwards, least}
 use Rattle.lat_model.specs.ends.End.{End, Step, lives}
 use Rattle.lat_model.specs.ends.Timers.{note_empty}
 use Rattle.lat_model.specs.circuits.World.{CircuitEntry, Table}

@@ -1,7 +1,17 @@
 //! The laws of one machine, behind every history of it.
 
+ghost use Rattle.lat_habits.specs.Chosen.{ChosenAreWilling, NoneIsWilling, UnwillingAreNotChosen};
 ghost use Rattle.lat_habits.specs.Living.{ServerCircuitsApart, NodeCircuitsApart};
 ghost use Rattle.lat_habits.specs.Accepted.{AcceptedOnce};
+
+/// The node that is chosen for a service is live, announced itself to a group that the server listens to, or to all, rates
+/// the service above 0 in its latest announcement, and no live node is better (`chosen`). Where none is chosen, all rate it 0
+/// (`none`). So none is chosen whose latest announcement rates it 0 (`unwilling`).
+pub fn chosen_nodes_are_willing()
+    ensures chosen { ChosenAreWilling }
+    ensures none { NoneIsWilling }
+    ensures unwilling { UnwillingAreNotChosen }
+{}
 
 /// Two circuits that live aren't to the same end: those of a server have different addresses, those of a node different
 /// addresses or different ids of the peer.
