@@ -4,6 +4,7 @@ use Rattle.std.specs.Prelude.{bytes_eq}
 use Rattle.std.proofs.lemmas.Bool.{and_parts, or_parts, or_cases, true≢false, false≢true, eqb-false, ltb-false}
 use Rattle.std.proofs.Math.Nat.{div-div-eq-div-mul, div-one, pow-succ'}
 use Rattle.lat_model.specs.Lists.{is_empty, Each}
+use Rattle.lat_model.proofs.numbers.Net.{each_imp}
 use Rattle.lat_machines.specs.values.Names.{Name, folded, same, is_before}
 use Rattle.lat_machines.specs.values.Notices.{Announcement}
 use Rattle.lat_machines.specs.server.Directory.{HeardAnnouncement, share_bits, share_group, meets, of_node, any_of, latest, is_live, live, Best, rating_of, offer_of, beats, better, best_in}
@@ -153,16 +154,12 @@ all_below : (service : Name) (es : List HeardAnnouncement) → Each (IsBelow ser
 all_below service [] = tt
 all_below service (e ∷ es) = go (nat_eq (rates service e) 0) refl (best_in service es) refl (all_below service es)
   where
-    each : (P Q : HeardAnnouncement → Type 0) (xs : List HeardAnnouncement) → ((x : HeardAnnouncement) → P x → Q x) → Each P xs → Each Q xs
-    each P Q [] f h = tt
-    each P Q (x ∷ xs) f h = (f x h.0, each P Q xs f h.1)
-
     own : IsNoBetter service (offer_of service e) e
     own = inr (refl, before_none (folded e.announcement.node))
 
     by : (b : Bool) (y : Best) → beats y (offer_of service e) ≡ b → Each (IsNoBetter service y) es → Each (IsBelow service (cond b (Some y) (Some (offer_of service e)))) (e ∷ es)
     by true y q h = (beaten service y e q, h)
-    by false y q h = (own, each (IsNoBetter service y) (IsNoBetter service (offer_of service e)) es (λ x. still_below service y e x q) h)
+    by false y q h = (own, each_imp (IsNoBetter service y) (IsNoBetter service (offer_of service e)) (λ x. still_below service y e x q) es h)
 
     go : (b : Bool) → nat_eq (rates service e) 0 ≡ b → (o : Option Best) → best_in service es ≡ o → Each (IsBelow service o) es → Each (IsBelow service (cond b o (better (offer_of service e) o))) (e ∷ es)
     go true i None q h = (eqb-true (rates service e) 0 i, h)
@@ -172,7 +169,7 @@ all_below service (e ∷ es) = go (nat_eq (rates service e) 0) refl (best_in ser
         let r : rates service o.entry ≡ y.rating = ap (λ (z : Best). z.rating) o.offer in
         let z : rates service e ≡ 0 = eqb-true (rates service e) 0 i in
         (inl (omega (arith, n, r, z)), h)
-    go false i None q h = (let n : rates service e ≢ 0 = eqb-false (rates service e) 0 i in (own, each (λ x. rates service x ≡ 0) (IsNoBetter service (offer_of service e)) es (λ x z. inl (omega (arith, n, z))) h))
+    go false i None q h = (let n : rates service e ≢ 0 = eqb-false (rates service e) 0 i in (own, each_imp (λ x. rates service x ≡ 0) (IsNoBetter service (offer_of service e)) (λ x z. inl (omega (arith, n, z))) es h))
     go false i (Some y) q h = by (beats y (offer_of service e)) y refl h
 
 pub none_willing : NoneIsWilling

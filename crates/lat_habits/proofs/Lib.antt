@@ -3,3 +3,5 @@ pub mod Circuits
 pub mod Accepted
 pub mod Orders
 pub mod Chosen
+pub mod Lines
+pub mod Fullness

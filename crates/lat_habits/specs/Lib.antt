@@ -1,3 +1,4 @@
 pub mod Chosen
+pub mod Fullness
 pub mod Living
 pub mod Accepted

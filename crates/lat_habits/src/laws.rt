@@ -1,6 +1,7 @@
 //! The laws of one machine, behind every history of it.
 
 ghost use Rattle.lat_habits.specs.Chosen.{ChosenAreWilling, NoneIsWilling, UnwillingAreNotChosen};
+ghost use Rattle.lat_habits.specs.Fullness.{ServerLinesSuffice, NodeLinesSuffice, AnnouncementsTellFullness, FullAreNotChosen};
 ghost use Rattle.lat_habits.specs.Living.{ServerCircuitsApart, NodeCircuitsApart};
 ghost use Rattle.lat_habits.specs.Accepted.{AcceptedOnce};
 
@@ -11,6 +12,20 @@ pub fn chosen_nodes_are_willing()
     ensures chosen { ChosenAreWilling }
     ensures none { NoneIsWilling }
     ensures unwilling { UnwillingAreNotChosen }
+{}
+
+/// Never are more sessions held on lines than there are lines.
+pub fn lines_suffice()
+    ensures server { ServerLinesSuffice }
+    ensures node { NodeLinesSuffice }
+{}
+
+/// By a rule of rating that gives 0 exactly where all lines are held, a node's announcement rates each service 0 exactly
+/// where all its lines were held when it was made (`told`). So a node whose latest announcement was made full is chosen for no
+/// service (`full`).
+pub fn full_nodes_are_not_chosen()
+    ensures told { AnnouncementsTellFullness }
+    ensures full { FullAreNotChosen }
 {}
 
 /// Two circuits that live aren't to the same end: those of a server have different addresses, those of a node different
