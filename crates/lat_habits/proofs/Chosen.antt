@@ -1,6 +1,6 @@
 -- Who is chosen for a service, and who isn't.
 use Rattle.std.proofs.Common.{◌≡◌, ◌≢◌, ℕ, zero, suc, ◌+◌, ◌*◌, ◌/◌, ◌%◌, ◌^◌, ◌<◌, ◌≤◌, ◌⊎◌, inl, inr, ⊎_elim, arith, refl, sym, ap, ◌∙◌, subst, Bool, true, false, cond, ◌&&◌, ◌||◌, List, [], ◌∷◌, ◌++◌, Option, Some, None, nat_eq, nat_lt, eqb-true, ltb-true, filter}
-use Rattle.std.specs.Prelude.{bytes_eq}
+use Rattle.std.proofs.lemmas.Cmp.{nat_list_eq_equiv}
 use Rattle.std.proofs.lemmas.Bool.{and_parts, or_parts, or_cases, true≢false, false≢true, eqb-false, ltb-false}
 use Rattle.std.proofs.Math.Nat.{div-div-eq-div-mul, div-one, pow-succ'}
 use Rattle.lat_model.specs.Lists.{is_empty, Each}
@@ -8,7 +8,6 @@ use Rattle.lat_model.proofs.numbers.Net.{each_imp}
 use Rattle.lat_machines.specs.values.Names.{Name, folded, same, is_before}
 use Rattle.lat_machines.specs.values.Notices.{Announcement}
 use Rattle.lat_machines.specs.server.Directory.{HeardAnnouncement, share_bits, share_group, meets, of_node, any_of, latest, is_live, live, Best, rating_of, offer_of, beats, better, best_in}
-use Rattle.lat_machines.proofs.queue.Grants.{text_eq}
 use Rattle.lat_habits.specs.Chosen.{Shares, IsNoBetter, IsChosen, ChosenAreWilling, NoneIsWilling, IsLatest, UnwillingAreNotChosen}
 use Rattle.lat_habits.proofs.Orders.{before_none, behind_through, behind_back}
 
@@ -214,8 +213,8 @@ chosen groups service now heard b q = record {
 
 -- who stands last with one name is one
 
-same_back : (a b : Name) → same a b ≡ true → same b a ≡ true
-same_back a b q = (let e : folded a ≡ folded b = text_eq (folded a) (folded b) q in subst (λ z. bytes_eq (folded b) z ≡ true) (sym e) (subst (λ z. bytes_eq z (folded b) ≡ true) e q))
+same_turned : (a b : Name) → same a b ≡ same b a
+same_turned a b = nat_list_eq_equiv.symm (folded a) (folded b)
 
 -- what stands behind with this name is found
 any_in : (node : Name) (xs ys : List HeardAnnouncement) (e : HeardAnnouncement) → of_node node e ≡ true → any_of node (xs ++ e ∷ ys) ≡ true
@@ -229,7 +228,7 @@ any_in node (x ∷ xs) ys e q = ap (λ b. of_node node x || b) (any_in node xs y
 one_latest : (xs ys us vs : List HeardAnnouncement) (e f : HeardAnnouncement) → xs ++ e ∷ ys ≡ us ++ f ∷ vs → IsLatest e ys → IsLatest f vs → same f.announcement.node e.announcement.node ≡ true → e ≡ f
 one_latest [] ys [] vs e f q p r s = cc
 one_latest [] ys (u ∷ us) vs e f q p r s = (let z : ys ≡ us ++ f ∷ vs = cc in absurd (true≢false (sym (any_in e.announcement.node us vs f s) ∙ (ap (any_of e.announcement.node) (sym z) ∙ p))))
-one_latest (x ∷ xs) ys [] vs e f q p r s = (let z : vs ≡ xs ++ e ∷ ys = cc in absurd (true≢false (sym (any_in f.announcement.node xs ys e (same_back f.announcement.node e.announcement.node s)) ∙ (ap (any_of f.announcement.node) (sym z) ∙ r))))
+one_latest (x ∷ xs) ys [] vs e f q p r s = (let z : vs ≡ xs ++ e ∷ ys = cc in absurd (true≢false (sym (any_in f.announcement.node xs ys e (same_turned e.announcement.node f.announcement.node ∙ s)) ∙ (ap (any_of f.announcement.node) (sym z) ∙ r))))
 one_latest (x ∷ xs) ys (u ∷ us) vs e f q p r s = (let z : xs ++ e ∷ ys ≡ us ++ f ∷ vs = cc in one_latest xs ys us vs e f z p r s)
 
 pub unwilling : UnwillingAreNotChosen

@@ -5,3 +5,7 @@ pub mod Orders
 pub mod Chosen
 pub mod Lines
 pub mod Fullness
+pub mod Waiting
+pub mod Passes
+pub mod Refused
+pub mod Starts

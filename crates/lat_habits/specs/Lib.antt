@@ -1,3 +1,4 @@
+pub mod Refused
 pub mod Chosen
 pub mod Fullness
 pub mod Living

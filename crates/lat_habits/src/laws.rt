@@ -1,9 +1,22 @@
 //! The laws of one machine, behind every history of it.
 
+ghost use Rattle.lat_habits.specs.Refused.{UnservedGrantsNothing, RefusedCommandsGrantNothing, RepeatedAsksGrantNothing, RefusedStartsStop};
 ghost use Rattle.lat_habits.specs.Chosen.{ChosenAreWilling, NoneIsWilling, UnwillingAreNotChosen};
 ghost use Rattle.lat_habits.specs.Fullness.{ServerLinesSuffice, NodeLinesSuffice, AnnouncementsTellFullness, FullAreNotChosen};
 ghost use Rattle.lat_habits.specs.Living.{ServerCircuitsApart, NodeCircuitsApart};
 ghost use Rattle.lat_habits.specs.Accepted.{AcceptedOnce};
+
+/// A refused event connects no line: neither by itself nor by the grant pass behind it. A connect that no node serves draws
+/// a solicit id and sends a Solicit (`unserved`). A refused command is noted in the queue and answered by a Status
+/// (`commands`), and so is one that asks again (`again`), from its record. At a node a refused START is answered by a STOP
+/// (`starts`). Nothing else changes but the moment. The other refusals change nothing at all, by `refusals_change_nothing` of
+/// the machines.
+pub fn refused_events_grant_nothing()
+    ensures unserved { UnservedGrantsNothing }
+    ensures commands { RefusedCommandsGrantNothing }
+    ensures again { RepeatedAsksGrantNothing }
+    ensures starts { RefusedStartsStop }
+{}
 
 /// The node that is chosen for a service is live, announced itself to a group that the server listens to, or to all, rates
 /// the service above 0 in its latest announcement, and no live node is better (`chosen`). Where none is chosen, all rate it 0
