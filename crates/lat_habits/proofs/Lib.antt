@@ -9,3 +9,4 @@ pub mod Waiting
 pub mod Passes
 pub mod Refused
 pub mod Starts
+pub mod Foreign

@@ -1,6 +1,5 @@
 -- The pass behind an event that leaves the line sessions and all that wait as they were changes nothing.
-use Rattle.std.proofs.Common.{◌≡◌, ℕ, refl, sym, ap, ◌∙◌, Bool, true, false, cond, List, [], ◌∷◌, ◌++◌, map, Option, Some, None}
-use Rattle.lat_model.specs.Lists.{Each}
+use Rattle.std.proofs.Common.{◌≡◌, ℕ, refl, ap, ◌∙◌, Bool, true, false, cond, List, [], ◌∷◌, ◌++◌, map, Option, Some, None}
 use Rattle.lat_model.proofs.numbers.Net.{each_imp}
 use Rattle.lat_machines.specs.values.Names.{Name}
 use Rattle.lat_machines.specs.values.Frames.{OutFrame}
@@ -8,7 +7,7 @@ use Rattle.lat_machines.specs.values.Answers.{Answer}
 use Rattle.lat_machines.specs.server.Queue.{QueueEvent, Request, waiting, first, next_request}
 use Rattle.lat_machines.specs.cores.Cores.{Seat, Core}
 use Rattle.lat_machines.specs.cores.Lines.{has_session}
-use Rattle.lat_machines.specs.server.Server.{ServerConfig, Server, ServerStep, offer_on, tells, can_open, fitting, grantable, passed}
+use Rattle.lat_machines.specs.server.Server.{ServerConfig, Server, ServerStep, offer_on, can_open, fitting, grantable, passed}
 use Rattle.lat_machines.specs.world.Safe.{NoGrant}
 use Rattle.lat_machines.proofs.queue.Grants.{extend}
 use Rattle.lat_machines.proofs.queue.Served.{Seated, AllSeated, served_on, ended_on}

@@ -1,5 +1,5 @@
 -- Which events of a server are refused, and what they change.
-use Rattle.std.proofs.Common.{◌≡◌, ◌≢◌, ℕ, suc, ◌<◌, ◌⊎◌, inl, inr, ⊎_elim, refl, sym, ap, ◌∙◌, subst, Bool, true, false, cond, ◌&&◌, ◌||◌, List, [], ◌∷◌, ◌++◌, length, Option, Some, None, nat_eq, nat_lt}
+use Rattle.std.proofs.Common.{◌≡◌, ℕ, suc, ◌<◌, ◌⊎◌, inl, inr, ⊎_elim, refl, sym, ap, ◌∙◌, subst, Bool, true, false, cond, List, [], ◌∷◌, ◌++◌, length, Option, Some, None, nat_eq, nat_lt}
 use Rattle.std.proofs.lemmas.Bool.{true≢false, false≢true, ne_eqb}
 use Rattle.lat_model.specs.sessions.Session.{put_open, take_open, unframed}
 use Rattle.lat_model.specs.sessions.Sessions.{least_free}
@@ -13,8 +13,8 @@ use Rattle.lat_machines.specs.values.Frames.{Value, OfCircuit, OfNotice, Whole, 
 use Rattle.lat_machines.specs.values.Events.{Numbers, Event, Hears, Time, Connects, Puts, Sets, Takes, Attends, Closes, Requests, Withdraws, Announces}
 use Rattle.lat_machines.specs.values.Answers.{Answer, Announced, Apart, DirectoryFull, Ignored, Busy, NoLine, NoService, SessionsFull, CircuitsFull, IdsOut, Closed, Full, Connected, NotKept, KeptIs}
 use Rattle.lat_machines.specs.server.Directory.{Best, best, refuses, meets}
-use Rattle.lat_machines.specs.server.Queue.{QueueEvent, Asks, Cancels, Request, is_waiting}
-use Rattle.lat_machines.specs.server.Records.{kept_now, record_of, kept_of, new_answer, ask_answer}
+use Rattle.lat_machines.specs.server.Queue.{Asks, Cancels, Request, is_waiting, waits}
+use Rattle.lat_machines.specs.server.Records.{kept_now, kept_of, new_answer, ask_answer}
 use Rattle.lat_machines.specs.cores.Cores.{Seat, Core, Doing, at_moment, circuit_to}
 use Rattle.lat_machines.specs.cores.Lines.{session_of, seat_at, has_session, line_exists}
 use Rattle.lat_machines.specs.cores.LineCalls.{Said, says, put_on, set_on, attend_on, take_on, close_on, on_line}
@@ -24,8 +24,8 @@ use Rattle.lat_machines.specs.world.Safe.{NoGrant}
 use Rattle.lat_machines.specs.world.Refusals.{server_moved}
 use Rattle.lat_machines.proofs.queue.Served.{AllSeated}
 use Rattle.lat_machines.proofs.queue.Settled.{Settled, settled, settled_at}
-use Rattle.lat_habits.specs.Refused.{server_before, solicits_alone, IsUnserved, UnservedGrantsNothing, told_by, outcome_of, status_to, notes_alone, command_heard, IsNoted, refuses_command, RefusedCommandsGrantNothing, asks_again, RepeatedAsksGrantNothing}
-use Rattle.lat_habits.proofs.Waiting.{Still, turned_still, known_still, unwaited, IsUnwaited, unwaited_still}
+use Rattle.lat_habits.specs.Refused.{server_before, IsUnserved, UnservedGrantsNothing, told_by, outcome_of, status_to, command_heard, IsNoted, refuses_command, RefusedCommandsGrantNothing, RepeatedCommandsGrantNothing}
+use Rattle.lat_habits.proofs.Waiting.{Still, turned_still, known_still, resting_still, resting_kept, unwaited, unwaited_still}
 use Rattle.lat_habits.proofs.Passes.{notes_pass, solicits_pass}
 
 -- answers that are none of these
@@ -260,8 +260,16 @@ refused_commands_grant_nothing config es e pos q = ⊎_elim {C = IsNoted st e (p
       step = ap (passed config) n.noted.step ∙ notes_pass config st (told_by n.noted.from n.noted.command n.noted.command.action s.answer) s.answer (status_to n.noted.from n.noted.command (outcome_of s.answer)) n.still c.seated c.quiet;
     }
 
-pub repeated_asks_grant_nothing : RepeatedAsksGrantNothing
-repeated_asks_grant_nothing config es from now m numbers r pos far asks found = ap (passed config) is ∙ notes_pass config st (told_by from m m.action (KeptIs k)) (KeptIs k) (status_to from m (KeptAs k)) still c.seated c.quiet
+-- an action that is answered from the record
+record Again (config : ServerConfig) (st : Server) (from : ℕ) (m : Command) (k : Kept) (a : Action) : Type 0 where
+  pub step : hears_command config st from m a ≡ record { state = record st { queue = st.queue ++ told_by from m a (KeptIs k) ∷ [] }; answer = KeptIs k; frames = status_to from m (KeptAs k) ∷ [] }
+  pub still : Still st.queue (told_by from m a (KeptIs k))
+
+pub repeated_commands_grant_nothing : RepeatedCommandsGrantNothing
+repeated_commands_grant_nothing config es from now m numbers r pos far found rests =
+    let g : Again config st from m k m.action = again m.action rests in
+    ap (passed config) (ap (λ b. cond b (tells st Ignored) (hears_command config st from m m.action)) (ne_eqb from everyone far) ∙ g.step)
+    ∙ notes_pass config st (told_by from m m.action (KeptIs k)) (KeptIs k) (status_to from m (KeptAs k)) g.still c.seated c.quiet
   where
     e : Event
     e = command_heard from m numbers now
@@ -275,18 +283,18 @@ repeated_asks_grant_nothing config es from now m numbers r pos far asks found = 
     c : Calm config st
     c = before_calm config es e pos
 
+    asked : Kept → ServerStep
+    asked z = record { state = record st { queue = st.queue ++ Asks (key_of m) from m.service z ∷ [] }; answer = KeptIs z; frames = status_to from m (KeptAs z) ∷ [] }
+
+    cancelled : Option Kept → ServerStep
+    cancelled o = elim o [
+      | None ↦ record { state = record st { queue = st.queue ++ Cancels (key_of m) ∷ [] }; answer = NotKept; frames = status_to from m Unknown ∷ [] }
+      | Some z ↦ record { state = record st { queue = st.queue ++ Cancels (key_of m) ∷ [] }; answer = KeptIs z; frames = status_to from m (KeptAs z) ∷ [] }
+    ]
+
     told : Option Request → Kept
     told o = elim o [ None ↦ new_answer (offered config) m.service st.queue | Some y ↦ kept_now st.queue y ]
 
-    answered : ask_answer (offered config) (key_of m) m.service st.queue ≡ k
-    answered = ap told found
-
-    is : server_event config (server_run config es (open_server config)) e ≡ asks_again st from m r
-    is =
-        ap (λ b. cond b (tells st Ignored) (hears_command config st from m m.action)) (ne_eqb from everyone far)
-        ∙ (ap (hears_command config st from m) asks
-        ∙ (ap (λ z. record { state = record st { queue = st.queue ++ Asks (key_of m) from m.service z ∷ [] }; answer = KeptIs z; frames = status_to from m (KeptAs z) ∷ [] }) answered
-        ∙ ap (λ z. record { state = record st { queue = st.queue ++ told_by from m z (KeptIs k) ∷ [] }; answer = KeptIs k; frames = status_to from m (KeptAs k) ∷ [] }) (sym asks)))
-
-    still : Still st.queue (told_by from m m.action (KeptIs k))
-    still = subst (λ z. Still st.queue (told_by from m z (KeptIs k))) (sym asks) (known_still st.queue (key_of m) from m.service k r found)
+    again : (a : Action) → (a ≡ Cancel → waits r ≡ false) → Again config st from m k a
+    again Ask w = record { step = ap asked (ap told found); still = known_still st.queue (key_of m) from m.service k r found }
+    again Cancel w = record { step = ap cancelled (resting_kept st.queue (key_of m) r found (w refl)); still = resting_still st.queue (key_of m) r found (w refl) }

@@ -16,7 +16,7 @@ use Rattle.lat_machines.specs.cores.LineCalls.{Said, says, put_on, set_on, atten
 use Rattle.lat_machines.specs.node.Node.{NodeConfig, Node, NodeStep, Requested, node_side, open_node, request_of, tells, hears_start, solicited, hears_value, requests_again, withdraws, node_step}
 use Rattle.lat_machines.specs.world.Histories.{node_run}
 use Rattle.lat_machines.specs.world.Refusals.{node_moved}
-use Rattle.lat_habits.specs.Refused.{stops_alone, IsTurnedAway, RefusedStartsStop}
+use Rattle.lat_habits.specs.Refused.{IsTurnedAway, RefusedStartsStop}
 
 abbrev is_refusal : Answer → Bool
 is_refusal StartRefused = true

@@ -1,9 +1,8 @@
 -- Who waits in a queue isn't changed by an ask that isn't told to wait, or whose key is known, nor by the cancel of a key that
 -- doesn't wait.
-use Rattle.std.proofs.Common.{◌≡◌, ℕ, refl, sym, ap, ap₂, ◌∙◌, subst, Bool, true, false, not, cond, ◌&&◌, ◌||◌, List, [], ◌∷◌, ◌++◌, map, Option, Some, None, nat_eq, eqb-true, eq-eqb, filter, find}
+use Rattle.std.proofs.Common.{◌≡◌, ℕ, refl, sym, ap, ap₂, ◌∙◌, subst, Bool, true, false, not, cond, ◌&&◌, ◌||◌, List, [], ◌∷◌, ◌++◌, map, Option, Some, None, nat_eq, filter, find}
 use Rattle.std.specs.List.{list_any}
-use Rattle.std.specs.Prelude.{bytes_eq}
-use Rattle.std.proofs.lemmas.Bool.{and_parts, true≢false, false≢true}
+use Rattle.std.proofs.lemmas.Bool.{and_parts, not-false, true≢false, false≢true}
 use Rattle.std.proofs.lemmas.Cmp.{nat_eq_equiv, nat_list_eq_equiv}
 use Rattle.std.proofs.lemmas.List.{append-nil}
 use Rattle.std.proofs.lemmas.List.Elements.{filter-append}
@@ -14,7 +13,7 @@ use Rattle.lat_machines.specs.values.Notices.{Kept, Waiting, Granted, Cancelled,
 use Rattle.lat_machines.specs.values.Keys.{Key, same_key}
 use Rattle.lat_machines.specs.server.Queue.{QueueEvent, Asks, Cancels, Grants, Finishes, Request, cancels, grants, finishes, first_asks, is_waiting, is_overfull, records, waits, waiting, first}
 use Rattle.lat_machines.specs.server.Records.{place_in, waited, kept_now, record_of, kept_of}
-use Rattle.lat_machines.proofs.queue.Grants.{extend, text_eq, distinct_asks, distinct_filter, only_one, any_more}
+use Rattle.lat_machines.proofs.queue.Grants.{extend, distinct_asks, distinct_filter, only_one, any_more}
 
 -- those that wait for each service are the same, but for the event behind them
 abbrev pub Still : List QueueEvent → QueueEvent → Type 0
@@ -223,6 +222,65 @@ find_extended e k (x ∷ xs) r q = go (same_key x.key k) (find_extended e k xs r
     go true p q = let i : x ≡ r = cc in ap (λ z. Some (extend e z)) i
     go false p q = p q
 
+-- the cancel of a key whose record doesn't wait, and what is kept of it then
+
+module _ (h : List QueueEvent) (k : Key) (r : Request) (f : record_of k h ≡ Some r) (w : waits r ≡ false) where
+  pub resting_still : Still h (Cancels k)
+  resting_still =
+      let one : Each (λ (x : Request). same_key x.key r.key ≡ true → x ≡ r) (records h) = only_one (keyed k) (records h) r (distinct_filter kept (first_asks [] h) (distinct_asks [] h)) (find_first k (records h) ∙ f) in
+      cancel_still h k (each_imp (λ (x : Request). same_key x.key r.key ≡ true → x ≡ r) (λ (x : Request). same_key x.key k ≡ true → waits x ≡ false) (λ x g s. ap waits (g (key_congr x.key k r.key s ∙ (key_turned k r.key ∙ find_keyed k r (records h) f))) ∙ w) (records h) one)
+
+  there : record_of k (h ++ Cancels k ∷ []) ≡ Some (extend (Cancels k) r)
+  there = ap (find (keyed k)) (cancels_records h k) ∙ find_extended (Cancels k) k (records h) r f
+
+  -- it was granted or cancelled, if it was ever told to wait
+  settled : is_waiting r.answer ≡ true → list_any (cancels r.key) r.later || list_any (grants r.key) r.later ≡ true
+  settled q = either r.later ∙ not-false (list_any (λ e. cancels r.key e || grants r.key e) r.later) (sym (ap (λ b. b && not (list_any (λ e. cancels r.key e || grants r.key e) r.later)) q) ∙ w)
+    where
+      turned : (a b c d : Bool) → (a || c) || (b || d) ≡ (a || b) || (c || d)
+      turned true b c d = refl
+      turned false true true d = refl
+      turned false true false d = refl
+      turned false false c d = refl
+
+      either : (es : List QueueEvent) → list_any (cancels r.key) es || list_any (grants r.key) es ≡ list_any (λ e. cancels r.key e || grants r.key e) es
+      either [] = refl
+      either (e ∷ es) = turned (cancels r.key e) (grants r.key e) (list_any (cancels r.key) es) (list_any (grants r.key) es) ∙ ap (λ b. (cancels r.key e || grants r.key e) || b) (either es)
+
+  kept_same : kept_now (h ++ Cancels k ∷ []) (extend (Cancels k) r) ≡ kept_now h r
+  kept_same = go (is_waiting r.answer) refl
+    where
+      after : List QueueEvent
+      after = h ++ Cancels k ∷ []
+
+      or_none : (b : Bool) → b || false ≡ b
+      or_none true = refl
+      or_none false = refl
+
+      told : Bool → Bool → Bool → ℕ → Kept
+      told a b c n = cond a (cond b Done Granted) (cond c Cancelled (Waiting n))
+
+      -- a cancel more changes nothing of what was granted or cancelled
+      same_told : (a b c d : Bool) (n i : ℕ) → c || a ≡ true → told a b (c || d) n ≡ told a b c i
+      same_told true b c d n i s = refl
+      same_told false b true d n i s = refl
+      same_told false b false d n i s = absurd (false≢true s)
+
+      go : (n : Bool) → is_waiting r.answer ≡ n → cond n (waited after (extend (Cancels k) r)) r.answer ≡ cond n (waited h r) r.answer
+      go false q = refl
+      go true q =
+          ap₂ (λ a b. told a b (list_any (cancels r.key) (r.later ++ Cancels k ∷ [])) (place_in r.key (waiting r.service after)))
+          (any_more (grants r.key) r.later (Cancels k) ∙ or_none (list_any (grants r.key) r.later))
+          (any_more (finishes r.key) r.later (Cancels k) ∙ or_none (list_any (finishes r.key) r.later))
+          ∙ (ap (λ c. told (list_any (grants r.key) r.later) (list_any (finishes r.key) r.later) c (place_in r.key (waiting r.service after))) (any_more (cancels r.key) r.later (Cancels k))
+          ∙ same_told (list_any (grants r.key) r.later) (list_any (finishes r.key) r.later) (list_any (cancels r.key) r.later) (cancels r.key (Cancels k)) (place_in r.key (waiting r.service after)) (place_in r.key (waiting r.service h)) (settled q))
+
+  pub resting_kept : kept_of k (h ++ Cancels k ∷ []) ≡ Some (kept_now h r)
+  resting_kept = ap told there ∙ ap (λ z. Some z) kept_same
+    where
+      told : Option Request → Option Kept
+      told o = elim o [ None ↦ None | Some y ↦ Some (kept_now (h ++ Cancels k ∷ []) y) ]
+
 -- an answer that stands for the whole run, other than those of a request that waited
 abbrev pub unwaited : Kept → Bool
 unwaited QueueFull = true
@@ -266,5 +324,4 @@ unwaited_still h k o q u = go (find (keyed k) (records h)) refl
     go (Some r) f =
         let there : record_of k after ≡ Some (extend (Cancels k) r) = ap (find (keyed k)) (cancels_records h k) ∙ find_extended (Cancels k) k (records h) r f in
         let w : waits r ≡ false = ap (λ b. b && not (list_any (λ e. cancels r.key e || grants r.key e) r.later)) (never_waited after (extend (Cancels k) r) (answer_is (extend (Cancels k) r) o (sym (ap told there) ∙ q) u)) in
-        let one : Each (λ (x : Request). same_key x.key r.key ≡ true → x ≡ r) (records h) = only_one (keyed k) (records h) r (distinct_filter kept (first_asks [] h) (distinct_asks [] h)) (find_first k (records h) ∙ f) in
-        cancel_still h k (each_imp (λ (x : Request). same_key x.key r.key ≡ true → x ≡ r) (λ (x : Request). same_key x.key k ≡ true → waits x ≡ false) (λ x g s. ap waits (g (key_congr x.key k r.key s ∙ (key_turned k r.key ∙ find_keyed k r (records h) f))) ∙ w) (records h) one)
+        resting_still h k r f w

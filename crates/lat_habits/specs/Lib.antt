@@ -3,3 +3,4 @@ pub mod Chosen
 pub mod Fullness
 pub mod Living
 pub mod Accepted
+pub mod Kinds

@@ -4,12 +4,12 @@ use Rattle.std.specs.Prelude.{◌≡◌, ◌≢◌, ℕ, ◌+◌, ◌%◌, ◌<�
 use Rattle.lat_machines.specs.values.Names.{Name}
 use Rattle.lat_machines.specs.values.Addresses.{everyone}
 use Rattle.lat_machines.specs.values.Messages.{StartInfo, StartMessage, StopMessage}
-use Rattle.lat_machines.specs.values.Notices.{Kept, QueueFull, NoService, RecordsFull, Outcome, KeptAs, Unknown, Action, Ask, Command, CommandNotice, StatusNotice, SolicitNotice}
+use Rattle.lat_machines.specs.values.Notices.{QueueFull, NoService, RecordsFull, Outcome, KeptAs, Unknown, Action, Ask, Cancel, Command, CommandNotice, StatusNotice, SolicitNotice}
 use Rattle.lat_machines.specs.values.Frames.{OfCircuit, OfNotice, Whole, OutFrame, plain}
 use Rattle.lat_machines.specs.values.Events.{Numbers, Event, Hears, Connects}
 use Rattle.lat_machines.specs.values.Answers.{Answer, StartRefused, KeptIs, NotKept}
 use Rattle.lat_machines.specs.values.Answers as Answers
-use Rattle.lat_machines.specs.server.Queue.{QueueEvent, Asks, Cancels, Request}
+use Rattle.lat_machines.specs.server.Queue.{QueueEvent, Asks, Cancels, Request, waits}
 use Rattle.lat_machines.specs.server.Records.{kept_now, record_of}
 use Rattle.lat_machines.specs.server.Server.{ServerConfig, Server, ServerStep, open_server, key_of}
 use Rattle.lat_machines.specs.node.Node.{NodeConfig, Node, NodeStep, open_node}
@@ -91,19 +91,19 @@ RefusedCommandsGrantNothing =
     refuses_command (server_after config events e).answer ≡ true →
     IsNoted (server_before config events e) e (server_after config events e)
 
--- a command that asks again is answered from the record of its key
-abbrev pub asks_again : Server → ℕ → Command → Request → ServerStep
-asks_again state from m r = notes_alone state from m (KeptIs (kept_now state.queue r))
+-- a command whose key is known is answered from its record. Only the cancel of a request that waits is no such command
+abbrev pub answers_again : Server → ℕ → Command → Request → ServerStep
+answers_again state from m r = notes_alone state from m (KeptIs (kept_now state.queue r))
 
-abbrev pub RepeatedAsksGrantNothing : Type 0
-RepeatedAsksGrantNothing =
+abbrev pub RepeatedCommandsGrantNothing : Type 0
+RepeatedCommandsGrantNothing =
     (config : ServerConfig) (events : List Event) (from now : ℕ) (m : Command) (numbers : Option Numbers) (r : Request) →
     0 < config.timing.sessions →
     from ≢ everyone →
-    m.action ≡ Ask →
     record_of (key_of m) (server_before config events (command_heard from m numbers now)).queue ≡ Some r →
+    (m.action ≡ Cancel → waits r ≡ false) →
     server_after config events (command_heard from m numbers now)
-    ≡ asks_again (server_before config events (command_heard from m numbers now)) from m r
+    ≡ answers_again (server_before config events (command_heard from m numbers now)) from m r
 
 -- a START that a node refuses: a STOP with reason 7 goes back, under the id that the START came with
 abbrev pub stops_alone : Node → ℕ → ℕ → NodeStep

@@ -1,20 +1,21 @@
 //! The laws of one machine, behind every history of it.
 
-ghost use Rattle.lat_habits.specs.Refused.{UnservedGrantsNothing, RefusedCommandsGrantNothing, RepeatedAsksGrantNothing, RefusedStartsStop};
+ghost use Rattle.lat_habits.specs.Refused.{UnservedGrantsNothing, RefusedCommandsGrantNothing, RepeatedCommandsGrantNothing, RefusedStartsStop};
 ghost use Rattle.lat_habits.specs.Chosen.{ChosenAreWilling, NoneIsWilling, UnwillingAreNotChosen};
 ghost use Rattle.lat_habits.specs.Fullness.{ServerLinesSuffice, NodeLinesSuffice, AnnouncementsTellFullness, FullAreNotChosen};
 ghost use Rattle.lat_habits.specs.Living.{ServerCircuitsApart, NodeCircuitsApart};
 ghost use Rattle.lat_habits.specs.Accepted.{AcceptedOnce};
+ghost use Rattle.lat_habits.specs.Kinds.{ServerHearsItsKind, NodeHearsItsKind};
 
 /// A refused event connects no line: neither by itself nor by the grant pass behind it. A connect that no node serves draws
 /// a solicit id and sends a Solicit (`unserved`). A refused command is noted in the queue and answered by a Status
-/// (`commands`), and so is one that asks again (`again`), from its record. At a node a refused START is answered by a STOP
+/// (`commands`), and so is one whose key is known, from its record, but the cancel of a request that waits (`again`). At a node a refused START is answered by a STOP
 /// (`starts`). Nothing else changes but the moment. The other refusals change nothing at all, by `refusals_change_nothing` of
 /// the machines.
 pub fn refused_events_grant_nothing()
     ensures unserved { UnservedGrantsNothing }
     ensures commands { RefusedCommandsGrantNothing }
-    ensures again { RepeatedAsksGrantNothing }
+    ensures again { RepeatedCommandsGrantNothing }
     ensures starts { RefusedStartsStop }
 {}
 
@@ -51,4 +52,11 @@ pub fn living_circuits_are_apart()
 /// A node accepts a session for a request once: no request id is accepted twice.
 pub fn requests_are_accepted_once()
     ensures { AcceptedOnce }
+{}
+
+/// In every state: a RUN whose numbers have another width than those of the circuit that it names, or whose master bit is
+/// that of the end that hears it, is foreign.
+pub fn runs_of_another_kind_are_foreign()
+    ensures server { ServerHearsItsKind }
+    ensures node { NodeHearsItsKind }
 {}
