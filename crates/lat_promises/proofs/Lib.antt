@@ -1,3 +1,5 @@
 pub mod Sessions
 pub mod Circuits
 pub mod Rows
+pub mod Mates
+pub mod Examples

@@ -78,7 +78,7 @@ module _ (m s : Sessions) (up down : List TaggedSlot) (j : Joined m s up down) (
 prefix_then : {X : Type 0} (xs ys zs : List X) → IsPrefixOf xs ys → IsPrefixOf ys zs → IsPrefixOf xs zs
 prefix_then xs ys zs p q = (p.0 ++ q.0, sym (append_assoc xs p.0 q.0) ∙ (ap (λ x. x ++ q.0) p.1 ∙ q.1))
 
-none_before : {X : Type 0} (xs ys : List X) → xs ++ ys ≡ [] → xs ≡ []
+pub none_before : {X : Type 0} (xs ys : List X) → xs ++ ys ≡ [] → xs ≡ []
 none_before [] ys h = refl
 none_before (x ∷ xs) ys h = let z : ⊥ = cc in absurd z
 

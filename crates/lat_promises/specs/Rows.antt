@@ -3,7 +3,8 @@ use Rattle.std.specs.Prelude.{◌≡◌, ◌≢◌, ◌≤◌, List, [], ◌∷�
 use Rattle.lat_model.specs.Lists.{IsPrefixOf}
 use Rattle.lat_machines.specs.cores.Cores.{Seat}
 use Rattle.lat_machines.specs.world.Machines.{Setups, Machines}
-use Rattle.lat_machines.specs.world.Reports.{Direction, Row, report}
+use Rattle.lat_machines.specs.world.Reports.{Direction, Row, partner, report}
+use Rattle.lat_rounds.specs.Seated.{IsSeat}
 
 -- the session is on a circuit to the node; another one has its other end at a stranger's
 abbrev pub IsWithNode : Setups → Machines → Seat → Type 0
@@ -27,6 +28,21 @@ pub record RowInOrder (u : Setups) (w : Machines) (s : Seat) (r : Row) : Type 0 
 
 abbrev pub RowsInOrder : Setups → Machines → Type 0
 RowsInOrder u w = EachRow (RowInOrder u w) w.server.core.seats (report u w).sessions
+
+-- The row in which a session of the node stands: the session of the server whose partner it is, and no other's
+pub record HasRow (u : Setups) (w : Machines) (t : Seat) : Type 0 where
+  pub seat : Seat
+  pub is_seat : IsSeat seat w.server.core.seats
+  pub found : partner u w seat ≡ t
+  pub alone : (s : Seat) → IsSeat s w.server.core.seats → partner u w s ≡ t → s ≡ seat
+
+-- each session of the node on a circuit to the server has its row
+abbrev pub NodeSessionsHaveRows : Setups → Machines → Type 0
+NodeSessionsHaveRows u w =
+    (t : Seat) →
+    IsSeat t w.node.core.seats →
+    (w.node.core.circuits.circuit_at t.circuit).address ≡ u.server.own →
+    HasRow u w t
 
 -- no more credits were used up than the end that takes had given
 abbrev pub WithinCredit : Direction → Type 0

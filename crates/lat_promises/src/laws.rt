@@ -5,13 +5,19 @@ ghost use Rattle.std.specs.Prelude.{List};
 ghost use Rattle.lat_machines.specs.world.Machines.{Setups, Move, run, open_machines};
 ghost use Rattle.lat_machines.specs.world.Safe.{Fit};
 ghost use Rattle.lat_promises.specs.Circuits.{RunningIsShared, NothingSaidBefore, WithinWindows};
-ghost use Rattle.lat_promises.specs.Rows.{RowsInOrder, RowsWithinCredit};
+ghost use Rattle.lat_promises.specs.Rows.{RowsInOrder, NodeSessionsHaveRows, RowsWithinCredit};
 
 /// In each row of a report what was taken are the first of the items that were put at the other end, both ways: from the
 /// server to the node in every row, and back in every row of a session with the node, as each is that shows a line of the
 /// node. Of a session with a stranger the report tells nothing that was put at its other end.
 pub fn rows_are_in_order()
     ensures { (u : Setups) (moves : List Move) → Fit u → RowsInOrder u (run u moves (open_machines u)) }
+{}
+
+/// Each session that the node has accepted on a circuit to the server stands in just one row: that of the session of the
+/// server whose partner it is. So no row leaves out what a session of the node has put and taken.
+pub fn node_sessions_have_their_rows()
+    ensures { (u : Setups) (moves : List Move) → Fit u → NodeSessionsHaveRows u (run u moves (open_machines u)) }
 {}
 
 /// In each such row no more credits were used up than the other end had given, both ways.
