@@ -15,6 +15,10 @@ use Rattle.lat_machines.specs.world.Safe.{StreamsInOrder, SlotsCredited, Safe}
 use Rattle.lat_machines.proofs.frames.Refused.{server_no_layout, node_no_layout}
 use Rattle.lat_machines.proofs.runs.Own.{histories_of}
 use Rattle.lat_machines.proofs.runs.Safety.{every_safe, every_stream, every_credit}
+use Rattle.lat_promises.specs.Circuits.{RunningIsShared}
+use Rattle.lat_promises.specs.Rows.{RowsInOrder, RowsWithinCredit}
+use Rattle.lat_promises.proofs.Rows.{rows_in_order, rows_in_credit}
+use Rattle.lat_promises.proofs.Circuits.{running_shared, standing}
 use Rattle.lat_replay.specs.Kept.{Kept, setups_of}
 use Rattle.lat_replay.specs.Promises.{OnlyNotes, NoLayoutChangesNothing, Promises}
 use Rattle.lat_replay.specs.Stands.{Stands}
@@ -59,8 +63,11 @@ no_layout k w s false from field at now rates =
 
 pub stands_promises : {H : Type 0} (k : Kept H) (w : Machines) → Stands k w → Promises (setups_of k) w
 stands_promises k w s = record {
+  running = subst (RunningIsShared (setups_of k)) (sym s.wire.run) (running_shared (setups_of k) _ (standing (setups_of k) s.wire.fit s.wire.moves));
   streams = subst (StreamsInOrder (setups_of k)) (sym s.wire.run) (every_stream (setups_of k) s.wire.moves s.wire.fit);
   credits = subst (SlotsCredited (setups_of k)) (sym s.wire.run) (every_credit (setups_of k) s.wire.moves s.wire.fit);
+  rows = subst (RowsInOrder (setups_of k)) (sym s.wire.run) (rows_in_order (setups_of k) s.wire.moves s.wire.fit);
+  spent = subst (RowsWithinCredit (setups_of k)) (sym s.wire.run) (rows_in_credit (setups_of k) s.wire.moves s.wire.fit);
   queue = (stands_safe k w s).queue;
   grants = (stands_safe k w s).grants;
   layouts = no_layout k w s;

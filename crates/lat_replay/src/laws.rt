@@ -23,9 +23,11 @@ pub fn worlds_are_safe<H: RatingRule>()
     ensures { WorldsAreSafe H }
 {}
 
-/// What is promised to both ends of every world: each session takes a prefix of what the other end put, each credited slot had
-/// its credit, each request was granted at most once and as the first that waited, and a frame of no layout changes nothing
-/// but the moment of the end that hears it, and is noted by its first bad field.
+/// What is promised to both ends of every world: each circuit that runs is shared by both; each of its sessions takes a prefix
+/// of what the other end put, and in the report each row of a session between the two has taken, both ways, a prefix of what was
+/// put, on credits that were given; each credited slot had its credit; each request was granted at most once and as the first
+/// that waited; and a frame of no layout changes nothing but the moment of the end that hears it, and is noted by its first bad
+/// field.
 pub fn worlds_keep_promises<H: RatingRule>()
     ensures { WorldsKeepPromises H }
 {}

@@ -215,5 +215,15 @@ enough_settle u s n t b q e =
     (all_settle u s.moment s.machines l.ratings b l.whole
     (subst (λ z. Enough (length l.ratings) (report u z)) l.machines (subst (λ z. Enough z (report u t.machines)) (sym l.count) e)))
 
+-- and rounds may begin behind rounds
+begins_settled : (u : Setups) (run n : ℕ) (s t : State) → BeginsAt u s → settled_behind u run n s ≡ Through t → BeginsAt u t
+unfolding settled_behind
+begins_settled u run zero s t b e = let z : s ≡ t = cc in subst (BeginsAt u) z b
+begins_settled u run (suc n) s t b e = go (played u s (round_events u s)) refl e (λ x c f. begins_settled u (suc run) n x t c f)
+  where
+    go : (p : Played) → played u s (round_events u s) ≡ p → in_round (suc run) p (settled_behind u (suc run) n) ≡ Through t → ((x : State) → BeginsAt u x → settled_behind u (suc run) n x ≡ Through t → BeginsAt u t) → BeginsAt u t
+    go (Through x) q f more = more x (subst (BeginsAt u) (sym (passed u 0 s x (round_events u s) q).1) (begins_next u s b)) f
+    go (Refused i g x) q f more = let z : ⊥ = cc in absurd z
+
 pub settles_so : {H : Type 0} (u : Setups) (s : State) (n : ℕ) (k : Kept H) → Running u s n k → BeginsAt u s → Settles u s n k
-settles_so u s n k r b = record { state = r.state; is = r.whole; stands = r.stands; all = enough_settle u s n r.state b r.whole }
+settles_so u s n k r b = record { state = r.state; is = r.whole; stands = r.stands; all = enough_settle u s n r.state b r.whole; again = begins_settled u 0 n s r.state b r.whole }

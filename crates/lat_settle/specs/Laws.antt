@@ -21,12 +21,14 @@ use Rattle.lat_settle.specs.Rounds.{settled, rounds_moment}
 abbrev pub BeginsAt : Setups → State → Type 0
 BeginsAt u s = Begins u s.moment s.machines
 
--- a world stands for the state behind so many rounds, and if they are enough, all that was put is taken there
+-- A world stands for the state behind so many rounds; if they are enough, all that was put is taken there; and more rounds may
+-- begin there, for nothing was lost in these
 pub record Settles {H : Type 0} (u : Setups) (s : State) (rounds : ℕ) (k : Kept H) : Type 0 where
   pub state : State
   pub is : settled u s rounds ≡ Through state
   pub stands : StandsAt k state
   pub all : Enough rounds (report u state.machines) → Settled u state.machines
+  pub again : BeginsAt u state
 
 abbrev pub IsFullOrMemory : EventFault → Type 0
 IsFullOrMemory fault = (fault ≡ FramesFull) ⊎ (fault ≡ Memory)
