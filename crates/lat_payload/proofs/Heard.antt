@@ -1,5 +1,5 @@
 -- What is answered is what the machines hear.
-use Rattle.std.proofs.Common.{◌≡◌, ℕ, List, Result, Ok, Err, ap}
+use Rattle.std.proofs.Common.{ℕ, List, Result, Ok, Err, ap}
 use Rattle.lat_fields.specs.declared.fault.LayoutFault.{LayoutFault}
 use Rattle.lat_fields.specs.declared.fault.LayoutFault.TheVariants as faults
 use Rattle.lat_fields.specs.Reading.{Gives}

@@ -1,23 +1,15 @@
--- The notice that is written of a notice shown is that notice, and which of the short ones can be written.
-use Rattle.std.proofs.Common.{◌≡◌, ◌<◌, List, [], ◌∷◌, ◌++◌, map, refl, ap, arith, length-append}
-use Rattle.lat_base.specs.Names.{IsName}
+-- The notice that is written of a notice shown is that notice, and an outcome that a server tells has a text.
+use Rattle.std.proofs.Common.{◌≡◌, List, [], ◌∷◌, map, refl, ap, arith}
 use Rattle.lat_base.specs.declared.kept.Kept.{Kept}
 use Rattle.lat_base.specs.declared.kept.Kept.TheVariants as kept
-use Rattle.lat_fields.specs.Texts.{counted}
 use Rattle.lat_notices.specs.declared.services.Service.{Service}
 use Rattle.lat_notices.specs.declared.notice.Action.{Action}
 use Rattle.lat_notices.specs.declared.notice.Action.TheVariants as actions
 use Rattle.lat_notices.specs.declared.notice.Outcome.{Outcome}
 use Rattle.lat_notices.specs.declared.notice.Outcome.TheVariants as outcomes
-use Rattle.lat_notices.specs.declared.notice.Command.{Command}
-use Rattle.lat_notices.specs.declared.notice.Status.{Status}
-use Rattle.lat_notices.specs.declared.notice.Solicit.{Solicit}
-use Rattle.lat_notices.specs.declared.notice.Response.{Response}
 use Rattle.lat_notices.specs.declared.notice.Notice.{Notice}
 use Rattle.lat_notices.specs.declared.notice.Notice.TheVariants as notices
 use Rattle.lat_notices.specs.Outcomes.{IsOutcome}
-use Rattle.lat_notices.specs.Texts.{IsWritable}
-use Rattle.lat_notices.proofs.Writable.{writable}
 use Rattle.lat_dir.specs.Stands.{service_shown}
 use Rattle.lat_queue.specs.Histories.{kept_in}
 use Rattle.lat_payload.specs.Shown.{action_shown, outcome_shown, notice_shown}
@@ -53,7 +45,7 @@ notice_back (notices.Solicit s) = refl
 notice_back (notices.Response r) = refl
 
 -- a place that a queue has is above 0
-sendable_fits : (o : Outcome) → IsSendable o → IsOutcome o
+pub sendable_fits : (o : Outcome) → IsSendable o → IsOutcome o
 sendable_fits (outcomes.Kept (kept.Waiting place)) h = omega (arith, h.0)
 sendable_fits (outcomes.Kept kept.Granted) h = tt
 sendable_fits (outcomes.Kept kept.Cancelled) h = tt
@@ -62,19 +54,3 @@ sendable_fits (outcomes.Kept kept.NoService) h = tt
 sendable_fits (outcomes.Kept kept.RecordsFull) h = tt
 sendable_fits (outcomes.Kept kept.Done) h = tt
 sendable_fits outcomes.Unknown h = tt
-
-pub status_writable : (s : Status) → IsSendable s.outcome → IsName s.node → IsWritable (notices.Status s)
-status_writable s told node = writable (notices.Status s) (record { outcome = sendable_fits s.outcome told; node = node }) (omega (arith, node.most))
-
-pub command_writable : (c : Command) → IsName c.node → IsName c.service → IsWritable (notices.Command c)
-command_writable c node service =
-    writable (notices.Command c) (record { node = node; service = service }) (omega (arith, length-append (counted c.node) (counted c.service), node.most, service.most))
-
-pub solicit_writable : (s : Solicit) → IsName s.asker → IsName s.service → IsWritable (notices.Solicit s)
-solicit_writable s asker service =
-    writable (notices.Solicit s) (record { asker = asker; service = service }) (omega (arith, length-append (counted s.asker) (counted s.service), asker.most, service.most))
-
-pub response_writable : (r : Response) → IsName r.node → IsName r.service → 0 < r.timer → IsWritable (notices.Response r)
-response_writable r node service timer =
-    writable (notices.Response r) (record { node = node; service = service; timer = timer })
-    (omega (arith, length-append (counted r.node) (counted r.service ++ r.rating ∷ r.timer ∷ []), length-append (counted r.service) (r.rating ∷ r.timer ∷ []), node.most, service.most))

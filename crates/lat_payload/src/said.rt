@@ -1,10 +1,10 @@
 //! Notices as frames. `docs/FORMATS.md`, part Notices, has their layouts.
 
 ghost use Rattle.std.specs.Prelude.{◌≡◌, ◌<◌};
-ghost use Rattle.lat_base.specs.Names.{IsName};
 ghost use Rattle.lat_base.specs.declared.outbox.Mark.TheVariants as marks;
 ghost use Rattle.lat_fields.specs.Payloads.{padded};
-ghost use Rattle.lat_notices.specs.Texts.{notice_text, IsWritable};
+ghost use Rattle.lat_notices.specs.Texts.{notice_text};
+ghost use Rattle.lat_notices.specs.Writing.{CanBeWritten};
 ghost use Rattle.lat_machines.specs.values.Addresses.{address, everyone};
 ghost use Rattle.lat_machines.specs.values.Frames.{plain, OfNotice};
 ghost use Rattle.lat_machines.specs.values.Notices.{CommandNotice, StatusNotice, SolicitNotice, ResponseNotice};
@@ -15,17 +15,10 @@ ghost use Rattle.lat_payload.specs.Frames.{GoesOutAs};
 use lat_base::{Addr, EVERYONE, Mark, Name, OutFrame, Payload};
 use lat_notices::{Action, Command, Notice, Outcome, Response, Solicit, Status, write_notice};
 
-// A name is one by its type.
-fn named(name: &Name)
-    ensures { IsName name.now }
-{
-    name.bytes();
-}
-
 /// A frame with this notice, which belongs to no circuit; what is written reads as the notice. `lat_notices::notice_ok` tells
 /// whether it may be called. It takes no memory.
 pub fn notice_frame(to: Addr, notice: &Notice) -> OutFrame
-    requires ok { IsWritable notice.now }
+    requires ok { CanBeWritten notice.now }
     ensures frame { result ≡
         record { to = to; payload = padded (notice_text notice.now); circuit = 0; mark = marks.Plain } }
     ensures goes { GoesOutAs result (plain (address to.0) 0 (OfNotice (notice_shown notice.now))) }
@@ -42,7 +35,7 @@ pub fn notice_frame(to: Addr, notice: &Notice) -> OutFrame
 
 /// What a server answers to a node's command. The incarnation and the request are those of the command; a place in the queue
 /// is 1 to 64.
-#[tactic(auto, using(crate::proofs::NoticesBack::status_writable))]
+#[tactic(auto, using(crate::proofs::NoticesBack::sendable_fits))]
 pub fn status_frame(
     to: Addr,
     incarnation: u16,
@@ -54,7 +47,6 @@ pub fn status_frame(
     ensures { GoesOutAs result (plain (address to.0) 0 (OfNotice (StatusNotice
         (record { incarnation = incarnation; request = request; outcome = outcome_shown outcome; node = node.now })))) }
 {
-    named(node);
     let status = Status {
         incarnation,
         request,
@@ -65,13 +57,10 @@ pub fn status_frame(
 }
 
 /// A server's question to everyone, who offers the service.
-#[tactic(auto, using(crate::proofs::NoticesBack::solicit_writable))]
 pub fn solicit_frame(id: u16, asker: &Name, service: &Name) -> OutFrame
     ensures { GoesOutAs result (plain everyone 0 (OfNotice (SolicitNotice
         (record { id = id; asker = asker.now; service = service.now })))) }
 {
-    named(asker);
-    named(service);
     let solicit = Solicit {
         id,
         asker: *asker,
@@ -81,7 +70,6 @@ pub fn solicit_frame(id: u16, asker: &Name, service: &Name) -> OutFrame
 }
 
 /// A node's command to a server: to ask for a session with the service, or to withdraw the request.
-#[tactic(auto, using(crate::proofs::NoticesBack::command_writable))]
 pub fn command_frame(
     to: Addr,
     incarnation: u16,
@@ -99,8 +87,6 @@ pub fn command_frame(
           service = service.now;
         })))) }
 {
-    named(node);
-    named(service);
     let command = Command {
         incarnation,
         request,
@@ -113,7 +99,6 @@ pub fn command_frame(
 
 /// A node's answer to the question of this number. It stands for `timer` seconds, not 0; a rating of 0 says that the node can't
 /// take a session.
-#[tactic(auto, using(crate::proofs::NoticesBack::response_writable))]
 pub fn response_frame(
     to: Addr,
     id: u16,
@@ -126,8 +111,6 @@ pub fn response_frame(
     ensures { GoesOutAs result (plain (address to.0) 0 (OfNotice (ResponseNotice
         (record { id = id; node = node.now; service = service.now; rating = rating; timer = timer })))) }
 {
-    named(node);
-    named(service);
     let response = Response {
         id,
         node: *node,
