@@ -90,9 +90,10 @@ impl Link {
             Stands self.now l →
             slice_get (map (frame_payload self.now false) (model.again_frames l)) place ≡ Some payload.new }
     {
-        if let Some(text) = self.texts.get(place) {
-            payload.append(text.bytes());
-            set_acknowledgement(payload, self.span(), self.receiving.ack());
-        }
+        let Some(text) = self.texts.get(place) else {
+            unreachable!()
+        };
+        payload.append(text.bytes());
+        set_acknowledgement(payload, self.span(), self.receiving.ack());
     }
 }

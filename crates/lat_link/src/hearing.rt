@@ -57,6 +57,8 @@ impl Link {
         ensures same { (self.new.ids ≡ self.old.ids) × (self.new.sending ≡ self.old.sending) × (self.new.texts ≡ self.old.texts) }
     {
         let number = behind(self.span(), self.receiving.ack());
-        self.receiving.offer(number);
+        if !self.receiving.offer(number) {
+            unreachable!()
+        }
     }
 }

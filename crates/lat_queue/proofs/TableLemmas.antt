@@ -1,10 +1,11 @@
 -- What a change of one record leaves of the lines.
-use Rattle.std.proofs.Common.{◌≡◌, ◌≢◌, ℕ, zero, suc, ◌+◌, ◌<◌, ◌≤◌, arith, refl, sym, ap, ap₂, ◌∙◌, subst, Bool, true, false, cond, List, [], ◌∷◌, ◌++◌, length, Option, Some, None, position, slice_get, slice_set, take, drop, append_assoc, true≢false, nat_eq, eqb-true}
+use Rattle.std.proofs.Common.{◌≡◌, ◌≢◌, ℕ, zero, suc, ◌+◌, ◌<◌, ◌≤◌, arith, refl, sym, ap, ap₂, ◌∙◌, subst, Bool, true, false, cond, ◌&&◌, ◌||◌, List, [], ◌∷◌, ◌++◌, length, Option, Some, None, slice_get, slice_set, take, drop, append_assoc, nat_eq, eqb-true}
 use Rattle.std.proofs.lemmas.Bool.{eqb-false}
 use Rattle.std.proofs.lemmas.List.{length-append, length-set, append-nil}
 use Rattle.std.proofs.Math.Seq.{take-append_seam, drop-append-add}
 use Rattle.std.proofs.lemmas.Iterator.Adapters.{position_from-zero}
-use Rattle.std.specs.List.{position_from}
+use Rattle.std.specs.List.{list_any, position_from}
+use Rattle.std.specs.Option.{is_some}
 use Rattle.std.specs.Map.{lookup}
 use Rattle.indexmap.specs.IndexMap.{insert_entry}
 use Rattle.lat_model.specs.Lists.{Each}
@@ -13,10 +14,11 @@ use Rattle.lat_queue.specs.declared.entry.Standing.{Standing}
 use Rattle.lat_queue.specs.declared.entry.Standing.TheVariants.{Waits, Granted, Done, Cancelled, QueueFull, NoService}
 use Rattle.lat_queue.specs.declared.entry.Entry.{Entry}
 use Rattle.lat_queue.specs.declared.entry.Waiter.{Waiter}
-use Rattle.lat_base.specs.declared.kept.Kept.{Kept}
+use Rattle.lat_queue.specs.Histories.{key_in}
 use Rattle.lat_queue.specs.KeyHash.{one_key}
-use Rattle.lat_queue.specs.Lines.{has_key, place_at, without_at, without}
-use Rattle.lat_queue.specs.Tables.{Table, HasPlace, IsShort, info_of, Holds, MayWait, added, restood, waiting_entry, waiting_found, waits_at, waits_somewhere, waiter_of, waiters, waiting_count, OnLine, with_standing}
+use Rattle.lat_queue.proofs.KeyLemmas.{key_self}
+use Rattle.lat_queue.specs.Lines.{has_key, without_at, without}
+use Rattle.lat_queue.specs.Tables.{Table, InLine, Holds, MayStand, added, restood, waiting_entry, waiting_found, waits_at, waits_somewhere, waiter_of, waiters, waiting_count, OnLine, with_standing}
 
 pub lookup_each : (P : Entry → Type 0) (k : Key) (es : List (Key × Entry)) (e : Entry) → Each (λ (x : Key × Entry). P x.1) es → lookup (one_key k) es ≡ Some e → P e
 lookup_each P k [] e p q = let z : ⊥ = cc in absurd z
@@ -185,11 +187,11 @@ off_line i Cancelled h = tt
 off_line i QueueFull h = tt
 off_line i NoService h = tt
 
-room_line : (t : Table) (st : Standing) → MayWait t st → OnLine (length t.offered) st
+room_line : (t : Table) (st : Standing) → MayStand t st → OnLine (length t.offered) st
 room_line t (Waits j) h = h.0
-room_line t (Granted n) h = tt
-room_line t (Done n) h = tt
-room_line t Cancelled h = tt
+room_line t (Granted n) h = absurd h
+room_line t (Done n) h = absurd h
+room_line t Cancelled h = absurd h
 room_line t QueueFull h = tt
 room_line t NoService h = tt
 
@@ -246,7 +248,7 @@ holds_still t ls k e st h l w s = record {
     len = length_insert k e (with_standing e st) t.entries l
 
 -- a new record, waiting or not
-pub holds_joined : (t : Table) (ls : List (List Waiter)) (k : Key) (e : Entry) (i : ℕ) (line : List Waiter) → Holds t ls → MayWait t e.standing → length t.entries < 65536 → e.standing ≡ Waits i → line ≡ waiters i t.entries ++ waiter_of (k, e) ∷ [] → Holds (added t k e) (slice_set ls i line)
+pub holds_joined : (t : Table) (ls : List (List Waiter)) (k : Key) (e : Entry) (i : ℕ) (line : List Waiter) → Holds t ls → MayStand t e.standing → length t.entries < 65536 → e.standing ≡ Waits i → line ≡ waiters i t.entries ++ waiter_of (k, e) ∷ [] → Holds (added t k e) (slice_set ls i line)
 unfolding one_if
 holds_joined t ls k e i line h room few w n = record {
   count = length-set ls i line ∙ h.count;
@@ -313,18 +315,29 @@ waits_there t k e i h = by (lookup (one_key k) t.entries) refl h
 
 -- places
 
-some_wait : (i : ℕ) (k : Key) (e : Entry) (es : List (Key × Entry)) → lookup (one_key k) es ≡ Some e → waits_at i e.standing ≡ true → 0 < length (waiters i es)
-some_wait i k e [] l w = let z : ⊥ = cc in absurd z
-some_wait i k e (x ∷ xs) l w = by (one_key k x.0) (waits_at i x.1.standing) refl l (some_wait i k e xs)
-  where
-    by : (a b : Bool) → waits_at i x.1.standing ≡ b → cond a (Some x.1) (lookup (one_key k) xs) ≡ Some e → (lookup (one_key k) xs ≡ Some e → waits_at i e.standing ≡ true → 0 < length (waiters i xs)) → 0 < length (cond b (waiter_of x ∷ waiters i xs) (waiters i xs))
-    by a true q l m = omega arith
-    by true false q l m = let s : x.1 ≡ e = cc in absurd (true≢false (sym w ∙ ap (λ (z : Entry). waits_at i z.standing) (sym s) ∙ q))
-    by false false q l m = m l w
+-- a record of the key that waits in a line
+abbrev waits_as : ℕ → Key → Key × Entry → Bool
+waits_as i k x = one_key k x.0 && waits_at i x.1.standing
 
-counts : (n : ℕ) (o : Option ℕ) → 0 < n → 1 ≤ place_at n o
-counts n None h = omega (arith, h)
-counts n (Some i) h = omega arith
+-- its key stands in the line
+found_in : (i n : ℕ) (k : Key) (es : List (Key × Entry)) → list_any (waits_as i k) es ≡ true → is_some (position_from (has_key k) n (waiters i es)) ≡ true
+found_in i n k [] h = let z : ⊥ = cc in absurd z
+found_in i n k (x ∷ xs) h = by (one_key k x.0) (waits_at i x.1.standing) refl h (λ m. found_in i m k xs)
+  where
+    by : (a b : Bool) → one_key k x.0 ≡ a → ((a && b) || list_any (waits_as i k) xs) ≡ true → ((m : ℕ) → list_any (waits_as i k) xs ≡ true → is_some (position_from (has_key k) m (waiters i xs)) ≡ true)
+        → is_some (position_from (has_key k) n (cond b (waiter_of x ∷ waiters i xs) (waiters i xs))) ≡ true
+    by true true q h m = rw q refl
+    by true false q h m = m n h
+    by false true q h m = rw q (m (n + 1) h)
+    by false false q h m = m n h
+
+in_line : (k : Key) (es : List (Key × Entry)) (s : Standing) → ((i : ℕ) → s ≡ Waits i → list_any (waits_as i k) es ≡ true) → InLine es k s
+in_line k es (Waits i) h = subst (λ o. is_some o ≡ true) (sym (position_from-zero (has_key k) (waiters i es))) (found_in i 0 k es (h i refl))
+in_line k es (Granted n) h = tt
+in_line k es (Done n) h = tt
+in_line k es Cancelled h = tt
+in_line k es QueueFull h = tt
+in_line k es NoService h = tt
 
 same_line : (i : ℕ) → nat_eq i i ≡ true
 same_line i = by (nat_eq i i) refl
@@ -333,13 +346,33 @@ same_line i = by (nat_eq i i) refl
     by true q = q
     by false q = absurd (eqb-false i i q refl)
 
-pub has_place : (k : Key) (e : Entry) (es : List (Key × Entry)) (r : Kept) → lookup (one_key k) es ≡ Some e → r ≡ info_of es k e.standing → IsShort r → HasPlace r
-has_place k e es r l q h = by e.standing refl (subst IsShort q h) (λ p. subst HasPlace (sym q) p)
+at_line : (i : ℕ) (s : Standing) → s ≡ Waits i → waits_at i s ≡ true
+at_line i s w = ap (waits_at i) w ∙ same_line i
+
+-- of the record that a key leads to
+pub found_in_line : (k : Key) (es : List (Key × Entry)) (e : Entry) → lookup (one_key k) es ≡ Some e → InLine es k e.standing
+found_in_line k es e l = in_line k es e.standing (λ i w. go i es (at_line i e.standing w) l)
   where
-    by : (s : Standing) → e.standing ≡ s → IsShort (info_of es k s) → (HasPlace (info_of es k s) → HasPlace r) → HasPlace r
-    by (Waits i) w h m = m (counts (length (waiters i es)) (position (has_key k) (waiters i es)) (some_wait i k e es l (ap (waits_at i) w ∙ same_line i)), h)
-    by (Granted n) w h m = m tt
-    by (Done n) w h m = m tt
-    by Cancelled w h m = m tt
-    by QueueFull w h m = m tt
-    by NoService w h m = m tt
+    go : (i : ℕ) (xs : List (Key × Entry)) → waits_at i e.standing ≡ true → lookup (one_key k) xs ≡ Some e → list_any (waits_as i k) xs ≡ true
+    go i [] w l = let z : ⊥ = cc in absurd z
+    go i (x ∷ xs) w l = by (one_key k x.0) l (go i xs w)
+      where
+        by : (a : Bool) → cond a (Some x.1) (lookup (one_key k) xs) ≡ Some e → (lookup (one_key k) xs ≡ Some e → list_any (waits_as i k) xs ≡ true) → ((a && waits_at i x.1.standing) || list_any (waits_as i k) xs) ≡ true
+        by true l m = let s : e ≡ x.1 = cc in ap (λ b. b || list_any (waits_as i k) xs) (sym (ap (λ (z : Entry). waits_at i z.standing) s) ∙ w)
+        by false l m = m l
+
+-- of the record at a place
+pub placed_in_line : (k : Key) (es : List (Key × Entry)) (e : Entry) (place : ℕ) → slice_get es place ≡ Some (k, e) → InLine es k e.standing
+placed_in_line k es e place l = in_line k es e.standing (λ i w. go i es place (at_line i e.standing w) l)
+  where
+    go : (i : ℕ) (xs : List (Key × Entry)) (n : ℕ) → waits_at i e.standing ≡ true → slice_get xs n ≡ Some (k, e) → list_any (waits_as i k) xs ≡ true
+    go i [] n w l = let z : ⊥ = cc in absurd z
+    go i (x ∷ xs) zero w l =
+        let s : x ≡ (k, e) = cc in
+        let here : waits_as i k x ≡ true = ap (waits_as i k) s ∙ ap (λ b. b && waits_at i e.standing) (key_self (key_in k)) ∙ w in
+        ap (λ b. b || list_any (waits_as i k) xs) here
+    go i (x ∷ xs) (suc n) w l = by (waits_as i k x) (go i xs n w l)
+      where
+        by : (b : Bool) → list_any (waits_as i k) xs ≡ true → (b || list_any (waits_as i k) xs) ≡ true
+        by true h = refl
+        by false h = h

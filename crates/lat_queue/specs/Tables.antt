@@ -1,5 +1,5 @@
 -- What a queue keeps, as a table, and what its calls make of it.
-use Rattle.std.specs.Prelude.{◌≡◌, ℕ, suc, ◌+◌, ◌<◌, ◌≤◌, Bool, true, false, cond, List, [], ◌∷◌, ◌++◌, length, Option, Some, None, nat_eq, nat_le, position, slice_get}
+use Rattle.std.specs.Prelude.{◌≡◌, ℕ, suc, ◌+◌, ◌<◌, ◌≤◌, Bool, true, false, cond, List, [], ◌∷◌, ◌++◌, length, Option, Some, None, nat_eq, nat_le, position, slice_get, IsSome}
 use Rattle.std.specs.Map.{lookup}
 use Rattle.indexmap.specs.IndexMap.{insert_entry}
 use Rattle.lat_model.specs.Lists.{Each}
@@ -14,7 +14,7 @@ use Rattle.lat_queue.specs.declared.entry.Entry.{Entry}
 use Rattle.lat_queue.specs.declared.entry.Waiter.{Waiter}
 use Rattle.lat_queue.specs.declared.record.Record.{Record}
 use Rattle.lat_queue.specs.KeyHash.{one_key}
-use Rattle.lat_queue.specs.Lines.{place_of}
+use Rattle.lat_queue.specs.Lines.{has_key, place_of}
 
 -- the services, the records in the order of their first commands, and how many grants there were
 pub record Table : Type 0 where
@@ -50,6 +50,11 @@ abbrev pub OnLine : ℕ → Standing → Type 0
 OnLine n (Waits i) = i < n
 OnLine n _ = Unit {0}
 
+-- who waits stands in its line
+abbrev pub InLine : List (Key × Entry) → Key → Standing → Type 0
+InLine es k (Waits i) = IsSome (position (has_key k) (waiters i es))
+InLine es k _ = Unit {0}
+
 -- the lines are those of the records
 pub record Holds (t : Table) (lines : List (List Waiter)) : Type 0 where
   pub count : length lines ≡ length t.offered
@@ -74,11 +79,6 @@ info_of es k NoService = kept.NoService
 abbrev pub HasPlace : Kept → Type 0
 HasPlace (kept.Waiting place) = (1 ≤ place) × (place ≤ 64)
 HasPlace _ = Unit {0}
-
--- its place is at most 64
-abbrev pub IsShort : Kept → Type 0
-IsShort (kept.Waiting place) = place ≤ 64
-IsShort _ = Unit {0}
 
 abbrev pub entry_info : List (Key × Entry) → Key → Option Entry → Option Kept
 entry_info es k None = None
@@ -130,10 +130,12 @@ new_info t (Waits i) = kept.Waiting (length (waiters i t.entries) + 1)
 new_info t QueueFull = kept.QueueFull
 new_info t _ = kept.NoService
 
--- its line has room for one that waits
-abbrev pub MayWait : Table → Standing → Type 0
-MayWait t (Waits i) = (i < length t.offered) × (length (waiters i t.entries) < 64)
-MayWait t _ = Unit {0}
+-- a new request may stand so: where it waits, its line has room
+abbrev pub MayStand : Table → Standing → Type 0
+MayStand t (Waits i) = (i < length t.offered) × (length (waiters i t.entries) < 64)
+MayStand t QueueFull = Unit {0}
+MayStand t NoService = Unit {0}
+MayStand t _ = ⊥
 
 -- one record more
 abbrev pub added : Table → Key → Entry → Table

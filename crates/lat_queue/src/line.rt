@@ -1,6 +1,6 @@
 //! The line of those that wait for one service.
 
-ghost use Rattle.std.specs.Prelude.{◌≡◌, ◌<◌, ◌≤◌, [], ◌∷◌, ◌++◌, length, IfOk, IfSome, slice_get, position};
+ghost use Rattle.std.specs.Prelude.{◌≡◌, ◌<◌, ◌≤◌, [], ◌∷◌, ◌++◌, length, IfOk, IfSome, IsSome, slice_get, position};
 ghost use Rattle.lat_queue.specs.Lines.{has_key, place_of, without};
 
 use crate::entry::Waiter;
@@ -67,15 +67,16 @@ impl Line {
         self.waiters.push_reserved(waiter);
     }
 
-    /// The place of the key, counted from 1.
+    /// The place of the key, which waits, counted from 1.
     pub(crate) fn place_of(&self, key: &Key) -> u16
+        requires { IsSome (position (has_key key.now) self.now) }
         ensures value { result ≡ place_of key.now self.now }
-        ensures most { result ≤ 64 }
+        ensures bounds { (1 ≤ result) × (result ≤ 64) }
     {
-        match self.index_of(key) {
-            Some(at) => at as u16 + 1,
-            None => self.waiters.len() as u16,
-        }
+        let Some(at) = self.index_of(key) else {
+            unreachable!()
+        };
+        at as u16 + 1
     }
 
     fn index_of(&self, key: &Key) -> Option<usize>

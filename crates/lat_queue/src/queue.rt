@@ -7,7 +7,7 @@ ghost use Rattle.lat_queue.specs.Histories.{Stands, key_in, address_in, kept_in,
 ghost use Rattle.std.specs.Map.{lookup};
 ghost use Rattle.lat_queue.specs.KeyHash.{one_key};
 ghost use Rattle.indexmap.specs.IndexMap.{insert_entry};
-ghost use Rattle.lat_queue.specs.Tables.{waiters, OnLine, MayWait, HasPlace, IsShort, info, info_of, new_info, new_standing, added, shown, first_of, waiting_of, cancelled, given, finished};
+ghost use Rattle.lat_queue.specs.Tables.{waiters, OnLine, InLine, MayStand, HasPlace, info, info_of, new_info, new_standing, added, shown, first_of, waiting_of, cancelled, given, finished};
 
 use crate::entry::{Entry, Standing, Waiter};
 use crate::key::Key;
@@ -81,7 +81,9 @@ fn rewrite(entries: &mut IndexMap<Key, Entry>, key: &Key, entry: Entry)
     requires { IsSome (lookup (one_key key.now) entries.old.entries) }
     ensures { entries.new.entries ≡ insert_entry one_key entries.old.entries key.now entry }
 {
-    let _ = entries.insert(*key, entry);
+    let Ok(_) = entries.insert(*key, entry) else {
+        unreachable!()
+    };
 }
 
 impl Queue {
@@ -206,9 +208,10 @@ impl Queue {
 
     // What a key of this standing is told.
     fn info_of(&self, key: &Key, standing: Standing) -> Kept
-        requires { OnLine (length self.now.offered) standing }
+        requires line { OnLine (length self.now.offered) standing }
+        requires there { InLine self.now.entries key.now standing }
         ensures value { result ≡ info_of self.now.entries key.now standing }
-        ensures most { IsShort result }
+        ensures place { HasPlace result }
     {
         match standing {
             Standing::Waits(line) => Kept::Waiting(self.lines[line as usize].place_of(key)),
@@ -232,7 +235,7 @@ impl Queue {
     // How a new request for the service stands.
     fn new_standing(&self, service: &Name) -> Standing
         ensures value { result ≡ new_standing self.now service.now }
-        ensures room { MayWait self.now result }
+        ensures new { MayStand self.now result }
     {
         match self.offered.place_of(service) {
             Some(line) if self.lines[line].len() >= LINE => Standing::QueueFull,
@@ -243,14 +246,15 @@ impl Queue {
 
     // What a new request that stands so is told.
     fn new_info(&self, standing: Standing) -> Kept
-        requires { MayWait self.now standing }
+        requires { MayStand self.now standing }
         ensures value { result ≡ new_info self.now standing }
         ensures place { HasPlace result }
     {
         match standing {
             Standing::Waits(line) => Kept::Waiting(self.lines[line as usize].len() as u16 + 1),
             Standing::QueueFull => Kept::QueueFull,
-            _ => Kept::NoService,
+            Standing::NoService => Kept::NoService,
+            Standing::Granted(_) | Standing::Done(_) | Standing::Cancelled => unreachable!(),
         }
     }
 
@@ -258,7 +262,7 @@ impl Queue {
     fn add(&mut self, key: &Key, entry: Entry) -> Result<(), Memory>
         requires new { lookup (one_key key.now) self.old.entries ≡ None }
         requires few { length self.old.entries < 65536 }
-        requires room { MayWait self.old entry.standing }
+        requires stands { MayStand self.old entry.standing }
         ensures ok { OnOk result (self.new ≡ added self.old key.now entry) }
         ensures err { OnErr result (self.new ≡ self.old) }
     {

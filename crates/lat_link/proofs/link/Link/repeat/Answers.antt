@@ -8,8 +8,8 @@ use Rattle.lat_link.specs.Payloads.{run_payload, acknowledged}
 use Rattle.lat_link.proofs.Steps.{repeated, is_there}
 use Rattle.lat_link.proofs.link.Link.repeat.Goals as goal
 
-pub returns-in-Some : goal.returns-in-Some
-returns-in-Some c =
+pub returns : goal.returns
+returns c =
     subst (λ k. (l : Link (List Slot)) → Stands k l → slice_get (map (run_payload k.ids k.sending.span false) (again_frames l)) c.args.place ≡ Some c.set_acknowledgement.new.payload) c.self.view_is
     (λ l h. repeated _ l c.span.result c.args.place c.ack.result c.args.payload.now c.bytes.result.now c.in-Some.text.now _ h
     (sym c.get.ensures ∙ ap option_copied c.in-Some.is)
@@ -18,7 +18,7 @@ returns-in-Some c =
     c.requires.empty c.bytes.ensures.value
     (c.set_acknowledgement.ensures ∙ ap (λ t. acknowledged c.span.result t c.ack.result) c.append.ensures))
 
-pub returns-in_default : goal.returns-in_default
-returns-in_default c =
+pub unreachable-requires : goal.unreachable-requires
+unreachable-requires c =
     let within = subst (λ n. c.args.place < n) (sym c.self.invariant.0.count) (subst (λ k. c.args.place < k.sending.unacknowledged) (sym c.self.view_is) c.requires.place) in
-    absurd (is_there c.self.inside.texts.items c.args.place within (sym c.get.ensures ∙ ap option_copied c.in_default.is))
+    is_there c.self.inside.texts.items c.args.place within (sym c.get.ensures ∙ ap option_copied c.in_default.is)

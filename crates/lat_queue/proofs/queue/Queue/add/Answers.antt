@@ -2,7 +2,7 @@ use Rattle.std.proofs.Common.{◌<◌, ◌++◌, ◌∷◌, [], length, sym, ap,
 use Rattle.std.proofs.lemmas.Option.{get_or_from_slice_get}
 use Rattle.lat_queue.specs.declared.key.Key.{Key}
 use Rattle.lat_queue.specs.declared.entry.Entry.{Entry}
-use Rattle.lat_queue.specs.Tables.{Table, Holds, MayWait, waiters, waiter_of}
+use Rattle.lat_queue.specs.Tables.{Table, Holds, MayStand, waiters, waiter_of}
 use Rattle.lat_queue.proofs.TableLemmas.{holds_joined, holds_added, not_waiting}
 use Rattle.lat_queue.proofs.queue.Queue.add.Goals as goal
 
@@ -13,9 +13,9 @@ invariant_of-self-in-Waits c =
     let k : Key = c.args.key.now in
     let e : Entry = c.args.entry in
     let i = c.in-Waits.line in
-    let room : MayWait t e.standing = subst (λ (z : Table). MayWait z e.standing) (sym c.self.view_is) c.requires.room in
+    let room : MayStand t e.standing = subst (λ (z : Table). MayStand z e.standing) (sym c.self.view_is) c.requires.stands in
     let few = subst (λ (z : Table). length z.entries < 65536) (sym c.self.view_is) c.requires.few in
-    let here : i < length t.offered = (subst (MayWait t) c.in-Waits.is room).0 in
+    let here : i < length t.offered = (subst (MayStand t) c.in-Waits.is room).0 in
     let line = c.join.ensures ∙ ap (λ z. z ++ waiter_of (k, e) ∷ []) (c.index_mut-waiting.ensures.value ∙ get_or_from_slice_get s.lines.items i (waiters i t.entries) c.index_mut-waiting.result.now (c.self.invariant.each i here)) in
     subst (λ (es : List (Key × Entry)). Holds (record { offered = s.offered; entries = es; granted = s.granted }) (slice_set s.lines.items i c.join.new.self)) (sym c.in_ok-insert_new.ensures.ok)
     (holds_joined t s.lines.items k e i c.join.new.self c.self.invariant room few c.in-Waits.is line)
