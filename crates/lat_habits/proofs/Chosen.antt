@@ -8,7 +8,7 @@ use Rattle.lat_model.proofs.numbers.Net.{each_imp}
 use Rattle.lat_machines.specs.values.Names.{Name, folded, same, is_before}
 use Rattle.lat_machines.specs.values.Notices.{Announcement}
 use Rattle.lat_machines.specs.server.Directory.{HeardAnnouncement, share_bits, share_group, meets, of_node, any_of, latest, is_live, live, Best, rating_of, offer_of, beats, better, best_in}
-use Rattle.lat_habits.specs.Chosen.{Shares, IsNoBetter, IsChosen, ChosenAreWilling, NoneIsWilling, IsLatest, UnwillingAreNotChosen}
+use Rattle.lat_habits.specs.Chosen.{SharesGroup, IsNoBetter, IsChosen, ChosenAreWilling, NoneIsWilling, IsLatest, UnwillingAreNotChosen}
 use Rattle.lat_habits.proofs.Orders.{before_none, behind_through, behind_back}
 
 -- masks
@@ -33,19 +33,19 @@ bits_at (suc n) x y q = ⊎_elim {C = SharesBit (suc n) x y} first (λ r. later 
     later : SharesBit n (x / 2) (y / 2) → SharesBit (suc n) x y
     later r = (let l : r.0 < n = r.1 in (suc r.0, omega (arith, l), high r.0 x r.2, high r.0 y r.3))
 
-group_at : (xs ys : List ℕ) → share_group xs ys ≡ true → Shares xs ys
+group_at : (xs ys : List ℕ) → share_group xs ys ≡ true → SharesGroup xs ys
 group_at [] ys q = absurd (false≢true q)
 group_at (x ∷ xs) [] q = absurd (false≢true q)
-group_at (x ∷ xs) (y ∷ ys) q = ⊎_elim {C = Shares (x ∷ xs) (y ∷ ys)} first (λ r. later (group_at xs ys r)) (or_cases (share_bits 8 x y) (share_group xs ys) q)
+group_at (x ∷ xs) (y ∷ ys) q = ⊎_elim {C = SharesGroup (x ∷ xs) (y ∷ ys)} first (λ r. later (group_at xs ys r)) (or_cases (share_bits 8 x y) (share_group xs ys) q)
   where
-    first : share_bits 8 x y ≡ true → Shares (x ∷ xs) (y ∷ ys)
+    first : share_bits 8 x y ≡ true → SharesGroup (x ∷ xs) (y ∷ ys)
     first r = (let s : SharesBit 8 x y = bits_at 8 x y r in record { byte = 0; bit = s.0; within = s.1; announced = s.2; listened = s.3 })
 
-    later : Shares xs ys → Shares (x ∷ xs) (y ∷ ys)
+    later : SharesGroup xs ys → SharesGroup (x ∷ xs) (y ∷ ys)
     later s = record { byte = suc s.byte; bit = s.bit; within = s.within; announced = s.announced; listened = s.listened }
 
-meets_in : (groups : List ℕ) (a : Announcement) → meets groups a ≡ true → (a.groups ≡ []) ⊎ (Shares a.groups groups)
-meets_in groups a q = ⊎_elim {C = (a.groups ≡ []) ⊎ (Shares a.groups groups)} (λ r. inl (none a.groups r)) (λ r. inr (group_at a.groups groups r)) (or_cases (is_empty a.groups) (share_group a.groups groups) q)
+meets_in : (groups : List ℕ) (a : Announcement) → meets groups a ≡ true → (a.groups ≡ []) ⊎ (SharesGroup a.groups groups)
+meets_in groups a q = ⊎_elim {C = (a.groups ≡ []) ⊎ (SharesGroup a.groups groups)} (λ r. inl (none a.groups r)) (λ r. inr (group_at a.groups groups r)) (or_cases (is_empty a.groups) (share_group a.groups groups) q)
   where
     none : (xs : List ℕ) → is_empty xs ≡ true → xs ≡ []
     none [] r = refl

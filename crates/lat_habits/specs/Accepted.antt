@@ -5,4 +5,5 @@ use Rattle.lat_machines.specs.node.Node.{NodeConfig, open_node}
 use Rattle.lat_machines.specs.world.Histories.{RatedEvent, node_run}
 
 abbrev pub AcceptedOnce : Type 0
-AcceptedOnce = (config : NodeConfig) (events : List RatedEvent) → IsDistinct nat_eq (node_run config events (open_node config)).accepted
+AcceptedOnce =
+    (config : NodeConfig) (events : List RatedEvent) → IsDistinct nat_eq (node_run config events (open_node config)).accepted

@@ -9,7 +9,7 @@ abbrev pub HasGroup : List ℕ → ℕ → ℕ → Type 0
 HasGroup mask byte bit = get_or mask byte 0 / 2 ^ bit % 2 ≡ 1
 
 -- a group that is in both masks
-pub record Shares (mask : List ℕ) (groups : List ℕ) : Type 0 where
+pub record SharesGroup (mask : List ℕ) (groups : List ℕ) : Type 0 where
   pub byte : ℕ
   pub bit : ℕ
   pub within : bit < 8
@@ -22,17 +22,20 @@ IsNoBetter service b e =
     (rating_of service e.announcement.services < b.rating)
     ⊎ ((rating_of service e.announcement.services ≡ b.rating) × (is_before (folded e.announcement.node) (folded b.node) ≡ false))
 
+-- the latest announcement of a node: of those behind it none has its name, in either case of the letters
+abbrev pub IsLatest : HeardAnnouncement → List HeardAnnouncement → Type 0
+IsLatest e after = any_of e.announcement.node after ≡ false
+
 -- the announcement by which a node is chosen
 pub record IsChosen (groups : List ℕ) (service : Name) (now : ℕ) (heard : List HeardAnnouncement) (b : Best) : Type 0 where
   pub before : List HeardAnnouncement
   pub entry : HeardAnnouncement
   pub after : List HeardAnnouncement
   pub among : heard ≡ before ++ entry ∷ after
-  -- the latest of its node
-  pub latest : any_of entry.announcement.node after ≡ false
+  pub latest : IsLatest entry after
   -- live, for a server that listens to these groups
   pub in_time : now < entry.at + 3000 * entry.announcement.timer
-  pub reaches : (entry.announcement.groups ≡ []) ⊎ (Shares entry.announcement.groups groups)
+  pub reaches : (entry.announcement.groups ≡ []) ⊎ (SharesGroup entry.announcement.groups groups)
   -- by this name, at this address, with this rating
   pub from : b.from ≡ entry.from
   pub node : b.node ≡ entry.announcement.node
@@ -53,10 +56,6 @@ NoneIsWilling =
     (groups : List ℕ) (service : Name) (now : ℕ) (heard : List HeardAnnouncement) →
     best groups service now heard ≡ None →
     Each (λ (e : HeardAnnouncement). rating_of service e.announcement.services ≡ 0) (live groups now heard)
-
--- the latest announcement of a node is the last one with its name, in either case of the letters
-abbrev pub IsLatest : HeardAnnouncement → List HeardAnnouncement → Type 0
-IsLatest e after = any_of e.announcement.node after ≡ false
 
 -- another node is chosen than one that rates the service 0 in its latest announcement
 abbrev pub UnwillingAreNotChosen : Type 0

@@ -11,7 +11,8 @@ use Rattle.lat_machines.specs.server.Server.{ServerConfig, Server, server_step}
 use Rattle.lat_machines.specs.node.Node.{NodeConfig, Node, node_step}
 
 abbrev pub run_heard : ℕ → Bool → Head → List Slot → Option Numbers → ℕ → Event
-run_heard from wide h slots numbers now = Hears from (Whole (OfCircuit (cond wide (WideMessage h slots) (RunMessage h slots)))) numbers now
+run_heard from wide h slots numbers now =
+    Hears from (Whole (OfCircuit (cond wide (WideMessage h slots) (RunMessage h slots)))) numbers now
 
 -- its numbers have another width than those of the circuit, or its master bit is that of the end that hears it
 abbrev pub IsOfOtherKind : End → Bool → Bool → Type 0
@@ -19,14 +20,16 @@ IsOfOtherKind e wide master = (wide ≢ e.wide) ⊎ (master ≡ e.master)
 
 abbrev pub ServerHearsItsKind : Type 0
 ServerHearsItsKind =
-    (config : ServerConfig) (state : Server) (from now : ℕ) (wide : Bool) (h : Head) (slots : List Slot) (numbers : Option Numbers) →
+    (config : ServerConfig) (state : Server) (from now : ℕ) →
+    (wide : Bool) (h : Head) (slots : List Slot) (numbers : Option Numbers) →
     from ≢ everyone →
     IsOfOtherKind (state.core.circuits.circuit_at h.to).end wide h.master →
     (server_step config state (run_heard from wide h slots numbers now)).answer ≡ Circuit Foreign
 
 abbrev pub NodeHearsItsKind : Type 0
 NodeHearsItsKind =
-    (config : NodeConfig) (rates : List ℕ) (state : Node) (from now : ℕ) (wide : Bool) (h : Head) (slots : List Slot) (numbers : Option Numbers) →
+    (config : NodeConfig) (rates : List ℕ) (state : Node) (from now : ℕ) →
+    (wide : Bool) (h : Head) (slots : List Slot) (numbers : Option Numbers) →
     from ≢ everyone →
     IsOfOtherKind (state.core.circuits.circuit_at h.to).end wide h.master →
     (node_step config rates state (run_heard from wide h slots numbers now)).answer ≡ Circuit Foreign

@@ -8,8 +8,8 @@ use Rattle.lat_machines.specs.server.Server.{ServerConfig, open_server}
 use Rattle.lat_machines.specs.node.Node.{NodeConfig, open_node}
 use Rattle.lat_machines.specs.world.Histories.{server_run, RatedEvent, node_run}
 
-abbrev pub alive : Core → ℕ → Bool
-alive c x = lives (c.circuits.circuit_at x).end
+abbrev pub lives_at : Core → ℕ → Bool
+lives_at c x = lives (c.circuits.circuit_at x).end
 
 abbrev pub SameAddress : Core → ℕ → ℕ → Type 0
 SameAddress c x y = (c.circuits.circuit_at x).address ≡ (c.circuits.circuit_at y).address
@@ -18,13 +18,15 @@ abbrev pub SamePeer : Core → ℕ → ℕ → Type 0
 SamePeer c x y = (c.circuits.circuit_at x).end.peer ≡ (c.circuits.circuit_at y).end.peer
 
 abbrev pub OneToAnAddress : Core → Type 0
-OneToAnAddress c = (x y : ℕ) → alive c x ≡ true → alive c y ≡ true → SameAddress c x y → x ≡ y
+OneToAnAddress c = (x y : ℕ) → lives_at c x ≡ true → lives_at c y ≡ true → SameAddress c x y → x ≡ y
 
 abbrev pub OneToAPeer : Core → Type 0
-OneToAPeer c = (x y : ℕ) → alive c x ≡ true → alive c y ≡ true → SameAddress c x y → SamePeer c x y → x ≡ y
+OneToAPeer c = (x y : ℕ) → lives_at c x ≡ true → lives_at c y ≡ true → SameAddress c x y → SamePeer c x y → x ≡ y
 
 abbrev pub ServerCircuitsApart : Type 0
-ServerCircuitsApart = (config : ServerConfig) (events : List Event) → OneToAnAddress (server_run config events (open_server config)).core
+ServerCircuitsApart =
+    (config : ServerConfig) (events : List Event) → OneToAnAddress (server_run config events (open_server config)).core
 
 abbrev pub NodeCircuitsApart : Type 0
-NodeCircuitsApart = (config : NodeConfig) (events : List RatedEvent) → OneToAPeer (node_run config events (open_node config)).core
+NodeCircuitsApart =
+    (config : NodeConfig) (events : List RatedEvent) → OneToAPeer (node_run config events (open_node config)).core

@@ -56,7 +56,8 @@ outcome_of (KeptIs k) = KeptAs k
 outcome_of a = Unknown
 
 abbrev pub status_to : ℕ → Command → Outcome → OutFrame
-status_to from m o = plain from 0 (OfNotice (StatusNotice (record { incarnation = m.incarnation; request = m.request; outcome = o; node = m.node })))
+status_to from m o =
+    plain from 0 (OfNotice (StatusNotice (record { incarnation = m.incarnation; request = m.request; outcome = o; node = m.node })))
 
 abbrev pub notes_alone : Server → ℕ → Command → Answer → ServerStep
 notes_alone state from m a = record {
@@ -91,7 +92,7 @@ RefusedCommandsGrantNothing =
     refuses_command (server_after config events e).answer ≡ true →
     IsNoted (server_before config events e) e (server_after config events e)
 
--- a command whose key is known is answered from its record. Only the cancel of a request that waits is no such command
+-- a command whose key is known, but for the cancel of a request that waits, is answered from its record
 abbrev pub answers_again : Server → ℕ → Command → Request → ServerStep
 answers_again state from m r = notes_alone state from m (KeptIs (kept_now state.queue r))
 

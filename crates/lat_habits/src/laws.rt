@@ -9,9 +9,9 @@ ghost use Rattle.lat_habits.specs.Kinds.{ServerHearsItsKind, NodeHearsItsKind};
 
 /// A refused event connects no line: neither by itself nor by the grant pass behind it. A connect that no node serves draws
 /// a solicit id and sends a Solicit (`unserved`). A refused command is noted in the queue and answered by a Status
-/// (`commands`), and so is one whose key is known, from its record, but the cancel of a request that waits (`again`). At a node a refused START is answered by a STOP
-/// (`starts`). Nothing else changes but the moment. The other refusals change nothing at all, by `refusals_change_nothing` of
-/// the machines.
+/// (`commands`); so is one whose key is known, from its record, but for the cancel of a request that waits (`again`). At a
+/// node a refused START is answered by a STOP (`starts`). Nothing else changes but the moment. The other refusals change
+/// nothing at all, by `refusals_change_nothing` of the machines.
 pub fn refused_events_grant_nothing()
     ensures unserved { UnservedGrantsNothing }
     ensures commands { RefusedCommandsGrantNothing }
