@@ -1,18 +1,16 @@
--- What a node announces has a text, and goes out as the machine's announcement.
-use Rattle.std.proofs.Common.{◌≡◌, ℕ, suc, ◌+◌, ◌*◌, ◌≤◌, refl, sym, ap, ◌∙◌, subst, Bool, List, [], ◌∷◌, ◌++◌, map, length, Option, Some, None, get_or, Result, Ok, Err, IfOk, arith, length-append}
-use Rattle.std.specs.List.{flat_map, AllByRecursion, find, position}
+-- What a node announces can be written, and goes out as the machine's announcement.
+use Rattle.std.proofs.Common.{◌≡◌, ℕ, suc, ◌*◌, ◌≤◌, refl, sym, ap, ◌∙◌, subst, Bool, List, [], ◌∷◌, ◌++◌, map, length, Option, Some, None, get_or, Result, Ok, Err, IfOk, arith}
+use Rattle.std.specs.List.{AllByRecursion, sum_by, find, position}
+use Rattle.std.proofs.lemmas.List.Sums.{sum_by-cons}
 use Rattle.std.proofs.lemmas.Option.{slice_get-get_or}
 use Rattle.lat_base.specs.declared.outbox.OutFrame.{OutFrame}
-use Rattle.lat_base.specs.Names.{IsName}
-use Rattle.lat_fields.specs.Texts.{counted}
 use Rattle.lat_model.specs.Lists.{Each}
 use Rattle.lat_notices.specs.declared.services.Service as notices
 use Rattle.lat_notices.specs.declared.notice.Announcement.{Announcement}
 use Rattle.lat_notices.specs.declared.notice.Notice.{Notice}
 use Rattle.lat_notices.specs.declared.notice.Notice.TheVariants as variants
-use Rattle.lat_notices.specs.Services.{IsService, service_text}
-use Rattle.lat_notices.specs.Texts.{IsWritable}
-use Rattle.lat_notices.proofs.Writable.{writable}
+use Rattle.lat_notices.specs.Services.{HasShortDescription}
+use Rattle.lat_notices.specs.Writing.{service_len, CanBeWritten}
 use Rattle.lat_machines.specs.values.Addresses.{everyone}
 use Rattle.lat_machines.specs.values.Names.{Name}
 use Rattle.lat_machines.specs.values.Notices.{Service, ResponseNotice}
@@ -76,48 +74,39 @@ each_pushed P (t ∷ ss) s each one = (each.0, each_pushed P ss s each.1 one)
 pub each_more : (P : ℕ → Type 0) (ss : List notices.Service) (s : notices.Service) (new : List notices.Service) → new ≡ ss ++ s ∷ [] → Each P (ratings ss) → P s.rating → Each P (ratings new)
 each_more P ss s new is each one = subst (λ (xs : List notices.Service). Each P (ratings xs)) (sym is) (each_pushed P ss s each one)
 
-all_pushed : (ss : List notices.Service) (s : notices.Service) → AllByRecursion IsService ss → IsService s → AllByRecursion IsService (ss ++ s ∷ [])
-all_pushed [] s all one = (one, tt)
-all_pushed (t ∷ ss) s all one = (all.0, all_pushed ss s all.1 one)
+-- an announcement can be written
 
-pub all_more : (ss : List notices.Service) (s : notices.Service) (new : List notices.Service) → new ≡ ss ++ s ∷ [] → AllByRecursion IsService ss → IsService s → AllByRecursion IsService new
-all_more ss s new is all one = subst (AllByRecursion IsService) (sym is) (all_pushed ss s all one)
+-- services with no description, and names
+record AreBare (ss : List notices.Service) (ns : List Name) : Type 0 where
+  short : AllByRecursion HasShortDescription ss
+  size : sum_by service_len ss ≤ 19 * length ns
 
--- an announcement has a text
+bare_more : (s : notices.Service) (ss : List notices.Service) (n : Name) (ns : List Name) (r : ℕ) → service_shown s ≡ record { rating = r; name = n; description = [] } →
+    AreBare ss ns → AreBare (s ∷ ss) (n ∷ ns)
+bare_more s ss n ns r is others =
+    let bare : s.description ≡ [] = ap (λ (t : Service). t.description) is in
+    record {
+      short = (omega (arith, ap length bare), others.short);
+      size = omega (arith, sum_by-cons service_len s ss, ap length bare, others.size);
+    }
 
--- a rating, a name and no description
-text_most : (ss : List notices.Service) (ns : List Name) (rates : List ℕ) → AllByRecursion IsService ss → map service_shown ss ≡ rated ns rates → length (flat_map service_text ss) ≤ 19 * length ns
-text_most [] ns rates all is = omega arith
-text_most (s ∷ ss) [] rates all is = let z : ⊥ = cc in absurd z
-text_most (s ∷ ss) (n ∷ ns) [] all is =
-    let one : service_shown s ≡ record { rating = 0; name = n; description = [] } = cc in
-    let bare : s.description ≡ [] = ap (λ (t : Service). t.description) one in
-    let rest : map service_shown ss ≡ rated ns [] = cc in
-    omega (arith, length-append (service_text s) (flat_map service_text ss), length-append (counted s.name) (counted s.description), ap length bare, all.0.name.most, text_most ss ns [] all.1 rest)
-text_most (s ∷ ss) (n ∷ ns) (r ∷ rates) all is =
-    let one : service_shown s ≡ record { rating = r; name = n; description = [] } = cc in
-    let bare : s.description ≡ [] = ap (λ (t : Service). t.description) one in
-    let rest : map service_shown ss ≡ rated ns rates = cc in
-    omega (arith, length-append (service_text s) (flat_map service_text ss), length-append (counted s.name) (counted s.description), ap length bare, all.0.name.most, text_most ss ns rates all.1 rest)
+are_bare : (ss : List notices.Service) (ns : List Name) (rates : List ℕ) → map service_shown ss ≡ rated ns rates → AreBare ss ns
+are_bare [] ns rates is = record { short = tt; size = omega arith }
+are_bare (s ∷ ss) [] rates is = let z : ⊥ = cc in absurd z
+are_bare (s ∷ ss) (n ∷ ns) [] is = bare_more s ss n ns 0 (cc) (are_bare ss ns [] (cc))
+are_bare (s ∷ ss) (n ∷ ns) (r ∷ rates) is = bare_more s ss n ns r (cc) (are_bare ss ns rates (cc))
 
-pub announcement_writable : (a : Announcement) (ns : List Name) → 1 ≤ a.timer → length a.groups ≤ 32 → IsName a.node → a.description ≡ [] → length ns ≤ 32 →
-    AllByRecursion IsService a.services → map service_shown a.services ≡ rated ns (ratings a.services) →
-    IsWritable (variants.Announcement a)
-announcement_writable a ns timer groups node bare few all is =
-    writable (variants.Announcement a)
-    (record { timer = omega (arith, timer); groups = groups; node = node; description = omega (arith, ap length bare); count = omega (arith, few, count); services = all })
-    (omega (
-      arith,
-      length-append (counted a.groups) (counted a.node ++ (counted a.description ++ (length a.services ∷ flat_map service_text a.services))),
-      length-append (counted a.node) (counted a.description ++ (length a.services ∷ flat_map service_text a.services)),
-      length-append (counted a.description) (length a.services ∷ flat_map service_text a.services),
-      text_most a.services ns (ratings a.services) all is,
-      ap length bare,
-      groups,
-      node.most,
-      few,
-    ))
+pub can_be_announced : (a : Announcement) (ns : List Name) → 1 ≤ a.timer → length a.groups ≤ 32 → a.description ≡ [] → length ns ≤ 32 →
+    map service_shown a.services ≡ rated ns (ratings a.services) →
+    CanBeWritten (variants.Announcement a)
+can_be_announced a ns timer groups bare few is = record {
+  suits = record { timer = timer; groups = groups; description = omega (arith, ap length bare); count = omega (arith, few, count); services = all.short };
+  size = omega (arith, all.size, ap length bare, groups, few);
+}
   where
+    all : AreBare a.services ns
+    all = are_bare a.services ns (ratings a.services) is
+
     count : length a.services ≡ length ns
     count = sym (length_map service_shown a.services) ∙ ap length is ∙ length_rated ns (ratings a.services)
 

@@ -8,7 +8,7 @@ use Rattle.lat_model.specs.sessions.Calls as Calls
 use Rattle.lat_model.specs.sessions.Session.{waits}
 use Rattle.lat_model.specs.ends.End.{lives, call_end}
 use Rattle.lat_model.specs.ends.Timers.{note_empty}
-use Rattle.lat_machines.specs.values.Names.{Name, same}
+use Rattle.lat_machines.specs.values.Names.{Name}
 use Rattle.lat_machines.specs.cores.Acts.{idle, steps_at}
 use Rattle.lat_machines.specs.cores.Cores.{Core}
 use Rattle.lat_machines.specs.cores.Lines.{has_session}

@@ -1,5 +1,5 @@
 -- The frames of an event, with its ratings.
-use Rattle.std.proofs.Common.{◌≡◌, ℕ, refl, sym, ap, subst, ◌∙◌, Bool, true, false, cond, ◌&&◌, List, [], ◌∷◌, map, length, Option, Some, None, nat_eq, nat_lt}
+use Rattle.std.proofs.Common.{◌≡◌, ℕ, refl, sym, ap, subst, ◌∙◌, Bool, true, false, cond, ◌&&◌, List, [], ◌∷◌, length, Option, Some, None, nat_eq, nat_lt}
 use Rattle.lat_base.specs.declared.answer.Answer as base_answer
 use Rattle.lat_base.specs.declared.answer.Answer.TheVariants as answers
 use Rattle.lat_base.specs.declared.event.Event as base
@@ -17,9 +17,9 @@ use Rattle.lat_machines.specs.cores.Cores.{Seat, Core}
 use Rattle.lat_machines.specs.cores.Lines.{sessions_of, session_of, seat_at, has_session, line_exists}
 use Rattle.lat_machines.specs.cores.LineCalls.{Said, says, calls_on, put_on, set_on, attend_on, take_on, close_on, on_line}
 use Rattle.lat_machines.specs.cores.Hearing.{StartFact, Repeats, Makes, Refuses, start_fact}
-use Rattle.lat_machines.specs.node.Node.{NodeConfig, Node, Requested, node_side, tells, command_frame, request_of, requests_again, withdraws, start_answer, solicited, hears_message, node_step, rates_of, NodeFrames}
+use Rattle.lat_machines.specs.node.Node.{NodeConfig, Node, Requested, node_side, tells, command_frame, request_of, requests_again, withdraws, start_answer, solicited, hears_message, node_step, rates_of}
 use Rattle.lat_machines.proofs.events.Ratings.{same_but_frames}
-use Rattle.lat_payload.specs.Frames.{frame_view, expected, Emits}
+use Rattle.lat_payload.specs.Frames.{Emits}
 use Rattle.lat_lines.specs.Events.{event_shown}
 use Rattle.lat_node.specs.Kept.{Kept, config_of}
 use Rattle.lat_node.specs.Stands.{Stands, Machine, IsMachine, Frames}

@@ -1,11 +1,8 @@
 //! What a node announces.
 
 ghost use Rattle.std.specs.Prelude.{◌≡◌, ◌≤◌, ◌+◌, suc, [], find, map, length, Some, IfOk, OnOk, OnErr};
-ghost use Rattle.std.specs.List.{AllByRecursion};
-ghost use Rattle.lat_base.specs.Names.{IsName};
 ghost use Rattle.lat_base.specs.declared.answer.Answer.TheVariants as answers;
-ghost use Rattle.lat_notices.specs.Services.{IsService};
-ghost use Rattle.lat_notices.specs.Texts.{IsWritable};
+ghost use Rattle.lat_notices.specs.Writing.{CanBeWritten};
 ghost use Rattle.lat_model.specs.Lists.{Each};
 ghost use Rattle.lat_machines.specs.node.Node as machine;
 ghost use Rattle.lat_machines.specs.values.Addresses.{address};
@@ -122,16 +119,14 @@ impl<H: RatingRule> NodeCore<H> {
     fn announcement(&self, alloc: Global, used: u16) -> Result<Notice, Memory>
         requires fact { H.fact self.now.rule }
         requires within { used ≤ self.now.lines.lines }
-        ensures writable { IfOk result IsWritable }
+        ensures written { IfOk result CanBeWritten }
         ensures announced { IfOk result (IsAnnounced H.may self.now used) }
     {
-        let node = self.lines.name();
-        named(&node);
         Ok(Notice::Announcement(Announcement {
             timer: self.timer,
             incarnation: self.incarnation,
             groups: Bytes::copy(alloc, self.groups.as_slice())?,
-            node,
+            node: self.lines.name(),
             description: Bytes::copy(alloc, &[])?,
             services: self.rated(alloc, used)?,
         }))
@@ -141,7 +136,6 @@ impl<H: RatingRule> NodeCore<H> {
     fn rated(&self, alloc: Global, used: u16) -> Result<Services, Memory>
         requires fact { H.fact self.now.rule }
         requires within { used ≤ self.now.lines.lines }
-        ensures services { IfOk result (AllByRecursion IsService) }
         ensures names { IfOk result (λ ss. map service_shown ss ≡ machine.rated self.now.services (ratings ss)) }
         ensures ratings { IfOk result (λ ss. Each (H.may self.now.rule used self.now.lines.lines) (ratings ss)) }
     {
@@ -156,22 +150,13 @@ impl<H: RatingRule> NodeCore<H> {
     fn service(&self, alloc: Global, name: &Name, used: u16) -> Result<Service, Memory>
         requires fact { H.fact self.now.rule }
         requires within { used ≤ self.now.lines.lines }
-        ensures service { IfOk result IsService }
         ensures shown { IfOk result (λ s. service_shown s ≡ record { rating = s.rating; name = name.now; description = [] }) }
         ensures rating { IfOk result (λ s. H.may self.now.rule used self.now.lines.lines s.rating) }
     {
-        named(name);
         Ok(Service {
             rating: self.rating(used),
             name: *name,
             description: Bytes::copy(alloc, &[])?,
         })
     }
-}
-
-// A name is one by its type.
-fn named(name: &Name)
-    ensures { IsName name.now }
-{
-    name.bytes();
 }

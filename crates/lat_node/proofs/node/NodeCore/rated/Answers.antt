@@ -1,7 +1,6 @@
 use Rattle.std.proofs.Common.{◌≡◌, ◌+◌, sym, ap, ◌∙◌, take, [], ◌∷◌, ◌++◌}
 use Rattle.std.proofs.lemmas.List.{take_more}
-use Rattle.lat_node.specs.Announced.{ratings}
-use Rattle.lat_node.proofs.AnnounceLemmas.{services_more, all_more, each_more}
+use Rattle.lat_node.proofs.AnnounceLemmas.{services_more, each_more}
 use Rattle.lat_node.proofs.node.NodeCore.rated.Goals as goal
 
 pub loop-name-preserved : goal.loop-name-preserved
@@ -13,7 +12,6 @@ loop-name-preserved g c =
     let n = c.name-item.result in
     let more : take (i + 1) ns ≡ take i ns ++ n ∷ [] = take_more ns i n c.loop-name-test.true ∙ ap (λ m. take i ns ++ m ∷ []) (sym c.name-item.is) in
     record {
-      services = all_more ss s c.push.new.self c.in_ok-push.ensures.ok c.loop-name.invariant.services c.in_ok-service.ensures.service;
       names = services_more (take i ns) (take (i + 1) ns) ss c.push.new.self n s more c.in_ok-push.ensures.ok c.loop-name.invariant.names c.in_ok-service.ensures.shown;
       ratings = each_more _ ss s c.push.new.self c.in_ok-push.ensures.ok c.loop-name.invariant.ratings c.in_ok-service.ensures.rating;
     }

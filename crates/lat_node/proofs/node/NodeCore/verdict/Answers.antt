@@ -1,4 +1,4 @@
-use Rattle.std.proofs.Common.{◌≡◌, ◌∙◌, false, ap, sym, subst, position, is_some}
+use Rattle.std.proofs.Common.{◌≡◌, ◌∙◌, ap, sym, subst, position, is_some}
 use Rattle.lat_machines.specs.values.Names.{same}
 use Rattle.lat_machines.specs.node.Node.{verdict}
 use Rattle.lat_node.specs.Answering.{verdict_shown}
