@@ -1,9 +1,9 @@
 -- One step after another.
-use Rattle.std.proofs.Common.{◌≡◌, ℕ, ◌+◌, ◌≤◌, List, take, length, ◌++◌, length-append, length-take, ap, ◌∙◌, arith, refl, rules}
+use Rattle.std.proofs.Common.{◌≡◌, ℕ, ◌+◌, ◌≤◌, List, take, length, length-append, length-take, ap, ◌∙◌, arith}
 use Rattle.std.specs.Prelude.{Option, Some, None, Result, Ok, Err}
 use Rattle.lat_outside.specs.declared.line_end.LineGot.{LineGot}
 use Rattle.lat_outside.specs.declared.line_end.LineGot.TheVariants as linegot
-use Rattle.lat_outside.specs.LineEnds.{GaveBytes, bytes_got}
+use Rattle.lat_outside.specs.LineEnds.{GaveBytes}
 use Rattle.lat_cell.specs.Within.{Within, got_of}
 
 pub within_same : (a b : Option (List ℕ)) (x y : ℕ) → b ≡ a → y ≤ x → Within a b x y

@@ -1,12 +1,10 @@
 -- What a worker may have put, by what its line gave.
 use Rattle.std.specs.Prelude.{ℕ, ◌+◌, ◌≤◌, List, length, Option, Some, None, Result, Ok, Err, Bool, true, false}
 use Rattle.lat_outside.specs.declared.line_end.LineGot.{LineGot}
-use Rattle.lat_mind.specs.declared.mind.Move.{Move}
-use Rattle.lat_mind.specs.declared.mind.Move.TheVariants as moves
 use Rattle.lat_history.specs.CellView.{SeatView}
 use Rattle.lat_cell.specs.declared.desk.Desk.{Desk}
-use Rattle.lat_cell.specs.declared.desk.HoldDone.{HoldDone}
-use Rattle.lat_cell.specs.declared.desk.HoldDone.TheVariants as holds
+use Rattle.lat_cell.specs.declared.hold.HoldDone.{HoldDone}
+use Rattle.lat_cell.specs.declared.hold.HoldDone.TheVariants as holds
 use Rattle.lat_outside.specs.LineEnds.{bytes_got}
 
 -- the count rose by at most what the line gave, where it tells; who tells goes on telling
@@ -23,10 +21,6 @@ got_of (Err e) = 0
 -- the bytes of a seat that were put, and those that its worker has read and not yet put
 abbrev pub in_hand : SeatView → Desk → ℕ
 in_hand share desk = share.bytes + desk.mind.left
-
-abbrev pub is_put : Move → Bool
-is_put moves.Put = true
-is_put _ = false
 
 abbrev pub is_read : HoldDone → Bool
 is_read holds.Read = true

@@ -4,6 +4,7 @@
 
 mod clock;
 mod desk;
+mod hold;
 mod seat;
 mod wire;
 mod write;

@@ -4,7 +4,8 @@ ghost use Rattle.std.specs.Prelude.{◌≡◌, ◌+◌, ◌≤◌, Some, OnErr, 
 ghost use Rattle.lat_outside.specs.Causes.{Rose};
 ghost use Rattle.lat_cell.specs.Within.{Within, in_hand};
 
-use crate::desk::{Desk, HoldDone, hold};
+use crate::desk::Desk;
+use crate::hold::{HoldDone, hold};
 use crate::write::write_items;
 use lat_base::{Core, Event, Name};
 use lat_history::{Cell, LineShare};
@@ -104,7 +105,7 @@ impl<L: LineEnd, E: Ledger, B: Ledger, F: Ledger> Seat<L, E, B, F> {
         }
     }
 
-    // Closes the session.
+    // Closes the session, unless the cell is full or no memory is found for the event.
     fn close<C: Core, T: Tx>(&mut self, alloc: Global, cell: &mut Cell<C, T, E, B, F>)
         ensures seat { (self.new.share.seat ≡ self.old.share.seat) × (self.new.share.parts ≡ self.old.share.parts) }
         ensures bytes { self.new.share.bytes ≡ self.old.share.bytes }
@@ -147,7 +148,7 @@ impl<L: LineEnd, E: Ledger, B: Ledger, F: Ledger> Seat<L, E, B, F> {
 /// Works the line of the share's number until it ends, and gives share and line back. Under one hold of the lock it looks at its
 /// line, asks its mind for the next move, applies the event of this move, and tells its mind the answer. Outside the lock it
 /// passes the gate, writes the bytes of items taken, reads at most 1,024 bytes, or pauses. Before it ends with `Fault` it closes
-/// its session. It may wait, and its return isn't promised.
+/// its session, unless the cell is full or no memory is found for that. It may wait, and its return isn't promised.
 pub fn line_worker<C: Core, T: Tx, L: LineEnd, G: Gate, E: Ledger, B: Ledger, F: Ledger, R: Wait>(
     rt: &R,
     alloc: Global,

@@ -4,7 +4,7 @@ ghost use Rattle.std.specs.Prelude.{◌≡◌, ◌||◌, is_some};
 
 use lat_base::{Addr, Bytes, Core, Event};
 use lat_history::{Cell, LineShare};
-use lat_outside::{Got, Rx, Tx};
+use lat_outside::{Failed, Got, Rx, Tx};
 use std::alloc::Global;
 use std::sync::ledger::Ledger;
 use std::sync::{Mutex, Wait};
@@ -34,7 +34,9 @@ fn hear<C: Core, T: Tx, E: Ledger, B: Ledger, F: Ledger>(
     let _ = cell.apply(alloc, event, share);
 }
 
-/// Applies what the wire brings, until the cell stops or is full.
+/// Applies what the wire brings, until the cell stops or is full. A read that fails is counted by the carrier alone: it brings
+/// nothing, as a quiet one, and the next follows at once. The worker itself never pauses, so a carrier whose every read fails
+/// without waiting is read without rest until the cell stops.
 pub fn wire_worker<C: Core, T: Tx, X: Rx, E: Ledger, B: Ledger, F: Ledger, R: Wait>(
     rt: &R,
     alloc: Global,
@@ -52,14 +54,15 @@ pub fn wire_worker<C: Core, T: Tx, X: Rx, E: Ledger, B: Ledger, F: Ledger, R: Wa
             return share;
         }
         let mut buf = [0; 1500];
-        if let Ok(Got::Frame { from, len }) = rx.recv(&mut buf) {
-            hear(
+        match rx.recv(&mut buf) {
+            Ok(Got::Frame { from, len }) => hear(
                 alloc,
                 &mut cell.lock(rt),
                 &mut share,
                 from,
                 &buf[..len as usize],
-            );
+            ),
+            Ok(Got::Quiet) | Err(Failed) => {}
         }
     }
     unreachable!()

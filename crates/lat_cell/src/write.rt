@@ -1,22 +1,24 @@
 //! Items, written to a line.
 
-ghost use Rattle.std.specs.Prelude.{◌≡◌, ◌≤◌, OnErr};
+ghost use Rattle.std.specs.Prelude.{◌≡◌, ◌≤◌, ℕ, length, take, OnOk, OnErr};
+ghost use Rattle.std.specs.Io.KnownBytes.{Appends};
 ghost use Rattle.lat_outside.specs.Causes.{Rose};
+ghost use Rattle.lat_cell.specs.Written.{items_bytes};
 
 use lat_base::Item;
 use lat_outside::{Failed, LineEnd};
 
 const PIECE_BYTES: usize = 1024;
 
-// The bytes among the items, at the front of the place, as many as fit.
-fn gather(items: &[Item], place: &mut [u8; 1024]) -> usize
-    ensures { result ≤ 1024 }
+// The bytes among the items, at the front of the place.
+fn copy_bytes(items: &[Item], place: &mut [u8; 1024]) -> usize
+    requires { length items.now ≤ 1024 }
+    ensures bound { result ≤ 1024 }
+    ensures bytes { take result place.new ≡ items_bytes items.now }
 {
     let mut count = 0;
     for item in items {
-        if let Item::Byte(byte) = item
-            && count < PIECE_BYTES
-        {
+        if let Item::Byte(byte) = item {
             place[count] = *byte;
             count += 1;
         }
@@ -24,8 +26,10 @@ fn gather(items: &[Item], place: &mut [u8; 1024]) -> usize
     count
 }
 
-// Writes all of a piece.
+// Writes all of a piece, offering all that is left of it at each write. After `Failed` a prefix of it was written.
 fn write_piece<L: LineEnd>(line: &mut L, piece: &[u8]) -> Result<(), Failed>
+    ensures written { OnOk result (Appends (L.written line.old) (L.written line.new) piece.now) }
+    ensures part { OnErr result ((n : ℕ) × Appends (L.written line.old) (L.written line.new) (take n piece.now)) }
     ensures left { L.left line.new ≡ L.left line.old }
     ensures later { L.faults line.old ≤ L.faults line.new }
     ensures fault { OnErr result (Rose (L.faults line.old) (L.faults line.new)) }
@@ -42,16 +46,21 @@ fn write_piece<L: LineEnd>(line: &mut L, piece: &[u8]) -> Result<(), Failed>
     Ok(())
 }
 
-/// Writes the bytes among the items, in order. A setting isn't written.
+/// Writes the bytes among the items, in order. A setting isn't written. After `Failed` the first of the bytes were written.
 pub fn write_items<L: LineEnd>(line: &mut L, items: &[Item]) -> Result<(), Failed>
+    ensures written { OnOk result (Appends (L.written line.old) (L.written line.new) (items_bytes items.now)) }
+    ensures part { OnErr result ((n : ℕ) × Appends (L.written line.old) (L.written line.new) (take n (items_bytes items.now))) }
     ensures left { L.left line.new ≡ L.left line.old }
     ensures later { L.faults line.old ≤ L.faults line.new }
     ensures fault { OnErr result (Rose (L.faults line.old) (L.faults line.new)) }
 {
-    for some in items.chunks(PIECE_BYTES) {
+    let mut rest = items;
+    while !rest.is_empty() {
+        let (some, more) = rest.split_at(rest.len().min(PIECE_BYTES));
         let mut place = [0; PIECE_BYTES];
-        let count = gather(some, &mut place);
+        let count = copy_bytes(some, &mut place);
         write_piece(line, &place[..count])?;
+        rest = more;
     }
     Ok(())
 }
