@@ -98,14 +98,14 @@ announced_plain config st from a = go (refuses config.groups st.core.moment a st
 
 -- a command
 
-ask_refused : (st : Server) (k : Kept) → refuses_command (KeptIs k) ≡ true → is_waiting k ≡ false
-ask_refused st (Waiting n) q = absurd (false≢true q)
-ask_refused st Granted q = refl
-ask_refused st Cancelled q = refl
-ask_refused st QueueFull q = refl
-ask_refused st Notices.NoService q = refl
-ask_refused st RecordsFull q = refl
-ask_refused st Notices.Done q = refl
+ask_refused : (k : Kept) → refuses_command (KeptIs k) ≡ true → is_waiting k ≡ false
+ask_refused (Waiting n) q = absurd (false≢true q)
+ask_refused Granted q = refl
+ask_refused Cancelled q = refl
+ask_refused QueueFull q = refl
+ask_refused Notices.NoService q = refl
+ask_refused RecordsFull q = refl
+ask_refused Notices.Done q = refl
 
 cancel_refused : (k : Kept) → refuses_command (KeptIs k) ≡ true → unwaited k ≡ true
 cancel_refused (Waiting n) q = absurd (false≢true q)
@@ -138,7 +138,7 @@ module _ (config : ServerConfig) (st : Server) (from : ℕ) (m : Command) (numbe
   command_refused : (a : Action) → m.action ≡ a → Refused config st heard (hears_command config st from m a)
   command_refused Ask q r =
       let k : Kept = ask_answer (offered config) (key_of m) m.service st.queue in
-      inr (notes_by Ask (hears_command config st from m Ask) q refl r (turned_still st.queue (key_of m) from m.service k (ask_refused st k r)))
+      inr (notes_by Ask (hears_command config st from m Ask) q refl r (turned_still st.queue (key_of m) from m.service k (ask_refused k r)))
   command_refused Cancel q r = go (kept_of (key_of m) (st.queue ++ Cancels (key_of m) ∷ [])) refl r
     where
       told : Option Kept → ServerStep
