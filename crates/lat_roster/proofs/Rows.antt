@@ -1,8 +1,8 @@
 -- A row that is changed beside the one that it shows.
 use Rattle.std.proofs.Common.{◌≡◌, ◌≢◌, ℕ, zero, suc, ◌+◌, ◌-◌, ◌*◌, ◌<◌, ◌≤◌, refl, sym, ap, ap₂, ◌∙◌, subst, arith, Bool, true, false, cond, ◌&&◌, List, [], ◌∷◌, ◌++◌, length, length-append, get_or, get_or-set_same, get_or-set_other, slice_set, slice_index, nat_eq, eqb-true}
 use Rattle.std.proofs.lemmas.Bool.{eqb-false}
-use Rattle.std.proofs.lemmas.List.{map-append, append-nil}
-use Rattle.std.specs.Prelude.{map, slice_get, Some}
+use Rattle.std.proofs.lemmas.List.{map-append, append-nil, length-replicate}
+use Rattle.std.specs.Prelude.{map, replicate, slice_get, Some}
 use Rattle.lat_base.specs.declared.item.Item.{Item}
 use Rattle.lat_base.specs.declared.item.Item.TheVariants.{Byte}
 use Rattle.lat_model.specs.sessions.Slots as slots
@@ -13,10 +13,10 @@ use Rattle.lat_tales.specs.Rows as rows
 use Rattle.lat_tales.specs.Rows.{RowAfter}
 use Rattle.lat_roster.specs.declared.figures.Figures.{Figures}
 use Rattle.lat_machines.specs.cores.Cores.{Seat}
-use Rattle.lat_tales.specs.Keeping.{change, new_row, connects, accepts}
+use Rattle.lat_tales.specs.Keeping.{change, no_rows, new_row, connects, accepts}
 use Rattle.lat_roster.specs.declared.row.Row.{Row}
 use Rattle.lat_roster.specs.Rows.{ShowsFigures, ShowsRow, IsSeat, HasReserved}
-use Rattle.lat_roster.specs.Roster.{Kept, ShowsRows, Shows, last_row}
+use Rattle.lat_roster.specs.Roster.{Kept, ShowsRows, Shows, Holds, last_row}
 use Rattle.lat_roster.specs.Names.{key_of, place_of}
 
 changed_at : (ks : List Row) (rs : List rows.RowAfter) (i : ℕ) (d k : Row) (f : rows.RowAfter → rows.RowAfter) → i < length ks → ShowsRows ks rs → ((r : rows.RowAfter) → ShowsRow (get_or ks i d) r → ShowsRow k (f r)) → ShowsRows (slice_set ks i k) (change (suc i) f rs)
@@ -33,11 +33,32 @@ shows_changed ks rs (suc i) d k f a b h g =
 
 -- lists of places
 
-pub zeros_more : (xs : List ℕ) (k : ℕ) → ((j : ℕ) → get_or xs j 0 ≡ 0) → get_or (xs ++ 0 ∷ []) k 0 ≡ 0
-zeros_more [] zero h = refl
-zeros_more [] (suc k) h = refl
-zeros_more (x ∷ xs) zero h = h 0
-zeros_more (x ∷ xs) (suc k) h = zeros_more xs k (λ j. h (suc j))
+zero_at : (n i : ℕ) → get_or {A = ℕ} (replicate n 0) i 0 ≡ 0
+zero_at zero i = refl
+zero_at (suc n) zero = refl
+zero_at (suc n) (suc i) = zero_at n i
+
+zeros : (n : ℕ) (xs : List ℕ) (i : ℕ) → xs ≡ replicate n 0 → get_or xs i 0 ≡ 0
+zeros n xs i e = ap (λ z. get_or z i 0) e ∙ zero_at n i
+
+-- each line has the place 0
+
+pub holds_none : (n : ℕ) (k : Kept) → n ≡ 256 → k.server_lines ≡ replicate n 0 → k.node_lines ≡ replicate n 0 → ((key : ℕ) → place_of k.names key ≡ 0) → Holds k
+holds_none n k all server node names = record {
+  server_len = ap length server ∙ (length-replicate n 0 ∙ all);
+  node_len = ap length node ∙ (length-replicate n 0 ∙ all);
+  server_places = λ line. let e = zeros n k.server_lines line server in omega (arith, e);
+  node_places = λ line. let e = zeros n k.node_lines line node in omega (arith, e);
+  name_places = λ key. let e = names key in omega (arith, e);
+}
+
+pub shows_none : (n : ℕ) (k : Kept) → k.rows ≡ [] → k.server_lines ≡ replicate n 0 → k.node_lines ≡ replicate n 0 → ((key : ℕ) → place_of k.names key ≡ 0) → Shows k no_rows
+shows_none n k rows server node names = record {
+  rows = subst (λ z. ShowsRows z []) (sym rows) refl;
+  server_lines = λ line l. zeros n k.server_lines line server;
+  node_lines = λ line l. zeros n k.node_lines line node;
+  names = λ circuit id l. names (key_of circuit id);
+}
 
 -- one row more
 

@@ -32,5 +32,7 @@ pub record IsSeat (s : Seat) (on circuit_id session_id : ℕ) : Type 0 where
 
 -- a row with room for so many items more that the session at this end puts and takes
 abbrev pub HasReserved : Bool → ℕ → ℕ → Row → Type 0
-HasReserved true put taken k = (vec_len k.up.put + put ≤ vec_capacity k.up.put) × (vec_len k.down.taken + taken ≤ vec_capacity k.down.taken)
-HasReserved false put taken k = (vec_len k.down.put + put ≤ vec_capacity k.down.put) × (vec_len k.up.taken + taken ≤ vec_capacity k.up.taken)
+HasReserved true put taken k =
+    (vec_len k.up.put + put ≤ vec_capacity k.up.put) × (vec_len k.down.taken + taken ≤ vec_capacity k.down.taken)
+HasReserved false put taken k =
+    (vec_len k.down.put + put ≤ vec_capacity k.down.put) × (vec_len k.up.taken + taken ≤ vec_capacity k.up.taken)

@@ -6,7 +6,7 @@ ghost use Rattle.lat_tales.specs.Rows as rows;
 ghost use Rattle.lat_tales.specs.Keeping.{change, with_items};
 ghost use Rattle.lat_roster.specs.Rows.{ShowsFigures, HasReserved};
 ghost use Rattle.lat_roster.specs.Shown.{item_shown};
-ghost use Rattle.lat_roster.specs.Roster.{ShowsRows, ReservedAt};
+ghost use Rattle.lat_roster.specs.Roster.{ShowsRows, Changes, ReservedAt};
 
 use crate::figures::Figures;
 use crate::row::Row;
@@ -41,7 +41,7 @@ pub(crate) fn leave_node(list: &mut [Row], place: usize, figures: Figures)
 // The row at this place gets the node's line; nothing at 0.
 pub(crate) fn join(list: &mut [Row], place: usize, line: u8)
     requires { place ≤ length list.old }
-    ensures { (rs : List rows.RowAfter) → ShowsRows list.old rs → ShowsRows list.new (change place (λ r. record r { node_line = line }) rs) }
+    ensures { Changes list.old list.new place (λ r. record r { node_line = line }) }
 {
     if place > 0 {
         list[place - 1].node_line = line;
@@ -65,7 +65,7 @@ pub(crate) fn hand_over(list: &mut [Row], left: usize, figures: Figures, place: 
 pub(crate) fn put_at(list: &mut [Row], place: usize, server: bool, bytes: &[u8])
     requires place { place ≤ length list.old }
     requires reserved { ReservedAt list.old place server (length bytes.now) 0 }
-    ensures { (rs : List rows.RowAfter) → ShowsRows list.old rs → ShowsRows list.new (change place (with_items server (map slots.Byte bytes.now) []) rs) }
+    ensures { Changes list.old list.new place (with_items server (map slots.Byte bytes.now) []) }
 {
     if place > 0 {
         list[place - 1].puts(server, bytes);

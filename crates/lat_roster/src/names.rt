@@ -61,7 +61,9 @@ impl Names {
         ensures place { (k : ℕ) → place_of self.new k ≡ cond (nat_eq (key_of circuit id) k) place (place_of self.old k) }
         ensures reserved { self.old.reserved ≤ self.new.reserved + 1 }
     {
-        let _ = self.places.insert(key(circuit, id), place);
+        let Ok(_) = self.places.insert(key(circuit, id), place) else {
+            unreachable!()
+        };
     }
 
     /// The place of the last row with these ids, 0 where there is none.

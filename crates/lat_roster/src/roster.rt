@@ -1,6 +1,6 @@
 //! The roster.
 
-ghost use Rattle.std.specs.Prelude.{◌≡◌, ◌≢◌, ◌+◌, ◌<◌, ◌≤◌, ℕ, List, [], map, length, slice_index, IfOk, OnOk, if◌then◌else◌};
+ghost use Rattle.std.specs.Prelude.{◌≡◌, ◌≢◌, ◌+◌, ◌<◌, ◌≤◌, ℕ, List, [], map, length, slice_index, IfOk, OnOk};
 ghost use Rattle.lat_machines.specs.cores.Cores.{Seat};
 ghost use Rattle.lat_model.specs.sessions.Slots as slots;
 ghost use Rattle.lat_tales.specs.Rows as rows;
@@ -8,7 +8,7 @@ ghost use Rattle.lat_tales.specs.Keeping.{no_rows, adds, connects, accepts};
 ghost use Rattle.lat_roster.specs.Names.{key_of, place_of};
 ghost use Rattle.lat_roster.specs.Shown.{item_shown};
 ghost use Rattle.lat_roster.specs.Rows.{ShowsFigures, IsSeat};
-ghost use Rattle.lat_roster.specs.Roster.{Shows, last_row, ReservedAt};
+ghost use Rattle.lat_roster.specs.Roster.{Shows, last_row, newest, ReservedFor};
 
 use crate::changes::{add_at, hand_over, leave_server, put_at, reserve_at};
 use crate::figures::Figures;
@@ -17,6 +17,9 @@ use crate::row::Row;
 use lat_base::{Item, Memory};
 use std::alloc::Global;
 use std::marker::Model;
+
+/// How many line numbers there are.
+const LINES: usize = 256;
 
 /// A row for each session of the server, in the order in which they were connected, and for each line of both ends the place
 /// of the row of its newest session.
@@ -61,29 +64,15 @@ impl Model for Roster {
     }) };
 }
 
-// For each line number the place 0.
-fn no_places(alloc: Global) -> Result<Vec<usize>, Memory>
-    ensures len { IfOk result (λ list. length list.items ≡ 256) }
-    ensures zeros { IfOk result (λ list. (line : ℕ) → slice_index list.items line ≡ 0) }
-{
-    let mut list = Vec::with_capacity(alloc, 256)?;
-    for _ in 0..256usize {
-        list.push_reserved(0);
-    }
-    Ok(list)
-}
-
 impl Roster {
     /// No rows, with the places of all lines. `Memory` where none is found.
     pub fn make(alloc: Global) -> Result<Roster, Memory>
         ensures { IfOk result (λ k. Shows k no_rows) }
     {
-        let server_lines = no_places(alloc)?;
-        let node_lines = no_places(alloc)?;
         Ok(Roster {
             rows: Vec::new(alloc),
-            server_lines,
-            node_lines,
+            server_lines: vec![in alloc; 0; LINES]?,
+            node_lines: vec![in alloc; 0; LINES]?,
             names: Names::new(alloc),
         })
     }
@@ -115,7 +104,7 @@ impl Roster {
 
     /// The place of the row of a line's newest session, 0 where it has none: of the server, or of the node.
     pub fn newest(&self, server: bool, line: u8) -> usize
-        ensures { result ≡ slice_index (if server then self.now.server_lines else self.now.node_lines) line }
+        ensures { result ≡ newest self.now server line }
     {
         if server {
             self.server_lines[usize::from(line)]
@@ -134,8 +123,7 @@ impl Roster {
         taken: usize,
     ) -> Result<(), Memory>
         ensures same { (r : rows.RowsAfter) → Shows self.old r → Shows self.new r }
-        ensures items { OnOk result
-            (ReservedAt self.new.rows (slice_index (if server then self.new.server_lines else self.new.node_lines) line) server put taken) }
+        ensures items { OnOk result (ReservedFor self.new server line put taken) }
         ensures rows { self.old.reserved ≡ self.new.reserved }
         ensures names { self.new.names ≡ self.old.names }
     {
@@ -145,8 +133,10 @@ impl Roster {
 
     /// The newest session of a line has put bytes more, for which there is room.
     pub fn puts(&mut self, server: bool, line: u8, bytes: &[u8])
-        requires { ReservedAt self.old.rows (slice_index (if server then self.old.server_lines else self.old.node_lines) line) server (length bytes.now) 0 }
-        ensures shows { (r : rows.RowsAfter) → Shows self.old r → Shows self.new (adds server line (map slots.Byte bytes.now) [] r) }
+        requires { ReservedFor self.old server line (length bytes.now) 0 }
+        ensures shows { (r : rows.RowsAfter) →
+            Shows self.old r →
+            Shows self.new (adds server line (map slots.Byte bytes.now) [] r) }
         ensures rows { self.old.reserved ≡ self.new.reserved }
         ensures names { self.new.names ≡ self.old.names }
     {
@@ -156,8 +146,7 @@ impl Roster {
 
     /// The newest session of a line has put and taken items more, for which there is room.
     pub fn adds(&mut self, server: bool, line: u8, put: &[Item], taken: &[Item])
-        requires { ReservedAt self.old.rows (slice_index (if server then self.old.server_lines else self.old.node_lines) line) server
-            (length put.now) (length taken.now) }
+        requires { ReservedFor self.old server line (length put.now) (length taken.now) }
         ensures shows { (r : rows.RowsAfter) (ps ts : List slots.Item) →
             put.now ≡ map item_shown ps →
             taken.now ≡ map item_shown ts →

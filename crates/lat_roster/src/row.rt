@@ -89,7 +89,9 @@ impl Row {
     // The session at this end has put bytes more, for which there is room.
     pub(crate) fn puts(&mut self, server: bool, bytes: &[u8])
         requires { HasReserved server (length bytes.now) 0 self.old }
-        ensures { (r : rows.RowAfter) → ShowsRow self.old r → ShowsRow self.new (with_items server (map slots.Byte bytes.now) [] r) }
+        ensures { (r : rows.RowAfter) →
+            ShowsRow self.old r →
+            ShowsRow self.new (with_items server (map slots.Byte bytes.now) [] r) }
     {
         if server {
             add_bytes(&mut self.up.put, bytes);
@@ -147,5 +149,7 @@ pub(crate) fn add_items(list: &mut Vec<Item>, items: &[Item])
     requires { vec_len list.old + length items.now ≤ vec_capacity list.old }
     ensures { list.new.items ≡ list.old.items ++ items.now }
 {
-    let _ = list.extend_from_slice(items);
+    for item in items {
+        list.push_reserved(*item);
+    }
 }
