@@ -112,7 +112,10 @@ fn fits(slot: &Slot) -> bool
             ..
         } => start_ok(*from, *size, service, subject.as_slice(), params),
         Slot::DataA {
-            to, from, bytes, ..
+            to,
+            from,
+            bytes,
+            ..
         } => ids_ok(*to, *from) && bytes.as_slice().len() < 256,
         Slot::DataB {
             to,
