@@ -1,13 +1,12 @@
 -- Ratings by the rules' own answers.
-use Rattle.std.proofs.Common.{◌≡◌, ℕ, ◌+◌, refl, sym, ap, subst, ◌∙◌, List, [], ◌∷◌, ◌++◌, map}
-use Rattle.std.specs.List.{AllZip, AllByRecursion}
+use Rattle.std.proofs.Common.{◌≡◌, ℕ, refl, sym, ap, subst, ◌∙◌, List, [], ◌∷◌, ◌++◌, map}
+use Rattle.std.specs.List.{AllZip}
 use Rattle.lat_node.specs.Rules.{TellsFullness}
 use Rattle.lat_notices.specs.declared.services.Service.{Service}
-use Rattle.lat_notices.specs.Services.{IsService}
 use Rattle.lat_machines.specs.node.Node.{rated}
 use Rattle.lat_dir.specs.Stands.{service_shown}
 use Rattle.lat_node.specs.Announced.{ratings}
-use Rattle.lat_node.proofs.AnnounceLemmas.{services_more, all_more}
+use Rattle.lat_node.proofs.AnnounceLemmas.{services_more}
 use Rattle.lat_tariff.specs.declared.tariff.Rule.{Rule}
 use Rattle.lat_tariff.specs.Rules.{IsSteady}
 use Rattle.lat_tariff.specs.Tariffs.{names, AreOwn}
@@ -30,15 +29,13 @@ names_more {R = R} rules more r is = ap names is ∙ map_more (λ (x : Rule R). 
 
 -- what the services so far are, of the rules so far
 pub record SoFar {R : Type 0} (may : R → ℕ → ℕ → ℕ → Type 0) (used max : ℕ) (rules : List (Rule R)) (ss : List Service) : Type 0 where
-  pub services : AllByRecursion IsService ss
   pub names : map service_shown ss ≡ rated (names rules) (ratings ss)
   pub own : AreOwn may used max rules (ratings ss)
 
 pub more_services : {R : Type 0} (may : R → ℕ → ℕ → ℕ → Type 0) (used max : ℕ) (rules more : List (Rule R)) (r : Rule R) (ss new : List Service) (s : Service) →
     more ≡ rules ++ r ∷ [] → new ≡ ss ++ s ∷ [] → SoFar may used max rules ss →
-    IsService s → service_shown s ≡ record { rating = s.rating; name = r.name; description = [] } → may r.rule used max s.rating → SoFar may used max more new
-more_services {R = R} may used max rules more r ss new s is_more is_new far one shown rating = record {
-  services = all_more ss s new is_new far.services one;
+    service_shown s ≡ record { rating = s.rating; name = r.name; description = [] } → may r.rule used max s.rating → SoFar may used max more new
+more_services {R = R} may used max rules more r ss new s is_more is_new far shown rating = record {
   names = services_more (names rules) (names more) ss new r.name s (names_more rules more r is_more) is_new far.names shown;
   own =
       subst (λ (rs : List (Rule R)). AreOwn may used max rs (ratings new)) (sym is_more)

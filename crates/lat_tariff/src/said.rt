@@ -1,7 +1,7 @@
 //! What goes out with ratings at an event. It is made before the node is told of the event.
 
 ghost use Rattle.std.specs.Prelude.{◌≡◌, ◌≤◌, false, Some, Err, nat_eq, IfOk};
-ghost use Rattle.lat_notices.specs.Texts.{IsWritable};
+ghost use Rattle.lat_notices.specs.Writing.{CanBeWritten};
 ghost use Rattle.lat_machines.specs.node.Node.{announcement};
 ghost use Rattle.lat_machines.specs.values.Addresses.{address, everyone};
 ghost use Rattle.lat_machines.specs.values.Frames.{Whole, OfNotice, Reading};
@@ -14,7 +14,6 @@ ghost use Rattle.lat_tariff.specs.Said.{IsAnnounced, AnnouncedBy, SaysAt, SaysTo
 ghost use Rattle.lat_tariff.specs.Tariffs.{AreKnown};
 
 use crate::node::TariffCore;
-use crate::services::named;
 use crate::steady::SteadyRule;
 use crate::tariff::Rule;
 use lat_base::{Addr, Bytes, EVERYONE, Event, Memory, OutFrame};
@@ -107,10 +106,9 @@ impl<H: RatingRule, R: SteadyRule> TariffCore<H, R> {
     fn announcement(&self, alloc: Global, used: u16) -> Result<Notice, Memory>
         requires rules { AreKnown R.fact self.now.rules }
         requires within { used ≤ self.now.node.lines.lines }
-        ensures writable { IfOk result IsWritable }
+        ensures written { IfOk result CanBeWritten }
         ensures announced { IfOk result (IsAnnounced R.may self.now used) }
     {
-        named(&self.name);
         Ok(Notice::Announcement(Announcement {
             timer: self.timer,
             incarnation: self.incarnation,

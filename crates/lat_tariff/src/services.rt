@@ -1,9 +1,6 @@
 //! The services of a tariff, each with the rating of its own rule.
 
 ghost use Rattle.std.specs.Prelude.{◌≡◌, ◌≤◌, [], map, length, IfOk};
-ghost use Rattle.std.specs.List.{AllByRecursion};
-ghost use Rattle.lat_base.specs.Names.{IsName};
-ghost use Rattle.lat_notices.specs.Services.{IsService};
 ghost use Rattle.lat_machines.specs.node.Node as machine;
 ghost use Rattle.lat_dir.specs.Stands.{service_shown};
 ghost use Rattle.lat_node.specs.Announced.{ratings};
@@ -11,7 +8,7 @@ ghost use Rattle.lat_tariff.specs.Tariffs.{names, AreKnown, AreOwn};
 
 use crate::steady::SteadyRule;
 use crate::tariff::{Rule, Tariff};
-use lat_base::{Bytes, Memory, Name};
+use lat_base::{Bytes, Memory};
 use lat_notices::{Service, Services};
 use std::alloc::Global;
 
@@ -20,7 +17,6 @@ impl<R: SteadyRule> Tariff<R> {
     pub(crate) fn services(&self, alloc: Global, used: u16, max: u16) -> Result<Services, Memory>
         requires within { used ≤ max }
         requires rules { AreKnown R.fact self.now }
-        ensures services { IfOk result (AllByRecursion IsService) }
         ensures names { IfOk result (λ ss. map service_shown ss ≡ machine.rated (names self.now) (ratings ss)) }
         ensures own { IfOk result (λ ss. AreOwn R.may used max self.now (ratings ss)) }
         ensures few { length self.now ≤ 32 }
@@ -38,22 +34,13 @@ impl<R: SteadyRule> Rule<R> {
     fn service(&self, alloc: Global, used: u16, max: u16) -> Result<Service, Memory>
         requires within { used ≤ max }
         requires fact { R.fact self.now.rule }
-        ensures service { IfOk result IsService }
         ensures shown { IfOk result (λ s. service_shown s ≡ record { rating = s.rating; name = self.now.name; description = [] }) }
         ensures rating { IfOk result (λ s. R.may self.now.rule used max s.rating) }
     {
-        named(&self.name);
         Ok(Service {
             rating: self.rule.rate(used, max),
             name: self.name,
             description: Bytes::copy(alloc, &[])?,
         })
     }
-}
-
-/// A name is one by its type.
-pub(crate) fn named(name: &Name)
-    ensures { IsName name.now }
-{
-    name.bytes();
 }

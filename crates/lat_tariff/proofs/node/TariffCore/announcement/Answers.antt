@@ -1,20 +1,20 @@
 use Rattle.std.proofs.Common.{◌≤◌, sym, ◌∙◌, subst, length, List, ℕ}
 use Rattle.lat_notices.specs.declared.notice.Notice.{Notice}
 use Rattle.lat_notices.specs.declared.notice.Notice.TheVariants as variants
-use Rattle.lat_node.proofs.AnnounceLemmas.{announcement_writable}
+use Rattle.lat_node.proofs.AnnounceLemmas.{can_be_announced}
 use Rattle.lat_tariff.specs.Kept.{Kept}
 use Rattle.lat_tariff.specs.Said.{IsAnnounced}
 use Rattle.lat_tariff.specs.Tariffs.{names}
 use Rattle.lat_tariff.proofs.Announcing.{announced_as, names_few}
 use Rattle.lat_tariff.proofs.node.TariffCore.announcement.Goals as goal
 
-pub returns-clause-writable : goal.returns-clause-writable
-returns-clause-writable g c =
-    announcement_writable _ (names c.self.inside.tariff) c.self.invariant.late
+pub returns-clause-written : goal.returns-clause-written
+returns-clause-written g c =
+    can_be_announced _ (names c.self.inside.tariff) c.self.invariant.late
     (subst (λ (xs : List ℕ). length xs ≤ 32) (sym (c.in_ok-copy.ensures ∙ c.as_slice.ensures)) c.self.invariant.few)
-    c.named.ensures c.in_ok-copy-2.ensures
+    c.in_ok-copy-2.ensures
     (names_few c.self.inside.tariff c.in_ok-services.ensures.few)
-    c.in_ok-services.ensures.services c.in_ok-services.ensures.names
+    c.in_ok-services.ensures.names
 
 pub returns-clause-announced : goal.returns-clause-announced
 returns-clause-announced g c =

@@ -11,6 +11,6 @@ loop-rule-preserved g c =
     let i = c.loop-rule.rule-index in
     let r = c.rule-item.result in
     let more : take (i + 1) rs ≡ take i rs ++ r ∷ [] = take_more rs i r c.loop-rule-test.true ∙ ap (λ m. take i rs ++ m ∷ []) (sym c.rule-item.is) in
-    let far : SoFar g.R.SteadyRule.may c.args.used c.args.max (take i rs) ss = record { services = c.loop-rule.invariant.services; names = c.loop-rule.invariant.names; own = c.loop-rule.invariant.own } in
-    let new = more_services _ c.args.used c.args.max (take i rs) (take (i + 1) rs) r ss c.push.new.self s more c.in_ok-push.ensures.ok far c.in_ok-service.ensures.service c.in_ok-service.ensures.shown c.in_ok-service.ensures.rating in
-    record { services = new.services; names = new.names; own = new.own }
+    let far : SoFar g.R.SteadyRule.may c.args.used c.args.max (take i rs) ss = record { names = c.loop-rule.invariant.names; own = c.loop-rule.invariant.own } in
+    let new = more_services _ c.args.used c.args.max (take i rs) (take (i + 1) rs) r ss c.push.new.self s more c.in_ok-push.ensures.ok far c.in_ok-service.ensures.shown c.in_ok-service.ensures.rating in
+    record { names = new.names; own = new.own }

@@ -1,6 +1,4 @@
 use Rattle.std.proofs.Common.{◌≡◌, map, take}
-use Rattle.std.specs.List.{AllByRecursion}
-use Rattle.lat_notices.specs.Services.{IsService}
 use Rattle.lat_machines.specs.node.Node as machine
 use Rattle.lat_dir.specs.Stands.{service_shown}
 use Rattle.lat_node.specs.Announced.{ratings}
@@ -9,7 +7,6 @@ use Rattle.lat_tariff.proofs.tariff.Tariff.services.Given as goal
 
 abbrev pub invariant-loop-rule : goal.invariant-loop-rule
 invariant-loop-rule g l = record {
-  services : AllByRecursion IsService l.services;
   names : map service_shown l.services ≡ machine.rated (names (take l.rule-index l.rule-items)) (ratings l.services);
   own : AreOwn g.R.SteadyRule.may l.used l.max (take l.rule-index l.rule-items) (ratings l.services);
 }
