@@ -77,3 +77,7 @@ heading_read (first ∷ rest) v b e = go (is_kind (first / 4)) refl (is_notice (
     go true h n e = circuit_heading (first ∷ rest) v b (message_read (first ∷ rest)) refl e
     go false h true e = notice_heading first rest v h (notice_read (first ∷ rest)) e
     go false h false e = let z : ⊥ = cc in absurd z
+
+-- what stands in the bytes is what the value names
+pub heading_told : (p : List ℕ) (q : Option Heading) → IsBytes p → q ≡ heading_in p → (v : Value) → reading_of p ≡ Whole v → q ≡ heading_of v
+heading_told p q b e v r = e ∙ heading_read p v b r

@@ -22,9 +22,11 @@ fn number_at(payload: &[u8], place: usize) -> u16
     u16::from(payload[place]) + u16::from(payload[place + 1]) * 256
 }
 
-// The circuits that stand behind the first two bytes of a payload of the type of a RUN.
-fn heading_at(payload: &[u8]) -> Option<Heading>
-    ensures { result ≡ heading_in payload.now }
+/// The circuits that the payload of a RUN names; `None` of any other payload that has a reading. See "Circuit messages" in
+/// docs/FORMATS.md.
+pub fn heading_of(payload: &[u8]) -> Option<Heading>
+    ensures bytes { result ≡ heading_in payload.now }
+    ensures value { (v : Value) → reading_of payload.now ≡ Whole v → result ≡ heading_of v }
 {
     if payload.len() < 6 {
         return None;
@@ -36,13 +38,4 @@ fn heading_at(payload: &[u8]) -> Option<Heading>
         }),
         Some(MessageKind::Start | MessageKind::Stop) | None => None,
     }
-}
-
-/// The circuits that the payload of a RUN names; `None` of any other payload that has a reading. See "Circuit messages" in
-/// docs/FORMATS.md.
-pub fn heading_of(payload: &[u8]) -> Option<Heading>
-    ensures bytes { result ≡ heading_in payload.now }
-    ensures value { (v : Value) → reading_of payload.now ≡ Whole v → result ≡ heading_of v }
-{
-    heading_at(payload)
 }
