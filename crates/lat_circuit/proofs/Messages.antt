@@ -1,5 +1,5 @@
 -- What an end sends can be written, and tells what was sent.
-use Rattle.std.proofs.Common.{◌≡◌, ℕ, suc, ◌+◌, ◌<◌, ◌≤◌, Bool, true, false, cond, List, [], ◌∷◌, ◌++◌, length, map, Ok, Some, subst, refl, sym, ap, ap₂, ◌∙◌, arith, length-append}
+use Rattle.std.proofs.Common.{◌≡◌, ℕ, suc, ◌<◌, ◌≤◌, Bool, true, false, List, [], ◌∷◌, ◌++◌, length, map, Ok, Some, subst, refl, sym, ap, ap₂, arith, length-append}
 use Rattle.std.proofs.lemmas.List.{length-map}
 use Rattle.std.specs.List.{AllByRecursion}
 use Rattle.lat_base.specs.Names.{IsName}
@@ -13,7 +13,7 @@ use Rattle.lat_frames.proofs.Outcomes.{written_payload}
 use Rattle.lat_model.specs.Lists.{Each}
 use Rattle.lat_model.specs.numbers.Link.{Frame, frames_from}
 use Rattle.lat_model.specs.sessions.Slots.{Slot}
-use Rattle.lat_model.specs.ends.End.{Run, CallStart, ReplyStart, marked}
+use Rattle.lat_model.specs.ends.End.{CallStart, ReplyStart, marked}
 use Rattle.lat_machines.specs.values.Messages.{Param, StartInfo, Message, RunMessage, WideMessage, StartMessage, StopMessage}
 use Rattle.lat_machines.specs.values.Runs.{run_head, slots_in, run_message}
 use Rattle.lat_machines.specs.values.Timing.{wide_params, call_info, reply_info}
@@ -25,7 +25,7 @@ use Rattle.lat_link.specs.Links.{IsMessage}
 use Rattle.lat_link.specs.Payloads.{message_of, param_of, is_wide}
 use Rattle.lat_circuit.specs.Agrees.{IsTiming}
 use Rattle.lat_circuit.specs.Kept.{Facts}
-use Rattle.lat_circuit.specs.Frames.{IsFormed, AreFormed, message_sent, message_shown, param_shown, timing_shown}
+use Rattle.lat_circuit.specs.Frames.{IsFormed, AreFormed, message_sent, param_shown, timing_shown}
 
 -- the payload that is written of such a message is read as it
 pub formed_reads : (m : Message) → IsFormed m → message_read (padded (message_text (message_of m))) ≡ Ok (message_of m)

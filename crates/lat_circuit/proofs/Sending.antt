@@ -1,5 +1,5 @@
 -- The steps that send frames, over the fields of a circuit.
-use Rattle.std.proofs.Common.{◌≡◌, ℕ, suc, ◌+◌, Bool, true, false, List, [], ◌∷◌, ◌++◌, map, refl, sym, ap, subst, ◌∙◌, arith}
+use Rattle.std.proofs.Common.{◌≡◌, ℕ, ◌+◌, Bool, true, false, List, [], ◌∷◌, ◌++◌, map, refl, sym, ap, subst, ◌∙◌, arith}
 use Rattle.std.proofs.lemmas.Bool.{true≢false}
 use Rattle.lat_base.specs.Names.{IsName}
 use Rattle.lat_base.specs.declared.outbox.OutFrame.{OutFrame}
@@ -14,7 +14,7 @@ use Rattle.lat_link.specs.Links as link
 use Rattle.lat_link.specs.Payloads.{message_of, run_payload}
 use Rattle.lat_circuit.specs.declared.circuit.Circuit.TheInside.{Inside}
 use Rattle.lat_circuit.specs.declared.start.Start.{Start}
-use Rattle.lat_circuit.specs.Kept.{Kept, Knows}
+use Rattle.lat_circuit.specs.Kept.{Knows}
 use Rattle.lat_circuit.specs.Shown.{shown}
 use Rattle.lat_circuit.specs.Frames.{IsFormed, AreFormed, frame_sent, message_sent, start_message}
 use Rattle.lat_circuit.specs.Stands.{Stands}

@@ -171,10 +171,7 @@ impl Circuit {
     fn circuit_end(&self) -> Option<SessionEnd>
         ensures { result ≡ circuit_end self.now.ended }
     {
-        match self.ended {
-            Some(reason) => Some(SessionEnd::Circuit(reason)),
-            None => None,
-        }
+        self.ended.map(SessionEnd::Circuit)
     }
 
     /// The flag of the attention that a session heard last, `None` where it heard none.

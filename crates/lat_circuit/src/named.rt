@@ -6,7 +6,6 @@ ghost use Rattle.lat_model.specs.ends.Timers.{note_empty};
 ghost use Rattle.lat_model.specs.sessions.Calls.{put_count, Put, Set, Attend, Close};
 ghost use Rattle.lat_model.specs.sessions.Session.{put_open, take_open, unframed};
 ghost use Rattle.lat_model.specs.sessions.Sessions.{named};
-ghost use Rattle.lat_session.specs.Calls.{without_count};
 ghost use Rattle.lat_circuit.specs.Stands.{Stands};
 ghost use Rattle.lat_circuit.specs.Steps.{Keeps};
 
@@ -43,7 +42,8 @@ impl Circuit {
         ensures keeps { Keeps self.old self.new }
         ensures ended { self.new.ended ≡ self.old.ended }
     {
-        without_count(self.call_session(id, &SessionCall::Set(setting)))
+        self.call_session(id, &SessionCall::Set(setting))
+            .map(|_| ())
     }
 
     /// Takes an attention, which goes out before all items, in place of one that still waits. `Closed` where `put` is.
@@ -56,7 +56,8 @@ impl Circuit {
         ensures keeps { Keeps self.old self.new }
         ensures ended { self.new.ended ≡ self.old.ended }
     {
-        without_count(self.call_session(id, &SessionCall::Attend(flag)))
+        self.call_session(id, &SessionCall::Attend(flag))
+            .map(|_| ())
     }
 
     /// Closes the session: what it heard is dropped, and its stop goes out behind its items. `Closed` where `take` is.
@@ -69,16 +70,6 @@ impl Circuit {
         ensures keeps { Keeps self.old self.new }
         ensures ended { self.new.ended ≡ self.old.ended }
     {
-        without_count(self.call_session(id, &SessionCall::Close))
-    }
-}
-
-// The answer without the number of the bytes that were put.
-fn without_count(answer: Result<usize, SessionFault>) -> Result<(), SessionFault>
-    ensures { result ≡ without_count answer }
-{
-    match answer {
-        Ok(_) => Ok(()),
-        Err(fault) => Err(fault),
+        self.call_session(id, &SessionCall::Close).map(|_| ())
     }
 }

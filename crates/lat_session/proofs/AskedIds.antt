@@ -1,5 +1,5 @@
 -- The ids that are asked for: how many they are, and what is told of each.
-use Rattle.std.proofs.Common.{◌≡◌, ℕ, suc, ◌+◌, sym, ap, ◌∙◌, refl, arith, Bool, true, false, not, cond, ◌&&◌, ◌||◌, List, [], ◌∷◌, length, filter, count_by, position, get_or, subst, Option, Some, None}
+use Rattle.std.proofs.Common.{◌≡◌, ℕ, suc, ◌+◌, sym, ap, ◌∙◌, refl, arith, Bool, true, false, not, cond, ◌&&◌, ◌||◌, List, [], ◌∷◌, length, filter, count_by, position, get_or, Option, Some, None}
 use Rattle.std.proofs.lemmas.Bool.{true≢false, false≢true}
 use Rattle.std.proofs.lemmas.List.Elements.{filter_agree}
 use Rattle.std.proofs.lemmas.List.Quantifiers.{position-Some}
@@ -17,7 +17,6 @@ use Rattle.lat_session.specs.Stands.{Stands}
 use Rattle.lat_session.specs.States.{is_asked, asked_at}
 use Rattle.lat_session.specs.declared.getters.Asked as asking
 use Rattle.lat_session.specs.Table.{Table, state_at, state_in}
-use Rattle.lat_session.proofs.Runs.{keep_same}
 use Rattle.lat_session.proofs.Least.{keep_low, count_keep}
 use Rattle.lat_session.proofs.Counts.{here, past_blank}
 
@@ -74,13 +73,11 @@ asked_state t at id h is =
 
 -- what is told of an id
 
-pub told_here : (e : Sessions) (at id : ℕ) (k : Kept) (r : Option asking.Asked) → at + 1 ≡ id → k ≡ kept_of e.master e.ceiling (named e id) → is_asked k.state ≡ true
-    → (is_asked (state_shown (state e.master (named e (at + 1)))) ≡ true → r ≡ Some (asked_at e (at + 1)))
-    → r ≡ cond (is_asked (state_shown (state e.master (named e id)))) (Some (asked_at e id)) None
-told_here e at id k r p was asks told =
+pub told_here : (e : Sessions) (at id : ℕ) (k : Kept) (a : asking.Asked) → at + 1 ≡ id → k ≡ kept_of e.master e.ceiling (named e id) → is_asked k.state ≡ true → a ≡ asked_at e (at + 1)
+    → Some a ≡ cond (is_asked (state_shown (state e.master (named e id)))) (Some (asked_at e id)) None
+told_here e at id k a p was asks told =
     let asked : is_asked (state_shown (state e.master (named e id))) ≡ true = ap (λ (k : Kept). is_asked k.state) (sym was) ∙ asks in
-    subst (λ i. is_asked (state_shown (state e.master (named e i))) ≡ true → r ≡ Some (asked_at e i)) p told asked
-    ∙ ap (λ b. cond b (Some (asked_at e id)) None) (sym asked)
+    ap Some (told ∙ ap (asked_at e) p) ∙ ap (λ b. cond b (Some (asked_at e id)) None) (sym asked)
 
 pub told_none : (e : Sessions) (id : ℕ) (k : Kept) → k ≡ kept_of e.master e.ceiling (named e id) → is_asked k.state ≡ false
     → None ≡ cond (is_asked (state_shown (state e.master (named e id)))) (Some (asked_at e id)) None

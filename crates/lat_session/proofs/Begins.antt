@@ -1,10 +1,11 @@
 -- Tables that have no session yet, and those that get one.
-use Rattle.std.proofs.Common.{◌≡◌, ℕ, zero, suc, ◌+◌, ◌-◌, ◌<◌, ◌≤◌, sym, ap, ◌∙◌, refl, arith, Bool, true, false, not, cond, ◌&&◌, ◌||◌, List, [], length, map, min, replicate, position, nat_lt, Some, None, Option, slice_set, length-set, lt-ltb, le-ltb}
-use Rattle.std.proofs.lemmas.Bool.{true≢false, false≢true}
+use Rattle.std.proofs.Common.{◌≡◌, ℕ, zero, suc, ◌+◌, ◌-◌, ◌<◌, ◌≤◌, sym, ap, ◌∙◌, refl, arith, Bool, true, false, not, cond, ◌&&◌, ◌||◌, List, [], length, map, min, replicate, nat_lt, nat_le, Some, None, Option, slice_set, length-set, lt-ltb, le-ltb}
+use Rattle.std.proofs.lemmas.Bool.{true≢false, false≢true, leb-true, leb-false}
 use Rattle.std.proofs.lemmas.List.{length-replicate}
-use Rattle.std.proofs.lemmas.Option.{same_Some, none-some}
+use Rattle.std.proofs.lemmas.Option.{same_Some}
 use Rattle.lat_model.specs.Lists.{upwards, updated}
 use Rattle.lat_model.specs.ends.Starting.{no_sessions}
+use Rattle.lat_model.specs.sessions.Hearing.{is_full}
 use Rattle.lat_model.specs.sessions.Session.{Session, blank, waits, rejecting}
 use Rattle.lat_model.specs.sessions.Sessions.{Sessions, named, held, least_free}
 use Rattle.lat_model.specs.sessions.Calls.{Connect, call, connect, new_call}
@@ -16,10 +17,8 @@ use Rattle.lat_stream.specs.Kept.{Kept, kept_of}
 use Rattle.lat_session.specs.Table.{Table, table_of, ask_is_open, ask_of, open_asks}
 use Rattle.lat_session.specs.Stands.{Stands}
 use Rattle.lat_session.specs.declared.ask.Ask.{Ask}
-use Rattle.lat_session.specs.States.{is_free}
 use Rattle.lat_session.proofs.Runs.{map_all, map_set, keep_none}
 use Rattle.lat_session.proofs.Stays.{call_stands}
-use Rattle.lat_session.proofs.Counts.{free_place}
 
 -- the table without a session
 abbrev pub empty_table : Bool → ℕ → ℕ → ℕ → Table
@@ -97,19 +96,26 @@ connect_stands t u e i k service request st m h p l new is =
         sym (map_set (λ j. kept_of e.master e.ceiling (named f j)) (λ j. kept_of e.master e.ceiling (named e j)) 0 n i old l
         ∙ ap (λ z. slice_set (table_of n e).sessions i (kept_of e.master e.ceiling z)) at_new)
 
--- the place that is found for it
-pub free_at : (t : Table) (e : Sessions) (i : ℕ) → Stands t e → held e < e.agreed → position (λ (k : Kept). is_free k.state) t.sessions ≡ Some i → (i + 1 ≡ least_free e) × (i < length t.sessions)
-free_at t e i st h q =
-    let at : i ≡ least_free e - 1 = same_Some i (least_free e - 1) (sym q ∙ free_place t e st h) in
-    let pos : 0 < least_free e = positive (least_free e) (least_some e h st.good.agreed) in
-    (omega (arith, at, pos), omega (arith, at, pos, least_free_low e h st.good.agreed, st.agreed))
+-- the place that is found for it, where the agreed number isn't held
+
+positive : (n : ℕ) → (n ≡ 0 → ⊥) → 0 < n
+positive zero f = absurd (f refl)
+positive (suc n) f = omega arith
+
+pub free_at : (t : Table) (e : Sessions) (i : ℕ) → Stands t e → Some i ≡ cond (is_full e) None (Some (least_free e - 1)) → (held e < e.agreed) × (i + 1 ≡ least_free e) × (i < length t.sessions)
+free_at t e i st h = go (nat_le e.agreed (held e)) refl h
   where
-    positive : (n : ℕ) → (n ≡ 0 → ⊥) → 0 < n
-    positive zero f = absurd (f refl)
-    positive (suc n) f = omega arith
+    go : (b : Bool) → nat_le e.agreed (held e) ≡ b → Some i ≡ cond b None (Some (least_free e - 1)) → (held e < e.agreed) × (i + 1 ≡ least_free e) × (i < length t.sessions)
+    go true w q = let z : ⊥ = cc in absurd z
+    go false w q =
+        let less : held e < e.agreed = leb-false e.agreed (held e) w in
+        let at : i ≡ least_free e - 1 = same_Some i (least_free e - 1) q in
+        let pos : 0 < least_free e = positive (least_free e) (least_some e less st.good.agreed) in
+        (less, omega (arith, at, pos), omega (arith, at, pos, least_free_low e less st.good.agreed, st.agreed))
 
-pub free_found : {C : Type 0} (t : Table) (e : Sessions) → Stands t e → held e < e.agreed → position (λ (k : Kept). is_free k.state) t.sessions ≡ None → C
-free_found t e st h q = absurd (none-some (least_free e - 1) (sym q ∙ free_place t e st h))
-
-pub not_full : (e : Sessions) → e.agreed ≤ held e → nat_lt (held e) e.agreed ≡ false
-not_full e h = le-ltb (held e) e.agreed h
+pub none_free : (e : Sessions) → None ≡ cond (is_full e) None (Some (least_free e - 1)) → nat_lt (held e) e.agreed ≡ false
+none_free e h = go (nat_le e.agreed (held e)) refl h
+  where
+    go : (b : Bool) → nat_le e.agreed (held e) ≡ b → None ≡ cond b None (Some (least_free e - 1)) → nat_lt (held e) e.agreed ≡ false
+    go true w q = le-ltb (held e) e.agreed (leb-true e.agreed (held e) w)
+    go false w q = let z : ⊥ = cc in absurd z

@@ -1,10 +1,11 @@
 -- A call on one session, as the model's sessions do it.
-use Rattle.std.proofs.Common.{◌≡◌, ℕ, ◌+◌, ◌<◌, sym, ap, ◌∙◌, refl, subst, Bool, true, false, cond, ◌||◌, length, slice_set, Ok, Err, if◌then◌else◌}
+use Rattle.std.proofs.Common.{◌≡◌, ℕ, ◌+◌, ◌<◌, sym, ap, ◌∙◌, refl, subst, Bool, true, false, cond, ◌||◌, length, slice_set, Result, Ok, Err, is_ok, MatchResult, if◌then◌else◌}
 use Rattle.std.proofs.lemmas.Bool.{false≢true}
 use Rattle.lat_model.specs.sessions.Session.{Session, blank, waits, rejecting}
 use Rattle.lat_model.specs.sessions.Sessions.{Sessions, named}
 use Rattle.lat_model.specs.sessions.Calls.{call, touch}
 use Rattle.lat_stream.specs.Kept.{Kept, kept_of}
+use Rattle.lat_stream.specs.declared.calls.SessionFault.{SessionFault}
 use Rattle.lat_stream.specs.declared.calls.SessionFault.TheVariants as faults
 use Rattle.lat_session.specs.Table.{Table, ask_of}
 use Rattle.lat_session.specs.Calls.{call_of, answer_of, is_taken, after, without_count}
@@ -25,6 +26,12 @@ pub no_count : (a b : Bool) → without_count (if a then (if b then Ok 0 else Er
 no_count true true = refl
 no_count true false = refl
 no_count false b = refl
+
+-- that answer without its count
+pub counted_out : (r : Result ℕ SessionFault) (q : Result (Unit {0}) SessionFault) (P : ℕ → Type 0) → MatchResult r P (λ e. q ≡ Err e) → is_ok q ≡ is_ok r → q ≡ without_count r
+counted_out (Ok n) (Ok u) P h b = refl
+counted_out (Ok n) (Err e) P h b = absurd (false≢true b)
+counted_out (Err e) q P h b = h
 
 -- its ask stays as it is
 

@@ -1,5 +1,5 @@
 -- A master hears a reply start or a reject.
-use Rattle.std.proofs.Common.{◌≡◌, ◌≢◌, ℕ, zero, suc, ◌+◌, ◌<◌, sym, ap, ◌∙◌, refl, arith, Bool, true, false, not, cond, ◌&&◌, ◌||◌, List, length, set, Option, Some, None, Result, is_ok, nat_le}
+use Rattle.std.proofs.Common.{◌≡◌, ◌≢◌, ℕ, zero, suc, ◌+◌, ◌<◌, sym, ap, ◌∙◌, refl, arith, Bool, true, false, not, cond, ◌&&◌, ◌||◌, List, length, set, Option, Some, None, Result, is_ok, nat_le, subst, MatchOption}
 use Rattle.std.proofs.lemmas.Bool.{true≢false, false≢true, and_parts}
 use Rattle.lat_base.specs.declared.state.SessionState as SessionStates
 use Rattle.lat_base.specs.declared.state.SessionState.TheVariants as kept_states
@@ -9,7 +9,7 @@ use Rattle.lat_model.specs.sessions.Session.{Session, Free, Calling, Asked, Live
 use Rattle.lat_model.specs.sessions.Sessions.{Sessions, named}
 use Rattle.lat_model.specs.sessions.Hearing.{heard, hear_at, hear_slot, names_running}
 use Rattle.lat_stream.specs.Kept.{Kept, kept_of, state_shown}
-use Rattle.lat_session.specs.Table.{Table}
+use Rattle.lat_session.specs.Table.{Table, state_at}
 use Rattle.lat_session.specs.Stands.{Stands}
 use Rattle.lat_session.specs.Hears.{Hears, is_calling}
 use Rattle.lat_session.proofs.HearAt.{Fair, Goes, goes, at_stands, heard_to, heard_bad}
@@ -98,3 +98,8 @@ only_calling kept_states.Left e = absurd (false≢true e)
 pub and_none : (b : Bool) → (b && not true) ≡ false
 and_none true = refl
 and_none false = refl
+
+-- the place of the one that is Calling, as it is looked for
+pub calling_at : (t : Table) (id : ℕ) (o : Option ℕ) (i : ℕ) → MatchOption o (is_calling (state_at t id) ≡ false) (λ i. (i + 1 ≡ id) × (i < length t.sessions) × (is_calling (state_at t id) ≡ true)) → o ≡ Some i
+    → (i + 1 ≡ id) × (i < length t.sessions) × (is_calling (state_at t id) ≡ true)
+calling_at t id o i h e = subst (λ o. MatchOption o (is_calling (state_at t id) ≡ false) (λ i. (i + 1 ≡ id) × (i < length t.sessions) × (is_calling (state_at t id) ≡ true))) e h

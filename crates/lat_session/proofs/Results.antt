@@ -1,8 +1,18 @@
 -- What a call's answer says of what it left.
-use Rattle.std.proofs.Common.{◌≡◌, subst, Bool, true, false, ◌&&◌, Result, Ok, Err, if◌then◌else◌, OnOk, OnErr}
+use Rattle.std.proofs.Common.{◌≡◌, ◌∙◌, refl, ap, ℕ, Option, None, subst, Bool, true, false, ◌&&◌, Result, Ok, Err, if◌then◌else◌, OnOk, OnErr, is_ok, is_err}
+use Rattle.std.specs.Option.{ok_or}
 use Rattle.lat_stream.specs.declared.calls.SessionFault.{SessionFault}
 use Rattle.lat_stream.specs.declared.calls.SessionFault.TheVariants.{Full, Closed}
 use Rattle.lat_stream.specs.Kept.{Kept}
+
+-- one that was refused isn't good
+pub err_not_ok : {A E : Type 0} (r : Result A E) → is_err r ≡ true → is_ok r ≡ false
+err_not_ok (Ok x) h = let z : ⊥ = cc in absurd z
+err_not_ok (Err x) h = refl
+
+-- one that found nothing was refused so
+pub found_none : (o : Option ℕ) (x y : SessionFault) (r : Result ℕ SessionFault) → r ≡ Err x → o ≡ None → Err x ≡ ok_or o y → r ≡ Err y
+found_none o x y r p n q = p ∙ q ∙ ap (λ z. ok_or z y) n
 
 -- it left y where it was done, and z where it was refused
 

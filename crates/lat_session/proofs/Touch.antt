@@ -1,7 +1,9 @@
 -- Tables where the session of one id changes.
-use Rattle.std.proofs.Common.{◌≡◌, ℕ, zero, suc, ◌+◌, ◌<◌, inl, inr, ⊎_elim, sym, ap, ◌∙◌, refl, subst, arith, not, ◌&&◌, ◌||◌, List, length, map, slice_set, slice_get, get_or, Some, None}
+use Rattle.std.proofs.Common.{◌≡◌, ℕ, zero, suc, ◌+◌, ◌<◌, inl, inr, ⊎_elim, sym, ap, ◌∙◌, refl, subst, arith, not, ◌&&◌, ◌||◌, List, length, map, slice_set, slice_get, get_or, Some, None, Option, MatchOption}
 use Rattle.std.proofs.lemmas.Bool.{cases_lt}
-use Rattle.std.proofs.lemmas.Option.{slice_get_read, same_Some, none-some}
+use Rattle.std.proofs.lemmas.Option.{slice_get_read, slice_get_within, same_Some, none-some}
+use Rattle.std.specs.Borrow.{Bor}
+use Rattle.std.specs.Option.{option_copied}
 use Rattle.lat_model.specs.Lists.{upwards, keep, updated}
 use Rattle.lat_model.specs.sessions.Session.{Session, blank, waits, rejecting}
 use Rattle.lat_model.specs.sessions.Sessions.{Sessions, named}
@@ -67,3 +69,31 @@ nothing_here t e (suc i) st h =
     (λ l. let p : i + 1 ≡ suc i = omega arith in absurd (none-some (kept_of e.master e.ceiling (named e (suc i))) (sym h ∙ kept_here t e i (suc i) st p l)))
     (λ g. ap e.session (st.within (suc i) (inr (omega (arith, g)))) ∙ st.good.none)
     (cases_lt i (length t.sessions))
+
+-- the place of an id, as it is looked for
+
+pub placed_at : (t : Table) (id : ℕ) (o : Option ℕ) (i : ℕ) → MatchOption o (session_at t id ≡ None) (λ i. (i + 1 ≡ id) × (i < length t.sessions)) → o ≡ Some i → (i + 1 ≡ id) × (i < length t.sessions)
+placed_at t id o i h e = subst (λ o. MatchOption o (session_at t id ≡ None) (λ i. (i + 1 ≡ id) × (i < length t.sessions))) e h
+
+pub placed_nowhere : (t : Table) (id : ℕ) (o : Option ℕ) → MatchOption o (session_at t id ≡ None) (λ i. (i + 1 ≡ id) × (i < length t.sessions)) → o ≡ None → session_at t id ≡ None
+placed_nowhere t id o h e = subst (λ o. MatchOption o (session_at t id ≡ None) (λ i. (i + 1 ≡ id) × (i < length t.sessions))) e h
+
+-- what is told of an id
+
+pub kept_found : (t : Table) (e : Sessions) (id : ℕ) (k : Kept) → Stands t e → session_at t id ≡ Some k → k ≡ kept_of e.master e.ceiling (named e id)
+kept_found t e zero k st h = let z : ⊥ = cc in absurd z
+kept_found t e (suc i) k st h =
+    let next : i + 1 ≡ suc i = omega arith in
+    same_Some k (kept_of e.master e.ceiling (named e (suc i))) (sym h ∙ kept_here t e i (suc i) st next (slice_get_within t.sessions i k h))
+
+-- by a rule for a session that is there, and a default where none is
+pub told : {R : Type 0} (f : Session → R) (t : Table) (e : Sessions) (id : ℕ) (o : Option (Bor Kept)) (d r : R) {Tells : Bor Kept → Type 0}
+    → Stands t e → option_copied o ≡ session_at t id → d ≡ f blank → MatchOption o (r ≡ d) Tells
+    → ((x : Bor Kept) → Tells x → x.now ≡ kept_of e.master e.ceiling (named e id) → r ≡ f (named e id)) → r ≡ f (named e id)
+told f t e id None d r st c b h g = h ∙ b ∙ ap f (sym (nothing_here t e id st (sym c)))
+told f t e id (Some x) d r st c b h g = g x h (kept_found t e id x.now st (sym c))
+
+pub told_value : {R : Type 0} (f : Option Kept → R) (k : Option Kept) (o : Option (Bor Kept)) (d r : R) {Tells : Bor Kept → Type 0}
+    → option_copied o ≡ k → d ≡ f None → MatchOption o (r ≡ d) Tells → ((x : Bor Kept) → Tells x → r ≡ f (Some x.now)) → r ≡ f k
+told_value f k None d r c b h g = h ∙ b ∙ ap f c
+told_value f k (Some x) d r c b h g = g x h ∙ ap f c

@@ -28,17 +28,10 @@ impl Sessions {
         ensures state { (e : States) → Stands self.old e → Stands self.new (called e (Connect service.now request)) }
         ensures same { SameEnd self.old self.new }
     {
-        if self.held() >= self.agreed {
-            return Err(SessionFault::Full);
-        }
-        match self.first_free() {
-            Some(at) => {
-                let session = &mut self.sessions[at];
-                session.call(service, request);
-                Ok(at as u8 + 1)
-            }
-            None => Err(SessionFault::Full),
-        }
+        let at = self.free_place().ok_or(SessionFault::Full)?;
+        let session = self.sessions.reach(at);
+        session.call(service, request);
+        Ok(at as u8 + 1)
     }
 
     /// Accepts an asked session, which is live at once.
@@ -47,11 +40,12 @@ impl Sessions {
         ensures state { (e : States) → Stands self.old e → Stands self.new (called e (Answer id)) }
         ensures same { SameEnd self.old self.new }
     {
-        if let Some(at) = self.place(id) {
-            let session = &mut self.sessions[at];
-            session.answer();
-            let_go(&mut self.asks, id);
-        }
+        let Some(at) = self.place(id) else {
+            unreachable!()
+        };
+        let session = self.sessions.reach(at);
+        session.answer();
+        let_go(&mut self.asks, id);
     }
 
     /// Rejects an asked session for a reason, 0 to 15. Its id is free at once, and its reject waits to be sent.
@@ -61,12 +55,13 @@ impl Sessions {
         ensures state { (e : States) → Stands self.old e → Stands self.new (called e (Refuse id reason)) }
         ensures same { SameEnd self.old self.new }
     {
-        if let Some(at) = self.place(id) {
-            let session = &mut self.sessions[at];
-            let peer = session.peer();
-            session.refuse(reason);
-            turn_away(&mut self.asks, id, Ask::Rejected { peer, reason });
-        }
+        let Some(at) = self.place(id) else {
+            unreachable!()
+        };
+        let session = self.sessions.reach(at);
+        let peer = session.peer();
+        session.refuse(reason);
+        turn_away(&mut self.asks, id, Ask::Rejected { peer, reason });
     }
 
     /// Does a call on the session of an id, and tells how many bytes it took: 0 where it puts none. See `SessionCall` for what
@@ -77,13 +72,9 @@ impl Sessions {
         ensures same { SameEnd self.old self.new }
         ensures most { IfOk result (λ n. n ≤ bytes_in call.now) }
     {
-        match self.place(id) {
-            Some(at) => {
-                let session = &mut self.sessions[at];
-                call_on(session, call)
-            }
-            None => Err(SessionFault::Closed),
-        }
+        let at = self.place(id).ok_or(SessionFault::Closed)?;
+        let session = self.sessions.reach(at);
+        call_on(session, call)
     }
 
     /// Moves the first heard items to the front of `out`, as many as there are places and items. `Closed` exactly where
@@ -104,13 +95,9 @@ impl Sessions {
         ensures most { IfOk result (λ n. n ≤ length out.old) }
         ensures places { length out.new ≡ length out.old }
     {
-        match self.place(id) {
-            Some(at) => {
-                let session = &mut self.sessions[at];
-                session.take(out)
-            }
-            None => Err(SessionFault::Closed),
-        }
+        let at = self.place(id).ok_or(SessionFault::Closed)?;
+        let session = self.sessions.reach(at);
+        session.take(out)
     }
 }
 

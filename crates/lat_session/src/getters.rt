@@ -3,11 +3,12 @@
 
 ghost use Rattle.std.specs.Prelude.{◌≡◌, ◌+◌, ◌-◌, ◌<◌, ◌≤◌, cond, true, length, position, count_by, filter, false, not, nat_eq, MatchOption, IfSome};
 ghost use Rattle.std.specs.List.{list_any};
-ghost use Rattle.std.specs.Option.{is_some};
+ghost use Rattle.std.specs.Option.{is_some, option_copied};
 ghost use Rattle.lat_base.specs.declared.state.SessionState.TheVariants as states;
 ghost use Rattle.lat_model.specs.Lists.{upwards};
+ghost use Rattle.lat_model.specs.sessions.Hearing.{is_full};
 ghost use Rattle.lat_model.specs.sessions.Session.{state, peer, take_open, waits};
-ghost use Rattle.lat_model.specs.sessions.Sessions.{Sessions as States, named, held};
+ghost use Rattle.lat_model.specs.sessions.Sessions.{Sessions as States, named, held, least_free};
 ghost use Rattle.lat_model.specs.sessions.Slots.{items, credits, costs};
 ghost use Rattle.lat_stream.specs.Kept.{Kept, state_shown, saturated, end_of};
 ghost use Rattle.lat_session.specs.Stands.{Stands};
@@ -46,20 +47,14 @@ impl Sessions {
         ensures value { result ≡ state_at self.now id }
         ensures model { (e : States) → Stands self.now e → result ≡ state_shown (state e.master (named e id)) }
     {
-        match self.place(id) {
-            Some(at) => self.sessions[at].state(),
-            None => SessionState::Free,
-        }
+        self.session(id).map_or(SessionState::Free, Stream::state)
     }
 
     /// The flag of the attention that it heard last, `None` where it heard none.
     pub fn mark(&self, id: u8) -> Option<u8>
         ensures { (e : States) → Stands self.now e → result ≡ (named e id).mark }
     {
-        match self.place(id) {
-            Some(at) => self.sessions[at].mark(),
-            None => None,
-        }
+        self.session(id)?.mark()
     }
 
     /// How many sessions aren't free.
@@ -83,10 +78,7 @@ impl Sessions {
             Stands self.now e →
             result ≡ cond (take_open (named e id)) (length (items (named e id).came) - (named e id).taken) 0 }
     {
-        match self.place(id) {
-            Some(at) => self.sessions[at].waiting(),
-            None => 0,
-        }
+        self.session(id).map_or(0, Stream::waiting)
     }
 
     /// The credits that this end gave in it, and those that it used. Either stops at the greatest number of 64 bits.
@@ -95,30 +87,21 @@ impl Sessions {
             Stands self.now e →
             result ≡ (saturated (credits (named e id).out), saturated (costs (named e id).out)) }
     {
-        match self.place(id) {
-            Some(at) => self.sessions[at].totals(),
-            None => (0, 0),
-        }
+        self.session(id).map_or((0, 0), Stream::totals)
     }
 
     /// How it ended, `None` while it isn't over.
     pub fn ended(&self, id: u8) -> Option<SessionEnd>
         ensures { (e : States) → Stands self.now e → result ≡ end_of (named e id) }
     {
-        match self.place(id) {
-            Some(at) => self.sessions[at].end(),
-            None => None,
-        }
+        self.session(id)?.end()
     }
 
     /// The peer's id of it, 0 where it isn't known.
     pub fn peer(&self, id: u8) -> u8
         ensures { (e : States) → Stands self.now e → result ≡ peer (named e id) }
     {
-        match self.place(id) {
-            Some(at) => self.sessions[at].peer(),
-            None => 0,
-        }
+        self.session(id).map_or(0, Stream::peer)
     }
 
     /// The number of sessions that may be held.
@@ -135,10 +118,8 @@ impl Sessions {
         ensures model { (e : States) → Stands self.now e → result ≡ asked_of e }
         ensures state { IfSome result (λ a. state_at self.now a.id ≡ states.Asked) }
     {
-        match self.first_asked() {
-            Some(at) => self.asked_here(at),
-            None => None,
-        }
+        let at = self.first_asked()?;
+        Some(self.asked_here(at))
     }
 
     /// How many sessions are asked for.
@@ -165,29 +146,26 @@ impl Sessions {
     {
         let at = self.place(id)?;
         if is_asked(&self.sessions[at]) {
-            self.asked_here(at)
+            Some(self.asked_here(at))
         } else {
             None
         }
     }
 
-    // The asked session at a place.
-    fn asked_here(&self, at: usize) -> Option<Asked>
-        requires { at < length self.now.sessions }
-        ensures value { state_at self.now (at + 1) ≡ states.Asked → is_some result ≡ true }
-        ensures id { IfSome result (λ a. a.id ≡ at + 1) }
-        ensures model { (e : States) →
-            Stands self.now e →
-            is_asked (state_shown (state e.master (named e (at + 1)))) ≡ true →
-            result ≡ Some (asked_at e (at + 1)) }
+    // The session at a place, which is asked for.
+    fn asked_here(&self, at: usize) -> Asked
+        requires within { at < length self.now.sessions }
+        requires asked { state_at self.now (at + 1) ≡ states.Asked }
+        ensures id { result.id ≡ at + 1 }
+        ensures model { (e : States) → Stands self.now e → result ≡ asked_at e (at + 1) }
     {
-        match self.sessions[at].start() {
-            Some(opening) => Some(Asked {
-                id: at as u8 + 1,
-                service: opening.service,
-                request: opening.request,
-            }),
-            None => None,
+        let Some(opening) = self.sessions[at].start() else {
+            unreachable!()
+        };
+        Asked {
+            id: at as u8 + 1,
+            service: opening.service,
+            request: opening.request,
         }
     }
 
@@ -212,6 +190,14 @@ impl Sessions {
         reached.filter(|session| is_asked(session)).count() as u8
     }
 
+    // The session of an id, `None` of an id that no session has.
+    fn session(&self, id: u8) -> Option<&Stream>
+        ensures { option_copied result ≡ session_at self.now id }
+    {
+        let at = (id as usize).checked_sub(1)?;
+        self.sessions.all().get(at)
+    }
+
     // Where the session of an id stands, `None` of an id that no session has.
     pub(crate) fn place(&self, id: u8) -> Option<usize>
         ensures { MatchOption result
@@ -233,8 +219,19 @@ impl Sessions {
         reached.position(|session| is_asked(session))
     }
 
+    // The place of the least free id, `None` where the agreed number is held.
+    pub(crate) fn free_place(&self) -> Option<usize>
+        ensures model { (e : States) → Stands self.now e → result ≡ cond (is_full e) None (Some (least_free e - 1)) }
+        ensures within { IfSome result (λ i. i < length self.now.sessions) }
+    {
+        if self.held() >= self.agreed {
+            return None;
+        }
+        self.first_free()
+    }
+
     // Where the first place is whose session is free.
-    pub(crate) fn first_free(&self) -> Option<usize>
+    fn first_free(&self) -> Option<usize>
         ensures { result ≡ position (λ (k : Kept). is_free k.state) self.now.sessions }
     {
         let mut all = self.sessions.all().iter();

@@ -1,11 +1,12 @@
 //! The slots that the peer's sessions send. It takes no memory.
 
-ghost use Rattle.std.specs.Prelude.{◌≡◌, ◌-◌, ◌≤◌, ◌<◌, ◌++◌, ◌∷◌, [], ◌&&◌};
-ghost use Rattle.std.specs.Prelude.{true, false, cond, ℕ, List, Option, Some, None, IfSome, OnErr, length, nat_eq, nat_lt};
+ghost use Rattle.std.specs.Prelude.{◌≡◌, ◌+◌, ◌≤◌, ◌<◌, ◌++◌, ◌∷◌, [], ◌&&◌};
+ghost use Rattle.std.specs.Prelude.{true, false, cond, ℕ, List, Option, Some, None, MatchOption, OnErr, length, nat_eq, nat_lt};
 ghost use Rattle.std.specs.List.{list_any};
-ghost use Rattle.lat_model.specs.sessions.Hearing.{hear_slot, hear_behind, ask_in, is_full};
+ghost use Rattle.std.specs.Option.{is_some};
+ghost use Rattle.lat_model.specs.sessions.Hearing.{hear_slot, hear_behind, ask_in};
 ghost use Rattle.lat_model.specs.sessions.Session.{waits};
-ghost use Rattle.lat_model.specs.sessions.Sessions.{Sessions as States, named, least_free};
+ghost use Rattle.lat_model.specs.sessions.Sessions.{Sessions as States, named};
 ghost use Rattle.lat_model.specs.sessions.Slots as sessions;
 ghost use Rattle.lat_slots.specs.Layout.{IsWritable};
 ghost use Rattle.lat_stream.specs.Wire.{slot_heard, request_in, number_in};
@@ -97,13 +98,9 @@ impl Sessions {
         ensures err { OnErr result (self.new ≡ self.old) }
         ensures same { SameEnd self.old self.new }
     {
-        match self.place(to) {
-            Some(at) => {
-                let session = &mut self.sessions[at];
-                session.hear_bytes(from, credits, bytes)
-            }
-            None => Err(BadSlot),
-        }
+        let at = self.place(to).ok_or(BadSlot)?;
+        let session = self.sessions.reach(at);
+        session.hear_bytes(from, credits, bytes)
     }
 
     fn hear_setting(
@@ -119,13 +116,9 @@ impl Sessions {
         ensures err { OnErr result (self.new ≡ self.old) }
         ensures same { SameEnd self.old self.new }
     {
-        match self.place(to) {
-            Some(at) => {
-                let session = &mut self.sessions[at];
-                session.hear_setting(from, credits, setting)
-            }
-            None => Err(BadSlot),
-        }
+        let at = self.place(to).ok_or(BadSlot)?;
+        let session = self.sessions.reach(at);
+        session.hear_setting(from, credits, setting)
     }
 
     fn hear_attention(&mut self, to: u8, from: u8, flag: u8) -> Result<(), BadSlot>
@@ -135,13 +128,9 @@ impl Sessions {
         ensures err { OnErr result (self.new ≡ self.old) }
         ensures same { SameEnd self.old self.new }
     {
-        match self.place(to) {
-            Some(at) => {
-                let session = &mut self.sessions[at];
-                session.hear_attention(from, flag)
-            }
-            None => Err(BadSlot),
-        }
+        let at = self.place(to).ok_or(BadSlot)?;
+        let session = self.sessions.reach(at);
+        session.hear_attention(from, flag)
     }
 
     fn hear_stop(&mut self, to: u8, from: u8) -> Result<(), BadSlot>
@@ -151,13 +140,9 @@ impl Sessions {
         ensures err { OnErr result (self.new ≡ self.old) }
         ensures same { SameEnd self.old self.new }
     {
-        match self.place(to) {
-            Some(at) => {
-                let session = &mut self.sessions[at];
-                session.hear_stop(from)
-            }
-            None => Err(BadSlot),
-        }
+        let at = self.place(to).ok_or(BadSlot)?;
+        let session = self.sessions.reach(at);
+        session.hear_stop(from)
     }
 
     // A session that is neither free nor left has this peer's id.
@@ -184,29 +169,12 @@ impl Sessions {
         ensures err { OnErr result (self.new ≡ self.old) }
         ensures same { SameEnd self.old self.new }
     {
-        if self.has_peer(from) || !self.is_calling(to) {
+        if self.has_peer(from) {
             return Err(BadSlot);
         }
-        self.start_calling(to, from, credits, size)
-    }
-
-    fn start_calling(&mut self, to: u8, from: u8, credits: u8, size: u8) -> Result<(), BadSlot>
-        requires ids { (1 ≤ from) × (credits ≤ 15) }
-        requires calling { is_calling (state_at self.old to) ≡ true }
-        requires alone { list_any (has_peer from) self.old.sessions ≡ false }
-        ensures hears { (e : States) (service : List ℕ) (request : Option ℕ) →
-            Stands self.old e →
-            Hears self.new result (hear_slot e (sessions.Start to from credits size service request)) }
-        ensures err { OnErr result (self.new ≡ self.old) }
-        ensures same { SameEnd self.old self.new }
-    {
-        match self.place(to) {
-            Some(at) => {
-                let session = &mut self.sessions[at];
-                session.hear_start(from, credits, size)
-            }
-            None => Err(BadSlot),
-        }
+        let at = self.calling_place(to).ok_or(BadSlot)?;
+        let session = self.sessions.reach(at);
+        session.hear_start(from, credits, size)
     }
 
     // A reject of the session that was asked for, which is Calling.
@@ -217,24 +185,26 @@ impl Sessions {
         ensures err { OnErr result (self.new ≡ self.old) }
         ensures same { SameEnd self.old self.new }
     {
-        if !self.is_calling(to) {
-            return Err(BadSlot);
-        }
-        match self.place(to) {
-            Some(at) => {
-                let session = &mut self.sessions[at];
-                session.hear_reject(reason);
-                Ok(())
-            }
-            None => Err(BadSlot),
-        }
+        let at = self.calling_place(to).ok_or(BadSlot)?;
+        let session = self.sessions.reach(at);
+        session.hear_reject(reason);
+        Ok(())
     }
 
-    fn is_calling(&self, id: u8) -> bool
-        ensures value { result ≡ is_calling (state_at self.now id) }
-        ensures model { (e : States) → Stands self.now e → result ≡ (e.master && waits (named e id)) }
+    // Where the Calling session of an id stands.
+    fn calling_place(&self, id: u8) -> Option<usize>
+        ensures place { MatchOption result (is_calling (state_at self.now id) ≡ false) (λ i.
+            (i + 1 ≡ id)
+            × (i < length self.now.sessions)
+            × (is_calling (state_at self.now id) ≡ true)) }
+        ensures model { (e : States) → Stands self.now e → is_some result ≡ (e.master && waits (named e id)) }
     {
-        matches!(self.state(id), SessionState::Calling)
+        let at = self.place(id)?;
+        if is_calling(&self.sessions[at]) {
+            Some(at)
+        } else {
+            None
+        }
     }
 
     // An ask, from the peer's id `from`: at a slave, where no session that is there has this id and no reject for it waits.
@@ -273,7 +243,7 @@ impl Sessions {
     {
         match self.free_place() {
             Some(at) => {
-                let session = &mut self.sessions[at];
+                let session = self.sessions.reach(at);
                 session.ask(from, credits, size, opening);
                 Ask::Waits(at as u8 + 1)
             }
@@ -283,17 +253,12 @@ impl Sessions {
             },
         }
     }
+}
 
-    // The place of the least free id, `None` where the agreed number is held.
-    fn free_place(&self) -> Option<usize>
-        ensures model { (e : States) → Stands self.now e → result ≡ cond (is_full e) None (Some (least_free e - 1)) }
-        ensures within { IfSome result (λ i. i < length self.now.sessions) }
-    {
-        if self.held() >= self.agreed {
-            return None;
-        }
-        self.first_free()
-    }
+fn is_calling(session: &Stream) -> bool
+    ensures { result ≡ is_calling session.now.state }
+{
+    matches!(session.state(), SessionState::Calling)
 }
 
 fn has_peer(session: &Stream, from: u8) -> bool
@@ -340,5 +305,5 @@ fn number_of(bytes: &[u8]) -> u16
     requires { length bytes.now ≡ 2 }
     ensures { result ≡ number_in bytes.now }
 {
-    u16::from(bytes[0]) + 256 * u16::from(bytes[1])
+    u16::from_le_bytes([bytes[0], bytes[1]])
 }

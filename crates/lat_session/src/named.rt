@@ -4,7 +4,6 @@ ghost use Rattle.std.specs.Prelude.{◌≡◌, ◌≤◌, true, length, nat_lt, 
 ghost use Rattle.lat_model.specs.sessions.Calls.{call as called, put_count, Put, Set, Attend, Close};
 ghost use Rattle.lat_model.specs.sessions.Session.{put_open, take_open, unframed};
 ghost use Rattle.lat_model.specs.sessions.Sessions.{Sessions as States, named};
-ghost use Rattle.lat_session.specs.Calls.{without_count};
 ghost use Rattle.lat_session.specs.Stands.{Stands};
 ghost use Rattle.lat_session.specs.Table.{SameEnd};
 
@@ -36,7 +35,7 @@ impl Sessions {
         ensures state { (e : States) → Stands self.old e → Stands self.new (called e (Set id setting)) }
         ensures same { SameEnd self.old self.new }
     {
-        without_count(self.call(id, &SessionCall::Set(setting)))
+        self.call(id, &SessionCall::Set(setting)).map(|_| ())
     }
 
     /// See `SessionCall::Attend`.
@@ -47,7 +46,7 @@ impl Sessions {
         ensures state { (e : States) → Stands self.old e → Stands self.new (called e (Attend id flag)) }
         ensures same { SameEnd self.old self.new }
     {
-        without_count(self.call(id, &SessionCall::Attend(flag)))
+        self.call(id, &SessionCall::Attend(flag)).map(|_| ())
     }
 
     /// See `SessionCall::Close`.
@@ -58,16 +57,6 @@ impl Sessions {
         ensures state { (e : States) → Stands self.old e → Stands self.new (called e (Close id)) }
         ensures same { SameEnd self.old self.new }
     {
-        without_count(self.call(id, &SessionCall::Close))
-    }
-}
-
-// The answer without the number of the bytes that were put.
-fn without_count(answer: Result<usize, SessionFault>) -> Result<(), SessionFault>
-    ensures { result ≡ without_count answer }
-{
-    match answer {
-        Ok(_) => Ok(()),
-        Err(fault) => Err(fault),
+        self.call(id, &SessionCall::Close).map(|_| ())
     }
 }

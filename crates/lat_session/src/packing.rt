@@ -214,7 +214,7 @@ impl Sessions {
     {
         let start = out.len();
         let master = self.master;
-        let session = &mut self.sessions[id as usize - 1];
+        let session = self.sessions.reach(id as usize - 1);
         let formed = session.form(master, id, progress.room, out);
         progress.count(formed, (out.len() - start) as u16);
         self.served = served_after(formed, id, self.served);

@@ -10,7 +10,7 @@ use lat_base::Memory;
 use lat_stream::Stream;
 use std::alloc::Global;
 use std::marker::Model;
-use std::ops::{Index, IndexMut};
+use std::ops::Index;
 
 /// A place for the session of each id, from 1 on. The least free id comes into use first: so a walk over all sessions ends at
 /// the last place that was reached, as behind it all are free. Contracts see the list of all places.
@@ -79,6 +79,16 @@ impl Places {
     {
         &self.all[..self.reached]
     }
+
+    /// The session at a place, to be written to: the place counts as reached.
+    pub fn reach(&mut self, at: usize) -> &mut Stream
+        requires { at < length self.old }
+        ensures* writes_back { sem 𝓛 (LendsPlace self.entry at result) }
+        ensures value { result.now ≡ slice_index_or self.old at result.now }
+    {
+        self.reached = self.reached.max(at + 1);
+        &mut self.all[at]
+    }
 }
 
 impl Index<usize> for Places {
@@ -90,17 +100,6 @@ impl Index<usize> for Places {
 
     fn index(&self, at: usize) -> &Stream {
         &self.all[at]
-    }
-}
-
-impl IndexMut<usize> for Places {
-    fn index_mut(&mut self, at: usize) -> &mut Stream
-        requires { at < length self.old }
-        ensures* writes_back { sem 𝓛 (LendsPlace self.entry at result) }
-        ensures value { result.now ≡ slice_index_or self.old at result.now }
-    {
-        self.reached = self.reached.max(at + 1);
-        &mut self.all[at]
     }
 }
 

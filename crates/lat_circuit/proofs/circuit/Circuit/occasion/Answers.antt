@@ -1,4 +1,4 @@
-use Rattle.std.proofs.Common.{◌≡◌, ◌+◌, ◌≤◌, true, ◌++◌, List, [], ◌∷◌, sym, ap, subst, ◌∙◌, arith, length, length-append}
+use Rattle.std.proofs.Common.{◌+◌, ◌≤◌, true, ◌++◌, List, [], ◌∷◌, sym, ap, subst, ◌∙◌, arith, length, length-append}
 use Rattle.lat_base.specs.declared.outbox.Mark.TheVariants.{Fresh}
 use Rattle.lat_base.specs.declared.outbox.OutFrame.{OutFrame}
 use Rattle.lat_base.specs.Lending.{frame_of}

@@ -1,4 +1,4 @@
-use Rattle.std.proofs.Common.{◌≡◌, ◌+◌, ◌-◌, ◌++◌, [], ◌∷◌, refl, sym, ap, subst, ◌∙◌, arith, length, length-append}
+use Rattle.std.proofs.Common.{◌≡◌, ◌+◌, ◌-◌, ◌++◌, [], ◌∷◌, refl, sym, ap, subst, ◌∙◌, arith, length-append}
 use Rattle.lat_base.specs.declared.outbox.Mark.TheVariants as marks
 use Rattle.lat_base.specs.Lending.{frame_of}
 use Rattle.lat_link.specs.Links as link

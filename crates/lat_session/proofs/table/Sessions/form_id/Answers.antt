@@ -13,12 +13,12 @@ pub returns-clause-packed : goal.returns-clause-packed
 returns-clause-packed c = λ before p h.
     let t : Table = the_view c.self.inside in
     let id : ℕ = c.args.id in
-    let d : Kept = c.index_mut-session.result.now in
+    let d : Kept = c.reach-session.result.now in
     let pk : Packed before t c.args.progress.now c.args.out.now p = subst (λ z. Packed before z c.args.progress.now c.args.out.now p) (sym c.self.view_is) h in
     let hi : id ≤ length t.sessions = subst (λ (z : Table). id ≤ length z.sessions) (sym c.self.view_is) c.requires.id.1 in
     let held : is_held (get_or t.sessions (id - 1) d).state ≡ true = subst (λ (z : Table). is_held (get_or z.sessions (id - 1) d).state ≡ true) (sym c.self.view_is) (c.requires.held d) in
     let s : Sits t p id d = sits before t c.args.progress.now c.args.out.now p id d pk c.requires.id.0 hi held in
-    let old : d ≡ get_or t.sessions (id - 1) d = c.index_mut-session.ensures.value in
+    let old : d ≡ get_or t.sessions (id - 1) d = c.reach-session.ensures.value in
     let does : Does t.master p.after.ceiling (named p.after id) (offer t.master p.after.ceiling c.args.progress.now.room (named p.after id)) d c.form-formed.new.self c.args.out.now c.form-formed.new.out c.form-formed.result =
     c.form-formed.ensures.does p.after.ceiling (named p.after id) s.sound (old ∙ s.kept) s.named_so s.rejecting in
     let bytes : c.len.result - c.len-start.result ≡ length c.form-formed.new.out - length c.args.out.now = omega (arith, c.len.ensures.value, c.len-start.ensures.value) in

@@ -1,12 +1,12 @@
-use Rattle.std.proofs.Common.{sym, ap}
+use Rattle.std.proofs.Common.{◌∙◌, sym, ap}
 use Rattle.lat_model.specs.sessions.Session.{Session}
 use Rattle.lat_model.specs.sessions.Sessions.{named}
-use Rattle.lat_session.specs.Table.{Table}
-use Rattle.lat_session.proofs.Touch.{kept_is, nothing_here}
+use Rattle.lat_session.proofs.Touch.{kept_found, nothing_here}
 use Rattle.lat_session.proofs.table.Sessions.mark.Goals as goal
 
-pub returns-in-Some : goal.returns-in-Some
-returns-in-Some c = λ e st. c.mark.ensures.model e.master e.ceiling (named e c.args.id) (kept_is c.args.self.now c.self.inside.sessions e c.in-Some.at c.args.id c.index.result.now (ap (λ (t : Table). t.sessions) c.self.view_is) c.in-Some.ensures.0 c.in-Some.ensures.1 c.index.ensures st)
+pub returns-in_err-session : goal.returns-in_err-session
+returns-in_err-session c = λ e st. c.from_residual.ensures ∙ ap (λ (s : Session). s.mark) (sym (nothing_here c.args.self.now e c.args.id st (sym c.in_err-session.ensures)))
 
-pub returns-in-None : goal.returns-in-None
-returns-in-None c = λ e st. ap (λ (s : Session). s.mark) (sym (nothing_here c.args.self.now e c.args.id st c.in-None.ensures))
+pub returns : goal.returns
+returns c = λ e st.
+    c.mark.ensures.model e.master e.ceiling (named e c.args.id) (kept_found c.args.self.now e c.args.id c.in_ok-session.field-0.now st (sym c.in_ok-session.ensures))

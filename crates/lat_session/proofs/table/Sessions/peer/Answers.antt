@@ -1,12 +1,8 @@
-use Rattle.std.proofs.Common.{sym, ap}
-use Rattle.lat_model.specs.sessions.Session.{Session, peer}
+use Rattle.std.proofs.Common.{refl}
+use Rattle.lat_model.specs.sessions.Session.{peer}
 use Rattle.lat_model.specs.sessions.Sessions.{named}
-use Rattle.lat_session.specs.Table.{Table}
-use Rattle.lat_session.proofs.Touch.{kept_is, nothing_here}
+use Rattle.lat_session.proofs.Touch.{told}
 use Rattle.lat_session.proofs.table.Sessions.peer.Goals as goal
 
-pub returns-in-Some : goal.returns-in-Some
-returns-in-Some c = λ e st. c.peer.ensures.model e.master e.ceiling (named e c.args.id) (kept_is c.args.self.now c.self.inside.sessions e c.in-Some.at c.args.id c.index.result.now (ap (λ (t : Table). t.sessions) c.self.view_is) c.in-Some.ensures.0 c.in-Some.ensures.1 c.index.ensures st)
-
-pub returns-in-None : goal.returns-in-None
-returns-in-None c = λ e st. ap (λ (s : Session). peer s) (sym (nothing_here c.args.self.now e c.args.id st c.in-None.ensures))
+pub returns : goal.returns
+returns c = λ e st. told peer c.args.self.now e c.args.id c.session.result 0 c.map_or.result st c.session.ensures refl c.map_or.ensures (λ x h was. h.1 e.master e.ceiling (named e c.args.id) was)

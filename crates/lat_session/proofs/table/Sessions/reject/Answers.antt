@@ -18,13 +18,13 @@ use Rattle.lat_session.proofs.table.Sessions.reject.Goals as goal
 
 pub refuse-requires : goal.refuse-requires
 refuse-requires c =
-    sym (ap state_in (read_here c.args.self.now c.self.inside.sessions c.in-Some.at c.args.id c.index_mut-session.result.now (ap (λ (t : Table). t.sessions) c.self.view_is) c.in-Some.ensures.0 c.in-Some.ensures.1 c.index_mut-session.ensures.value)) ∙ c.requires.asked
+    sym (ap state_in (read_here c.args.self.now c.self.inside.sessions c.in-Some.at c.args.id c.reach-session.result.now (ap (λ (t : Table). t.sessions) c.self.view_is) c.in-Some.ensures.0 c.in-Some.ensures.1 c.reach-session.ensures.value)) ∙ c.requires.asked
 
-pub returns-in-Some-clause-state : goal.returns-in-Some-clause-state
-returns-in-Some-clause-state c = λ e st.
+pub returns-clause-state : goal.returns-clause-state
+returns-clause-state c = λ e st.
     let s : Session = named e c.args.id in
     let next : Session = record s { refused = true; reason = c.args.reason } in
-    let was = kept_is c.args.self.now c.self.inside.sessions e c.in-Some.at c.args.id c.index_mut-session.result.now (ap (λ (t : Table). t.sessions) c.self.view_is) c.in-Some.ensures.0 c.in-Some.ensures.1 c.index_mut-session.ensures.value st in
+    let was = kept_is c.args.self.now c.self.inside.sessions e c.in-Some.at c.args.id c.reach-session.result.now (ap (λ (t : Table). t.sessions) c.self.view_is) c.in-Some.ensures.0 c.in-Some.ensures.1 c.reach-session.ensures.value st in
     let asked : IsAsked e c.args.id = asked_told c.args.self.now e c.in-Some.at c.args.id st c.in-Some.ensures.0 c.in-Some.ensures.1 c.requires.asked in
     let sound : Sound false e.ceiling s = subst (λ m. Sound m e.ceiling s) asked.slave (sound_at c.args.self.now e (e.at_id c.args.id) st) in
     let made = c.refuse.ensures e.ceiling s sound (was ∙ ap (λ m. kept_of m e.ceiling s) asked.slave) in

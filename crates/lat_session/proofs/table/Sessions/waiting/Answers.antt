@@ -1,14 +1,16 @@
-use Rattle.std.proofs.Common.{sym, ap, cond, length, ◌-◌}
+use Rattle.std.proofs.Common.{refl, cond, length, ◌-◌}
 use Rattle.lat_model.specs.sessions.Slots.{items}
 use Rattle.lat_model.specs.sessions.Session.{Session, take_open}
 use Rattle.lat_model.specs.sessions.Sessions.{named}
-use Rattle.lat_session.specs.Table.{Table}
-use Rattle.lat_session.proofs.Touch.{kept_is, nothing_here}
+use Rattle.lat_session.specs.Table.{session_at, waiting_in}
+use Rattle.lat_session.proofs.Touch.{told, told_value}
 use Rattle.lat_session.proofs.Stays.{sound_at}
 use Rattle.lat_session.proofs.table.Sessions.waiting.Goals as goal
 
-pub returns-in-Some-clause-model : goal.returns-in-Some-clause-model
-returns-in-Some-clause-model c = λ e st. c.waiting.ensures.model e.master e.ceiling (named e c.args.id) (sound_at c.args.self.now e (e.at_id c.args.id) st) (kept_is c.args.self.now c.self.inside.sessions e c.in-Some.at c.args.id c.index.result.now (ap (λ (t : Table). t.sessions) c.self.view_is) c.in-Some.ensures.0 c.in-Some.ensures.1 c.index.ensures st)
+pub returns-clause-value : goal.returns-clause-value
+returns-clause-value c = told_value waiting_in (session_at c.args.self.now c.args.id) c.session.result 0 c.map_or.result c.session.ensures refl c.map_or.ensures (λ x h. h.0)
 
-pub returns-in-None-clause-model : goal.returns-in-None-clause-model
-returns-in-None-clause-model c = λ e st. ap (λ (s : Session). cond (take_open s) (length (items s.came) - s.taken) 0) (sym (nothing_here c.args.self.now e c.args.id st c.in-None.ensures))
+pub returns-clause-model : goal.returns-clause-model
+returns-clause-model c = λ e st.
+    told (λ (s : Session). cond (take_open s) (length (items s.came) - s.taken) 0) c.args.self.now e c.args.id c.session.result 0 c.map_or.result st c.session.ensures refl c.map_or.ensures
+    (λ x h was. h.1 e.master e.ceiling (named e c.args.id) (sound_at c.args.self.now e (e.at_id c.args.id) st) was)

@@ -1,6 +1,6 @@
 use Rattle.std.proofs.Common.{◌≡◌, ◌<◌, ap, arith, length, slice_set, length-set}
 use Rattle.lat_session.proofs.Reached.{free_behind}
-use Rattle.lat_session.proofs.places.PlacesIndexMutUsize.index_mut.Goals as goal
+use Rattle.lat_session.proofs.places.Places.reach.Goals as goal
 
 pub invariant_of-self-lent : goal.invariant_of-self-lent
 invariant_of-self-lent c = λ w.
