@@ -41,4 +41,6 @@ capture_of text = capture_at (lines_of text)
 
 -- the text that is written of a capture is read as that capture
 abbrev pub WrittenIsRead : Type 0
-WrittenIsRead = (t : Title) (es : List Entry) → IsTitle t → Each IsEntry es → capture_of (capture_text t es) ≡ Ok (record { title = t; entries = es })
+WrittenIsRead =
+    (t : Title) (es : List Entry) → IsTitle t → Each IsEntry es
+    → capture_of (capture_text t es) ≡ Ok (record { title = t; entries = es })

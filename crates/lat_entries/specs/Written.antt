@@ -13,7 +13,8 @@ span_text wide = if wide then codes "word" else codes "byte"
 
 -- the first line: the ids of the circuit at the master and at the slave
 abbrev pub title_text : Title → List ℕ
-title_text t = line (codes "circuit " ∷ decimal t.master ∷ codes " " ∷ decimal t.slave ∷ codes " " ∷ span_text t.wide ∷ [])
+title_text t =
+    line (codes "circuit " ∷ decimal t.master ∷ codes " " ∷ decimal t.slave ∷ codes " " ∷ span_text t.wide ∷ [])
 
 abbrev pub side_text : Bool → List ℕ
 side_text by_master = if by_master then codes "m" else codes "s"

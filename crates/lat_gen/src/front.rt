@@ -5,7 +5,7 @@ ghost use Rattle.lat_schedule.specs.Setups.{IsSetup};
 ghost use Rattle.lat_gen.specs.Front.{setup};
 
 use lat_base::Memory;
-use lat_schedule::{Setup, read_schedule};
+use lat_schedule::{ScheduleFault, Setup, read_schedule};
 use std::alloc::Global;
 
 /// The lines in front of the events.
@@ -28,6 +28,8 @@ pub fn setup(alloc: Global) -> Result<Setup, Memory>
     text.push_str(END)?;
     match read_schedule(alloc, text.as_bytes()) {
         Ok(schedule) => Ok(schedule.setup),
-        Err(_) => Err(Memory),
+        Err(ScheduleFault::Memory) => Err(Memory),
+        Err(ScheduleFault::Form { .. }) => unreachable!(),
+        Err(ScheduleFault::Events { .. }) => unreachable!(),
     }
 }
