@@ -1,6 +1,7 @@
 pub mod Moving
 pub mod Stages
 pub mod Present
-pub mod Figures
+pub mod Telling
 pub mod Taking
 pub mod Turns
+pub mod Adding

@@ -1,5 +1,5 @@
 -- What a move does with the rows is what the new sessions of the end that it tells do behind its items.
-use Rattle.std.proofs.Common.{◌≡◌, ◌≢◌, ℕ, zero, suc, ⊎_elim, refl, sym, ap, ap₂, ◌∙◌, subst, arith, Bool, true, false, not, cond, List, [], ◌∷◌, ◌++◌, length, Option, Some, None, slice_get}
+use Rattle.std.proofs.Common.{◌≡◌, ◌≢◌, ℕ, suc, ⊎_elim, refl, sym, ap, ◌∙◌, subst, arith, Bool, true, false, not, cond, List, [], ◌∷◌, ◌++◌, length, Option, Some, None, slice_get}
 use Rattle.std.proofs.lemmas.Bool.{true≢false}
 use Rattle.lat_machines.specs.values.Events.{Event, Hears, is_heard}
 use Rattle.lat_machines.specs.cores.Cores.{Seat, no_seat}
@@ -15,30 +15,15 @@ use Rattle.lat_roster.specs.Roster.{Shows, last_row}
 use Rattle.lat_roster.proofs.Found.{found_last, found_adds}
 use Rattle.lat_tales.specs.Books.{Comes, lines_at}
 use Rattle.lat_tales.specs.Items.{line_of, put_by, taken_by}
-use Rattle.lat_tales.specs.Keeping.{change, with_items, lines_of, adds, accepts, connects_all, accepts_all, new_seats, rows_at, rows_at_frame, rows_after}
+use Rattle.lat_tales.specs.Keeping.{lines_of, adds, accepts, connects_all, accepts_all, new_seats, rows_at, rows_at_frame, rows_after}
 use Rattle.lat_tales.specs.Mates.{last_named, mate_by_ids}
-use Rattle.lat_tales.specs.Rows.{RowAfter, RowsAfter, Keeps, figures_of, newest_place}
+use Rattle.lat_tales.specs.Rows.{RowsAfter, Keeps, figures_of, newest_place}
 use Rattle.lat_tales.proofs.mates.Partners.{none_partner}
 use Rattle.lat_tales.proofs.mates.Places.{at_above, mate_none, newest_at}
 use Rattle.lat_tales.proofs.mates.Reach.{Reach, reach_run}
-use Rattle.lat_tales.proofs.rows.By.{append_nil}
 use Rattle.lat_follow.specs.Moves.{IsReached, hearer, end_told, items_added}
 use Rattle.lat_follow.specs.Following.{rows_with, LeadsTo}
-
--- no items
-
-nothing_put : (b : Bool) (r : RowAfter) → with_items b [] [] r ≡ r
-nothing_put true r = ap₂ (λ p t. record r { put_up = p; taken_down = t }) (append_nil r.put_up) (append_nil r.taken_down)
-nothing_put false r = ap₂ (λ p t. record r { put_down = p; taken_up = t }) (append_nil r.put_down) (append_nil r.taken_up)
-
-change_same : (place : ℕ) (f : RowAfter → RowAfter) (rs : List RowAfter) → ((r : RowAfter) → f r ≡ r) → change place f rs ≡ rs
-change_same zero f rs h = refl
-change_same (suc k) f [] h = refl
-change_same (suc zero) f (r ∷ rs) h = ap (λ z. z ∷ rs) (h r)
-change_same (suc (suc k)) f (r ∷ rs) h = ap (λ z. r ∷ z) (change_same (suc k) f rs h)
-
-pub nothing_added : (b : Bool) (line : ℕ) (k : RowsAfter) → adds b line [] [] k ≡ k
-nothing_added b line k = ap (λ z. record k { rows = z }) (change_same (lines_of b k line) (with_items b [] []) k.rows (nothing_put b))
+use Rattle.lat_follow.proofs.Adding.{nothing_added}
 
 -- an end that is told an event
 

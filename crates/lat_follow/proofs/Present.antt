@@ -15,7 +15,7 @@ use Rattle.lat_tales.specs.Books.{InBooks, lines_at}
 use Rattle.lat_wire.specs.Kept as wires
 use Rattle.lat_wire.specs.Stands.{Stands}
 use Rattle.lat_follow.specs.declared.newcomer.Newcomer.{Newcomer}
-use Rattle.lat_follow.specs.Present.{IsPresent, NotOn, IsNewcomer}
+use Rattle.lat_follow.specs.Present.{IsPresent, NotOn, Finds, IsNewcomer}
 use Rattle.lat_follow.proofs.Stages.{one_line}
 
 -- counts below the greatest number are told exactly
@@ -63,12 +63,12 @@ each_at : (P : Seat → Type 0) (front rest : List Seat) (s : Seat) → Each P (
 each_at P [] rest s e = e.0
 each_at P (x ∷ xs) rest s e = each_at P xs rest s e.1
 
-pub line_exists : {H : Type 0} (k : wires.Kept H) (w : Machines) (b : Bool) (front rest : List Seat) (s : Seat) → Stands k w → (core_of w b).seats ≡ front ++ s ∷ rest → IsLine (lines_at b (wires.setups_of k)) s.line
+line_exists : {H : Type 0} (k : wires.Kept H) (w : Machines) (b : Bool) (front rest : List Seat) (s : Seat) → Stands k w → (core_of w b).seats ≡ front ++ s ∷ rest → IsLine (lines_at b (wires.setups_of k)) s.line
 line_exists k w true front rest s h q = (each_at (IsSeat k.server.lines.lines w.server.core) front rest s (subst (Each (IsSeat k.server.lines.lines w.server.core)) q h.parts.server.lines.seated.each)).line
 line_exists k w false front rest s h q = (each_at (IsSeat k.node.lines.lines w.node.core) front rest s (subst (Each (IsSeat k.node.lines.lines w.node.core)) q h.parts.node.lines.seated.each)).line
 
 -- a new session is the one that is present under its number
-pub newcomer_is : (c : Core) (lines number : ℕ) (front rest : List Seat) (s : Seat) (r : Option Newcomer) → InBooks c front (s ∷ rest) → number ≡ suc (length front) → number < 18446744073709551615 → IsLine lines s.line → MatchOption r ((line : ℕ) → IsLine lines line → NotOn c number line) (λ n. IsPresent c number n) → MatchOption r ⊥ (λ n. IsNewcomer c front s n)
+newcomer_is : (c : Core) (lines number : ℕ) (front rest : List Seat) (s : Seat) (r : Option Newcomer) → InBooks c front (s ∷ rest) → number ≡ suc (length front) → number < 18446744073709551615 → IsLine lines s.line → MatchOption r ((line : ℕ) → IsLine lines line → NotOn c number line) (λ n. IsPresent c number n) → MatchOption r ⊥ (λ n. IsNewcomer c front s n)
 newcomer_is c lines number front rest s None books q l i h =
     h s.line i (line_session c (suc (length front)) s) (ap (λ (z : LineBook). z.present) books.0) (exact_told (suc (length front)) number (sym q) l)
 newcomer_is c lines number front rest s (Some n) books q l i h = record {
@@ -85,6 +85,10 @@ newcomer_is c lines number front rest s (Some n) books q l i h = record {
 
     same : h.session ≡ line_session c (suc (length front)) s
     same = some_same h.session (line_session c (suc (length front)) s) (sym h.present ∙ (ap (λ y. (book c y).present) on ∙ own))
+
+pub newcomer_at : {H : Type 0} (k : wires.Kept H) (w : Machines) (b : Bool) (lines number : ℕ) (front rest : List Seat) (s : Seat) (r : Option Newcomer) → lines_at b (wires.setups_of k) ≡ lines → number < 18446744073709551615 → Stands k w → (core_of w b).seats ≡ front ++ s ∷ rest → InBooks (core_of w b) front (s ∷ rest) → number ≡ suc (length front) → Finds (core_of w b) number lines r → MatchOption r ⊥ (λ n. IsNewcomer (core_of w b) front s n)
+newcomer_at k w b lines number front rest s r l few h q books n f =
+    newcomer_is (core_of w b) lines number front rest s r books n few (subst (λ z. IsLine z s.line) l (line_exists k w b front rest s h q)) f
 
 -- in a search
 

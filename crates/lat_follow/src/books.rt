@@ -1,16 +1,15 @@
 //! What the two ends tell of their lines.
 
-ghost use Rattle.std.specs.Prelude.{◌≡◌, ◌<◌, ◌^◌, ◌-◌, suc, List, ◌++◌, ◌∷◌, length, MatchOption};
+ghost use Rattle.std.specs.Prelude.{◌≡◌, length, MatchOption};
 ghost use Rattle.lat_machines.specs.cores.Books.{book};
-ghost use Rattle.lat_machines.specs.cores.Cores.{Seat};
 ghost use Rattle.lat_machines.specs.world.Machines.{Machines, core_of};
 ghost use Rattle.lat_stream.specs.Kept.{saturated};
 ghost use Rattle.lat_lines.specs.Kept.{IsLine};
 ghost use Rattle.lat_lines.specs.Stands.{book_shown, book_info};
-ghost use Rattle.lat_tales.specs.Books.{InBooks, lines_at};
+ghost use Rattle.lat_tales.specs.Books.{lines_at};
 ghost use Rattle.lat_wire.specs.Kept.{setups_of};
 ghost use Rattle.lat_wire.specs.Stands.{Stands};
-ghost use Rattle.lat_follow.specs.Present.{IsPresent, NotOn, Finds, IsNewcomer};
+ghost use Rattle.lat_follow.specs.Present.{IsPresent, NotOn, Finds};
 
 use crate::newcomer::Newcomer;
 use lat_base::LineBook;
@@ -62,8 +61,8 @@ fn present_on<H: RatingRule>(
     })
 }
 
-// The first line whose present session has this number.
-fn present_at<H: RatingRule>(
+/// The present session of this number, of one of so many lines. A new session is present.
+pub(crate) fn present_at<H: RatingRule>(
     wire: &Wire<H>,
     server: bool,
     lines: u8,
@@ -79,24 +78,4 @@ fn present_at<H: RatingRule>(
         }
     }
     None
-}
-
-/// The new session of this number. There is one.
-#[tactic(auto, using(crate::proofs::Present::newcomer_is, crate::proofs::Present::line_exists))]
-pub(crate) fn newcomer_of<H: RatingRule>(
-    wire: &Wire<H>,
-    server: bool,
-    lines: u8,
-    number: u64,
-) -> Option<Newcomer>
-    requires { lines_at server (setups_of wire.now) ≡ lines }
-    ensures { (w : Machines) (front rest : List Seat) (s : Seat) →
-        Stands wire.now w →
-        (core_of w server).seats ≡ front ++ s ∷ rest →
-        InBooks (core_of w server) front (s ∷ rest) →
-        number ≡ suc (length front) →
-        number < 2 ^ 64 - 1 →
-        MatchOption result ⊥ (λ n. IsNewcomer (core_of w server) front s n) }
-{
-    present_at(wire, server, lines, number)
 }

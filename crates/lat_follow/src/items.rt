@@ -29,7 +29,7 @@ pub fn add_items(server: bool, event: &Event, answer: &Answer, roster: &mut Rost
         Event::Put { line, bytes } => put_bytes(server, *line, bytes.as_slice(), answer, roster),
         Event::Set { line, setting } => put_setting(server, *line, setting, answer, roster),
         Event::Take { line, .. } => take_items(server, *line, answer, roster),
-        _ => roster.adds(server, 0, &[], &[]),
+        _ => {}
     }
 }
 
@@ -39,12 +39,10 @@ fn put_bytes(server: bool, line: u8, bytes: &[u8], answer: &Answer, roster: &mut
     ensures shows { HasAdded roster.old roster.new server line answer.now (accepted_bytes bytes.now) (λ a. []) }
     ensures places { (n : ℕ) → HasPlaces n roster.old → HasPlaces n roster.new }
 {
-    let count = match answer {
-        Answer::Put(n) => (*n as usize).min(bytes.len()),
-        _ => 0,
-    };
-    let (first, _) = bytes.split_at(count);
-    roster.puts(server, line, first);
+    if let Answer::Put(n) = answer {
+        let (first, _) = bytes.split_at((*n as usize).min(bytes.len()));
+        roster.puts(server, line, first);
+    }
 }
 
 // A setting that was taken.
@@ -55,8 +53,6 @@ fn put_setting(server: bool, line: u8, setting: &[u8; 5], answer: &Answer, roste
 {
     if matches!(answer, Answer::Done) {
         roster.adds(server, line, &[Item::Set(*setting)], &[]);
-    } else {
-        roster.adds(server, line, &[], &[]);
     }
 }
 
@@ -66,8 +62,7 @@ fn take_items(server: bool, line: u8, answer: &Answer, roster: &mut Roster)
     ensures shows { HasAdded roster.old roster.new server line answer.now (λ a. []) taken_items }
     ensures places { (n : ℕ) → HasPlaces n roster.old → HasPlaces n roster.new }
 {
-    match answer {
-        Answer::Took(items) => roster.adds(server, line, &[], items.as_slice()),
-        _ => roster.adds(server, line, &[], &[]),
+    if let Answer::Took(items) = answer {
+        roster.adds(server, line, &[], items.as_slice());
     }
 }

@@ -2,11 +2,13 @@
 #![tactic(auto)]
 
 mod books;
+mod figures;
 mod items;
 mod newcomer;
 mod reserving;
 mod sessions;
 
+pub use figures::figures_of;
 pub use items::add_items;
 pub use reserving::{reserve_for, reserve_new};
 pub use sessions::follow;

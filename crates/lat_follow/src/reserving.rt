@@ -73,7 +73,14 @@ fn line_in(event: &Event) -> u8
         Event::Put { line, .. } => *line,
         Event::Set { line, .. } => *line,
         Event::Take { line, .. } => *line,
-        _ => 0,
+        Event::Heard { .. }
+        | Event::Time { .. }
+        | Event::Connect { .. }
+        | Event::Attend { .. }
+        | Event::Close { .. }
+        | Event::Request { .. }
+        | Event::Cancel { .. }
+        | Event::Announce => 0,
     }
 }
 
@@ -84,7 +91,15 @@ fn put_most(event: &Event) -> usize
     match event {
         Event::Put { bytes, .. } => bytes.as_slice().len(),
         Event::Set { .. } => 1,
-        _ => 0,
+        Event::Heard { .. }
+        | Event::Time { .. }
+        | Event::Connect { .. }
+        | Event::Take { .. }
+        | Event::Attend { .. }
+        | Event::Close { .. }
+        | Event::Request { .. }
+        | Event::Cancel { .. }
+        | Event::Announce => 0,
     }
 }
 

@@ -1,7 +1,7 @@
 //! The new sessions of an end.
 
-ghost use Rattle.std.specs.Prelude.{◌≡◌, ◌≤◌, ◌<◌, ◌+◌, ◌-◌, ◌^◌, ℕ, suc, true, false, List, [], ◌∷◌, ◌++◌, length, Some, option_map};
-ghost use Rattle.lat_machines.specs.cores.Cores.{Seat, no_seat, Core};
+ghost use Rattle.std.specs.Prelude.{◌≡◌, ◌≤◌, ◌<◌, ◌+◌, ◌-◌, ◌^◌, ℕ, suc, true, false, List, [], ◌∷◌, ◌++◌, length, Some};
+ghost use Rattle.lat_machines.specs.cores.Cores.{Seat, no_seat};
 ghost use Rattle.lat_machines.specs.cores.Lines.{last_on};
 ghost use Rattle.lat_machines.specs.cores.Books.{line_session};
 ghost use Rattle.lat_machines.specs.world.Machines.{Setups, Machines, Move, core_of, happens};
@@ -11,7 +11,6 @@ ghost use Rattle.lat_tales.specs.Keeping.{rows_after, connects, accepts};
 ghost use Rattle.lat_tales.specs.Mates.{last_named, mate_by_ids};
 ghost use Rattle.lat_tales.specs.Rows.{RowsAfter, Keeps, figures_of};
 ghost use Rattle.lat_roster.specs.Roster.{Shows, last_row};
-ghost use Rattle.lat_roster.specs.Rows.{ShowsFigures};
 ghost use Rattle.lat_wire.specs.Kept.{setups_of};
 ghost use Rattle.lat_wire.specs.Stands.{Stands};
 ghost use Rattle.lat_follow.specs.Following.{Stage, LeadsTo};
@@ -19,11 +18,12 @@ ghost use Rattle.lat_follow.specs.Moves.{IsReached, end_told, items_added};
 ghost use Rattle.lat_follow.specs.Present.{IsNewcomer};
 ghost use Rattle.lat_follow.specs.Reserved.{HasPlaces};
 
-use crate::books::{made, newcomer_of};
+use crate::books::{made, present_at};
+use crate::figures::figures_of;
 use crate::newcomer::Newcomer;
 use lat_base::LineSession;
 use lat_payload::is_same;
-use lat_roster::{Figures, Roster};
+use lat_roster::Roster;
 use lat_wire::{RatingRule, Wire};
 use std::alloc::Global;
 
@@ -81,7 +81,7 @@ fn follow_all<H: RatingRule>(
     }
 }
 
-// The session of this number.
+// The session of this number. Behind an event of a world there is one.
 fn follow_one<H: RatingRule>(
     alloc: Global,
     wire: &Wire<H>,
@@ -100,20 +100,19 @@ fn follow_one<H: RatingRule>(
         LeadsTo u x server number (suc count) target roster.old →
         LeadsTo u x server (suc number) count target roster.new }
 {
-    let Some(newcomer) = newcomer_of(wire, server, lines, number) else {
+    let Some(newcomer) = present_at(wire, server, lines, number) else {
         return;
     };
     if server {
-        connect(alloc, newcomer.line, newcomer, roster);
+        connect(alloc, newcomer, roster);
     } else {
-        accept(wire, newcomer.line, newcomer, roster);
+        accept(wire, newcomer, roster);
     }
 }
 
 // A line of the server has got a session.
-fn connect(alloc: Global, line: u8, newcomer: Newcomer, roster: &mut Roster)
-    requires places { HasPlaces 1 roster.old }
-    requires line { newcomer.line ≡ line }
+fn connect(alloc: Global, newcomer: Newcomer, roster: &mut Roster)
+    requires { HasPlaces 1 roster.old }
     ensures places { (n : ℕ) → HasPlaces (suc n) roster.old → HasPlaces n roster.new }
     ensures stage { (u : Setups) (x : Machines) (front rest : List Seat) (s : Seat) (k target : RowsAfter) →
         Stage u x true front (s ∷ rest) k target roster.old →
@@ -122,14 +121,17 @@ fn connect(alloc: Global, line: u8, newcomer: Newcomer, roster: &mut Roster)
         (connects s (figures_of x.server.core (last_on s.line no_seat front)) k)
         target roster.new }
 {
-    let session = newcomer.session;
-    let before = figures_of(newcomer.last);
+    let Newcomer {
+        line,
+        session,
+        last,
+    } = newcomer;
+    let before = figures_of(last);
     roster.connects(alloc, line, session.circuit, session.session, before);
 }
 
 // A line of the node has got a session.
-fn accept<H: RatingRule>(wire: &Wire<H>, line: u8, newcomer: Newcomer, roster: &mut Roster)
-    requires { newcomer.line ≡ line }
+fn accept<H: RatingRule>(wire: &Wire<H>, newcomer: Newcomer, roster: &mut Roster)
     ensures places { (n : ℕ) → HasPlaces n roster.old → HasPlaces n roster.new }
     ensures stage { (u : Setups) (x : Machines) (front rest : List Seat) (t : Seat) (k target : RowsAfter) →
         setups_of wire.now ≡ u →
@@ -141,7 +143,7 @@ fn accept<H: RatingRule>(wire: &Wire<H>, line: u8, newcomer: Newcomer, roster: &
 {
     let place = mate_of(wire, newcomer.session, roster);
     let before = figures_of(newcomer.last);
-    roster.accepts(line, place, before);
+    roster.accepts(newcomer.line, place, before);
 }
 
 // The place of the row that a session of the node belongs to, 0 for none.
@@ -159,21 +161,5 @@ fn mate_of<H: RatingRule>(wire: &Wire<H>, session: LineSession, roster: &Roster)
         roster.named(session.peer_circuit, session.peer_session)
     } else {
         0
-    }
-}
-
-// The figures of a session, as its line tells them.
-fn figures_of(session: Option<LineSession>) -> Figures
-    ensures { (c : Core) (number : ℕ) (s : Seat) →
-        option_map session_shown session ≡ Some (session_info (line_session c number s)) →
-        ShowsFigures result (figures_of c s) }
-{
-    match session {
-        Some(session) => Figures {
-            given: session.given,
-            used: session.used,
-            end: session.end,
-        },
-        None => Figures::NONE,
     }
 }

@@ -1,31 +1,37 @@
--- What is printed of what a report notes.
-use Rattle.std.specs.Prelude.{ℕ, List, [], ◌∷◌, ◌++◌, codes, decimal}
-use Rattle.lat_base.specs.FieldWords.{field_word}
-use Rattle.lat_text.specs.Line.{line}
-use Rattle.lat_report.specs.declared.noted.Noted.{Noted}
-use Rattle.lat_report.specs.declared.noted.Noted.TheVariants.{Bad, Broke, Refused}
+-- What a report notes of the answers of a core.
+use Rattle.std.specs.Prelude.{cond, Option, Some, None}
+use Rattle.lat_base.specs.declared.answer.Answer as base
+use Rattle.lat_base.specs.declared.answer.Answer.TheVariants as answers
+use Rattle.lat_base.specs.declared.heard.Heard.TheVariants as heards
+use Rattle.lat_base.specs.declared.kept.Kept.TheVariants as kepts
+use Rattle.lat_machines.specs.world.Machines.{is_noted}
+use Rattle.lat_lines.specs.Answers.{answer_shown}
 use Rattle.lat_report.specs.declared.noted.Refusal.{Refusal}
 use Rattle.lat_report.specs.declared.noted.Refusal.TheVariants as refusals
+use Rattle.lat_report.specs.declared.noted.Noted.{Noted}
+use Rattle.lat_report.specs.declared.noted.Noted.TheVariants as noteds
 
-abbrev pub word_of : Refusal → List ℕ
-word_of refusals.NoLine = codes "no-line"
-word_of refusals.Busy = codes "busy"
-word_of refusals.NoService = codes "no-service"
-word_of refusals.SessionsFull = codes "sessions-full"
-word_of refusals.CircuitsFull = codes "circuits-full"
-word_of refusals.IdsOut = codes "ids-out"
-word_of refusals.Closed = codes "closed"
-word_of refusals.Full = codes "full"
-word_of refusals.IdUsed = codes "id-used"
-word_of refusals.DirectoryFull = codes "directory-full"
-word_of refusals.StartRefused = codes "start-refused"
-word_of refusals.RecordsFull = codes "records-full"
+-- the answer that refuses so
+abbrev pub refusal_answer : Refusal → base.Answer
+refusal_answer refusals.NoLine = answers.NoLine
+refusal_answer refusals.Busy = answers.Busy
+refusal_answer refusals.NoService = answers.NoService
+refusal_answer refusals.SessionsFull = answers.SessionsFull
+refusal_answer refusals.CircuitsFull = answers.CircuitsFull
+refusal_answer refusals.IdsOut = answers.IdsOut
+refusal_answer refusals.Closed = answers.Closed
+refusal_answer refusals.Full = answers.Full
+refusal_answer refusals.IdUsed = answers.IdUsed
+refusal_answer refusals.DirectoryFull = answers.DirectoryFull
+refusal_answer refusals.StartRefused = answers.StartRefused
+refusal_answer refusals.RecordsFull = answers.Kept kepts.RecordsFull
 
-abbrev pub noted_text : Noted → List ℕ
-noted_text (Bad bad) = codes "bad " ++ field_word bad.field ++ codes " " ++ decimal bad.at
-noted_text (Broke reason) = codes "broke " ++ decimal reason
-noted_text (Refused refusal) = codes "refused " ++ word_of refusal
+-- the answer that is noted so
+abbrev pub noted_answer : Noted → base.Answer
+noted_answer (noteds.Bad bad) = answers.Bad bad
+noted_answer (noteds.Broke reason) = answers.Circuit (heards.Broke reason)
+noted_answer (noteds.Refused refusal) = refusal_answer refusal
 
--- the line of a noted event
-abbrev pub noted_line : (event : ℕ) → Noted → List ℕ
-noted_line event noted = line (codes "event " ∷ decimal event ∷ codes " " ∷ noted_text noted ∷ [])
+-- the answer itself, where the machines note it
+abbrev pub noted_of : base.Answer → Option base.Answer
+noted_of a = cond (is_noted (answer_shown a)) (Some a) None

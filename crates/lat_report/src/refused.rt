@@ -1,7 +1,7 @@
 //! The one line that is printed where an event is refused. Lines are those of the schedule, counted from 1.
 
 ghost use Rattle.std.specs.Prelude.{◌≡◌, ◌++◌, OnOk, string_bytes};
-ghost use Rattle.lat_report.specs.RefusedText.{refused_text, old_word, status};
+ghost use Rattle.lat_report.specs.RefusedText.{why_text, refused_text, old_word, status};
 
 use std::alloc::AllocError;
 
@@ -42,25 +42,36 @@ fn old_word(acknowledgement: bool) -> &'static str
     }
 }
 
-/// Adds the line that says why the event of this line is refused.
-pub fn refused_onto(text: &mut String, line: u64, refused: Refused) -> Result<(), AllocError>
-    ensures { OnOk result (string_bytes text.new ≡ string_bytes text.old ++ refused_text line refused) }
+/// Adds why an event isn't made, as it stands behind the number in the line.
+/// After want of memory a part of it may stand in the text.
+pub fn why_onto(text: &mut String, why: Refused) -> Result<(), AllocError>
+    ensures { OnOk result (string_bytes text.new ≡ string_bytes text.old ++ why_text why) }
 {
-    match refused {
-        Refused::Backward { at, last } => write!(text, "line {line} backward {at} {last}\n"),
-        Refused::OwnAddress => write!(text, "line {line} own-address\n"),
-        Refused::NoFrame { index, sent } => write!(text, "line {line} noframe {index} {sent}\n"),
+    match why {
+        Refused::Backward { at, last } => write!(text, "backward {at} {last}"),
+        Refused::OwnAddress => text.push_str("own-address"),
+        Refused::NoFrame { index, sent } => write!(text, "noframe {index} {sent}"),
         Refused::Old {
             acknowledgement,
             number,
             newest,
         } => {
             let word = old_word(acknowledgement);
-            write!(text, "line {line} old {word} {number} {newest}\n")
+            write!(text, "old {word} {number} {newest}")
         }
-        Refused::FramesLimit => write!(text, "line {line} limit frames\n"),
-        Refused::EventsLimit => write!(text, "line {line} limit events\n"),
+        Refused::FramesLimit => text.push_str("limit frames"),
+        Refused::EventsLimit => text.push_str("limit events"),
     }
+}
+
+/// Adds the line that says why the event of this line is refused.
+/// After want of memory a part of it may stand in the text.
+pub fn refused_onto(text: &mut String, line: u64, refused: Refused) -> Result<(), AllocError>
+    ensures { OnOk result (string_bytes text.new ≡ string_bytes text.old ++ refused_text line refused) }
+{
+    write!(text, "line {line} ")?;
+    why_onto(text, refused)?;
+    text.push_str("\n")
 }
 
 impl Refused {
@@ -70,7 +81,10 @@ impl Refused {
     {
         match self {
             Refused::FramesLimit | Refused::EventsLimit => 6,
-            _ => 3,
+            Refused::Backward { .. }
+            | Refused::OwnAddress
+            | Refused::NoFrame { .. }
+            | Refused::Old { .. } => 3,
         }
     }
 }

@@ -1,6 +1,7 @@
 -- The figures of the newest session of a line, by its book.
 use Rattle.std.proofs.Common.{◌≡◌, ◌≢◌, ℕ, refl, sym, ap, ap₂, ◌∙◌, arith, Bool, true, false, cond, ◌&&◌, Option, Some, None, nat_eq, nat_lt, nat_le, eqb-true, ltb-true, lt-ltb}
 use Rattle.std.specs.Prelude.{option_map}
+use Rattle.std.specs.Option.{option_or}
 use Rattle.std.proofs.lemmas.Bool.{and_parts, true≢false, leb-true, le-leb}
 use Rattle.lat_base.specs.declared.book.LineSession as base
 use Rattle.lat_base.specs.declared.book.LineBook as base_book
@@ -8,7 +9,7 @@ use Rattle.lat_base.specs.declared.state.SessionEnd as base_end
 use Rattle.lat_base.specs.declared.state.SessionEnd.TheVariants as ends
 use Rattle.lat_model.specs.Lists.{Each}
 use Rattle.lat_machines.specs.cores.Cores.{no_seat, Core}
-use Rattle.lat_machines.specs.cores.Books.{SessionEnd, LineSession, line_session, LineBook, book}
+use Rattle.lat_machines.specs.cores.Books.{LineSession, line_session, book}
 use Rattle.lat_machines.specs.cores.Lines.{line_exists, last_on, seat_at}
 use Rattle.lat_lines.specs.Kept.{IsLine}
 use Rattle.lat_lines.specs.Stands as lines
@@ -50,25 +51,14 @@ had_newest c line h = book_newest c line ∙ go (nat_eq (newest_place line 0 0 c
     go true q = absurd (h (eqb-true (newest_place line 0 0 c.seats) 0 q))
     go false q = refl
 
-newest_is : (c : Core) (line : ℕ) (b : base_book.LineBook) (n : Option base.LineSession) → HasHad c line → book_shown b ≡ book_info (book c line) → option_map session_shown n ≡ newest_info (book_shown b) → option_map session_shown n ≡ Some (session_info (line_session c (newest_place line 0 0 c.seats) (seat_at c line)))
-newest_is c line b n h q r =
-    r ∙ (ap newest_info q ∙ (told_newest (book c line).present (book c line).last ∙ ap (option_map session_info) (had_newest c line h)))
+shown_newest : (p l : Option base.LineSession) → option_map session_shown (option_or p l) ≡ newest_info (book_shown (record { present = p; last = l }))
+shown_newest None l = refl
+shown_newest (Some s) l = refl
 
-pub newest_some : (c : Core) (line : ℕ) (b : base_book.LineBook) (s : base.LineSession) → HasHad c line → book_shown b ≡ book_info (book c line) → Some (session_shown s) ≡ newest_info (book_shown b) → ShowsFigures (record { given = s.given; used = s.used; end = s.end }) (figures_of c (seat_at c line))
-newest_some c line b s h q r =
-    let e : Some (session_shown s) ≡ Some (session_info (line_session c (newest_place line 0 0 c.seats) (seat_at c line))) = newest_is c line b (Some s) h q r in
-    let i : session_shown s ≡ session_info (line_session c (newest_place line 0 0 c.seats) (seat_at c line)) = cc in
-    record {
-      given = ap (λ (z : LineSession). z.given) i;
-      used_up = ap (λ (z : LineSession). z.used_up) i;
-      end = ends_same s.end ∙ ap (λ (z : LineSession). z.end) i;
-    }
-
-pub newest_none : (c : Core) (line : ℕ) (b : base_book.LineBook) (f : Figures) → HasHad c line → book_shown b ≡ book_info (book c line) → None ≡ newest_info (book_shown b) → ShowsFigures f (figures_of c (seat_at c line))
-newest_none c line b f h q r =
-    let e : ◌≡◌ {A = Option LineSession} None (Some (session_info (line_session c (newest_place line 0 0 c.seats) (seat_at c line)))) = newest_is c line b None h q r in
-    let z : ⊥ = cc in
-    absurd z
+-- the present session of a book, or else the last one, is the newest of the line
+pub newest_is : (c : Core) (line : ℕ) (b : base_book.LineBook) → HasHad c line → book_shown b ≡ book_info (book c line) → option_map session_shown (option_or b.present b.last) ≡ Some (session_info (line_session c (newest_place line 0 0 c.seats) (seat_at c line)))
+newest_is c line b h q =
+    shown_newest b.present b.last ∙ (ap newest_info q ∙ (told_newest (book c line).present (book c line).last ∙ ap (option_map session_info) (had_newest c line h)))
 
 -- the line exists
 pub line_is : (most line : ℕ) (c : Core) → Each (lines.IsSeat most c) c.seats → HasHad c line → IsLine most line

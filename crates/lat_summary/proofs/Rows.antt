@@ -5,7 +5,7 @@ use Rattle.lat_model.specs.Lists.{Each}
 use Rattle.lat_machines.specs.cores.Cores.{Seat}
 use Rattle.lat_machines.specs.cores.Lines.{seat_at}
 use Rattle.lat_machines.specs.world.Machines.{Setups, Machines}
-use Rattle.lat_machines.specs.world.Reports.{is_partner, partner, partner_in, Row}
+use Rattle.lat_machines.specs.world.Reports.{is_partner, partner, partner_in}
 use Rattle.lat_tales.specs.Keeping.{no_figures}
 use Rattle.lat_tales.specs.Rows as rows
 use Rattle.lat_tales.specs.Rows.{RowAfter, RowsAfter, Keeps, KeepsRow, Pairs, figures_of, newest_place}

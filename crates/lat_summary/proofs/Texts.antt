@@ -7,7 +7,6 @@ use Rattle.lat_model.specs.sessions.Slots.{Item, Byte, Setting}
 use Rattle.lat_machines.specs.world.Machines.{Machines}
 use Rattle.lat_machines.specs.world.Reports.{Row}
 use Rattle.lat_lines.specs.Answers.{item_in}
-use Rattle.lat_tales.specs.Rows as rows
 use Rattle.lat_tales.specs.Rows.{RowAfter, RowsAfter}
 use Rattle.lat_tales.specs.Reported.{report_row, report_rows_from}
 use Rattle.lat_roster.specs.Shown.{item_shown}

@@ -1,37 +1,27 @@
 //! The figures of a session at both ends.
 
-ghost use Rattle.std.specs.Prelude.{◌≡◌, ℕ, ◌<◌, IfOk, option_map};
+ghost use Rattle.std.specs.Prelude.{◌≡◌, ℕ, ◌<◌, IfOk};
 ghost use Rattle.lat_machines.specs.cores.Books.{book};
 ghost use Rattle.lat_machines.specs.cores.Cores.{Core};
 ghost use Rattle.lat_machines.specs.cores.Lines.{line_exists, seat_at};
 ghost use Rattle.lat_machines.specs.node.Node.{Node};
 ghost use Rattle.lat_machines.specs.server.Server.{Server};
 ghost use Rattle.lat_machines.specs.world.Machines.{Machines};
-ghost use Rattle.lat_lines.specs.Stands.{session_shown, book_shown, book_info};
+ghost use Rattle.lat_lines.specs.Stands.{book_shown, book_info};
 ghost use Rattle.lat_server.specs.Stands as servers;
 ghost use Rattle.lat_node.specs.Stands as nodes;
-ghost use Rattle.lat_tales.specs.Books.{newest_info};
 ghost use Rattle.lat_tales.specs.Rows as rows;
 ghost use Rattle.lat_tales.specs.Reported.{server_figures, node_figures};
 ghost use Rattle.lat_roster.specs.Rows.{ShowsFigures};
 ghost use Rattle.lat_summary.specs.Rows.{figures_shown};
 ghost use Rattle.lat_summary.specs.Standing.{StandsFor, HasHad, RowAt};
 
-use lat_base::{LineBook, LineSession, Memory};
+use lat_base::{LineBook, Memory};
+use lat_follow::figures_of;
 use lat_node::NodeCore;
 use lat_roster::{Figures, Roster};
 use lat_server::ServerCore;
 use lat_wire::{RatingRule, Wire};
-
-// The newest session that a book tells of.
-fn newest(book: LineBook) -> Option<LineSession>
-    ensures { option_map session_shown result ≡ newest_info (book_shown book) }
-{
-    match book.present {
-        Some(session) => Some(session),
-        None => book.last,
-    }
-}
 
 // The figures of the newest session of the line that a book is of.
 fn figures_by(told: LineBook) -> Figures
@@ -40,14 +30,7 @@ fn figures_by(told: LineBook) -> Figures
         HasHad c line →
         ShowsFigures result (rows.figures_of c (seat_at c line)) }
 {
-    match newest(told) {
-        Some(session) => Figures {
-            given: session.given,
-            used: session.used,
-            end: session.end,
-        },
-        None => Figures::NONE,
-    }
+    figures_of(told.present.or(told.last))
 }
 
 // Whether there is a line of this number.

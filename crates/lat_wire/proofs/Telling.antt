@@ -11,13 +11,13 @@ use Rattle.lat_machines.specs.values.Events.{Event}
 use Rattle.lat_machines.specs.values.Answers.{Answer}
 use Rattle.lat_machines.specs.cores.Cores.{Core}
 use Rattle.lat_machines.specs.node.Node.{node_step}
-use Rattle.lat_machines.specs.world.Machines as machines
-use Rattle.lat_machines.specs.world.Machines.{Setups, Posted, Machines, NotedEvent, core_of, post_all, noted_too, marked_delivered, tell}
+use Rattle.lat_machines.specs.world.Machines.{Setups, Posted, Machines, NotedEvent, is_noted, core_of, post_all, noted_too, marked_delivered, tell}
 use Rattle.lat_machines.specs.world.Safe.{answer_by}
 use Rattle.lat_machines.specs.world.Tally.{formed_in, taken_in, shown_in, taken_by, Tallied, TalliesOn, RunTallies}
 use Rattle.lat_machines.proofs.events.Ratings.{same_but_frames}
 use Rattle.lat_server.specs.Stands as servers
 use Rattle.lat_node.specs.Stands as nodes
+use Rattle.lat_lines.specs.Answers.{answer_shown}
 use Rattle.lat_lines.specs.Back.{answer_of}
 use Rattle.lat_payload.specs.Frames.{frame_view, expected}
 use Rattle.lat_posts.specs.Ways.{CameAtMost, Log}
@@ -28,7 +28,7 @@ use Rattle.lat_ledger.specs.Books.{ArePosts, Book, Counts, IsBook, IsBookOf, IsR
 use Rattle.lat_ledger.proofs.Behind.{behind_formed, behind_taken, behind_shown, tells_same}
 use Rattle.lat_wire.specs.Ends.{MadeFrames, frames_by}
 use Rattle.lat_wire.specs.Kept.{Holds, Kept, setups_of}
-use Rattle.lat_wire.specs.Notes.{NotesOn, NoteInfo, is_noted, note_shown, noted_info}
+use Rattle.lat_wire.specs.Notes.{NotesOn, NoteInfo, note_shown, noted_info}
 use Rattle.lat_wire.specs.Stands.{Mirrors}
 use Rattle.lat_wire.proofs.Noting.{noted_same}
 use Rattle.lat_wire.specs.Rates.{rates}
@@ -142,8 +142,8 @@ told_count : (u : Setups) (w : Machines) (b : Bool) (e : Event) (rates : List �
 told_count u w true e rates = refl
 told_count u w false e rates = refl
 
-notes_told : (n : ℕ) (a : Answer) (ns : List NotedEvent) → map noted_info (noted_too n a ns) ≡ cond (is_noted (answer_of a)) (map noted_info ns ++ record { event = n; answer = answer_of a } ∷ []) (map noted_info ns)
-notes_told n a ns = go (machines.is_noted a) (is_noted (answer_of a)) (noted_same a)
+notes_told : (n : ℕ) (a : Answer) (ns : List NotedEvent) → map noted_info (noted_too n a ns) ≡ cond (is_noted (answer_shown (answer_of a))) (map noted_info ns ++ record { event = n; answer = answer_of a } ∷ []) (map noted_info ns)
+notes_told n a ns = go (is_noted a) (is_noted (answer_shown (answer_of a))) (noted_same a)
   where
     more : NoteInfo
     more = record { event = n; answer = answer_of a }
@@ -162,8 +162,8 @@ told_mirrors k new w b e a m u s n book q notes c = record {
   book = subst (λ z. IsBookOf z new.book (tell (setups_of k) w b e (rates (setups_of k) w))) (sym u) book;
   notes =
       notes
-      ∙ (ap₂ (λ x y. cond (is_noted y) (map note_shown k.notes ++ (let t : NoteInfo = record { event = x; answer = y } in t) ∷ []) (map note_shown k.notes)) count q
-      ∙ (ap (λ z. cond (is_noted (answer_of (answer_by (setups_of k) w b e))) (z ++ (let t : NoteInfo = record { event = suc w.count; answer = answer_of (answer_by (setups_of k) w b e) } in t) ∷ []) z) m.notes
+      ∙ (ap₂ (λ x y. cond (is_noted (answer_shown y)) (map note_shown k.notes ++ (let t : NoteInfo = record { event = x; answer = y } in t) ∷ []) (map note_shown k.notes)) count q
+      ∙ (ap (λ z. cond (is_noted (answer_shown (answer_of (answer_by (setups_of k) w b e)))) (z ++ (let t : NoteInfo = record { event = suc w.count; answer = answer_of (answer_by (setups_of k) w b e) } in t) ∷ []) z) m.notes
       ∙ (sym (notes_told (suc w.count) (answer_by (setups_of k) w b e) w.noted)
       ∙ ap (map noted_info) (sym (told_noted (setups_of k) w b e (rates (setups_of k) w))))));
   count = count ∙ sym (told_count (setups_of k) w b e (rates (setups_of k) w));

@@ -9,6 +9,8 @@ use Rattle.lat_payload.specs.Frames.{frame_view, expected}
 use Rattle.lat_posts.specs.declared.post.Sent.{Sent}
 use Rattle.lat_ledger.specs.Books.{IsPost}
 use Rattle.lat_lines.specs.Back.{answer_of}
+use Rattle.lat_wire.specs.Kept.{Kept, setups_of}
+use Rattle.lat_wire.specs.Stands.{Stands}
 
 -- an event that isn't a frame that was heard
 abbrev pub IsLocal : Event → Type 0
@@ -22,6 +24,10 @@ moment_after moment e = moment
 -- what an end answers to an event
 abbrev pub answered : Setups → Machines → Bool → Event → base.Answer
 answered u w server e = answer_of (answer_by u w server e)
+
+-- of each world that the wire stands for, this is what its end answers
+abbrev pub IsAnswered : {H : Type 0} → Kept H → Bool → Event → base.Answer → Type 0
+IsAnswered k server e a = (w : Machines) → Stands k w → a ≡ answered (setups_of k) w server e
 
 -- what the other end answers to a frame; None where it isn't for it
 abbrev pub answered_to : Setups → Machines → ℕ → Option Posted → Option base.Answer

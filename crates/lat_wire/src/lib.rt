@@ -12,5 +12,5 @@ mod wire;
 pub use fault::EventFault;
 pub use lat_node::{NodeConfig, NodeCore, RateHook, RatingRule};
 pub use lat_server::{ServerConfig, ServerCore};
-pub use notes::{Note, Noted, Refusal};
+pub use notes::Note;
 pub use wire::Wire;

@@ -4,14 +4,13 @@ ghost use Rattle.std.specs.Prelude.{◌≡◌, IfOk, OnOk, OnErr, None, slice_ge
 ghost use Rattle.lat_base.specs.Answers.{PutFits};
 ghost use Rattle.lat_machines.specs.values.Addresses.{address};
 ghost use Rattle.lat_machines.specs.values.Events.{Hears};
-ghost use Rattle.lat_machines.specs.world.Machines.{Machines, Does, HearsFrame, HearsForeign, happens};
+ghost use Rattle.lat_machines.specs.world.Machines.{Machines, Does, HearsFrame, HearsForeign};
 ghost use Rattle.lat_payload.specs.Reads.{reading_of};
 ghost use Rattle.lat_lines.specs.Events.{event_shown};
 ghost use Rattle.lat_wire.specs.Kept.{setups_of};
-ghost use Rattle.lat_wire.specs.Rates.{rates};
 ghost use Rattle.lat_wire.specs.Refusals.{RefusedAs, local_refusal, deliver_refusal, inject_refusal};
-ghost use Rattle.lat_wire.specs.Stands.{Stands};
-ghost use Rattle.lat_wire.specs.Told.{IsLocal, moment_after, answered, answered_to};
+ghost use Rattle.lat_wire.specs.Stands.{Stands, Happens};
+ghost use Rattle.lat_wire.specs.Told.{IsLocal, IsAnswered, moment_after, answered_to};
 
 use crate::fault::EventFault;
 use crate::wire::Wire;
@@ -29,10 +28,8 @@ impl<H: RatingRule> Wire<H> {
         event: &Event,
     ) -> Result<Answer, EventFault>
         requires { IsLocal (event_shown event.now) }
-        ensures stands { OnOk result ((w : Machines) →
-            Stands self.old w →
-            Stands self.new (happens (setups_of self.old) w (Does server (event_shown event.now) (rates (setups_of self.old) w)))) }
-        ensures answer { IfOk result (λ a. (w : Machines) → Stands self.old w → a ≡ answered (setups_of self.old) w server (event_shown event.now)) }
+        ensures stands { OnOk result (Happens self.old self.new (Does server (event_shown event.now))) }
+        ensures answer { IfOk result (IsAnswered self.old server (event_shown event.now)) }
         ensures refused { (w : Machines) → Stands self.old w → RefusedAs result (local_refusal w self.old.moment (event_shown event.now)) }
         ensures put { IfOk result (λ a. PutFits a event.now) }
         ensures moment { OnOk result (self.new.moment ≡ moment_after self.old.moment (event_shown event.now)) }
@@ -49,9 +46,7 @@ impl<H: RatingRule> Wire<H> {
     /// Lets the end that didn't send it hear this frame, at the moment of the schedule, and gives its answer. `None` where it
     /// was sent neither to that end nor to everyone: then nothing hears it, and it counts as an event all the same.
     pub fn deliver(&mut self, alloc: Global, index: u64) -> Result<Option<Answer>, EventFault>
-        ensures stands { OnOk result ((w : Machines) →
-            Stands self.old w →
-            Stands self.new (happens (setups_of self.old) w (HearsFrame index self.old.moment (rates (setups_of self.old) w)))) }
+        ensures stands { OnOk result (Happens self.old self.new (HearsFrame index self.old.moment)) }
         ensures answer { IfOk result (λ a. (w : Machines) →
             Stands self.old w →
             a ≡ answered_to (setups_of self.old) w self.old.moment (slice_get w.posts index)) }
@@ -83,13 +78,9 @@ impl<H: RatingRule> Wire<H> {
         from: Addr,
         payload: &[u8],
     ) -> Result<Answer, EventFault>
-        ensures stands { OnOk result ((w : Machines) →
-            Stands self.old w →
-            Stands self.new (happens (setups_of self.old) w
-            (HearsForeign server (address from.0) (reading_of payload.now) self.old.moment (rates (setups_of self.old) w)))) }
-        ensures answer { IfOk result (λ a. (w : Machines) →
-            Stands self.old w →
-            a ≡ answered (setups_of self.old) w server (Hears (address from.0) (reading_of payload.now) None self.old.moment)) }
+        ensures stands { OnOk result (Happens self.old self.new
+            (HearsForeign server (address from.0) (reading_of payload.now) self.old.moment)) }
+        ensures answer { IfOk result (IsAnswered self.old server (Hears (address from.0) (reading_of payload.now) None self.old.moment)) }
         ensures refused { (w : Machines) → Stands self.old w → RefusedAs result (inject_refusal (setups_of self.old) w (address from.0)) }
         ensures moment { self.new.moment ≡ self.old.moment }
         ensures setups { setups_of self.new ≡ setups_of self.old }

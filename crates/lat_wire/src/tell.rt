@@ -45,13 +45,14 @@ ghost use Rattle.lat_wire.specs.Taking.{HeadsRead, Took, is_taken, named_by, tak
 ghost use Rattle.lat_wire.specs.Told.{IsSent, answered, moment_after};
 
 use crate::fault::{EventFault, FRAMES};
-use crate::notes::{Note, noted_of};
+use crate::notes::Note;
 use crate::wire::Wire;
 use lat_base::{Addr, Answer, Bytes, Event, Heard, Memory};
 use lat_ledger::{Ledger, heading_of};
 use lat_node::RatingRule;
 use lat_payload::is_same;
 use lat_posts::{Post, Sent, Tally};
+use lat_report::Noted;
 use std::alloc::Global;
 
 impl<H: RatingRule> Wire<H> {
@@ -75,7 +76,16 @@ impl<H: RatingRule> Wire<H> {
         match event {
             Event::Time { now } if *now < last => Err(EventFault::Backward { at: *now, last }),
             Event::Time { now } => Ok(*now),
-            _ => Ok(last),
+            Event::Heard { .. }
+            | Event::Connect { .. }
+            | Event::Put { .. }
+            | Event::Set { .. }
+            | Event::Take { .. }
+            | Event::Attend { .. }
+            | Event::Close { .. }
+            | Event::Request { .. }
+            | Event::Cancel { .. }
+            | Event::Announce => Ok(last),
         }
     }
 
@@ -250,7 +260,7 @@ fn note(notes: &mut Vec<Note>, event: u64, answer: &Answer)
     requires { vec_len notes.old < vec_capacity notes.old }
     ensures { NotesOn (map note_shown notes.old.items) event answer.now (map note_shown notes.new.items) }
 {
-    if let Some(noted) = noted_of(answer) {
+    if let Some(noted) = Noted::of(answer) {
         notes.push_reserved(Note { event, noted });
     }
 }
@@ -301,7 +311,16 @@ fn named_by(event: &Event) -> Option<u16>
 {
     match event {
         Event::Heard { payload, .. } => named_in(payload.as_slice()),
-        _ => None,
+        Event::Time { .. }
+        | Event::Connect { .. }
+        | Event::Put { .. }
+        | Event::Set { .. }
+        | Event::Take { .. }
+        | Event::Attend { .. }
+        | Event::Close { .. }
+        | Event::Request { .. }
+        | Event::Cancel { .. }
+        | Event::Announce => None,
     }
 }
 

@@ -1,4 +1,3 @@
-use Rattle.std.proofs.Common.{◌-◌, Some}
 use Rattle.lat_summary.proofs.Placed.{put_more}
 use Rattle.lat_summary.proofs.grants.place.Goals as goal
 
