@@ -1,8 +1,7 @@
 -- What a command comes to has one of its statuses, and a world exactly where it makes one and is done.
-use Rattle.std.proofs.Common.{◌≡◌, ℕ, inl, inr, Bool, true, false, ◌&&◌, List, length, Option, Some, None, Result, Ok, Err, refl, sym, ap, ◌∙◌, subst}
-use Rattle.std.specs.Prelude.{IfOk, is_some, nat_eq, nat_lt, if◌then◌else◌}
+use Rattle.std.proofs.Common.{◌≡◌, ℕ, inl, inr, Bool, true, false, ◌&&◌, List, length, Option, Some, None, Result, Ok, Err, refl, sym, ap, ◌∙◌}
+use Rattle.std.specs.Prelude.{is_some, nat_eq, nat_lt, if◌then◌else◌}
 use Rattle.lat_machines.specs.world.Machines.{Setups}
-use Rattle.lat_base.specs.declared.memory.Memory.{Memory}
 use Rattle.lat_show.specs.ShowOf as shows
 use Rattle.lat_choose.specs.ChooseOf as chooses
 use Rattle.lat_audit.specs.AuditOf as audits
@@ -19,11 +18,9 @@ use Rattle.lat_replay.specs.Played.{State, Played, Through, Refused, open_state,
 use Rattle.lat_growth.specs.Grown as gen
 use Rattle.lat_cmd.specs.declared.command.Command.{Command}
 use Rattle.lat_cmd.specs.declared.command.Command.TheVariants.{Show, Choose, Replay, Capture, Settle, Audit, Gen, Bench}
-use Rattle.lat_cmd.specs.declared.outcome.Outcome.{Outcome}
 use Rattle.lat_cmd.specs.Answers.{Ended, Answer, Tale, plain, with_world, told_to, told_of, told_at, told_behind, reported, captured, settled}
 use Rattle.lat_cmd.specs.Answers.{settled_to, gen_of, bench_of, answer_to, HandsBack}
 use Rattle.lat_cmd.specs.Commands.{ComesTo, makes_world}
-use Rattle.lat_cmd.specs.Outcomes.{IsOutcome, WorldWhereDone}
 
 -- what an answer of a command is
 abbrev pub Fits : Command → Answer → Type 0
@@ -121,17 +118,7 @@ same_some (Some e) (Some k) h = refl
 same_some None (Some k) h = absurd h
 same_some (Some e) None h = absurd h
 
-pub comes_to :
-    {H : Type 0} (c : Command) (input : List ℕ) (r : Result (Outcome H) Memory) → IfOk r (λ o. IsOutcome (answer_to c input) o) →
-    IfOk r (λ o. ComesTo c o.status)
-comes_to c input (Ok o) is = subst (λ s. ComesTo c s) (sym is.status) (fits c input).0
-comes_to c input (Err e) is = tt
-
-pub has_world :
-    {H : Type 0} (c : Command) (input : List ℕ) (r : Result (Outcome H) Memory) → IfOk r (λ o. IsOutcome (answer_to c input) o) →
-    IfOk r (λ o. WorldWhereDone c o.status o.world)
-has_world c input (Ok o) is =
-    same_some (answer_to c input).world o.world is.world
-    ∙ (fits c input).1
-    ∙ ap (λ s. makes_world c && nat_eq s 0) (sym is.status)
-has_world c input (Err e) is = tt
+-- no world is handed back where none is answered
+pub none_of : {H : Type 0} (w : Option (Kept H)) → HandsBack None w → w ≡ None
+none_of None h = refl
+none_of (Some k) h = absurd h

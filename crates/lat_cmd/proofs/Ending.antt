@@ -1,16 +1,15 @@
--- How a run ends.
+-- What a run answers to its input, and the laws of what it prints.
 use Rattle.std.proofs.Common.{◌≡◌, ◌≢◌, ℕ, ◌<◌, ◌≤◌, ◌⊎◌, inl, inr, Bool, true, false, ltb, ◌&&◌, List, length, Option, Some, None}
 use Rattle.std.proofs.Common.{refl, sym, ap, ◌∙◌, subst, arith}
 use Rattle.std.specs.Prelude.{IfSome, codes}
 use Rattle.std.proofs.lemmas.Bool.Decides.{nat_tests}
-use Rattle.lat_replay.specs.Kept.{Kept}
 use Rattle.lat_cmd.specs.declared.command.Command.{Command}
 use Rattle.lat_cmd.specs.declared.command.Command.TheVariants.{Show, Choose, Replay, Capture, Settle, Audit, Gen, Bench}
-use Rattle.lat_cmd.specs.declared.top.RunEnd.{RunEnd}
+use Rattle.lat_cmd.specs.declared.end.RunEnd.{RunEnd}
 use Rattle.lat_cmd.specs.Answers.{Answer, plain, answer_of, answer_to, capture_of, input_of}
-use Rattle.lat_cmd.specs.Commands.{makes_world, IsStatusOf}
 use Rattle.lat_cmd.specs.Laws.{SettleTakesAll, IsLawful, ObeysLaw}
-use Rattle.lat_cmd.specs.Outcomes.{IsEarly, Tells, Answers, WorldWhereDone}
+use Rattle.lat_cmd.specs.Outcomes.{IsEarly, Tells, Answers}
+use Rattle.lat_cmd.specs.Runs.{IsRead}
 
 -- an input past the limit
 past_limit : (c : Command) (input : List ℕ) → 16777216 < length input → answer_of c input ≡ plain (6, codes "limit bytes\n")
@@ -54,38 +53,15 @@ limit_told c left end before now past tells =
 
 pub input_told :
     {H : Type 0} (c : Command) (left : Option (List ℕ)) (end : RunEnd H) (before now : Option (List ℕ)) (input : List ℕ) →
-    IfSome (input_of c left) (λ xs. (input ≡ xs) × (length xs ≤ 16777216)) → Tells (answer_to c input) end before now →
-    AnswersInput left end before now c
+    IsRead c left input → Tells (answer_to c input) end before now → AnswersInput left end before now c
 input_told c left end before now input read tells =
     if_known _ (input_of c left) (λ xs e.
     let r : (input ≡ xs) × (length xs ≤ 16777216) = known (λ ys. (input ≡ ys) × (length ys ≤ 16777216)) (input_of c left) xs e read in
     inr (subst (λ (a : Answer). Tells a end before now) (ap (answer_to c) r.0 ∙ sym (within_limit c xs r.1)) tells))
 
 -- the input, by the slice that is read
-pub input_read :
-    (c : Command) (left : Option (List ℕ)) (input now : List ℕ) → now ≡ input →
-    IfSome (input_of c left) (λ xs. (input ≡ xs) × (length xs ≤ 16777216)) → IfSome (input_of c left) (λ xs. (now ≡ xs) × (length xs ≤ 16777216))
-input_read c left input now same read = subst (λ (ys : List ℕ). IfSome (input_of c left) (λ xs. (ys ≡ xs) × (length xs ≤ 16777216))) (sym same) read
-
--- what a call that tells ends with
-abbrev pub EndsAs : {H : Type 0} → ℕ → Option (Kept H) → RunEnd H → Type 0
-EndsAs status world end = (end ≡ record { status = status; world = world }) ⊎ (end ≡ record { status = 5; world = None })
-
-no_world : (b : Bool) → false ≡ (b && false)
-no_world true = refl
-no_world false = refl
-
-pub world_so :
-    {H : Type 0} (c : Command) (status : ℕ) (world : Option (Kept H)) (end : RunEnd H) → EndsAs status world end → WorldWhereDone c status world →
-    WorldWhereDone c end.status end.world
-world_so c status world end (inl is) w = subst (λ (r : RunEnd _). WorldWhereDone c r.status r.world) (sym is) w
-world_so c status world end (inr is) w = subst (λ (r : RunEnd _). WorldWhereDone c r.status r.world) (sym is) (no_world (makes_world c))
-
-pub status_so :
-    {H : Type 0} (c : Command) (status : ℕ) (world : Option (Kept H)) (end : RunEnd H) → EndsAs status world end → IsStatusOf c status →
-    IsStatusOf c end.status
-status_so c status world end (inl is) w = subst (λ (r : RunEnd _). IsStatusOf c r.status) (sym is) w
-status_so c status world end (inr is) w = subst (λ (r : RunEnd _). IsStatusOf c r.status) (sym is) (inr (inl refl))
+pub input_read : (c : Command) (left : Option (List ℕ)) (input now : List ℕ) → now ≡ input → IsRead c left input → IsRead c left now
+input_read c left input now same read = subst (λ (ys : List ℕ). IsRead c left ys) (sym same) read
 
 -- no law speaks of a run that answers another status than 0 and 3
 pub lawless : (c : Command) (left : Option (List ℕ)) (status : ℕ) (before now : Option (List ℕ)) → status ≢ 0 → status ≢ 3 → ObeysLaw c left status before now
@@ -99,22 +75,13 @@ lawless Audit left status before now undone passes = tt
 lawless (Gen seed) left status before now undone passes = tt
 lawless (Bench seed) left status before now undone passes = tt
 
-pub failed : (c : Command) (left : Option (List ℕ)) (status : ℕ) (before now : Option (List ℕ)) → status ≡ 5 → ObeysLaw c left status before now
+failed : (c : Command) (left : Option (List ℕ)) (status : ℕ) (before now : Option (List ℕ)) → status ≡ 5 → ObeysLaw c left status before now
 failed c left status before now five = lawless c left status before now (λ e. omega (arith, e, five)) (λ e. omega (arith, e, five))
-
-pub lawless_told :
-    {H : Type 0} (c : Command) (left : Option (List ℕ)) (status : ℕ) (world : Option (Kept H)) (end : RunEnd H) (before now : Option (List ℕ)) →
-    EndsAs status world end → status ≢ 0 → status ≢ 3 → ObeysLaw c left end.status before now
-lawless_told c left status world end before now (inl is) undone passes =
-    subst (λ (r : RunEnd _). ObeysLaw c left r.status before now) (sym is) (lawless c left status before now undone passes)
-lawless_told c left status world end before now (inr is) undone passes =
-    failed c left end.status before now (ap (λ (r : RunEnd _). r.status) is)
 
 -- the law of an answer is that of the run that told it
 pub lawful_told :
     {H : Type 0} (c : Command) (left : Option (List ℕ)) (input : List ℕ) (end : RunEnd H) (before now : Option (List ℕ)) →
-    IfSome (input_of c left) (λ xs. (input ≡ xs) × (length xs ≤ 16777216)) → IsLawful c input → Tells (answer_to c input) end before now →
-    ObeysLaw c left end.status before now
+    IsRead c left input → IsLawful c input → Tells (answer_to c input) end before now → ObeysLaw c left end.status before now
 lawful_told c left input end before now read law (inr stopped) = failed c left end.status before now stopped.0
 lawful_told (Capture p) left input end before now read law (inl told) = λ done. ((capture_of p input).text, told.1, law (sym told.0 ∙ done))
 lawful_told (Settle count) left input end before now read law (inl told) =

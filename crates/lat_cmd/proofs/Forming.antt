@@ -26,6 +26,13 @@ is_plain a o status text none = record {
   world = subst (λ (w : Option (Kept _)). HandsBack None w) (sym none) tt;
 }
 
+-- as a call gave it
+pub is_given :
+    {H : Type 0} (a : ℕ × List ℕ) (o x : Outcome H) → o ≡ x → (x.status, string_bytes x.text) ≡ a → x.world ≡ None → IsOutcome (plain a) o
+is_given a o x made given none =
+    subst (λ (z : Outcome _). IsOutcome (plain a) z) (sym made)
+    (is_plain a x (ap (λ (p : ℕ × List ℕ). p.0) given) (ap (λ (p : ℕ × List ℕ). p.1) given) none)
+
 -- with one
 pub is_with_world :
     {H : Type 0} (text : List ℕ) (u : Setups) (t : State) (k : Kept H) (o : Outcome H) → o.status ≡ 0 → string_bytes o.text ≡ text →
@@ -48,15 +55,14 @@ is_reported k o before none status is text t stands =
 
 -- what is captured in a world
 pub is_captured :
-    {H : Type 0} (k : Kept H) (wire : wires.Kept H) (p : ℕ) (o : Outcome H) (before : List ℕ) → wire ≡ k.wire → before ≡ [] → o.status ≡ 0 →
-    o.world ≡ Some k → ((w : Machines) → wired.Stands wire w → string_bytes o.text ≡ before ++ captured_text (wires.setups_of wire) w p) →
-    (t : State) → StandsAt k t → IsOutcome (captured p (setups_of k) t) o
+    {H : Type 0} (k : Kept H) (wire : wires.Kept H) (p : ℕ) (o : Outcome H) → wire ≡ k.wire → o.status ≡ 0 → o.world ≡ Some k →
+    ((w : Machines) → wired.Stands wire w → string_bytes o.text ≡ captured_text (wires.setups_of wire) w p) → (t : State) → StandsAt k t →
+    IsOutcome (captured p (setups_of k) t) o
 unfolding captured
-is_captured k wire p o before same none status is text t stands =
-    let told : (w : Machines) → wired.Stands k.wire w → string_bytes o.text ≡ before ++ captured_text (wires.setups_of k.wire) w p =
-    subst (λ (x : wires.Kept _). (w : Machines) → wired.Stands x w → string_bytes o.text ≡ before ++ captured_text (wires.setups_of x) w p) same text in
-    is_with_world (captured_text (setups_of k) t.machines p) (setups_of k) t k o status
-    (told t.machines stands.machines.wire ∙ ap (λ xs. xs ++ captured_text (setups_of k) t.machines p) none) is refl stands
+is_captured k wire p o same status is text t stands =
+    let told : (w : Machines) → wired.Stands k.wire w → string_bytes o.text ≡ captured_text (wires.setups_of k.wire) w p =
+    subst (λ (x : wires.Kept _). (w : Machines) → wired.Stands x w → string_bytes o.text ≡ captured_text (wires.setups_of x) w p) same text in
+    is_with_world (captured_text (setups_of k) t.machines p) (setups_of k) t k o status (told t.machines stands.machines.wire) is refl stands
 
 pub audit_legal :
     {H : Type 0} (k : Kept H) (wire : wires.Kept H) (p : ℕ) → wire ≡ k.wire →

@@ -5,3 +5,4 @@ pub mod Forming
 pub mod Replaying
 pub mod Capturing
 pub mod Rounding
+pub mod Running

@@ -25,9 +25,10 @@ use Rattle.lat_replay.specs.Played.{State, open_state, next, refusal, Played, Th
 use Rattle.lat_cmd.specs.declared.course.Course.{Course}
 use Rattle.lat_cmd.specs.declared.course.Course.TheVariants as courses
 use Rattle.lat_cmd.specs.declared.outcome.Outcome.{Outcome}
-use Rattle.lat_cmd.specs.Answers.{Answer, Tale, plain, misread, told_to, told_of, told_at, told_behind, HandsBack}
+use Rattle.lat_cmd.specs.Answers.{Answer, Tale, plain, misread, told_to, told_of, told_at, told_behind}
 use Rattle.lat_cmd.specs.Courses.{Leaves, Runs}
 use Rattle.lat_cmd.specs.Outcomes.{IsOutcome}
+use Rattle.lat_cmd.proofs.Coming.{none_of}
 use Rattle.lat_replay.specs.Refusals.{refused_of}
 
 -- what a new world stands for
@@ -91,11 +92,6 @@ below_from u i s (e ∷ es) n f t p =
 
 pub below : (u : Setups) (s : State) (es : List WorldEvent) (n : ℕ) (f : EventFault) (t : State) → f ≢ faults.Memory → StopsBy u s es n f t → n < length es
 below u s es n f t other by = let h : n < 0 + length es = below_from u 0 s es n f t (stops u s es n f t other by) in omega arith
-
--- no world is handed back where none is answered
-none_of : {H : Type 0} (w : Option (Kept H)) → HandsBack None w → w ≡ None
-none_of None h = refl
-none_of (Some k) h = absurd h
 
 -- one that is refused
 refuses :

@@ -52,11 +52,13 @@ settled_stopped u t count (Refused round fault b) k o e prints not is =
 
 -- the same, as calls give it
 pub is_settled :
-    {H : Type 0} (u : Setups) (count : ℕ) (before : List ℕ) (k : Kept H) (o : Outcome H) → before ≡ [] → setups_of k ≡ u → o.status ≡ 0 →
-    o.world ≡ Some k → (t : State) → Prints u t count o.status before (string_bytes o.text) k → IsOutcome (settled count u t) o
+    {H : Type 0} (u : Setups) (count code : ℕ) (before : List ℕ) (k : Kept H) (o : Outcome H) → before ≡ [] → setups_of k ≡ u → code ≡ 0 →
+    o.status ≡ 0 → o.world ≡ Some k → (t : State) → Prints u t count code before (string_bytes o.text) k → IsOutcome (settled count u t) o
 unfolding settled
-is_settled u count before k o none same done is t prints =
-    settled_done u t count (rounds.settled u t count) k o refl same (subst (λ xs. Prints u t count o.status xs (string_bytes o.text) k) none prints) done is
+is_settled u count code before k o none same zero done is t prints =
+    settled_done u t count (rounds.settled u t count) k o refl same
+    (subst (λ n. Prints u t count n [] (string_bytes o.text) k) (zero ∙ sym done)
+    (subst (λ xs. Prints u t count code xs (string_bytes o.text) k) none prints)) done is
 
 pub is_unsettled :
     {H : Type 0} (u : Setups) (count : ℕ) (before : List ℕ) (k : Kept H) (o : Outcome H) → before ≡ [] → o.status ≢ 0 → o.world ≡ None → (t : State) →

@@ -1,11 +1,16 @@
--- What holds of what is printed of schedules.
+-- What holds of what is printed of schedules, and of the world that is handed back.
 use Rattle.std.specs.Prelude.{◌≡◌, ◌≢◌, ◌⊎◌, ◌≤◌, ℕ, List, length, Option, Some, IfSome, codes}
 use Rattle.std.specs.Io.KnownBytes.{Appends}
+use Rattle.lat_machines.specs.world.Machines.{Machines}
 use Rattle.lat_machines.specs.world.Reports.{report}
+use Rattle.lat_machines.specs.world.Safe.{Safe}
 use Rattle.lat_captures.specs.Audit.{IsLegal}
 use Rattle.lat_audit.specs.AuditOf.{verdict_text}
 use Rattle.lat_rounds.specs.Lossless.{Lossless}
 use Rattle.lat_rounds.specs.Settles.{Enough, Settled}
+use Rattle.lat_replay.specs.Kept.{Kept, setups_of}
+use Rattle.lat_replay.specs.Stands.{Stands}
+use Rattle.lat_replay.specs.Promises.{Promises}
 use Rattle.lat_cmd.specs.declared.command.Command.{Command}
 use Rattle.lat_cmd.specs.declared.command.Command.TheVariants.{Capture, Settle, Audit}
 use Rattle.lat_cmd.specs.Answers.{Ended, plain, replay_of, capture_of, settle_of, answer_of}
@@ -51,3 +56,10 @@ abbrev pub ObeysLaw : Command → (left : Option (List ℕ)) → (status : ℕ) 
 ObeysLaw (Capture p) left status before now = status ≡ 0 → (text : List ℕ) × Appends before now text × IsLegalText text
 ObeysLaw (Settle count) left status before now = IfSome left (λ input. SettleTakesAll count input status)
 ObeysLaw command left status before now = Unit {0}
+
+-- A world stands for two machines; and all that it stands for keep what both ends are promised, and all laws of the machines
+pub record KeepsPromises {H : Type 0} (k : Kept H) : Type 0 where
+  pub machines : Machines
+  pub stands : Stands k machines
+  pub promises : (w : Machines) → Stands k w → Promises (setups_of k) w
+  pub safe : (w : Machines) → Stands k w → Safe (setups_of k) w

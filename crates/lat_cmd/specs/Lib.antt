@@ -3,3 +3,4 @@ pub mod Answers
 pub mod Outcomes
 pub mod Courses
 pub mod Laws
+pub mod Runs

@@ -4,7 +4,7 @@ use Rattle.std.specs.Io.KnownBytes.{Appends}
 use Rattle.lat_replay.specs.Kept.{Kept}
 use Rattle.lat_cmd.specs.declared.command.Command.{Command}
 use Rattle.lat_cmd.specs.declared.outcome.Outcome.{Outcome}
-use Rattle.lat_cmd.specs.declared.top.RunEnd.{RunEnd}
+use Rattle.lat_cmd.specs.declared.end.RunEnd.{RunEnd}
 use Rattle.lat_cmd.specs.Answers.{Answer, HandsBack}
 use Rattle.lat_cmd.specs.Commands.{makes_world}
 

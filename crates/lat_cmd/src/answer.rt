@@ -3,9 +3,9 @@
 ghost use Rattle.std.specs.Prelude.{IfOk};
 ghost use Rattle.lat_wire.specs.Rates.{RatesWhatIsLeft};
 ghost use Rattle.lat_cmd.specs.Answers.{answer_to};
-ghost use Rattle.lat_cmd.specs.Commands.{ComesTo, IsBounded};
+ghost use Rattle.lat_cmd.specs.Commands.{IsBounded};
 ghost use Rattle.lat_cmd.specs.Laws.{IsLawful};
-ghost use Rattle.lat_cmd.specs.Outcomes.{IsOutcome, WorldWhereDone};
+ghost use Rattle.lat_cmd.specs.Outcomes.{IsOutcome};
 
 use crate::capture::capture;
 use crate::command::Command;
@@ -18,8 +18,8 @@ use lat_base::Memory;
 use lat_node::RatingRule;
 use std::alloc::Global;
 
-// The answer of a command to this input.
-fn outcome_of<H: RatingRule>(
+/// The answer of a command to this input.
+pub(crate) fn answered<H: RatingRule>(
     alloc: Global,
     command: Command,
     rule: H,
@@ -41,22 +41,4 @@ fn outcome_of<H: RatingRule>(
         Command::Gen(seed) => made(alloc, seed, rule),
         Command::Bench(seed) => measured(alloc, seed, rule),
     }
-}
-
-/// What a command comes to for this input.
-pub(crate) fn answered<H: RatingRule>(
-    alloc: Global,
-    command: Command,
-    rule: H,
-    input: &[u8],
-) -> Result<Outcome<H>, Memory>
-    requires fact { H.fact rule }
-    requires rates { RatesWhatIsLeft (H.may rule) }
-    requires bounded { IsBounded command }
-    ensures answer { IfOk result (λ o. IsOutcome (answer_to command input.now) o) }
-    ensures status { IfOk result (λ o. ComesTo command o.status) }
-    ensures world { IfOk result (λ o. WorldWhereDone command o.status o.world) }
-    ensures law { IfOk result (λ o. IsLawful command input.now) }
-{
-    outcome_of(alloc, command, rule, input)
 }

@@ -14,7 +14,6 @@ use crate::outcome::Outcome;
 use lat_base::Memory;
 use lat_node::RatingRule;
 use lat_replay::World;
-use lat_tap::capture_onto;
 use std::alloc::Global;
 
 // What is captured of a circuit of the server in a world.
@@ -26,13 +25,8 @@ fn captured<H: RatingRule>(
     ensures answer { IfOk result (λ o. (t : State) → StandsAt world t → IsOutcome (captured circuit (setups_of world) t) o) }
     ensures legal { IfOk result (λ o. (t : State) → StandsAt world t → AuditIsLegal (setups_of world) t.machines circuit) }
 {
-    let mut text = String::new(alloc);
-    capture_onto(alloc, &mut text, world.wire(), circuit)?;
-    Ok(Outcome {
-        status: 0,
-        text,
-        world: Some(world),
-    })
+    let text = lat_tap::captured(alloc, world.wire(), circuit)?;
+    Ok(Outcome::done(text, world))
 }
 
 /// Plays the schedule that an input is, and prints what is captured of a circuit of the server.

@@ -20,7 +20,6 @@ use lat_text::wrong_line;
 use std::alloc::Global;
 
 /// The course of a schedule: the world behind its last event; or what is answered where it has none, whatever the command.
-#[derive(Drop)]
 pub(crate) enum Course<H: RatingRule> {
     Through(World<H>),
     Stopped(Outcome<H>),

@@ -18,11 +18,7 @@ pub(crate) fn made<H: RatingRule>(alloc: Global, seed: u64, rule: H) -> Result<O
     ensures { IfOk result (λ o. IsOutcome (gen_of seed) o) }
 {
     let (text, world) = generated(alloc, seed, rule)?;
-    Ok(Outcome {
-        status: 0,
-        text,
-        world: Some(world),
-    })
+    Ok(Outcome::done(text, world))
 }
 
 /// Tells in one line what it comes to.
@@ -36,9 +32,5 @@ pub(crate) fn measured<H: RatingRule>(
     ensures { IfOk result (λ o. IsOutcome (bench_of seed) o) }
 {
     let (text, world) = benched(alloc, seed, rule)?;
-    Ok(Outcome {
-        status: 0,
-        text,
-        world: Some(world),
-    })
+    Ok(Outcome::done(text, world))
 }

@@ -5,6 +5,7 @@ mod answer;
 mod capture;
 mod command;
 mod course;
+mod end;
 mod growth;
 mod outcome;
 mod replay;
@@ -12,5 +13,6 @@ mod settle;
 mod texts;
 mod top;
 
+pub use end::RunEnd;
 pub use lat_replay::{RateHook, RatingRule, World};
-pub use top::{INPUT_BYTES, RunEnd, run};
+pub use top::{INPUT_BYTES, run};

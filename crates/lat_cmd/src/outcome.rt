@@ -1,12 +1,11 @@
 //! What a command comes to.
 
-ghost use Rattle.std.specs.Prelude.{◌≡◌, None};
+ghost use Rattle.std.specs.Prelude.{◌≡◌, None, Some};
 
 use lat_node::RatingRule;
 use lat_replay::World;
 
 /// The status of a command, the text that it writes, and the world that it made, where it made one and answers 0.
-#[derive(Drop)]
 pub(crate) struct Outcome<H: RatingRule> {
     pub(crate) status: u8,
     pub(crate) text: String,
@@ -22,6 +21,17 @@ impl<H: RatingRule> Outcome<H> {
             status,
             text,
             world: None,
+        }
+    }
+
+    /// Status 0, and a text with the world that it tells of.
+    pub(crate) fn done(text: String, world: World<H>) -> Outcome<H>
+        ensures { result ≡ record { status = 0; text = text; world = Some world } }
+    {
+        Outcome {
+            status: 0,
+            text,
+            world: Some(world),
         }
     }
 }

@@ -20,11 +20,7 @@ fn reported<H: RatingRule>(alloc: Global, world: World<H>) -> Result<Outcome<H>,
 {
     let mut text = String::new(alloc);
     world.report(alloc, &mut text)?;
-    Ok(Outcome {
-        status: 0,
-        text,
-        world: Some(world),
-    })
+    Ok(Outcome::done(text, world))
 }
 
 /// Plays the schedule that an input is, and reports what became of it.

@@ -29,11 +29,7 @@ fn settled<H: RatingRule>(
     let mut text = String::new(alloc);
     let status = settle_onto(alloc, &mut world, rounds, &mut text)?;
     if status == 0 {
-        Ok(Outcome {
-            status,
-            text,
-            world: Some(world),
-        })
+        Ok(Outcome::done(text, world))
     } else {
         Ok(Outcome::plain(status, text))
     }

@@ -1,70 +1,30 @@
 //! The top call.
 
-ghost use Rattle.std.specs.Prelude.{◌≡◌, ◌≢◌, ◌⊎◌, ◌<◌, ◌≤◌, None, map, length, codes, IfOk, IfSome, OnErr, Err, true, false, string_bytes};
+ghost use Rattle.std.specs.Prelude.{◌≡◌, ◌≢◌, ◌<◌, ◌≤◌, None, Option, List, ℕ, map, length, codes, IfOk, IfSome, OnErr, Err, true, false, string_bytes};
 ghost use Rattle.lat_outside.specs.Causes.{Rose};
 ghost use Rattle.lat_outside.specs.declared.whole.ReadEnd.TheVariants as ends;
 ghost use Rattle.lat_wire.specs.Rates.{RatesWhatIsLeft};
-ghost use Rattle.lat_cmd.specs.Answers.{Answer, plain, answer_of, input_of, HandsBack};
-ghost use Rattle.lat_cmd.specs.Commands.{command_of, reads, IsStatusOf};
-ghost use Rattle.lat_cmd.specs.Laws.{ObeysLaw};
+ghost use Rattle.lat_cmd.specs.Answers.{plain, answer_of, input_of};
+ghost use Rattle.lat_cmd.specs.Commands.{command_of, reads, IsBounded, IsStatusOf};
+ghost use Rattle.lat_cmd.specs.Laws.{ObeysLaw, KeepsPromises};
 ghost use Rattle.lat_cmd.specs.Outcomes.{IsEarly, Tells, Answers, WorldWhereDone};
+ghost use Rattle.lat_cmd.specs.Runs.{IsRead, IsRunOf};
 
 use crate::answer::answered;
 use crate::command::{Command, command_of};
+use crate::end::{RunEnd, end_with};
 use crate::outcome::Outcome;
+use lat_base::Memory;
 use lat_node::RatingRule;
-use lat_outside::{ReadEnd, Sink, Source, read_all, write_all};
-use lat_replay::World;
+use lat_outside::{ReadEnd, Sink, Source, read_all};
 use std::alloc::Global;
 
 /// How many bytes of input are read at most.
 pub const INPUT_BYTES: usize = 16_777_216;
 
-/// What a run ended with: its status, and the world behind the last event, where it made one and its status is 0.
-#[derive(Drop)]
-pub struct RunEnd<H: RatingRule> {
-    pub status: u8,
-    pub world: Option<World<H>>,
-}
-
-impl<H: RatingRule> RunEnd<H> {
-    // A status alone.
-    fn of(status: u8) -> RunEnd<H>
-        ensures { result ≡ record { status = status; world = None } }
-    {
-        RunEnd {
-            status,
-            world: None,
-        }
-    }
-}
-
-// Writes the text, and ends with the status and the world, or with 5 alone where it couldn't be written.
-fn end_with<H: RatingRule, K: Sink>(
-    out: &mut K,
-    status: u8,
-    text: &str,
-    world: Option<World<H>>,
-) -> RunEnd<H>
-    requires { status ≢ 5 }
-    ensures tells { (a : Answer) →
-        status ≡ a.status →
-        text.now ≡ a.text →
-        HandsBack a.world world →
-        Tells a result (K.written out.old) (K.written out.new) }
-    ensures which { (result ≡ record { status = status; world = world }) ⊎ (result ≡ record { status = 5; world = None }) }
-    ensures fault { result.status ≡ 5 → Rose (K.faults out.old) (K.faults out.new) }
-    ensures later { K.faults out.old ≤ K.faults out.new }
-{
-    match write_all(out, text.as_bytes()) {
-        Ok(()) => RunEnd { status, world },
-        Err(_) => RunEnd::of(5),
-    }
-}
-
 // What the command reads: all that the source has left, or nothing.
 fn input_of<S: Source>(alloc: Global, command: Command, src: &mut S) -> Result<Vec<u8>, ReadEnd>
-    ensures all { IfOk result (λ input. IfSome (input_of command (S.left src.old)) (λ xs. (input.items ≡ xs) × (length xs ≤ 16777216))) }
+    ensures all { IfOk result (λ input. IsRead command (S.left src.old) input.items) }
     ensures limit { result ≡ Err ends.Limit → IfSome (input_of command (S.left src.old)) (λ xs. 16777216 < length xs) }
     ensures fault { result ≡ Err ends.Fault → Rose (S.faults src.old) (S.faults src.new) }
     ensures later { S.faults src.old ≤ S.faults src.new }
@@ -75,6 +35,61 @@ fn input_of<S: Source>(alloc: Global, command: Command, src: &mut S) -> Result<V
         read_all(alloc, src, INPUT_BYTES)
     } else {
         Ok(Vec::new(alloc))
+    }
+}
+
+// Writes the answer of a command to an input.
+fn told<K: Sink, H: RatingRule>(
+    alloc: Global,
+    command: Command,
+    rule: H,
+    input: &[u8],
+    out: &mut K,
+) -> RunEnd<H>
+    requires fact { H.fact rule }
+    requires rates { RatesWhatIsLeft (H.may rule) }
+    requires bounded { IsBounded command }
+    ensures run { (left : Option (List ℕ)) →
+        IsRead command left input.now →
+        IsRunOf command left result (K.written out.old) (K.written out.new) }
+    ensures status { result.status ≢ 4 }
+    ensures write { result.status ≡ 5 → Rose (K.faults out.old) (K.faults out.new) }
+    ensures unwritten { result.status ≡ 9 → out.new ≡ out.old }
+    ensures later { K.faults out.old ≤ K.faults out.new }
+{
+    match answered(alloc, command, rule, input) {
+        Ok(Outcome {
+            status,
+            text,
+            world,
+        }) => end_with(out, status, text.as_str(), world),
+        Err(Memory) => RunEnd::of(9),
+    }
+}
+
+// Reads what a command reads, and writes its answer.
+fn obeyed<S: Source, K: Sink, H: RatingRule>(
+    alloc: Global,
+    command: Command,
+    rule: H,
+    src: &mut S,
+    out: &mut K,
+) -> RunEnd<H>
+    requires fact { H.fact rule }
+    requires rates { RatesWhatIsLeft (H.may rule) }
+    requires bounded { IsBounded command }
+    ensures run { IsRunOf command (S.left src.old) result (K.written out.old) (K.written out.new) }
+    ensures unread { reads command ≡ false → src.new ≡ src.old }
+    ensures read { result.status ≡ 4 → Rose (S.faults src.old) (S.faults src.new) }
+    ensures write { result.status ≡ 5 → Rose (K.faults out.old) (K.faults out.new) }
+    ensures unwritten { IsEarly result.status → out.new ≡ out.old }
+    ensures later { (S.faults src.old ≤ S.faults src.new) × (K.faults out.old ≤ K.faults out.new) }
+{
+    match input_of(alloc, command, src) {
+        Ok(input) => told(alloc, command, rule, &input, out),
+        Err(ReadEnd::Fault) => RunEnd::of(4),
+        Err(ReadEnd::Limit) => end_with(out, 6, "limit bytes\n", None),
+        Err(ReadEnd::Memory) => RunEnd::of(9),
     }
 }
 
@@ -119,28 +134,18 @@ pub fn run<S: Source, K: Sink, H: RatingRule>(
     ensures law { IfSome (command_of (map string_bytes words.now)) (λ c.
         ObeysLaw c (S.left src.old) result.status (K.written out.old) (K.written out.new)) }
 
+    // The world that it hands back stands for two machines that keep what both ends are promised, order, credits, grants and one
+    // span; and a frame of no layout changes nothing.
+    ensures promises { IfSome result.world (λ k. KeepsPromises k) }
+
     // Each fault has its cause, and want of memory or a failed read writes nothing.
     ensures read { result.status ≡ 4 → Rose (S.faults src.old) (S.faults src.new) }
     ensures write { result.status ≡ 5 → Rose (K.faults out.old) (K.faults out.new) }
     ensures unwritten { IsEarly result.status → out.new ≡ out.old }
     ensures later { (S.faults src.old ≤ S.faults src.new) × (K.faults out.old ≤ K.faults out.new) }
 {
-    let Some(command) = command_of(words) else {
-        return end_with(out, 1, "words\n", None);
-    };
-    let input = match input_of(alloc, command, src) {
-        Ok(input) => input,
-        Err(ReadEnd::Fault) => return RunEnd::of(4),
-        Err(ReadEnd::Limit) => return end_with(out, 6, "limit bytes\n", None),
-        Err(ReadEnd::Memory) => return RunEnd::of(9),
-    };
-    let Ok(outcome) = answered(alloc, command, rule, &input) else {
-        return RunEnd::of(9);
-    };
-    let Outcome {
-        status,
-        text,
-        world,
-    } = outcome;
-    end_with(out, status, text.as_str(), world)
+    match command_of(words) {
+        Some(command) => obeyed(alloc, command, rule, src, out),
+        None => end_with(out, 1, "words\n", None),
+    }
 }

@@ -1,6 +1,6 @@
 -- The whole text of a capture.
-use Rattle.std.proofs.Common.{◌≡◌, ℕ, List, ◌++◌, append_assoc, ap, ◌∙◌, subst}
-use Rattle.std.specs.Prelude.{Option, Some, None, Result, Ok, Err, OnOk, option_map}
+use Rattle.std.proofs.Common.{◌≡◌, ℕ, List, [], ◌++◌, append_assoc, ap, ◌∙◌, subst}
+use Rattle.std.specs.Prelude.{Option, Some, None, option_map}
 use Rattle.lat_machines.specs.world.Machines.{Setups, Machines}
 use Rattle.lat_link.specs.Payloads.{slots_as_text}
 use Rattle.lat_captures.specs.Captured.{RunHead, first_up, capture_from}
@@ -29,13 +29,11 @@ whole_text u m p r old mid new first title lines = by (first_up u p m.posts) fir
         ∙ append_assoc old (title_text (title_by p r)) (captured_lines u p r.to m.posts)
         ∙ ap (λ z. old ++ (title_text (title_by p z) ++ captured_lines u p z.to m.posts)) same
 
--- by the circuit that the tap is for
-pub text_by : (u : Setups) (m : Machines) (p t : ℕ) (r : RunSeen) (old mid new : List ℕ) → t ≡ p → Some r ≡ option_map seen_of (first_up u t m.posts)
-    → mid ≡ old ++ title_text (title_by p r) → new ≡ mid ++ captured_lines u t r.to m.posts → new ≡ old ++ captured_text u m p
-text_by u m p t r old mid new same first title lines =
+-- from nothing, by the circuit that the tap is for
+pub text_by :
+    (u : Setups) (m : Machines) (p t : ℕ) (r : RunSeen) (old mid new : List ℕ) → old ≡ [] → t ≡ p → Some r ≡ option_map seen_of (first_up u t m.posts) →
+    mid ≡ old ++ title_text (title_by p r) → new ≡ mid ++ captured_lines u t r.to m.posts → new ≡ captured_text u m p
+text_by u m p t r old mid new none same first title lines =
     let P : ℕ → Type 0 = λ z. Some r ≡ option_map seen_of (first_up u z m.posts) in
     whole_text u m p r old mid new (subst P same first) title (lines ∙ ap (λ z. mid ++ captured_lines u z r.to m.posts) same)
-
-pub on_ok : {A E P Q : Type 0} → (result : Result A E) → (P → Q) → OnOk result P → OnOk result Q
-on_ok (Ok a) f p = f p
-on_ok (Err e) f p = tt
+    ∙ ap (λ xs. xs ++ captured_text u m p) none

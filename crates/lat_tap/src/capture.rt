@@ -55,36 +55,10 @@ fn entries_onto<H: RatingRule>(
     Ok(())
 }
 
-/// Adds the text of what is captured of a circuit of the server: of all frames that either end of a wire ever sent, the RUNs that
-/// the server sent the node with this source, and those that the node sent back with both ids, in order of sending; or the line
-/// `none` where the server sent the node no such RUN. The audit of a capture is `legal`, with the number of its RUNs. Takes memory
-/// for the text; without it a part may stand there.
-pub fn capture_onto<H: RatingRule>(
-    alloc: Global,
-    text: &mut String,
-    wire: &Wire<H>,
-    circuit: u16,
-) -> Result<(), Memory>
-    ensures text { OnOk result ((w : Machines) →
-        Stands wire.now w →
-        string_bytes text.new ≡ string_bytes text.old ++ captured_text (setups_of wire.now) w circuit) }
-    ensures legal { OnOk result ((w : Machines) → Stands wire.now w → AuditIsLegal (setups_of wire.now) w circuit) }
-{
-    let tap = Tap::on(wire, circuit);
-    let Some(run) = first_up(wire, &tap) else {
-        text.push_str("none\n")?;
-        return Ok(());
-    };
-    let title = Title {
-        master: circuit,
-        slave: run.to,
-        wide: run.wide,
-    };
-    title_onto(text, &title)?;
-    entries_onto(alloc, text, wire, &tap, run.to)
-}
-
-/// The text of what is captured of a circuit of the server, as `capture_onto` adds it.
+/// The text of what is captured of a circuit of the server: of all frames that either end of a wire ever sent, the RUNs that the
+/// server sent the node with this source, and those that the node sent back with both ids, in order of sending; or the line
+/// `none` where the server sent the node no such RUN. The audit of a capture is `legal`, with the number of its RUNs. `Memory`
+/// where none is found for the text.
 pub fn captured<H: RatingRule>(
     alloc: Global,
     wire: &Wire<H>,
@@ -93,7 +67,18 @@ pub fn captured<H: RatingRule>(
     ensures text { IfOk result (λ text. (w : Machines) → Stands wire.now w → string_bytes text ≡ captured_text (setups_of wire.now) w circuit) }
     ensures legal { OnOk result ((w : Machines) → Stands wire.now w → AuditIsLegal (setups_of wire.now) w circuit) }
 {
+    let tap = Tap::on(wire, circuit);
     let mut text = String::new(alloc);
-    capture_onto(alloc, &mut text, wire, circuit)?;
+    let Some(run) = first_up(wire, &tap) else {
+        text.push_str("none\n")?;
+        return Ok(text);
+    };
+    let title = Title {
+        master: circuit,
+        slave: run.to,
+        wide: run.wide,
+    };
+    title_onto(&mut text, &title)?;
+    entries_onto(alloc, &mut text, wire, &tap, run.to)?;
     Ok(text)
 }

@@ -6,4 +6,4 @@ mod capture;
 mod run;
 mod tap;
 
-pub use capture::{capture_onto, captured};
+pub use capture::captured;

@@ -1,8 +1,54 @@
-use Rattle.lat_cmd.proofs.Coming.{comes_to, has_world}
+use Rattle.lat_cmd.specs.declared.command.Command.TheVariants.{Show, Choose, Replay, Capture, Settle, Audit, Gen, Bench}
+use Rattle.lat_cmd.proofs.Forming.{answers_as, lawful_as, no_law}
 use Rattle.lat_cmd.proofs.answer.answered.Goals as goal
 
-pub returns-clause-status : goal.returns-clause-status
-returns-clause-status g c = comes_to c.args.command c.args.input.now c.outcome_of.result c.outcome_of.ensures.answer
+pub returns-in-Show-clause-answer : goal.returns-in-Show-clause-answer
+returns-in-Show-clause-answer g c = answers_as c.args.command Show c.args.input.now c.shown.result c.in-Show.is c.shown.ensures
 
-pub returns-clause-world : goal.returns-clause-world
-returns-clause-world g c = has_world c.args.command c.args.input.now c.outcome_of.result c.outcome_of.ensures.answer
+pub returns-in-Show-clause-law : goal.returns-in-Show-clause-law
+returns-in-Show-clause-law g c = no_law c.args.command Show c.args.input.now c.shown.result c.in-Show.is tt
+
+pub returns-in-Choose-clause-answer : goal.returns-in-Choose-clause-answer
+returns-in-Choose-clause-answer g c = answers_as c.args.command Choose c.args.input.now c.chosen.result c.in-Choose.is c.chosen.ensures
+
+pub returns-in-Choose-clause-law : goal.returns-in-Choose-clause-law
+returns-in-Choose-clause-law g c = no_law c.args.command Choose c.args.input.now c.chosen.result c.in-Choose.is tt
+
+pub returns-in-Replay-clause-answer : goal.returns-in-Replay-clause-answer
+returns-in-Replay-clause-answer g c = answers_as c.args.command Replay c.args.input.now c.replay.result c.in-Replay.is c.replay.ensures
+
+pub returns-in-Replay-clause-law : goal.returns-in-Replay-clause-law
+returns-in-Replay-clause-law g c = no_law c.args.command Replay c.args.input.now c.replay.result c.in-Replay.is tt
+
+pub returns-in-Capture-clause-answer : goal.returns-in-Capture-clause-answer
+returns-in-Capture-clause-answer g c =
+    answers_as c.args.command (Capture c.in-Capture.circuit) c.args.input.now c.capture.result c.in-Capture.is c.capture.ensures.answer
+
+pub returns-in-Capture-clause-law : goal.returns-in-Capture-clause-law
+returns-in-Capture-clause-law g c =
+    lawful_as c.args.command (Capture c.in-Capture.circuit) c.args.input.now c.capture.result c.in-Capture.is c.capture.ensures.legal
+
+pub returns-in-Settle-clause-answer : goal.returns-in-Settle-clause-answer
+returns-in-Settle-clause-answer g c =
+    answers_as c.args.command (Settle c.in-Settle.rounds) c.args.input.now c.settle.result c.in-Settle.is c.settle.ensures.answer
+
+pub returns-in-Settle-clause-law : goal.returns-in-Settle-clause-law
+returns-in-Settle-clause-law g c = lawful_as c.args.command (Settle c.in-Settle.rounds) c.args.input.now c.settle.result c.in-Settle.is c.settle.ensures.all
+
+pub returns-in-Audit-clause-answer : goal.returns-in-Audit-clause-answer
+returns-in-Audit-clause-answer g c = answers_as c.args.command Audit c.args.input.now c.audited.result c.in-Audit.is c.audited.ensures
+
+pub returns-in-Audit-clause-law : goal.returns-in-Audit-clause-law
+returns-in-Audit-clause-law g c = no_law c.args.command Audit c.args.input.now c.audited.result c.in-Audit.is tt
+
+pub returns-in-Gen-clause-answer : goal.returns-in-Gen-clause-answer
+returns-in-Gen-clause-answer g c = answers_as c.args.command (Gen c.in-Gen.seed) c.args.input.now c.made.result c.in-Gen.is c.made.ensures
+
+pub returns-in-Gen-clause-law : goal.returns-in-Gen-clause-law
+returns-in-Gen-clause-law g c = no_law c.args.command (Gen c.in-Gen.seed) c.args.input.now c.made.result c.in-Gen.is tt
+
+pub returns-in-Bench-clause-answer : goal.returns-in-Bench-clause-answer
+returns-in-Bench-clause-answer g c = answers_as c.args.command (Bench c.in-Bench.seed) c.args.input.now c.measured.result c.in-Bench.is c.measured.ensures
+
+pub returns-in-Bench-clause-law : goal.returns-in-Bench-clause-law
+returns-in-Bench-clause-law g c = no_law c.args.command (Bench c.in-Bench.seed) c.args.input.now c.measured.result c.in-Bench.is tt

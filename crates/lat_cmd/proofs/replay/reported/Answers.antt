@@ -1,6 +1,11 @@
-use Rattle.std.proofs.Common.{refl, string_bytes}
+use Rattle.std.proofs.Common.{refl, sym, subst, string_bytes}
+use Rattle.lat_replay.specs.Kept.{setups_of}
+use Rattle.lat_cmd.specs.Answers.{reported}
+use Rattle.lat_cmd.specs.Outcomes.{IsOutcome}
 use Rattle.lat_cmd.proofs.Forming.{is_reported}
 use Rattle.lat_cmd.proofs.replay.reported.Goals as goal
 
 pub returns : goal.returns
-returns g c = is_reported c.args.world _ (string_bytes c.new-text.result) c.new-text.ensures.bytes refl refl c.in_ok-report.ensures
+returns g c = λ t stands.
+    subst (λ o. IsOutcome (reported (setups_of c.args.world) t) o) (sym c.done.ensures)
+    (is_reported c.args.world _ (string_bytes c.new-text.result) c.new-text.ensures.bytes refl refl c.in_ok-report.ensures t stands)

@@ -1,27 +1,34 @@
-use Rattle.std.proofs.Common.{codes, refl, sym, ◌∙◌}
+use Rattle.std.proofs.Common.{codes, refl, sym, map, string_bytes}
+use Rattle.lat_cmd.proofs.Bounding.{bounded}
+use Rattle.lat_cmd.proofs.Ending.{of_command}
+use Rattle.lat_cmd.proofs.Running.{told_keeps}
 use Rattle.lat_cmd.specs.Answers.{plain}
-use Rattle.lat_cmd.proofs.Ending.{of_command, input_read, input_told, lawful_told}
 use Rattle.lat_cmd.proofs.top.run.Goals as goal
 
-pub returns-in_default-clause-words : goal.returns-in_default-clause-words
-returns-in_default-clause-words g c = λ none. (c.end_with.ensures.tells (plain (1, codes "words\n")) refl refl tt, refl)
+pub obeyed-requires-clause-bounded : goal.obeyed-requires-clause-bounded
+obeyed-requires-clause-bounded g c = bounded (map string_bytes c.args.words.now) c.in-Some.command (sym c.in-Some.ensures)
 
-pub returns-clause-answer : goal.returns-clause-answer
-returns-clause-answer g c =
-    let is = c.in-Ok-answered.ensures.answer in
-    of_command _ _ c.in-Some.command (sym c.in-Some.ensures)
-    (input_told c.in-Some.command _ _ _ _ c.deref.result.now
-    (input_read c.in-Some.command _ c.in-Ok.input.items c.deref.result.now c.deref.ensures.value c.in-Ok.ensures.all)
-    (c.end_with-2.ensures.tells _ is.status (c.as_str.ensures.value ∙ is.text) is.world))
+pub returns-in-Some-clause-answer : goal.returns-in-Some-clause-answer
+returns-in-Some-clause-answer g c = of_command _ _ c.in-Some.command (sym c.in-Some.ensures) c.obeyed.ensures.run.answer
 
-pub returns-clause-law : goal.returns-clause-law
-returns-clause-law g c =
-    let is = c.in-Ok-answered.ensures.answer in
-    of_command _ _ c.in-Some.command (sym c.in-Some.ensures)
-    (lawful_told c.in-Some.command _ c.deref.result.now _ _ _
-    (input_read c.in-Some.command _ c.in-Ok.input.items c.deref.result.now c.deref.ensures.value c.in-Ok.ensures.all)
-    c.in-Ok-answered.ensures.law
-    (c.end_with-2.ensures.tells _ is.status (c.as_str.ensures.value ∙ is.text) is.world))
+pub returns-in-Some-clause-status : goal.returns-in-Some-clause-status
+returns-in-Some-clause-status g c = of_command _ _ c.in-Some.command (sym c.in-Some.ensures) c.obeyed.ensures.run.status
 
-pub returns-clause-unread : goal.returns-clause-unread
-returns-clause-unread g c = of_command _ _ c.in-Some.command (sym c.in-Some.ensures) c.in-Ok.ensures.unread
+pub returns-in-Some-clause-world : goal.returns-in-Some-clause-world
+returns-in-Some-clause-world g c = of_command _ _ c.in-Some.command (sym c.in-Some.ensures) c.obeyed.ensures.run.world
+
+pub returns-in-Some-clause-unread : goal.returns-in-Some-clause-unread
+returns-in-Some-clause-unread g c = of_command _ _ c.in-Some.command (sym c.in-Some.ensures) c.obeyed.ensures.unread
+
+pub returns-in-Some-clause-law : goal.returns-in-Some-clause-law
+returns-in-Some-clause-law g c = of_command _ _ c.in-Some.command (sym c.in-Some.ensures) c.obeyed.ensures.run.law
+
+pub returns-in-Some-clause-promises : goal.returns-in-Some-clause-promises
+returns-in-Some-clause-promises g c = c.obeyed.ensures.run.promises
+
+pub returns-in-None-clause-words : goal.returns-in-None-clause-words
+returns-in-None-clause-words g c = λ none. (c.end_with.ensures.tells (plain (1, codes "words\n")) refl refl tt, refl)
+
+pub returns-in-None-clause-promises : goal.returns-in-None-clause-promises
+returns-in-None-clause-promises g c =
+    told_keeps (plain (1, codes "words\n")) c.end_with.result _ _ (c.end_with.ensures.tells (plain (1, codes "words\n")) refl refl tt)

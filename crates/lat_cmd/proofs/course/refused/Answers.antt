@@ -1,0 +1,12 @@
+use Rattle.std.proofs.Common.{◌++◌, ◌∙◌, ap, refl, sym, subst}
+use Rattle.lat_report.specs.RefusedText.{refused_text, status}
+use Rattle.lat_cmd.specs.Answers.{plain}
+use Rattle.lat_cmd.specs.Outcomes.{IsOutcome}
+use Rattle.lat_cmd.proofs.Forming.{is_plain}
+use Rattle.lat_cmd.proofs.course.refused.Goals as goal
+
+pub returns : goal.returns
+returns g c =
+    subst (λ o. IsOutcome (plain (status c.args.refused, refused_text c.args.line c.args.refused)) o) (sym c.plain.ensures)
+    (is_plain (status c.args.refused, refused_text c.args.line c.args.refused) _ c.status.ensures
+    (c.in_ok-refused_onto.ensures ∙ ap (λ xs. xs ++ refused_text c.args.line c.args.refused) c.new-text.ensures.bytes) refl)
