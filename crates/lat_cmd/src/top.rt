@@ -58,11 +58,13 @@ fn told<K: Sink, H: RatingRule>(
     ensures later { K.faults out.old ≤ K.faults out.new }
 {
     match answered(alloc, command, rule, input) {
-        Ok(Outcome {
-            status,
-            text,
-            world,
-        }) => end_with(out, status, text.as_str(), world),
+        Ok(
+            Outcome {
+                status,
+                text,
+                world,
+            },
+        ) => end_with(out, status, text.as_str(), world),
         Err(Memory) => RunEnd::of(9),
     }
 }
