@@ -1,7 +1,8 @@
 -- The circuit of an id among what is held, and that of the core.
-use Rattle.std.proofs.Common.{◌≡◌, ℕ, Bool, true, false, cond, ◌&&◌, ◌||◌, nat_eq, eq-eqb, ne_eqb, nat_lt, ◌<◌, ◌≤◌, is_none, List, [], ◌∷◌, length, map, Option, Some, None, slice_get, position, refl, sym, ap, subst, ◌∙◌, arith}
+use Rattle.std.proofs.Common.{◌≡◌, ℕ, Bool, true, false, cond, ◌&&◌, ◌||◌, nat_eq, eq-eqb, ne_eqb, nat_lt, ◌<◌, ◌≤◌, is_none, List, [], ◌∷◌, length, map, Option, Some, None, slice_get, position, refl, sym, ap, subst, ◌∙◌, arith, MatchOption}
 use Rattle.std.specs.List.{find, list_any, position_or_len}
-use Rattle.std.specs.Option.{is_some, option_map, IfSome}
+use Rattle.std.specs.Borrow.{Bor}
+use Rattle.std.specs.Option.{is_some, option_map, option_copied, IfSome}
 use Rattle.std.proofs.lemmas.Bool.{true≢false, and_parts, false_from_ne_true, eqb-true, ltb-true, ltb-false}
 use Rattle.std.proofs.lemmas.Option.{same_Some, none-some, slice_get_past}
 use Rattle.std.proofs.lemmas.List.Folds.{find_at}
@@ -17,7 +18,7 @@ use Rattle.lat_circuit.specs.Stands as circuit_stands
 use Rattle.lat_circuits.specs.Kept.{Kept, Holds, IsOwn, has_id}
 use Rattle.lat_circuits.specs.Stands.{Stands, IsCircuit}
 use Rattle.lat_circuits.specs.Info.{held_circuit, is_of_circuit}
-use Rattle.lat_circuits.specs.Living.{lives_in}
+use Rattle.lat_circuits.specs.Living.{lives_in, LivesAt}
 use Rattle.lat_circuits.proofs.Held.{rising_above}
 
 -- what is found passes, and is one of them
@@ -168,3 +169,28 @@ side_of_found k c x q h own st = sym (ap (λ (t : Table). t.master) (found_is k 
 
 pub slave_of : (q : circuit.Kept) (e : End) → circuit_stands.Stands q e → q.sessions.master ≡ false → e.half.sessions.master ≡ false
 slave_of q e st slave = sym (ap (λ (t : Table). t.master) st.sessions.is) ∙ slave
+
+-- what is told of an id: by a rule for a circuit that is held, and a default where none is
+
+pub told : {R : Type 0} (r y d : R) (k : Kept) (id : ℕ) (o : Option (Bor circuit.Kept)) {Tells : Bor circuit.Kept → Type 0} → option_copied o ≡ held_circuit k id → MatchOption o (r ≡ d) Tells
+    → (held_circuit k id ≡ None → d ≡ y) → ((q : Bor circuit.Kept) → held_circuit k id ≡ Some q.now → Tells q → r ≡ y) → r ≡ y
+told r y d k id None e h n s = h ∙ n (sym e)
+told r y d k id (Some q) e h n s = s q (sym e) h
+
+pub told_own : {R : Type 0} (r y d : R) (k : Kept) (id : ℕ) (o : Option (Bor circuit.Kept)) {Tells : Bor circuit.Kept → Type 0} → option_copied o ≡ held_circuit k id → IfSome o (λ q. IsOwn k q.now) → MatchOption o (r ≡ d) Tells
+    → (held_circuit k id ≡ None → d ≡ y) → ((q : Bor circuit.Kept) → held_circuit k id ≡ Some q.now → IsOwn k q.now → Tells q → r ≡ y) → r ≡ y
+told_own r y d k id None e own h n s = h ∙ n (sym e)
+told_own r y d k id (Some q) e own h n s = s q (sym e) own h
+
+pub side_told : (k : Kept) (c : Core) (id : ℕ) (o : Option (Bor circuit.Kept)) → option_copied o ≡ held_circuit k id → IfSome o (λ q. IsOwn k q.now) → Stands k c → lives (c.circuits.circuit_at id).end ≡ true
+    → (c.circuits.circuit_at id).end.half.sessions.master ≡ k.server
+side_told k c id None e own st l = absurd (true≢false (sym l ∙ none_lives k c id (sym e) st))
+side_told k c id (Some q) e own st l = side_of_found k c id q.now (sym e) own st
+
+-- the place of the living circuit of an id, as it is looked for
+
+pub place_found : (k : Kept) (id : ℕ) (o : Option ℕ) (at : ℕ) → MatchOption o (lives_in (held_circuit k id) ≡ false) (LivesAt k id) → o ≡ Some at → LivesAt k id at
+place_found k id o at h e = subst (λ o. MatchOption o (lives_in (held_circuit k id) ≡ false) (LivesAt k id)) e h
+
+pub place_none : (k : Kept) (id : ℕ) (o : Option ℕ) → MatchOption o (lives_in (held_circuit k id) ≡ false) (LivesAt k id) → o ≡ None → lives_in (held_circuit k id) ≡ false
+place_none k id o h e = subst (λ o. MatchOption o (lives_in (held_circuit k id) ≡ false) (LivesAt k id)) e h

@@ -35,13 +35,9 @@ impl Circuits {
         ensures same { SameCircuits self.old self.new }
         ensures clear { IsClear self.old → IsClear self.new }
     {
-        match self.living_at(circuit) {
-            Some(at) => {
-                let circuit = &mut self.held[at];
-                circuit.call_session(id, call)
-            }
-            None => Err(SessionFault::Closed),
-        }
+        let at = self.living_at(circuit).ok_or(SessionFault::Closed)?;
+        let circuit = &mut self.held[at];
+        circuit.call_session(id, call)
     }
 
     /// Moves the first heard items to the front of `out`, as many as there are places and items. `Closed` exactly where the
@@ -66,13 +62,9 @@ impl Circuits {
         ensures same { SameCircuits self.old self.new }
         ensures clear { IsClear self.old → IsClear self.new }
     {
-        match self.living_at(circuit) {
-            Some(at) => {
-                let circuit = &mut self.held[at];
-                circuit.take(id, out)
-            }
-            None => Err(SessionFault::Closed),
-        }
+        let at = self.living_at(circuit).ok_or(SessionFault::Closed)?;
+        let circuit = &mut self.held[at];
+        circuit.take(id, out)
     }
 
     /// Accepts the asked session of this id, which is live at once. Where none is asked for nothing happens.

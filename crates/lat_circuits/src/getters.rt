@@ -64,10 +64,8 @@ impl Circuits {
             lives (c.circuits.circuit_at circuit).end ≡ true →
             (sessions_at c circuit).master ≡ self.now.server }
     {
-        match self.circuit(circuit) {
-            Some(held) => held.state(id),
-            None => SessionState::Free,
-        }
+        self.circuit(circuit)
+            .map_or(SessionState::Free, |held| held.state(id))
     }
 
     /// How many items `take` could give now, 0 where it would be refused.
@@ -79,10 +77,7 @@ impl Circuits {
             (length (items (session_at c circuit id).came) - (session_at c circuit id).taken)
             0 }
     {
-        match self.circuit(circuit) {
-            Some(held) => held.waiting(id),
-            None => 0,
-        }
+        self.circuit(circuit).map_or(0, |held| held.waiting(id))
     }
 
     /// The session of an id where it waits for this end's answer on a living circuit, at a node.
@@ -111,30 +106,22 @@ impl Circuits {
             has_id circuit self.now ≡ true →
             result ≡ length (filter (λ id. waits (session_at c circuit id)) (upwards 0 64)) }
     {
-        match self.circuit(circuit) {
-            Some(held) => held.asked_count(),
-            None => 0,
-        }
+        self.circuit(circuit).map_or(0, Circuit::asked_count)
     }
 
     /// Whether a circuit of this id lives.
     pub fn lives(&self, circuit: u16) -> bool
         ensures { (c : Core) → Stands self.now c → result ≡ lives (c.circuits.circuit_at circuit).end }
     {
-        match self.circuit(circuit) {
-            Some(held) => held.lives(),
-            None => false,
-        }
+        self.circuit(circuit).is_some_and(Circuit::lives)
     }
 
     /// Whether a RUN from a station with these ids names a living circuit whose reply was heard.
     pub fn names(&self, from: Addr, to: u16, source: u16) -> bool
         ensures { (c : Core) → Stands self.now c → result ≡ names c.circuits (address from.0) to source }
     {
-        match self.circuit(to) {
-            Some(held) => is_named(held, from, source),
-            None => false,
-        }
+        self.circuit(to)
+            .is_some_and(|held| is_named(held, from, source))
     }
 
     /// How far the message numbers of a circuit count, `None` exactly where no circuit of this id lives.

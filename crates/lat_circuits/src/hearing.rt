@@ -187,11 +187,12 @@ impl Circuits {
     {
         let config = self.config_to(from, info.name);
         let id = self.drawn + 1;
-        if let Some(room) = self.rooms.pop() {
-            let circuit = Circuit::answer_in(room, &config, id, source, info, self.moment, out);
-            self.held.push_reserved(circuit);
-            self.drawn = id;
-        }
+        let Some(room) = self.rooms.pop() else {
+            unreachable!()
+        };
+        let circuit = Circuit::answer_in(room, &config, id, source, info, self.moment, out);
+        self.held.push_reserved(circuit);
+        self.drawn = id;
         id
     }
 

@@ -82,11 +82,12 @@ impl Circuits {
     {
         let config = self.config_to(peer, *node);
         let id = self.drawn + 1;
-        if let Some(room) = self.rooms.pop() {
-            let circuit = Circuit::call_in(room, &config, id, self.moment, out);
-            self.held.push_reserved(circuit);
-            self.drawn = id;
-        }
+        let Some(room) = self.rooms.pop() else {
+            unreachable!()
+        };
+        let circuit = Circuit::call_in(room, &config, id, self.moment, out);
+        self.held.push_reserved(circuit);
+        self.drawn = id;
         id
     }
 
@@ -110,13 +111,9 @@ impl Circuits {
         ensures same { SameCircuits self.old self.new }
         ensures clear { IsClear self.old → IsClear self.new }
     {
-        match self.living_at(circuit) {
-            Some(at) => {
-                let circuit = &mut self.held[at];
-                circuit.connect(service, request)
-            }
-            None => Err(SessionFault::Full),
-        }
+        let at = self.living_at(circuit).ok_or(SessionFault::Full)?;
+        let circuit = &mut self.held[at];
+        circuit.connect(service, request)
     }
 }
 

@@ -32,8 +32,8 @@ invariant_of-self c =
       omega (arith, c.self.invariant.2, c.pop.ensures.capacity),
     )
 
-pub returns-in-Some-clause-did : goal.returns-in-Some-clause-did
-returns-in-Some-clause-did c =
+pub returns-clause-did : goal.returns-clause-did
+returns-clause-did c =
     let k = shown c.self.inside in
     let from = c.args.from in
     let info = info_shown c.args.info.now in

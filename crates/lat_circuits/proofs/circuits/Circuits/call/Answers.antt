@@ -35,8 +35,8 @@ invariant_of-self c =
       omega (arith, c.in-Some.ensures.capacity, c.self.invariant.2),
     )
 
-pub returns-in-Some-clause-did : goal.returns-in-Some-clause-did
-returns-in-Some-clause-did c =
+pub returns-clause-did : goal.returns-clause-did
+returns-clause-did c =
     let k = c.args.self.now in
     let node = c.args.node.now in
     let id = c.self.inside.drawn + 1 in

@@ -1,23 +1,26 @@
-use Rattle.std.proofs.Common.{◌-◌, ◌&&◌, ◌∙◌, sym, ap, cond, length}
+use Rattle.std.proofs.Common.{◌≡◌, ◌-◌, ◌&&◌, ◌∙◌, ℕ, Some, sym, ap, cond, length, rules}
 use Rattle.lat_model.specs.ends.End.{End, lives}
-use Rattle.lat_model.specs.sessions.Session.{take_open}
+use Rattle.lat_model.specs.sessions.Session.{Session, take_open}
 use Rattle.lat_model.specs.sessions.Sessions.{named}
 use Rattle.lat_model.specs.sessions.Slots.{items}
-use Rattle.lat_circuits.specs.Info.{ready_in}
-use Rattle.lat_circuits.proofs.Found.{found_is, none_lives, cond_both}
+use Rattle.lat_circuits.specs.Info.{ready, ready_in}
+use Rattle.lat_circuits.proofs.Found.{told, found_is, none_lives, cond_both}
 use Rattle.lat_circuits.proofs.circuits.Circuits.waiting.Goals as goal
 
-pub returns-in-Some-clause-value : goal.returns-in-Some-clause-value
-returns-in-Some-clause-value c = c.waiting.ensures.value ∙ ap (λ o. ready_in o c.args.id) c.in-Some.ensures.value
+pub returns-clause-value : goal.returns-clause-value
+returns-clause-value c =
+    told c.map_or.result (ready c.args.self.now c.args.circuit c.args.id) 0 c.args.self.now c.args.circuit c.circuit.result c.circuit.ensures.value c.map_or.ensures
+    (λ none. sym (ap (λ o. ready_in o c.args.id) none))
+    (λ q is h. let here : c.map_or.result ≡ ready_in (Some q.now) c.args.id = search rules in here ∙ sym (ap (λ o. ready_in o c.args.id) is))
 
-pub returns-in-Some-clause-model : goal.returns-in-Some-clause-model
-returns-in-Some-clause-model c = λ d st.
+pub returns-clause-model : goal.returns-clause-model
+returns-clause-model c = λ d st.
     let e : End = (d.circuits.circuit_at c.args.circuit).end in
-    c.waiting.ensures.model e (found_is c.args.self.now d c.args.circuit c.in-Some.held.now (sym c.in-Some.ensures.value) st).end
-    ∙ cond_both (lives e) (take_open (named e.half.sessions c.args.id)) (length (items (named e.half.sessions c.args.id).came) - (named e.half.sessions c.args.id).taken) 0
-
-pub returns-in-None-clause-model : goal.returns-in-None-clause-model
-returns-in-None-clause-model c = λ d st.
-    let e : End = (d.circuits.circuit_at c.args.circuit).end in
-    ap (λ b. cond (b && take_open (named e.half.sessions c.args.id)) (length (items (named e.half.sessions c.args.id).came) - (named e.half.sessions c.args.id).taken) 0)
-    (sym (none_lives c.args.self.now d c.args.circuit (sym c.in-None.ensures.value) st))
+    let s : Session = named e.half.sessions c.args.id in
+    let left : ℕ = length (items s.came) - s.taken in
+    told c.map_or.result (cond (lives e && take_open s) left 0) 0 c.args.self.now c.args.circuit c.circuit.result c.circuit.ensures.value c.map_or.ensures
+    (λ none. ap (λ b. cond (b && take_open s) left 0) (sym (none_lives c.args.self.now d c.args.circuit none st)))
+    (λ q is h.
+    let f = (found_is c.args.self.now d c.args.circuit q.now is st).end in
+    let here : c.map_or.result ≡ cond (lives e) (cond (take_open s) left 0) 0 = search rules in
+    here ∙ cond_both (lives e) (take_open s) left 0)
