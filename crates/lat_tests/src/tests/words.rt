@@ -1,6 +1,6 @@
 //! A table of a daemon's words, right and wrong ones.
 
-use lat_words::{Config, Role, config_of};
+use lat_words::{Config, Lines, Role, Station, config_of};
 use std::alloc::{AllocError, Global};
 use std::test::Fail;
 
@@ -62,7 +62,7 @@ fn split_onto(alloc: Global, words: &mut Vec<String>, text: &str) -> Result<(), 
 fn words_with(alloc: Global, other: &str, new: &str) -> Result<Vec<String>, AllocError> {
     let mut words = Vec::new(alloc);
     words.push(String::from_str(alloc, "latd")?)?;
-    for (id, value) in WORDS {
+    for &(id, value) in WORDS.iter() {
         let value = if id == other { new } else { value };
         if value == "none" {
             continue;
@@ -80,27 +80,56 @@ fn config_with(alloc: Global, other: &str, new: &str) -> Result<Option<Config>, 
     Ok(config_of(alloc, words.as_slice())?)
 }
 
+// Whether words are taken that have another value at one option.
+fn takes(alloc: Global, other: &str, new: &str) -> Result<bool, Fail> {
+    Ok(config_with(alloc, other, new)?.is_some())
+}
+
+// Whether it is the station of the right words.
+fn is_station(station: &Station) -> bool {
+    station.name.bytes() == b"TS1".as_slice()
+        && station.address.0 == [0xaa, 0, 4, 0, 1, 4]
+        && station.port == 7000
+        && station.peers.as_slice() == [7001, 7002].as_slice()
+}
+
+// Whether these are the lines of the right words.
+fn are_lines(lines: &Lines) -> bool {
+    lines.count == 2
+        && lines.port == 7100
+        && lines.service.bytes() == [0x56, 0xa1, 0x58].as_slice()
+        && lines.sessions == 1
+}
+
 #[test]
-fn words(rt: HostRuntime) -> Result<(), Fail> {
-    let alloc = rt.alloc();
-    let config = config_with(alloc, "", "")?.ok_or("right words")?;
+fn words_say(rt: HostRuntime) -> Result<(), Fail> {
+    let config = config_with(rt.alloc(), "", "")?.ok_or("right words")?;
     assert_eq!(rt; config.role, Role::Server);
-    assert_eq!(rt; config.station.name.bytes(), b"TS1".as_slice());
-    assert_eq!(rt; config.station.address.0, [0xaa, 0, 4, 0, 1, 4]);
-    assert_eq!(rt; config.station.port, 7000);
-    assert_eq!(rt; config.station.peers.as_slice(), [7001, 7002].as_slice());
-    assert_eq!(rt; config.lines.count, 2);
-    assert_eq!(rt; config.lines.port, 7100);
-    assert_eq!(rt; config.lines.service.bytes(), [0x56, 0xa1, 0x58].as_slice());
-    assert_eq!(rt; config.lines.sessions, 1);
-    for (id, _) in WORDS {
-        assert!(rt; config_with(alloc, id, "none")?.is_none());
+    assert!(rt; is_station(&config.station));
+    assert!(rt; are_lines(&config.lines));
+    Ok(())
+}
+
+#[test]
+fn each_is_needed(rt: HostRuntime) -> Result<(), Fail> {
+    for (id, _) in WORDS.iter() {
+        assert!(rt; !takes(rt.alloc(), id, "none")?);
     }
-    for (id, value) in WRONG {
-        assert!(rt; config_with(alloc, id, value)?.is_none());
+    Ok(())
+}
+
+#[test]
+fn wrong_values(rt: HostRuntime) -> Result<(), Fail> {
+    for (id, value) in WRONG.iter() {
+        assert!(rt; !takes(rt.alloc(), id, value)?);
     }
-    for (id, value) in RIGHT {
-        assert!(rt; config_with(alloc, id, value)?.is_some());
+    Ok(())
+}
+
+#[test]
+fn right_values(rt: HostRuntime) -> Result<(), Fail> {
+    for (id, value) in RIGHT.iter() {
+        assert!(rt; takes(rt.alloc(), id, value)?);
     }
     Ok(())
 }
