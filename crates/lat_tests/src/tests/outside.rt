@@ -6,6 +6,7 @@ use lat_outside::{
     Source, StdSink, StdSource, Tx, read_all, write_all,
 };
 use std::io::{self, Read};
+use std::slice;
 use std::test::Fail;
 
 // One byte a call, and an error at the second call.
@@ -39,17 +40,17 @@ fn carrier(rt: HostRuntime) {
     assert_eq!(rt; tx.frames().map(|frames| frames.len()), Some(3));
     let mut payload = Payload::empty();
     payload.push(b'x');
-    let frames = [HeardFrame {
+    let frame = HeardFrame {
         from: EVERYONE,
         payload,
-    }];
-    let mut rx = MemRx::new(&frames, &[1, 3]);
+    };
+    let mut rx = MemRx::new(slice::from_ref(&frame), &[1, 3]);
     let mut buf = [0; 1500];
-    let frame = Got::Frame {
+    let got = Got::Frame {
         from: EVERYONE,
         len: 1,
     };
-    for answer in [Err(Failed), Ok(frame), Err(Failed), Ok(Got::Quiet)] {
+    for answer in [Err(Failed), Ok(got), Err(Failed), Ok(Got::Quiet)] {
         assert!(rt; rx.recv(&mut buf) == answer);
     }
     assert_eq!(rt; buf.first(), Some(&b'x'));
@@ -57,8 +58,8 @@ fn carrier(rt: HostRuntime) {
 
 #[test]
 fn line(rt: HostRuntime) -> Result<(), Fail> {
-    let bytes = [Bytes::copy(rt.alloc(), b"abc")?];
-    let mut opener = MemOpener::new(rt.alloc(), &[], &bytes, 2, &[2]);
+    let bytes = Bytes::copy(rt.alloc(), b"abc")?;
+    let mut opener = MemOpener::new(rt.alloc(), &[], slice::from_ref(&bytes), 2, &[2]);
     let mut line = opener.open_line(1)?;
     let mut buf = [0; 3];
     for answer in [LineGot::Bytes(2), LineGot::Bytes(1), LineGot::End] {
