@@ -1,7 +1,6 @@
-//! A server's cell with its workers in threads, and a node which puts back what it takes; one cell without threads (`cell`),
-//! and the real outside (`udp`).
+//! A server's cell with its workers in threads, and a node which puts back what it takes; the same through a daemon, and pairs of
+//! daemons over the loopback address.
 
-mod cell;
 mod cores;
 mod crew;
 mod daemon;
@@ -13,4 +12,3 @@ mod outside;
 mod served;
 mod steady;
 mod threads;
-mod udp;

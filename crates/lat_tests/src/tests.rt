@@ -1,6 +1,8 @@
-//! Each module tests one crate: `lat_mind`, `lat_base`, `lat_outside` and `lat_words`.
+//! Each module tests one crate: `lat_mind`, `lat_base`, `lat_outside`, `lat_words`, `lat_udp` and `lat_cell` (without threads).
 
+mod cell;
 mod moves;
 mod names;
 mod outside;
+mod udp;
 mod words;

@@ -1,4 +1,4 @@
-use Rattle.lat_crew.proofs.tests.cell.rows.cells.Given as goal
+use Rattle.lat_tests.proofs.tests.cell.rows.cells.Given as goal
 
 abbrev pub ghosts-fill_cell-E-Ledger : goal.ghosts-fill_cell-E-Ledger
 ghosts-fill_cell-E-Ledger g a = record { name = a.blanks.events.name; parts = a.blanks.events.parts }

@@ -2,7 +2,7 @@
 //! the line that it names. Lines 1 and 2 always have a session.
 
 ghost use Rattle.std.specs.Prelude.{◌≡◌, [], OnErr, OnOk, IfOk};
-ghost use Rattle.lat_crew.specs.Echoes.{Echoes, fresh_echoes, byte_at, with_byte, bytes_of, echo_heard, echo_waiting, put_answer};
+ghost use Rattle.lat_tests.specs.Echoes.{Echoes, fresh_echoes, byte_at, with_byte, bytes_of, echo_heard, echo_waiting, put_answer};
 
 use lat_base::{
     Answer, Core, EVERYONE, Event, Item, Items, Mark, Memory, OutBox, OutFrame, Payload,
@@ -20,7 +20,7 @@ pub struct Echo {
 }
 
 impl Model for Echo {
-    ghost use Rattle.lat_crew.specs.Echoes.{Echoes};
+    ghost use Rattle.lat_tests.specs.Echoes.{Echoes};
 
     ghost Value = { Echoes };
 
@@ -100,7 +100,7 @@ fn put(line: u8, bytes: &[u8], out: &mut OutBox) -> Answer
 impl Core for Echo {
     ghost use Rattle.std.specs.Prelude.{◌≡◌};
     ghost use Rattle.lat_base.specs.declared.state.SessionState.TheVariants as sessions;
-    ghost use Rattle.lat_crew.specs.Echoes.{Echoes, fresh_echoes, echo_next, echo_answer, echo_waiting};
+    ghost use Rattle.lat_tests.specs.Echoes.{Echoes, fresh_echoes, echo_next, echo_answer, echo_waiting};
 
     ghost State = { Echoes };
 
