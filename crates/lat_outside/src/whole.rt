@@ -8,7 +8,7 @@ use crate::outside::{Failed, Sink, Source};
 use std::alloc::{AllocError, Global};
 
 /// Why a source wasn't read to its end.
-#[derive(Clone, Copy, Debug, PartialEq, Eq)]
+#[derive(Clone, Copy, Debug)]
 pub enum ReadEnd {
     /// A read failed.
     Fault,

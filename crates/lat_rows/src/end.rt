@@ -20,6 +20,14 @@ pub struct End {
 
 const NOT_NOW: &str = "not now\n";
 
+// The setting that these bytes are.
+fn setting_of(bytes: &[u8]) -> Option<[u8; 5]> {
+    match *bytes {
+        [flag, a, b, c, d] => Some([flag, a, b, c, d]),
+        _ => None,
+    }
+}
+
 impl End {
     /// Gives it a moment.
     pub fn time(
@@ -91,13 +99,13 @@ impl End {
     }
 
     fn set(&mut self, id: u8, bytes: &[u8], text: &mut String) -> Result<(), AllocError> {
-        let [flag, a, b, c, d] = *bytes else {
+        let Some(setting) = setting_of(bytes) else {
             return text.push_str("no setting\n");
         };
         if !self.circuit.lives() {
             return text.push_str(NOT_NOW);
         }
-        let answer = self.circuit.set(id, [flag, a, b, c, d]);
+        let answer = self.circuit.set(id, setting);
         done_onto(text, answer)
     }
 

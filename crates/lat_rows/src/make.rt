@@ -22,18 +22,36 @@ pub struct Setup {
     pub slave: CircuitConfig,
 }
 
-// The numbers that a line states, brought into their bounds.
+// The five numbers that a line states.
+fn numbers_of(line: &str) -> Result<[u8; 5], ScriptFault> {
+    let mut numbers = [0; 5];
+    for place in 0..5 {
+        numbers[usize::from(place)] = byte(line, place + 1)?;
+    }
+    Ok(numbers)
+}
+
+// The timing of these numbers, brought into their bounds.
+fn bounded(numbers: [u8; 5], wide: bool) -> Timing
+    ensures { IsTiming result }
+{
+    let [timer, keepalive, sessions, extra, ceiling] = numbers;
+    Timing {
+        timer: timer.clamp(1, 100),
+        keepalive: keepalive.max(1),
+        sessions: sessions.clamp(1, 64),
+        extra,
+        ceiling: ceiling.clamp(1, 15),
+        wide,
+    }
+}
+
+// The timing that a line states.
 fn timing_of(line: &str) -> Result<Timing, ScriptFault>
     ensures { IfOk result IsTiming }
 {
-    Ok(Timing {
-        timer: byte(line, 1)?.clamp(1, 100),
-        keepalive: byte(line, 2)?.max(1),
-        sessions: byte(line, 3)?.clamp(1, 64),
-        extra: byte(line, 4)?,
-        ceiling: byte(line, 5)?.clamp(1, 15),
-        wide: word(line, 6) == "word",
-    })
+    let numbers = numbers_of(line)?;
+    Ok(bounded(numbers, word(line, 6) == "word"))
 }
 
 // The name that these bytes are. They are always one here.
