@@ -43,6 +43,15 @@ timer_fits master timer = if master then nat_lt 0 timer && nat_le timer 100 else
 abbrev pub keepalive_fits : Bool → ℕ → Bool
 keepalive_fits master keepalive = if master then nat_lt 0 keepalive else true
 
+-- the times of the circuit, which stand behind what else the sender of a START can do
+unfoldable pub timed_at : Bool → ℕ → ℕ → ℕ → ℕ → ℕ → List ℕ → Result (Limits × ℕ × List ℕ) Bad
+timed_at master size eco sessions extra place bytes = do
+  timer ← byte_at Timer place place bytes
+  a ← wanted (timer_fits master timer.0) Timer place
+  keepalive ← byte_at KeepAlive timer.1 timer.1 timer.2
+  b ← wanted (keepalive_fits master keepalive.0) KeepAlive timer.1
+  Ok (record { size = size; eco = eco; sessions = sessions; extra = extra; timer = timer.0; keepalive = keepalive.0 }, keepalive.1, keepalive.2)
+
 -- what the sender of a START can do, with the times of the circuit
 unfoldable pub limits_at : Bool → ℕ → List ℕ → Result (Limits × ℕ × List ℕ) Bad
 limits_at master place bytes = do
@@ -54,11 +63,7 @@ limits_at master place bytes = do
   sessions ← byte_at Sessions eco.1 eco.1 eco.2
   c ← wanted (nat_lt 0 sessions.0) Sessions eco.1
   extra ← byte_at Extra sessions.1 sessions.1 sessions.2
-  timer ← byte_at Timer extra.1 extra.1 extra.2
-  d ← wanted (timer_fits master timer.0) Timer extra.1
-  keepalive ← byte_at KeepAlive timer.1 timer.1 timer.2
-  e ← wanted (keepalive_fits master keepalive.0) KeepAlive timer.1
-  Ok (record { size = size.0; eco = eco.0; sessions = sessions.0; extra = extra.0; timer = timer.0; keepalive = keepalive.0 }, keepalive.1, keepalive.2)
+  timed_at master size.0 eco.0 sessions.0 extra.0 extra.1 extra.2
 
 -- what a START tells of its sender, with at most so many parameters
 unfoldable pub info_at : ℕ → Bool → ℕ → List ℕ → Result (StartInfo × ℕ × List ℕ) Bad

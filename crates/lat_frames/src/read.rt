@@ -1,6 +1,6 @@
 //! Reading a payload as a circuit message.
 
-ghost use Rattle.std.specs.Prelude.{◌+◌, ◌<◌, ◌≤◌, length, drop, Ok, IfOk};
+ghost use Rattle.std.specs.Prelude.{◌≡◌, ◌+◌, ◌<◌, ◌≤◌, ◌==◌, ◌||◌, nat_le, length, drop, Ok, IfOk};
 ghost use Rattle.lat_fields.specs.Reading.{Gives};
 ghost use Rattle.lat_fields.specs.Payloads.{PayloadText};
 ghost use Rattle.lat_frames.specs.declared.message.Message.{Message};
@@ -51,6 +51,14 @@ fn layout_of(
     tail_of(alloc, kind, first, circuits, payload, place)
 }
 
+// Whether the payload may end as it does: nothing stands behind the message, or the payload is short.
+fn ends_right(end: usize, payload: &[u8]) -> bool
+    requires { end ≤ length payload.now }
+    ensures { result ≡ (length (drop end payload.now) == 0 || nat_le (length payload.now) 46) }
+{
+    end == payload.len() || payload.len() <= LEAST_PAYLOAD
+}
+
 #[tactic(auto, unfolding(crate::specs::Reading::message_read))]
 fn message_of(alloc: Global, payload: &[u8]) -> Result<Message, LayoutFault>
     ensures { Gives (λ m. m) result (message_read payload.now) }
@@ -59,8 +67,7 @@ fn message_of(alloc: Global, payload: &[u8]) -> Result<Message, LayoutFault>
     let (first, _) = byte_of(Field::Kind, 0, payload, 0)?;
     let kind = known(MessageKind::from_bits(first / 4), Field::Kind, 0)?;
     let (message, end) = layout_of(alloc, kind, first, payload)?;
-    let ends = end == payload.len() || payload.len() <= LEAST_PAYLOAD;
-    wanted(ends, Field::Trailing, end)?;
+    wanted(ends_right(end, payload), Field::Trailing, end)?;
     Ok(message)
 }
 

@@ -2,7 +2,7 @@
 
 ghost use Rattle.std.specs.Prelude.{◌≡◌, ◌+◌, ◌<◌, ◌≤◌, length, drop, IfOk};
 ghost use Rattle.lat_fields.specs.Reading.{Gives};
-ghost use Rattle.lat_frames.specs.Reading.{timer_fits, keepalive_fits, limits_at, info_at, start_at, stop_at};
+ghost use Rattle.lat_frames.specs.Reading.{timer_fits, keepalive_fits, timed_at, limits_at, info_at, start_at, stop_at};
 
 use crate::message::{Message, StartInfo};
 use crate::read_head::{Circuits, asks, is_master};
@@ -27,13 +27,49 @@ pub struct Limits {
 fn timer_fits(master: bool, timer: u8) -> bool
     ensures { result ≡ timer_fits master timer }
 {
-    !master || (timer > 0 && timer <= 100)
+    if master {
+        timer > 0 && timer <= 100
+    } else {
+        true
+    }
 }
 
 fn keepalive_fits(master: bool, keepalive: u8) -> bool
     ensures { result ≡ keepalive_fits master keepalive }
 {
     !master || keepalive > 0
+}
+
+// The times of the circuit, which stand behind what else the sender can do, and all of it together.
+#[tactic(auto, unfolding(crate::specs::Reading::timed_at))]
+fn timed_of(
+    master: bool,
+    size: u16,
+    eco: u8,
+    sessions: u8,
+    extra: u8,
+    payload: &[u8],
+    place: usize,
+) -> Result<(Limits, usize), LayoutFault>
+    requires { (place ≤ length payload.now) × (length payload.now ≤ 1500) }
+    ensures gives { Gives (λ x. (x.0, x.1, drop x.1 payload.now)) result
+        (timed_at master size eco sessions extra place (drop place payload.now)) }
+    ensures within { IfOk result (λ x. x.1 ≤ length payload.now) }
+{
+    let (timer, keepalive_place) = byte_of(Field::Timer, place, payload, place)?;
+    wanted(timer_fits(master, timer), Field::Timer, place)?;
+    let (keepalive, behind) = byte_of(Field::KeepAlive, keepalive_place, payload, keepalive_place)?;
+    let fits = keepalive_fits(master, keepalive);
+    wanted(fits, Field::KeepAlive, keepalive_place)?;
+    let limits = Limits {
+        size,
+        eco,
+        sessions,
+        extra,
+        timer,
+        keepalive,
+    };
+    Ok((limits, behind))
 }
 
 #[tactic(auto, unfolding(crate::specs::Reading::limits_at))]
@@ -44,34 +80,13 @@ fn limits_of(master: bool, payload: &[u8], place: usize) -> Result<(Limits, usiz
 {
     let (size, version_place) = number_of(Field::FrameSize, payload, place)?;
     wanted(size >= 576 && size <= 1518, Field::FrameSize, place)?;
-    let (version, eco_place) = byte_of(Field::Version, version_place, payload, version_place)?;
+    let (version, place) = byte_of(Field::Version, version_place, payload, version_place)?;
     wanted(version == VERSION, Field::Version, version_place)?;
-    let (eco, sessions_place) = byte_of(Field::Eco, eco_place, payload, eco_place)?;
-    let (sessions, extra_place) = byte_of(
-        Field::Sessions,
-        sessions_place,
-        payload,
-        sessions_place,
-    )?;
+    let (eco, sessions_place) = byte_of(Field::Eco, place, payload, place)?;
+    let (sessions, place) = byte_of(Field::Sessions, sessions_place, payload, sessions_place)?;
     wanted(sessions > 0, Field::Sessions, sessions_place)?;
-    let (extra, timer_place) = byte_of(Field::Extra, extra_place, payload, extra_place)?;
-    let (timer, keepalive_place) = byte_of(Field::Timer, timer_place, payload, timer_place)?;
-    wanted(timer_fits(master, timer), Field::Timer, timer_place)?;
-    let (keepalive, behind) = byte_of(Field::KeepAlive, keepalive_place, payload, keepalive_place)?;
-    wanted(
-        keepalive_fits(master, keepalive),
-        Field::KeepAlive,
-        keepalive_place,
-    )?;
-    let limits = Limits {
-        size,
-        eco,
-        sessions,
-        extra,
-        timer,
-        keepalive,
-    };
-    Ok((limits, behind))
+    let (extra, place) = byte_of(Field::Extra, place, payload, place)?;
+    timed_of(master, size, eco, sessions, extra, payload, place)
 }
 
 #[tactic(auto, unfolding(crate::specs::Reading::info_at))]
