@@ -19,7 +19,7 @@ use Rattle.lat_notices.specs.Services.{service_text}
 use Rattle.lat_notices.specs.Texts.{Fits, fields_text, type_of}
 use Rattle.lat_notices.specs.Fields.{is_version, is_timer, byte_for, groups_at, action_at, outcome_at}
 use Rattle.lat_notices.specs.ServicesReading.{services_at}
-use Rattle.lat_notices.specs.Reading.{announcement, command, status, solicit, response, announcement_at, command_at, status_at, solicit_at, response_at, fields_at}
+use Rattle.lat_notices.specs.Reading.{announcement, command, status, solicit, response, announced_at, announcement_at, command_at, status_at, solicit_at, response_at, fields_at}
 use Rattle.lat_notices.proofs.FieldsFound.{right_byte_found, groups_found, action_found, outcome_found, services_found}
 
 -- the notice and the bytes behind its fields, with the place between them
@@ -97,7 +97,7 @@ below : {a b m : ℕ} → a ≡ b → b < m → a < m
 below e lt = omega arith
 
 announcement_found : (bytes : List ℕ) (x : Read) → IsBytes bytes → announcement_at bytes ≡ Ok x → FoundFields kinds.Announcement bytes x
-unfolding announcement_at
+unfolding announcement_at announced_at
 announcement_found bytes x all h =
     let t = bind_ok (byte_for is_timer fields.Timer 1 bytes) announced_timer x h in
     let t_text = right_byte_found is_timer fields.Timer 1 bytes t.0 all t.1 in

@@ -16,14 +16,14 @@ use Rattle.lat_notices.specs.Outcomes.{action_number, outcome_number, outcome_pl
 use Rattle.lat_notices.specs.Services.{service_text}
 use Rattle.lat_notices.specs.Texts.{Fits, announcement_text, command_text, status_text, solicit_text, response_text, fields_text, type_of}
 use Rattle.lat_notices.specs.Fields.{is_version, is_timer}
-use Rattle.lat_notices.specs.Reading.{announcement_at, command_at, status_at, solicit_at, response_at, fields_at}
+use Rattle.lat_notices.specs.Reading.{announced_at, announcement_at, command_at, status_at, solicit_at, response_at, fields_at}
 use Rattle.lat_notices.proofs.FieldsTaken.{byte_taken, groups_taken, action_taken, outcome_taken, services_taken}
 
 timer_right : (seconds : ℕ) → 0 < seconds → is_timer seconds ≡ true
 timer_right seconds h = grind (arith, nat_tests)
 
 announcement_taken : (a : Announcement) (rest : List ℕ) → Fits (notices.Announcement a) → announcement_at (announcement_text a ++ rest) ≡ Ok (notices.Announcement a, 1 + length (announcement_text a), rest)
-unfolding announcement_at
+unfolding announcement_at announced_at
 announcement_taken a rest h =
     let services = flat_map service_text a.services ++ rest in
     let described = counted a.description ++ (length a.services ∷ services) in

@@ -32,17 +32,22 @@ solicit id asker service = notices.Solicit (record { id = id; asker = asker; ser
 abbrev pub response : ℕ → List ℕ → List ℕ → ℕ → ℕ → Notice
 response id node service rating timer = notices.Response (record { id = id; node = node; service = service; rating = rating; timer = timer })
 
+-- an announcement from its node's name on, behind its timer, its incarnation and its groups
+unfoldable pub announced_at : ℕ → ℕ → List ℕ → ℕ → List ℕ → Result (Notice × ℕ × List ℕ) Bad
+announced_at timer incarnation groups place bytes = do
+  node ← name_at fields.NodeName place bytes
+  description ← counted_at fields.Description node.1 node.1 node.2
+  count ← byte_at fields.ServiceCount description.1 description.1 description.2
+  services ← services_at count.0 count.1 count.2
+  Ok (announcement timer incarnation groups node.0 description.0 services.0, services.1, services.2)
+
 unfoldable pub announcement_at : List ℕ → Result (Notice × ℕ × List ℕ) Bad
 announcement_at bytes = do
   timer ← byte_for is_timer fields.Timer 1 bytes
   version ← byte_for is_version fields.Version timer.1 timer.2
   incarnation ← number_at fields.Incarnation version.1 version.2
   groups ← groups_at incarnation.1 incarnation.2
-  node ← name_at fields.NodeName groups.1 groups.2
-  description ← counted_at fields.Description node.1 node.1 node.2
-  count ← byte_at fields.ServiceCount description.1 description.1 description.2
-  services ← services_at count.0 count.1 count.2
-  Ok (announcement timer.0 incarnation.0 groups.0 node.0 description.0 services.0, services.1, services.2)
+  announced_at timer.0 incarnation.0 groups.0 groups.1 groups.2
 
 unfoldable pub command_at : List ℕ → Result (Notice × ℕ × List ℕ) Bad
 command_at bytes = do

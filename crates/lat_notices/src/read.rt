@@ -3,7 +3,7 @@
 ghost use Rattle.std.specs.Prelude.{◌≡◌, ◌≤◌, ◌==◌, ◌||◌, nat_le, length, drop, Ok, IfOk};
 ghost use Rattle.lat_fields.specs.Payloads.{PayloadText};
 ghost use Rattle.lat_fields.specs.Reading.{Gives};
-ghost use Rattle.lat_notices.specs.Reading.{announcement_at, command_at, status_at, solicit_at, response_at, fields_at, notice_read};
+ghost use Rattle.lat_notices.specs.Reading.{announcement, announced_at, announcement_at, command_at, status_at, solicit_at, response_at, fields_at, notice_read};
 ghost use Rattle.lat_notices.specs.Texts.{NoticeText};
 ghost use Rattle.lat_notices.specs.declared.notice.Notice.{Notice};
 
@@ -12,11 +12,59 @@ use crate::fields::{action_of, groups_of, outcome_of, timer_of, version_of};
 use crate::kind::NoticeKind;
 use crate::notice::{Announcement, Command, Notice, Response, Solicit, Status};
 use crate::read_services::services_of;
-use lat_base::{Bytes, Field, PAYLOAD_BYTES};
+use crate::services::Services;
+use lat_base::{Bytes, Field, Memory, Name, PAYLOAD_BYTES};
 use lat_fields::{
     LEAST_PAYLOAD, LayoutFault, byte_of, counted_of, known, name_of, number_of, wanted,
 };
 use std::alloc::Global;
+
+// An announcement of what was read. Takes memory for its lists.
+fn announcement(
+    alloc: Global,
+    timer: u8,
+    incarnation: u16,
+    groups: &[u8],
+    node: Name,
+    description: &[u8],
+    services: Services,
+) -> Result<Notice, Memory>
+    ensures { IfOk result (λ n. n ≡ announcement timer incarnation groups.now node description.now services) }
+{
+    let groups = Bytes::copy(alloc, groups)?;
+    let description = Bytes::copy(alloc, description)?;
+    Ok(Notice::Announcement(Announcement {
+        timer,
+        incarnation,
+        groups,
+        node,
+        description,
+        services,
+    }))
+}
+
+// An announcement from its node's name on, behind its timer, its incarnation and its groups.
+#[tactic(auto, unfolding(crate::specs::Reading::announced_at))]
+fn announced_of(
+    alloc: Global,
+    timer: u8,
+    incarnation: u16,
+    mask: &[u8],
+    bytes: &[u8],
+    place: usize,
+) -> Result<(Notice, usize), LayoutFault>
+    requires { (place ≤ length bytes.now) × (length bytes.now ≤ 1500) }
+    ensures gives { Gives (λ x. (x.0, x.1, drop x.1 bytes.now)) result
+        (announced_at timer incarnation mask.now place (drop place bytes.now)) }
+    ensures within { IfOk result (λ x. x.1 ≤ length bytes.now) }
+{
+    let (node, at) = name_of(Field::NodeName, bytes, place)?;
+    let (text, at) = counted_of(Field::Description, at, bytes, at)?;
+    let (count, at) = byte_of(Field::ServiceCount, at, bytes, at)?;
+    let (services, behind) = services_of(alloc, count, bytes, at)?;
+    let notice = announcement(alloc, timer, incarnation, mask, node, text, services)?;
+    Ok((notice, behind))
+}
 
 // Each of these reads the fields of a type, from place 1 on, and gives the place behind them.
 #[tactic(auto, unfolding(crate::specs::Reading::announcement_at))]
@@ -29,19 +77,7 @@ fn announcement_of(alloc: Global, bytes: &[u8]) -> Result<(Notice, usize), Layou
     let (_, at) = version_of(bytes, at)?;
     let (incarnation, at) = number_of(Field::Incarnation, bytes, at)?;
     let (mask, at) = groups_of(bytes, at)?;
-    let (node, at) = name_of(Field::NodeName, bytes, at)?;
-    let (text, at) = counted_of(Field::Description, at, bytes, at)?;
-    let (count, at) = byte_of(Field::ServiceCount, at, bytes, at)?;
-    let (services, behind) = services_of(alloc, count, bytes, at)?;
-    let notice = Notice::Announcement(Announcement {
-        timer,
-        incarnation,
-        groups: Bytes::copy(alloc, mask)?,
-        node,
-        description: Bytes::copy(alloc, text)?,
-        services,
-    });
-    Ok((notice, behind))
+    announced_of(alloc, timer, incarnation, mask, bytes, at)
 }
 
 #[tactic(auto, unfolding(crate::specs::Reading::command_at))]
