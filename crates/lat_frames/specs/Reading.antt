@@ -52,6 +52,15 @@ timed_at master size eco sessions extra place bytes = do
   b ← wanted (keepalive_fits master keepalive.0) KeepAlive timer.1
   Ok (record { size = size; eco = eco; sessions = sessions; extra = extra; timer = timer.0; keepalive = keepalive.0 }, keepalive.1, keepalive.2)
 
+-- how many sessions and further messages the sender can hold, behind its frame size and the version, and the times
+unfoldable pub holding_at : Bool → ℕ → ℕ → List ℕ → Result (Limits × ℕ × List ℕ) Bad
+holding_at master size place bytes = do
+  eco ← byte_at Eco place place bytes
+  sessions ← byte_at Sessions eco.1 eco.1 eco.2
+  a ← wanted (nat_lt 0 sessions.0) Sessions eco.1
+  extra ← byte_at Extra sessions.1 sessions.1 sessions.2
+  timed_at master size eco.0 sessions.0 extra.0 extra.1 extra.2
+
 -- what the sender of a START can do, with the times of the circuit
 unfoldable pub limits_at : Bool → ℕ → List ℕ → Result (Limits × ℕ × List ℕ) Bad
 limits_at master place bytes = do
@@ -59,34 +68,26 @@ limits_at master place bytes = do
   a ← wanted (nat_le 576 size.0 && nat_le size.0 1518) FrameSize place
   version ← byte_at Version size.1 size.1 size.2
   b ← wanted (version.0 == 5) Version size.1
-  eco ← byte_at Eco version.1 version.1 version.2
-  sessions ← byte_at Sessions eco.1 eco.1 eco.2
-  c ← wanted (nat_lt 0 sessions.0) Sessions eco.1
-  extra ← byte_at Extra sessions.1 sessions.1 sessions.2
-  timed_at master size.0 eco.0 sessions.0 extra.0 extra.1 extra.2
+  holding_at master size.0 version.1 version.2
 
--- what a START tells of its sender, with at most so many parameters
-unfoldable pub info_at : ℕ → Bool → ℕ → List ℕ → Result (StartInfo × ℕ × List ℕ) Bad
-info_at most master place bytes = do
-  limits ← limits_at master place bytes
-  facility ← number_at Facility limits.1 limits.2
-  product ← byte_at ProductType facility.1 facility.1 facility.2
-  version ← byte_at ProductVersion product.1 product.1 product.2
-  slave ← name_at SlaveName version.1 version.2
+-- the names, the location and the parameters of a START's sender, at most so many of these, behind the rest of it
+unfoldable pub named_at : ℕ → Limits → ℕ → ℕ → ℕ → ℕ → List ℕ → Result (StartInfo × ℕ × List ℕ) Bad
+named_at most limits facility product version place bytes = do
+  slave ← name_at SlaveName place bytes
   name ← name_at MasterName slave.1 slave.2
   location ← counted_at Location name.1 name.1 name.2
   params ← params_at most location.1 location.2
   Ok (
     record {
-      size = limits.0.size;
-      eco = limits.0.eco;
-      sessions = limits.0.sessions;
-      extra = limits.0.extra;
-      timer = limits.0.timer;
-      keepalive = limits.0.keepalive;
-      facility = facility.0;
-      product = product.0;
-      product_version = version.0;
+      size = limits.size;
+      eco = limits.eco;
+      sessions = limits.sessions;
+      extra = limits.extra;
+      timer = limits.timer;
+      keepalive = limits.keepalive;
+      facility = facility;
+      product = product;
+      product_version = version;
       slave = slave.0;
       name = name.0;
       location = location.0;
@@ -95,6 +96,15 @@ info_at most master place bytes = do
     params.1,
     params.2,
   )
+
+-- what a START tells of its sender, with at most so many parameters
+unfoldable pub info_at : ℕ → Bool → ℕ → List ℕ → Result (StartInfo × ℕ × List ℕ) Bad
+info_at most master place bytes = do
+  limits ← limits_at master place bytes
+  facility ← number_at Facility limits.1 limits.2
+  product ← byte_at ProductType facility.1 facility.1 facility.2
+  version ← byte_at ProductVersion product.1 product.1 product.2
+  named_at most limits.0 facility.0 product.0 version.0 version.1 version.2
 
 unfoldable pub start_at : ℕ → ℕ → Circuits → ℕ → List ℕ → Result (Message × ℕ × List ℕ) Bad
 start_at most first circuits place bytes = do

@@ -2,7 +2,7 @@
 
 ghost use Rattle.std.specs.Prelude.{◌≡◌, ◌+◌, ◌<◌, ◌≤◌, length, drop, IfOk};
 ghost use Rattle.lat_fields.specs.Reading.{Gives};
-ghost use Rattle.lat_frames.specs.Reading.{timer_fits, keepalive_fits, timed_at, limits_at, info_at, start_at, stop_at};
+ghost use Rattle.lat_frames.specs.Reading.{timer_fits, keepalive_fits, timed_at, holding_at, limits_at, named_at, info_at, start_at, stop_at};
 
 use crate::message::{Message, StartInfo};
 use crate::read_head::{Circuits, asks, is_master};
@@ -72,6 +72,26 @@ fn timed_of(
     Ok((limits, behind))
 }
 
+// How many sessions and further messages the sender can hold, behind its frame size and the version, and the times.
+#[tactic(auto, unfolding(crate::specs::Reading::holding_at))]
+fn holding_of(
+    master: bool,
+    size: u16,
+    payload: &[u8],
+    place: usize,
+) -> Result<(Limits, usize), LayoutFault>
+    requires { (place ≤ length payload.now) × (length payload.now ≤ 1500) }
+    ensures gives { Gives (λ x. (x.0, x.1, drop x.1 payload.now)) result
+        (holding_at master size place (drop place payload.now)) }
+    ensures within { IfOk result (λ x. x.1 ≤ length payload.now) }
+{
+    let (eco, sessions_place) = byte_of(Field::Eco, place, payload, place)?;
+    let (sessions, place) = byte_of(Field::Sessions, sessions_place, payload, sessions_place)?;
+    wanted(sessions > 0, Field::Sessions, sessions_place)?;
+    let (extra, place) = byte_of(Field::Extra, place, payload, place)?;
+    timed_of(master, size, eco, sessions, extra, payload, place)
+}
+
 #[tactic(auto, unfolding(crate::specs::Reading::limits_at))]
 fn limits_of(master: bool, payload: &[u8], place: usize) -> Result<(Limits, usize), LayoutFault>
     requires { (place ≤ length payload.now) × (length payload.now ≤ 1500) }
@@ -82,28 +102,25 @@ fn limits_of(master: bool, payload: &[u8], place: usize) -> Result<(Limits, usiz
     wanted(size >= 576 && size <= 1518, Field::FrameSize, place)?;
     let (version, place) = byte_of(Field::Version, version_place, payload, version_place)?;
     wanted(version == VERSION, Field::Version, version_place)?;
-    let (eco, sessions_place) = byte_of(Field::Eco, place, payload, place)?;
-    let (sessions, place) = byte_of(Field::Sessions, sessions_place, payload, sessions_place)?;
-    wanted(sessions > 0, Field::Sessions, sessions_place)?;
-    let (extra, place) = byte_of(Field::Extra, place, payload, place)?;
-    timed_of(master, size, eco, sessions, extra, payload, place)
+    holding_of(master, size, payload, place)
 }
 
-#[tactic(auto, unfolding(crate::specs::Reading::info_at))]
-fn info_of(
+// The names, the location and the parameters of the sender, and with what stands before them all that it tells.
+#[tactic(auto, unfolding(crate::specs::Reading::named_at))]
+fn named_of(
     alloc: Global,
-    master: bool,
+    limits: Limits,
+    facility: u16,
+    product: u8,
+    product_version: u8,
     payload: &[u8],
     place: usize,
 ) -> Result<(StartInfo, usize), LayoutFault>
     requires { (place ≤ length payload.now) × (length payload.now ≤ 1500) }
-    ensures gives { Gives (λ x. (x.0, x.1, drop x.1 payload.now)) result (info_at (length payload.now + 1) master place (drop place payload.now)) }
+    ensures gives { Gives (λ x. (x.0, x.1, drop x.1 payload.now)) result
+        (named_at (length payload.now + 1) limits facility product product_version place (drop place payload.now)) }
     ensures within { IfOk result (λ x. x.1 ≤ length payload.now) }
 {
-    let (limits, place) = limits_of(master, payload, place)?;
-    let (facility, place) = number_of(Field::Facility, payload, place)?;
-    let (product, place) = byte_of(Field::ProductType, place, payload, place)?;
-    let (product_version, place) = byte_of(Field::ProductVersion, place, payload, place)?;
     let (slave, place) = name_of(Field::SlaveName, payload, place)?;
     let (name, place) = name_of(Field::MasterName, payload, place)?;
     let (location, place) = counted_of(Field::Location, place, payload, place)?;
@@ -124,6 +141,32 @@ fn info_of(
         params,
     };
     Ok((info, place))
+}
+
+#[tactic(auto, unfolding(crate::specs::Reading::info_at))]
+fn info_of(
+    alloc: Global,
+    master: bool,
+    payload: &[u8],
+    place: usize,
+) -> Result<(StartInfo, usize), LayoutFault>
+    requires { (place ≤ length payload.now) × (length payload.now ≤ 1500) }
+    ensures gives { Gives (λ x. (x.0, x.1, drop x.1 payload.now)) result (info_at (length payload.now + 1) master place (drop place payload.now)) }
+    ensures within { IfOk result (λ x. x.1 ≤ length payload.now) }
+{
+    let (limits, place) = limits_of(master, payload, place)?;
+    let (facility, place) = number_of(Field::Facility, payload, place)?;
+    let (product, place) = byte_of(Field::ProductType, place, payload, place)?;
+    let (product_version, place) = byte_of(Field::ProductVersion, place, payload, place)?;
+    named_of(
+        alloc,
+        limits,
+        facility,
+        product,
+        product_version,
+        payload,
+        place,
+    )
 }
 
 /// The START message that goes on at the place.
