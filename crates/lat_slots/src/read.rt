@@ -2,7 +2,7 @@
 
 ghost use Rattle.std.specs.Prelude.{◌≡◌, ◌+◌, ◌<◌, ◌≤◌, ℕ, length, take, drop, Ok, IfOk, IsTrue, slice_index};
 ghost use Rattle.lat_fields.specs.Reading.{Gives};
-ghost use Rattle.lat_slots.specs.Reading.{count_fits, head_at, start_at, body_at, slot_at};
+ghost use Rattle.lat_slots.specs.Reading.{count_fits, fitting, head_at, asked_at, start_at, body_at, slot_at};
 ghost use Rattle.lat_slots.specs.Layout.{StandsAt};
 ghost use Rattle.lat_slots.specs.declared.slot.Slot.{Slot};
 ghost use Rattle.lat_slots.specs.declared.slot.Slot.TheVariants as slots;
@@ -13,6 +13,28 @@ use crate::slot::Slot;
 use lat_base::{Bytes, Field};
 use lat_fields::{LayoutFault, byte_of, counted_of, known, name_of, params_of, wanted};
 use std::alloc::Global;
+
+// The head, if its type may have its ids and its count, and its body is there in so many bytes of the slot.
+#[tactic(auto, unfolding(crate::specs::Reading::fitting))]
+fn fitting(head: SlotHead, at: usize, len: usize) -> Result<SlotHead, LayoutFault>
+    requires { at ≤ 1500 }
+    ensures gives { Gives (λ h. h) result (fitting head at len) }
+    ensures count { IfOk result (λ h. IsTrue (count_fits h.kind h.count)) }
+    ensures within { IfOk result (λ h. 4 + h.count ≤ len) }
+{
+    let SlotHead {
+        kind,
+        to,
+        from,
+        count,
+        ..
+    } = head;
+    wanted(destination_fits(kind, to), Field::DestinationSlot, at)?;
+    wanted(source_fits(kind, from), Field::SourceSlot, at + 1)?;
+    let whole = count_fits(kind, count) && 4 + count as usize <= len;
+    wanted(whole, Field::ByteCount, at + 2)?;
+    Ok(head)
+}
 
 // The head of the slot that stands at the place. The byte with its type is tested before the others.
 #[tactic(auto, unfolding(crate::specs::Reading::head_at))]
@@ -25,32 +47,31 @@ fn head_of(payload: &[u8], at: usize) -> Result<SlotHead, LayoutFault>
     let rest = &payload[at..];
     wanted(rest.len() > 3, Field::SlotType, at + 3)?;
     let kind = known(SlotKind::from_bits(rest[3] / 16), Field::SlotType, at + 3)?;
-    let (to, from, count) = (rest[0], rest[1], rest[2]);
-    wanted(destination_fits(kind, to), Field::DestinationSlot, at)?;
-    wanted(source_fits(kind, from), Field::SourceSlot, at + 1)?;
-    let whole = count_fits(kind, count) && 4 + count as usize <= rest.len();
-    wanted(whole, Field::ByteCount, at + 2)?;
-    Ok(SlotHead {
+    let head = SlotHead {
         kind,
         low: rest[3] % 16,
-        to,
-        from,
-        count,
-    })
+        to: rest[0],
+        from: rest[1],
+        count: rest[2],
+    };
+    fitting(head, at, rest.len())
 }
 
-// The start whose body is these bytes from the place on.
-#[tactic(auto, unfolding(crate::specs::Reading::start_at))]
-fn start_of(alloc: Global, head: SlotHead, bytes: &[u8], place: usize) -> Result<Slot, LayoutFault>
+// The start of these sizes, whose body goes on at the place with the service that it asks for.
+#[tactic(auto, unfolding(crate::specs::Reading::asked_at))]
+fn asked_of(
+    alloc: Global,
+    head: SlotHead,
+    attention: u8,
+    size: u8,
+    bytes: &[u8],
+    place: usize,
+) -> Result<Slot, LayoutFault>
     requires { (place ≤ length bytes.now) × (length bytes.now ≤ 1500) }
-    ensures { Gives (λ s. s) result (start_at (length bytes.now + 1) head place (drop place bytes.now)) }
+    ensures { Gives (λ s. s) result
+        (asked_at (length bytes.now + 1) head attention size place (drop place bytes.now)) }
 {
-    let (class, at) = byte_of(Field::ServiceClass, place, bytes, place)?;
-    wanted(class == SERVICE_CLASS, Field::ServiceClass, place)?;
-    let (attention, size_at) = byte_of(Field::AttentionSize, at, bytes, at)?;
-    let (size, at) = byte_of(Field::DataSize, size_at, bytes, size_at)?;
-    wanted(size > 0, Field::DataSize, size_at)?;
-    let (service, at) = name_of(Field::Service, bytes, at)?;
+    let (service, at) = name_of(Field::Service, bytes, place)?;
     let (subject, at) = counted_of(Field::Subject, at, bytes, at)?;
     let (params, at) = params_of(alloc, bytes, at)?;
     wanted(at == bytes.len(), Field::SlotEnd, at)?;
@@ -65,6 +86,20 @@ fn start_of(alloc: Global, head: SlotHead, bytes: &[u8], place: usize) -> Result
         subject,
         params,
     })
+}
+
+// The start whose body is these bytes from the place on.
+#[tactic(auto, unfolding(crate::specs::Reading::start_at))]
+fn start_of(alloc: Global, head: SlotHead, bytes: &[u8], place: usize) -> Result<Slot, LayoutFault>
+    requires { (place ≤ length bytes.now) × (length bytes.now ≤ 1500) }
+    ensures { Gives (λ s. s) result (start_at (length bytes.now + 1) head place (drop place bytes.now)) }
+{
+    let (class, at) = byte_of(Field::ServiceClass, place, bytes, place)?;
+    wanted(class == SERVICE_CLASS, Field::ServiceClass, place)?;
+    let (attention, size_at) = byte_of(Field::AttentionSize, at, bytes, at)?;
+    let (size, at) = byte_of(Field::DataSize, size_at, bytes, size_at)?;
+    wanted(size > 0, Field::DataSize, size_at)?;
+    asked_of(alloc, head, attention, size, bytes, at)
 }
 
 // The setting whose body is these five bytes.
