@@ -1,7 +1,7 @@
 //! Reading START and STOP messages.
 
 ghost use Rattle.std.specs.Prelude.{◌≡◌, ◌+◌, ◌<◌, ◌≤◌, length, drop, IfOk};
-ghost use Rattle.lat_fields.specs.Reading.{Gives};
+ghost use Rattle.lat_fields.specs.Reading.{Gives, counted_at};
 ghost use Rattle.lat_frames.specs.Reading.{timer_fits, keepalive_fits, timed_at, holding_at, limits_at, named_at, info_at, start_at, stop_at};
 
 use crate::message::{Message, StartInfo};
@@ -105,6 +105,22 @@ fn limits_of(master: bool, payload: &[u8], place: usize) -> Result<(Limits, usiz
     holding_of(master, size, payload, place)
 }
 
+// A copy of the counted text at the place, for which it takes memory.
+fn copy_of(
+    alloc: Global,
+    field: Field,
+    payload: &[u8],
+    place: usize,
+) -> Result<(Bytes, usize), LayoutFault>
+    requires { (place ≤ length payload.now) × (length payload.now ≤ 1500) }
+    ensures gives { Gives (λ x. (x.0, x.1, drop x.1 payload.now)) result
+        (counted_at field place place (drop place payload.now)) }
+    ensures within { IfOk result (λ x. x.1 ≤ length payload.now) }
+{
+    let (text, behind) = counted_of(field, place, payload, place)?;
+    Ok((Bytes::copy(alloc, text)?, behind))
+}
+
 // The names, the location and the parameters of the sender, and with what stands before them all that it tells.
 #[tactic(auto, unfolding(crate::specs::Reading::named_at))]
 fn named_of(
@@ -118,12 +134,13 @@ fn named_of(
 ) -> Result<(StartInfo, usize), LayoutFault>
     requires { (place ≤ length payload.now) × (length payload.now ≤ 1500) }
     ensures gives { Gives (λ x. (x.0, x.1, drop x.1 payload.now)) result
-        (named_at (length payload.now + 1) limits facility product product_version place (drop place payload.now)) }
+        (named_at (length payload.now + 1) limits facility product product_version
+        place (drop place payload.now)) }
     ensures within { IfOk result (λ x. x.1 ≤ length payload.now) }
 {
     let (slave, place) = name_of(Field::SlaveName, payload, place)?;
     let (name, place) = name_of(Field::MasterName, payload, place)?;
-    let (location, place) = counted_of(Field::Location, place, payload, place)?;
+    let (location, place) = copy_of(alloc, Field::Location, payload, place)?;
     let (params, place) = params_of(alloc, payload, place)?;
     let info = StartInfo {
         size: limits.size,
@@ -137,7 +154,7 @@ fn named_of(
         product_version,
         slave,
         name,
-        location: Bytes::copy(alloc, location)?,
+        location,
         params,
     };
     Ok((info, place))
@@ -211,14 +228,14 @@ pub fn stop_of(
     let (_, place) = byte_of(Field::Sequence, place, payload, place)?;
     let (_, place) = byte_of(Field::Acknowledgement, place, payload, place)?;
     let (reason, place) = byte_of(Field::Reason, place, payload, place)?;
-    let (text, place) = counted_of(Field::Text, place, payload, place)?;
+    let (text, place) = copy_of(alloc, Field::Text, payload, place)?;
     let message = Message::Stop {
         master: is_master(first),
         ask: asks(first),
         to: circuits.to,
         from: circuits.from,
         reason,
-        text: Bytes::copy(alloc, text)?,
+        text,
     };
     Ok((message, place))
 }
