@@ -19,7 +19,7 @@ use Rattle.lat_notices.specs.Services.{service_text}
 use Rattle.lat_notices.specs.Texts.{Fits, fields_text, type_of}
 use Rattle.lat_notices.specs.Fields.{is_version, is_timer, byte_for, groups_at, action_at, outcome_at}
 use Rattle.lat_notices.specs.ServicesReading.{services_at}
-use Rattle.lat_notices.specs.Reading.{announcement, command, status, solicit, response, announced_at, announcement_at, command_at, status_at, solicit_at, response_at, fields_at}
+use Rattle.lat_notices.specs.Reading.{announcement, command, status, solicit, response, announced_at, announcement_at, commanded_at, command_at, told_at, status_at, solicit_at, response_at, fields_at}
 use Rattle.lat_notices.proofs.FieldsFound.{right_byte_found, groups_found, action_found, outcome_found, services_found}
 
 -- the notice and the bytes behind its fields, with the place between them
@@ -159,7 +159,7 @@ command_joined bytes v i r a n s is1 five is2 is3 is4 is5 is6 =
     whole ∙ regroup
 
 command_found : (bytes : List ℕ) (x : Read) → IsBytes bytes → command_at bytes ≡ Ok x → FoundFields kinds.Command bytes x
-unfolding command_at
+unfolding command_at commanded_at
 command_found bytes x all h =
     let v = bind_ok (byte_for is_version fields.Version 1 bytes) commanded_version x h in
     let v_text = right_byte_found is_version fields.Version 1 bytes v.0 all v.1 in
@@ -202,7 +202,7 @@ status_joined bytes v i r o n is1 five is2 is3 is4 is5 =
     is1 ∙ (λ j. five j ∷ is2 j) ∙ ap (λ bs. 5 ∷ number i.0 ++ bs) (is3 ∙ ap (λ bs. number r.0 ++ bs) placed)
 
 status_found : (bytes : List ℕ) (x : Read) → IsBytes bytes → status_at bytes ≡ Ok x → FoundFields kinds.Status bytes x
-unfolding status_at
+unfolding status_at told_at
 status_found bytes x all h =
     let v = bind_ok (byte_for is_version fields.Version 1 bytes) told_version x h in
     let v_text = right_byte_found is_version fields.Version 1 bytes v.0 all v.1 in

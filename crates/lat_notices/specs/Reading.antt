@@ -49,24 +49,34 @@ announcement_at bytes = do
   groups ← groups_at incarnation.1 incarnation.2
   announced_at timer.0 incarnation.0 groups.0 groups.1 groups.2
 
+-- a command from its action on, behind the node's incarnation and the number of its request
+unfoldable pub commanded_at : ℕ → ℕ → ℕ → List ℕ → Result (Notice × ℕ × List ℕ) Bad
+commanded_at incarnation request place bytes = do
+  action ← action_at place bytes
+  node ← name_at fields.NodeName action.1 action.2
+  service ← name_at fields.Service node.1 node.2
+  Ok (command incarnation request action.0 node.0 service.0, service.1, service.2)
+
 unfoldable pub command_at : List ℕ → Result (Notice × ℕ × List ℕ) Bad
 command_at bytes = do
   version ← byte_for is_version fields.Version 1 bytes
   incarnation ← number_at fields.Incarnation version.1 version.2
   request ← number_at fields.RequestId incarnation.1 incarnation.2
-  action ← action_at request.1 request.2
-  node ← name_at fields.NodeName action.1 action.2
-  service ← name_at fields.Service node.1 node.2
-  Ok (command incarnation.0 request.0 action.0 node.0 service.0, service.1, service.2)
+  commanded_at incarnation.0 request.0 request.1 request.2
+
+-- a status from its outcome on, behind the node's incarnation and the number of its request
+unfoldable pub told_at : ℕ → ℕ → ℕ → List ℕ → Result (Notice × ℕ × List ℕ) Bad
+told_at incarnation request place bytes = do
+  outcome ← outcome_at place bytes
+  node ← name_at fields.NodeName outcome.1 outcome.2
+  Ok (status incarnation request outcome.0 node.0, node.1, node.2)
 
 unfoldable pub status_at : List ℕ → Result (Notice × ℕ × List ℕ) Bad
 status_at bytes = do
   version ← byte_for is_version fields.Version 1 bytes
   incarnation ← number_at fields.Incarnation version.1 version.2
   request ← number_at fields.RequestId incarnation.1 incarnation.2
-  outcome ← outcome_at request.1 request.2
-  node ← name_at fields.NodeName outcome.1 outcome.2
-  Ok (status incarnation.0 request.0 outcome.0 node.0, node.1, node.2)
+  told_at incarnation.0 request.0 request.1 request.2
 
 unfoldable pub solicit_at : List ℕ → Result (Notice × ℕ × List ℕ) Bad
 solicit_at bytes = do

@@ -3,7 +3,7 @@
 ghost use Rattle.std.specs.Prelude.{◌≡◌, ◌≤◌, ◌==◌, ◌||◌, nat_le, length, drop, Ok, IfOk};
 ghost use Rattle.lat_fields.specs.Payloads.{PayloadText};
 ghost use Rattle.lat_fields.specs.Reading.{Gives};
-ghost use Rattle.lat_notices.specs.Reading.{announcement, announced_at, announcement_at, command_at, status_at, solicit_at, response_at, fields_at, notice_read};
+ghost use Rattle.lat_notices.specs.Reading.{announcement, announced_at, announcement_at, commanded_at, command_at, told_at, status_at, solicit_at, response_at, fields_at, notice_read};
 ghost use Rattle.lat_notices.specs.Texts.{NoticeText};
 ghost use Rattle.lat_notices.specs.declared.notice.Notice.{Notice};
 
@@ -66,7 +66,7 @@ fn announced_of(
     Ok((notice, behind))
 }
 
-// Each of these reads the fields of a type, from place 1 on, and gives the place behind them.
+// The fields of an announcement, from place 1 on, and the place behind them; so do the others below for their types.
 #[tactic(auto, unfolding(crate::specs::Reading::announcement_at))]
 fn announcement_of(alloc: Global, bytes: &[u8]) -> Result<(Notice, usize), LayoutFault>
     requires { (1 ≤ length bytes.now) × (length bytes.now ≤ 1500) }
@@ -80,6 +80,32 @@ fn announcement_of(alloc: Global, bytes: &[u8]) -> Result<(Notice, usize), Layou
     announced_of(alloc, timer, incarnation, mask, bytes, at)
 }
 
+// A command from its action on, behind the node's incarnation and the number of its request.
+#[tactic(auto, unfolding(crate::specs::Reading::commanded_at))]
+fn commanded_of(
+    incarnation: u16,
+    request: u16,
+    bytes: &[u8],
+    place: usize,
+) -> Result<(Notice, usize), LayoutFault>
+    requires { (place ≤ length bytes.now) × (length bytes.now ≤ 1500) }
+    ensures gives { Gives (λ x. (x.0, x.1, drop x.1 bytes.now)) result
+        (commanded_at incarnation request place (drop place bytes.now)) }
+    ensures within { IfOk result (λ x. x.1 ≤ length bytes.now) }
+{
+    let (action, at) = action_of(bytes, place)?;
+    let (node, at) = name_of(Field::NodeName, bytes, at)?;
+    let (service, behind) = name_of(Field::Service, bytes, at)?;
+    let notice = Notice::Command(Command {
+        incarnation,
+        request,
+        action,
+        node,
+        service,
+    });
+    Ok((notice, behind))
+}
+
 #[tactic(auto, unfolding(crate::specs::Reading::command_at))]
 fn command_of(bytes: &[u8]) -> Result<(Notice, usize), LayoutFault>
     requires { (1 ≤ length bytes.now) × (length bytes.now ≤ 1500) }
@@ -89,15 +115,29 @@ fn command_of(bytes: &[u8]) -> Result<(Notice, usize), LayoutFault>
     let (_, at) = version_of(bytes, 1)?;
     let (incarnation, at) = number_of(Field::Incarnation, bytes, at)?;
     let (request, at) = number_of(Field::RequestId, bytes, at)?;
-    let (action, at) = action_of(bytes, at)?;
-    let (node, at) = name_of(Field::NodeName, bytes, at)?;
-    let (service, behind) = name_of(Field::Service, bytes, at)?;
-    let notice = Notice::Command(Command {
+    commanded_of(incarnation, request, bytes, at)
+}
+
+// A status from its outcome on, behind the node's incarnation and the number of its request.
+#[tactic(auto, unfolding(crate::specs::Reading::told_at))]
+fn told_of(
+    incarnation: u16,
+    request: u16,
+    bytes: &[u8],
+    place: usize,
+) -> Result<(Notice, usize), LayoutFault>
+    requires { (place ≤ length bytes.now) × (length bytes.now ≤ 1500) }
+    ensures gives { Gives (λ x. (x.0, x.1, drop x.1 bytes.now)) result
+        (told_at incarnation request place (drop place bytes.now)) }
+    ensures within { IfOk result (λ x. x.1 ≤ length bytes.now) }
+{
+    let (outcome, at) = outcome_of(bytes, place)?;
+    let (node, behind) = name_of(Field::NodeName, bytes, at)?;
+    let notice = Notice::Status(Status {
         incarnation,
         request,
-        action,
+        outcome,
         node,
-        service,
     });
     Ok((notice, behind))
 }
@@ -111,15 +151,7 @@ fn status_of(bytes: &[u8]) -> Result<(Notice, usize), LayoutFault>
     let (_, at) = version_of(bytes, 1)?;
     let (incarnation, at) = number_of(Field::Incarnation, bytes, at)?;
     let (request, at) = number_of(Field::RequestId, bytes, at)?;
-    let (outcome, at) = outcome_of(bytes, at)?;
-    let (node, behind) = name_of(Field::NodeName, bytes, at)?;
-    let notice = Notice::Status(Status {
-        incarnation,
-        request,
-        outcome,
-        node,
-    });
-    Ok((notice, behind))
+    told_of(incarnation, request, bytes, at)
 }
 
 #[tactic(auto, unfolding(crate::specs::Reading::solicit_at))]
