@@ -1,8 +1,8 @@
 -- Reading circuit messages from left to right, in the order of their layouts.
-use Rattle.std.specs.Prelude.{ℕ, zero, suc, ◌+◌, Bool, true, ◌&&◌, ◌==◌, nat_lt, nat_le, if◌then◌else◌, List, [], ◌∷◌, length, Result, Ok}
-use Rattle.lat_base.specs.declared.field.Field.TheVariants.{SlotCount, DestinationCircuit, SourceCircuit, Sequence, Acknowledgement, FrameSize, Version, Eco, Sessions, Extra, Timer, KeepAlive, Facility, ProductType, ProductVersion, SlaveName, MasterName, Location, Reason, Text}
+use Rattle.std.specs.Prelude.{ℕ, zero, suc, ◌+◌, ◌/◌, Bool, true, ◌&&◌, ◌||◌, ◌==◌, nat_lt, nat_le, if◌then◌else◌, List, [], ◌∷◌, length, Result, Ok}
+use Rattle.lat_base.specs.declared.field.Field.TheVariants.{Kind, Trailing, SlotCount, DestinationCircuit, SourceCircuit, Sequence, Acknowledgement, FrameSize, Version, Eco, Sessions, Extra, Timer, KeepAlive, Facility, ProductType, ProductVersion, SlaveName, MasterName, Location, Reason, Text}
 use Rattle.lat_base.specs.declared.field.Bad.{Bad}
-use Rattle.lat_fields.specs.Reading.{◌>>=◌, wanted, byte_at, number_at, counted_at, name_at}
+use Rattle.lat_fields.specs.Reading.{◌>>=◌, wanted, known, byte_at, number_at, counted_at, name_at}
 use Rattle.lat_fields.specs.ParamsReading.{params_at}
 use Rattle.lat_fields.specs.Payloads.{payload_at}
 use Rattle.lat_slots.specs.declared.slot.Slot.{Slot}
@@ -156,6 +156,14 @@ unfoldable pub message_at : MessageKind → ℕ → List ℕ → Result (Message
 message_at kind first bytes = do
   circuits ← circuits_at kind (is_master first) 1 bytes
   tail_at kind (length bytes + 2) first circuits.0 circuits.1 circuits.2
+
+-- the message whose first byte is this one, before these bytes of the payload, and the rule on trailing bytes
+unfoldable pub begun_at : ℕ → List ℕ → List ℕ → Result Message Bad
+begun_at first bytes payload = do
+  kind ← known (kind_of (first / 4)) Kind 0
+  message ← message_at kind first bytes
+  a ← wanted (length message.2 == 0 || nat_le (length payload) 46) Trailing message.1
+  Ok message.0
 
 -- the message that the payload is, or the first bad field
 unfoldable pub message_read : List ℕ → Result Message Bad

@@ -5,7 +5,7 @@ ghost use Rattle.lat_fields.specs.Reading.{Gives};
 ghost use Rattle.lat_fields.specs.Payloads.{PayloadText};
 ghost use Rattle.lat_frames.specs.declared.message.Message.{Message};
 ghost use Rattle.lat_frames.specs.MessageText.{MessageText};
-ghost use Rattle.lat_frames.specs.Reading.{tail_at, message_at, message_read};
+ghost use Rattle.lat_frames.specs.Reading.{tail_at, message_at, begun_at, message_read};
 
 use crate::kind::MessageKind;
 use crate::message::Message;
@@ -59,16 +59,25 @@ fn ends_right(end: usize, payload: &[u8]) -> bool
     end == payload.len() || payload.len() <= LEAST_PAYLOAD
 }
 
-#[tactic(auto, unfolding(crate::specs::Reading::message_read))]
+// The message whose first byte is this one.
+#[tactic(auto, unfolding(crate::specs::Reading::begun_at))]
+fn begun_of(alloc: Global, first: u8, payload: &[u8]) -> Result<Message, LayoutFault>
+    requires { (0 < length payload.now) × (length payload.now ≤ 1500) }
+    ensures { Gives (λ m. m) result (begun_at first (drop 1 payload.now) payload.now) }
+{
+    let kind = known(MessageKind::from_bits(first / 4), Field::Kind, 0)?;
+    let (message, end) = layout_of(alloc, kind, first, payload)?;
+    wanted(ends_right(end, payload), Field::Trailing, end)?;
+    Ok(message)
+}
+
+#[tactic(auto, unfolding(crate::specs::Reading::message_read, crate::specs::Reading::begun_at))]
 fn message_of(alloc: Global, payload: &[u8]) -> Result<Message, LayoutFault>
     ensures { Gives (λ m. m) result (message_read payload.now) }
 {
     wanted(payload.len() <= PAYLOAD_BYTES, Field::Size, PAYLOAD_BYTES)?;
     let (first, _) = byte_of(Field::Kind, 0, payload, 0)?;
-    let kind = known(MessageKind::from_bits(first / 4), Field::Kind, 0)?;
-    let (message, end) = layout_of(alloc, kind, first, payload)?;
-    wanted(ends_right(end, payload), Field::Trailing, end)?;
-    Ok(message)
+    begun_of(alloc, first, payload)
 }
 
 /// Reads a payload, of any length, as a circuit message with the bytes that trail it. Refused with the first bad field,
