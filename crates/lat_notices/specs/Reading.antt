@@ -1,8 +1,8 @@
 -- Reading notices: the fields behind the first byte, from place 1 on, in the order of their layouts.
-use Rattle.std.specs.Prelude.{ℕ, List, Result, Ok}
+use Rattle.std.specs.Prelude.{ℕ, ◌/◌, ◌||◌, ◌==◌, nat_le, List, length, Result, Ok}
 use Rattle.lat_base.specs.declared.field.Bad.{Bad}
 use Rattle.lat_base.specs.declared.field.Field.TheVariants as fields
-use Rattle.lat_fields.specs.Reading.{◌>>=◌, byte_at, number_at, counted_at, name_at}
+use Rattle.lat_fields.specs.Reading.{◌>>=◌, wanted, known, byte_at, number_at, counted_at, name_at}
 use Rattle.lat_fields.specs.Payloads.{payload_at}
 use Rattle.lat_notices.specs.declared.kind.NoticeKind.{NoticeKind}
 use Rattle.lat_notices.specs.declared.kind.NoticeKind.TheVariants as kinds
@@ -103,6 +103,14 @@ fields_at kinds.Command bytes = command_at bytes
 fields_at kinds.Status bytes = status_at bytes
 fields_at kinds.Solicit bytes = solicit_at bytes
 fields_at kinds.Response bytes = response_at bytes
+
+-- the notice whose first byte is this one, before these bytes of the payload, and the rule on trailing bytes
+unfoldable pub begun_at : ℕ → List ℕ → List ℕ → Result Notice Bad
+begun_at first bytes payload = do
+  kind ← known (kind_of (first / 4)) fields.Kind 0
+  notice ← fields_at kind bytes
+  a ← wanted (length notice.2 == 0 || nat_le (length payload) 46) fields.Trailing notice.1
+  Ok notice.0
 
 -- the notice that a payload is, or its first bad field
 abbrev pub notice_read : List ℕ → Result Notice Bad

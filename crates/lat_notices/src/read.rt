@@ -3,7 +3,7 @@
 ghost use Rattle.std.specs.Prelude.{◌≡◌, ◌≤◌, ◌==◌, ◌||◌, nat_le, length, drop, Ok, IfOk};
 ghost use Rattle.lat_fields.specs.Payloads.{PayloadText};
 ghost use Rattle.lat_fields.specs.Reading.{Gives};
-ghost use Rattle.lat_notices.specs.Reading.{announcement, announced_at, announcement_at, commanded_at, command_at, told_at, status_at, solicit_at, response_at, fields_at, notice_read};
+ghost use Rattle.lat_notices.specs.Reading.{announcement, announced_at, announcement_at, commanded_at, command_at, told_at, status_at, solicit_at, response_at, fields_at, begun_at, notice_read};
 ghost use Rattle.lat_notices.specs.Texts.{NoticeText};
 ghost use Rattle.lat_notices.specs.declared.notice.Notice.{Notice};
 
@@ -212,16 +212,26 @@ fn ends_right(end: usize, payload: &[u8]) -> bool
     end == payload.len() || payload.len() <= LEAST_PAYLOAD
 }
 
+// The notice whose first byte is this one.
+#[tactic(auto, unfolding(crate::specs::Reading::begun_at))]
+fn begun_of(alloc: Global, first: u8, payload: &[u8]) -> Result<Notice, LayoutFault>
+    requires { (1 ≤ length payload.now) × (length payload.now ≤ 1500) }
+    ensures { Gives (λ x. x) result (begun_at first (drop 1 payload.now) payload.now) }
+{
+    let kind = known(NoticeKind::from_bits(first / 4), Field::Kind, 0)?;
+    let (notice, end) = fields_of(alloc, kind, payload)?;
+    wanted(ends_right(end, payload), Field::Trailing, end)?;
+    Ok(notice)
+}
+
 // The notice that the payload is.
+#[tactic(auto, unfolding(crate::specs::Reading::begun_at))]
 fn notice_of(alloc: Global, payload: &[u8]) -> Result<Notice, LayoutFault>
     ensures { Gives (λ x. x) result (notice_read payload.now) }
 {
     wanted(payload.len() <= PAYLOAD_BYTES, Field::Size, PAYLOAD_BYTES)?;
     let (first, _) = byte_of(Field::Kind, 0, payload, 0)?;
-    let kind = known(NoticeKind::from_bits(first / 4), Field::Kind, 0)?;
-    let (notice, end) = fields_of(alloc, kind, payload)?;
-    wanted(ends_right(end, payload), Field::Trailing, end)?;
-    Ok(notice)
+    begun_of(alloc, first, payload)
 }
 
 /// Reads the notice that the payload, of any length, is: its text, with any bytes behind it where the payload has at
