@@ -19,7 +19,7 @@ use Rattle.lat_notices.specs.Services.{service_text}
 use Rattle.lat_notices.specs.Texts.{Fits, fields_text, type_of}
 use Rattle.lat_notices.specs.Fields.{is_version, is_timer, byte_for, groups_at, action_at, outcome_at}
 use Rattle.lat_notices.specs.ServicesReading.{services_at}
-use Rattle.lat_notices.specs.Reading.{announcement, command, status, solicit, response, announced_at, announcement_at, commanded_at, command_at, told_at, status_at, solicit_at, response_at, fields_at}
+use Rattle.lat_notices.specs.Reading.{announcement, command, status, solicit, response, announced_at, announcement_at, commanded_at, command_at, told_at, status_at, solicit_at, rated_at, response_at, fields_at}
 use Rattle.lat_notices.proofs.FieldsFound.{right_byte_found, groups_found, action_found, outcome_found, services_found}
 
 -- the notice and the bytes behind its fields, with the place between them
@@ -286,7 +286,7 @@ response_joined bytes v i n s r t is1 five is2 is3 is4 is5 is6 =
     whole ∙ regroup
 
 response_found : (bytes : List ℕ) (x : Read) → IsBytes bytes → response_at bytes ≡ Ok x → FoundFields kinds.Response bytes x
-unfolding response_at
+unfolding response_at rated_at
 response_found bytes x all h =
     let v = bind_ok (byte_for is_version fields.Version 1 bytes) answered_version x h in
     let v_text = right_byte_found is_version fields.Version 1 bytes v.0 all v.1 in

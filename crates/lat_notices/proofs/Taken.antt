@@ -16,7 +16,7 @@ use Rattle.lat_notices.specs.Outcomes.{action_number, outcome_number, outcome_pl
 use Rattle.lat_notices.specs.Services.{service_text}
 use Rattle.lat_notices.specs.Texts.{Fits, announcement_text, command_text, status_text, solicit_text, response_text, fields_text, type_of}
 use Rattle.lat_notices.specs.Fields.{is_version, is_timer}
-use Rattle.lat_notices.specs.Reading.{announced_at, announcement_at, commanded_at, command_at, told_at, status_at, solicit_at, response_at, fields_at}
+use Rattle.lat_notices.specs.Reading.{announced_at, announcement_at, commanded_at, command_at, told_at, status_at, solicit_at, rated_at, response_at, fields_at}
 use Rattle.lat_notices.proofs.FieldsTaken.{byte_taken, groups_taken, action_taken, outcome_taken, services_taken}
 
 timer_right : (seconds : ℕ) → 0 < seconds → is_timer seconds ≡ true
@@ -99,7 +99,7 @@ solicit_taken s rest h =
     ) (ap (λ (n : ℕ). Ok (notices.Solicit s, n, rest)) places)
 
 response_taken : (r : Response) (rest : List ℕ) → Fits (notices.Response r) → response_at (response_text r ++ rest) ≡ Ok (notices.Response r, 1 + length (response_text r), rest)
-unfolding response_at
+unfolding response_at rated_at
 response_taken r rest h =
     let service = counted r.service ++ (r.rating ∷ r.timer ∷ rest) in
     let named = counted r.node ++ service in

@@ -86,15 +86,20 @@ solicit_at bytes = do
   service ← name_at fields.Service asker.1 asker.2
   Ok (solicit id.0 asker.0 service.0, service.1, service.2)
 
+-- a response from its rating on, behind the number of the question, the node and the service
+unfoldable pub rated_at : ℕ → List ℕ → List ℕ → ℕ → List ℕ → Result (Notice × ℕ × List ℕ) Bad
+rated_at id node service place bytes = do
+  rating ← byte_at fields.Rating place place bytes
+  timer ← byte_for is_timer fields.Timer rating.1 rating.2
+  Ok (response id node service rating.0 timer.0, timer.1, timer.2)
+
 unfoldable pub response_at : List ℕ → Result (Notice × ℕ × List ℕ) Bad
 response_at bytes = do
   version ← byte_for is_version fields.Version 1 bytes
   id ← number_at fields.SolicitId version.1 version.2
   node ← name_at fields.NodeName id.1 id.2
   service ← name_at fields.Service node.1 node.2
-  rating ← byte_at fields.Rating service.1 service.1 service.2
-  timer ← byte_for is_timer fields.Timer rating.1 rating.2
-  Ok (response id.0 node.0 service.0 rating.0 timer.0, timer.1, timer.2)
+  rated_at id.0 node.0 service.0 service.1 service.2
 
 -- the fields that a type has
 abbrev pub fields_at : NoticeKind → List ℕ → Result (Notice × ℕ × List ℕ) Bad

@@ -3,7 +3,7 @@
 ghost use Rattle.std.specs.Prelude.{◌≡◌, ◌≤◌, ◌==◌, ◌||◌, nat_le, length, drop, Ok, IfOk};
 ghost use Rattle.lat_fields.specs.Payloads.{PayloadText};
 ghost use Rattle.lat_fields.specs.Reading.{Gives};
-ghost use Rattle.lat_notices.specs.Reading.{announcement, announced_at, announcement_at, commanded_at, command_at, told_at, status_at, solicit_at, response_at, fields_at, begun_at, notice_read};
+ghost use Rattle.lat_notices.specs.Reading.{announcement, announced_at, announcement_at, commanded_at, command_at, told_at, status_at, solicit_at, rated_at, response_at, fields_at, begun_at, notice_read};
 ghost use Rattle.lat_notices.specs.Texts.{NoticeText};
 ghost use Rattle.lat_notices.specs.declared.notice.Notice.{Notice};
 
@@ -167,6 +167,32 @@ fn solicit_of(bytes: &[u8]) -> Result<(Notice, usize), LayoutFault>
     Ok((Notice::Solicit(Solicit { id, asker, service }), behind))
 }
 
+// A response from its rating on, behind the number of the question, the node and the service.
+#[tactic(auto, unfolding(crate::specs::Reading::rated_at))]
+fn rated_of(
+    id: u16,
+    node: Name,
+    service: Name,
+    bytes: &[u8],
+    place: usize,
+) -> Result<(Notice, usize), LayoutFault>
+    requires { (place ≤ length bytes.now) × (length bytes.now ≤ 1500) }
+    ensures gives { Gives (λ x. (x.0, x.1, drop x.1 bytes.now)) result
+        (rated_at id node service place (drop place bytes.now)) }
+    ensures within { IfOk result (λ x. x.1 ≤ length bytes.now) }
+{
+    let (rating, at) = byte_of(Field::Rating, place, bytes, place)?;
+    let (timer, behind) = timer_of(bytes, at)?;
+    let notice = Notice::Response(Response {
+        id,
+        node,
+        service,
+        rating,
+        timer,
+    });
+    Ok((notice, behind))
+}
+
 #[tactic(auto, unfolding(crate::specs::Reading::response_at))]
 fn response_of(bytes: &[u8]) -> Result<(Notice, usize), LayoutFault>
     requires { (1 ≤ length bytes.now) × (length bytes.now ≤ 1500) }
@@ -177,16 +203,7 @@ fn response_of(bytes: &[u8]) -> Result<(Notice, usize), LayoutFault>
     let (id, at) = number_of(Field::SolicitId, bytes, at)?;
     let (node, at) = name_of(Field::NodeName, bytes, at)?;
     let (service, at) = name_of(Field::Service, bytes, at)?;
-    let (rating, at) = byte_of(Field::Rating, at, bytes, at)?;
-    let (timer, behind) = timer_of(bytes, at)?;
-    let notice = Notice::Response(Response {
-        id,
-        node,
-        service,
-        rating,
-        timer,
-    });
-    Ok((notice, behind))
+    rated_of(id, node, service, bytes, at)
 }
 
 // The fields of the notice of this type, and the place behind them.
