@@ -29,7 +29,8 @@ fn announcement(
     description: &[u8],
     services: Services,
 ) -> Result<Notice, Memory>
-    ensures { IfOk result (λ n. n ≡ announcement timer incarnation groups.now node description.now services) }
+    ensures { IfOk result (λ n.
+        n ≡ announcement timer incarnation groups.now node description.now services) }
 {
     let groups = Bytes::copy(alloc, groups)?;
     let description = Bytes::copy(alloc, description)?;
