@@ -17,7 +17,7 @@ use Rattle.lat_frames.specs.declared.message.StartInfo.{StartInfo}
 use Rattle.lat_frames.specs.declared.read_start.Limits.{Limits}
 use Rattle.lat_frames.specs.Conditions.{TimesFit, InfoFits}
 use Rattle.lat_frames.specs.MessageText.{info_text}
-use Rattle.lat_frames.specs.Reading.{timer_fits, keepalive_fits, limits_at, info_at}
+use Rattle.lat_frames.specs.Reading.{timer_fits, keepalive_fits, timed_at, holding_at, limits_at, named_at, info_at}
 
 abbrev Read : Type 0
 Read = ℕ × ℕ × List ℕ
@@ -104,7 +104,7 @@ limits_end master size version eco sessions extra timer keepalive next rest x ra
     })
 
 limits_found : (master : Bool) (place : ℕ) (bytes : List ℕ) (x : Limits × ℕ × List ℕ) → IsBytes bytes → limits_at master place bytes ≡ Ok x → FoundLimits master bytes x
-unfolding limits_at
+unfolding limits_at holding_at timed_at
 limits_found master place bytes x all h =
     let P : List ℕ → Type 0 = λ bs. FoundLimits master bs x in
     number_then FrameSize place bytes (at_size master place) x P all h (λ size p1 r1 a1 h1.
@@ -205,7 +205,7 @@ info_behind most master bytes l x f h =
     info_end master bytes l facility product version slave name location params p7 r7 x f s n short entries is (same_ok (info_of l.0 facility product version slave name location params, p7, r7) x h7)))))))) refl
 
 pub info_found : (most : ℕ) (master : Bool) (place : ℕ) (bytes : List ℕ) (x : StartInfo × ℕ × List ℕ) → IsBytes bytes → info_at most master place bytes ≡ Ok x → FoundInfo master bytes x
-unfolding info_at
+unfolding info_at named_at
 info_found most master place bytes x all h =
     let found = bind_ok (limits_at master place bytes) (at_limits most) x h in
     info_behind most master bytes found.0 x (limits_found master place bytes found.0 all found.1) found.2

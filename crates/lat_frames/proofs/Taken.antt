@@ -13,7 +13,7 @@ use Rattle.lat_frames.specs.declared.read_head.Circuits.{Circuits}
 use Rattle.lat_frames.specs.declared.read_start.Limits.{Limits}
 use Rattle.lat_frames.specs.Conditions.{TimesFit, InfoFits}
 use Rattle.lat_frames.specs.MessageText.{SlotsText, info_text}
-use Rattle.lat_frames.specs.Reading.{destination_fits, source_fits, timer_fits, keepalive_fits, circuits_at, limits_at, info_at, slots_at}
+use Rattle.lat_frames.specs.Reading.{destination_fits, source_fits, timer_fits, keepalive_fits, circuits_at, timed_at, holding_at, limits_at, named_at, info_at, slots_at}
 
 pub slots_taken : (ss : List Slot) (b : List ℕ) (place : ℕ) (rest : List ℕ) → SlotsText ss b → slots_at (length ss) place (b ++ rest) ≡ Ok (ss, place + length b, rest)
 unfolding slots_at
@@ -50,7 +50,7 @@ limits i = record { size = i.size; eco = i.eco; sessions = i.sessions; extra = i
 
 limits_taken : (master : Bool) (place : ℕ) (i : StartInfo) (rest : List ℕ) → InfoFits master i
     → limits_at master place (number i.size ++ 5 ∷ i.eco ∷ i.sessions ∷ i.extra ∷ i.timer ∷ i.keepalive ∷ rest) ≡ Ok (limits i, place + 1 + 1 + 1 + 1 + 1 + 1 + 1 + 1, rest)
-unfolding limits_at
+unfolding limits_at holding_at timed_at
 limits_taken master place i rest fits =
     let size : (leb 576 i.size && leb i.size 1518) ≡ true = let a = fits.least in let b = fits.most in grind (arith, nat_tests) in
     let some : ltb 0 i.sessions ≡ true = let a = fits.sessions in grind (arith, nat_tests) in
@@ -58,7 +58,7 @@ limits_taken master place i rest fits =
 
 pub info_taken : (master : Bool) (most place : ℕ) (i : StartInfo) (rest : List ℕ) → InfoFits master i → length i.params < most
     → info_at most master place (info_text i ++ rest) ≡ Ok (i, place + length (info_text i), rest)
-unfolding info_at
+unfolding info_at named_at
 info_taken master most place i rest fits more =
     let last = params_text i.params ++ rest in
     let p1 = place + 1 + 1 + 1 + 1 + 1 + 1 + 1 + 1 in

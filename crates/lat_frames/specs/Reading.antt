@@ -1,8 +1,8 @@
 -- Reading circuit messages from left to right, in the order of their layouts.
-use Rattle.std.specs.Prelude.{ℕ, zero, suc, ◌+◌, Bool, true, ◌&&◌, ◌==◌, nat_lt, nat_le, if◌then◌else◌, List, [], ◌∷◌, length, Result, Ok}
-use Rattle.lat_base.specs.declared.field.Field.TheVariants.{SlotCount, DestinationCircuit, SourceCircuit, Sequence, Acknowledgement, FrameSize, Version, Eco, Sessions, Extra, Timer, KeepAlive, Facility, ProductType, ProductVersion, SlaveName, MasterName, Location, Reason, Text}
+use Rattle.std.specs.Prelude.{ℕ, zero, suc, ◌+◌, ◌/◌, Bool, true, ◌&&◌, ◌||◌, ◌==◌, nat_lt, nat_le, if◌then◌else◌, List, [], ◌∷◌, length, Result, Ok}
+use Rattle.lat_base.specs.declared.field.Field.TheVariants.{Kind, Trailing, SlotCount, DestinationCircuit, SourceCircuit, Sequence, Acknowledgement, FrameSize, Version, Eco, Sessions, Extra, Timer, KeepAlive, Facility, ProductType, ProductVersion, SlaveName, MasterName, Location, Reason, Text}
 use Rattle.lat_base.specs.declared.field.Bad.{Bad}
-use Rattle.lat_fields.specs.Reading.{◌>>=◌, wanted, byte_at, number_at, counted_at, name_at}
+use Rattle.lat_fields.specs.Reading.{◌>>=◌, wanted, known, byte_at, number_at, counted_at, name_at}
 use Rattle.lat_fields.specs.ParamsReading.{params_at}
 use Rattle.lat_fields.specs.Payloads.{payload_at}
 use Rattle.lat_slots.specs.declared.slot.Slot.{Slot}
@@ -43,6 +43,24 @@ timer_fits master timer = if master then nat_lt 0 timer && nat_le timer 100 else
 abbrev pub keepalive_fits : Bool → ℕ → Bool
 keepalive_fits master keepalive = if master then nat_lt 0 keepalive else true
 
+-- the times of the circuit, which stand behind what else the sender of a START can do
+unfoldable pub timed_at : Bool → ℕ → ℕ → ℕ → ℕ → ℕ → List ℕ → Result (Limits × ℕ × List ℕ) Bad
+timed_at master size eco sessions extra place bytes = do
+  timer ← byte_at Timer place place bytes
+  a ← wanted (timer_fits master timer.0) Timer place
+  keepalive ← byte_at KeepAlive timer.1 timer.1 timer.2
+  b ← wanted (keepalive_fits master keepalive.0) KeepAlive timer.1
+  Ok (record { size = size; eco = eco; sessions = sessions; extra = extra; timer = timer.0; keepalive = keepalive.0 }, keepalive.1, keepalive.2)
+
+-- how many sessions and further messages the sender can hold, behind its frame size and the version, and the times
+unfoldable pub holding_at : Bool → ℕ → ℕ → List ℕ → Result (Limits × ℕ × List ℕ) Bad
+holding_at master size place bytes = do
+  eco ← byte_at Eco place place bytes
+  sessions ← byte_at Sessions eco.1 eco.1 eco.2
+  a ← wanted (nat_lt 0 sessions.0) Sessions eco.1
+  extra ← byte_at Extra sessions.1 sessions.1 sessions.2
+  timed_at master size eco.0 sessions.0 extra.0 extra.1 extra.2
+
 -- what the sender of a START can do, with the times of the circuit
 unfoldable pub limits_at : Bool → ℕ → List ℕ → Result (Limits × ℕ × List ℕ) Bad
 limits_at master place bytes = do
@@ -50,38 +68,26 @@ limits_at master place bytes = do
   a ← wanted (nat_le 576 size.0 && nat_le size.0 1518) FrameSize place
   version ← byte_at Version size.1 size.1 size.2
   b ← wanted (version.0 == 5) Version size.1
-  eco ← byte_at Eco version.1 version.1 version.2
-  sessions ← byte_at Sessions eco.1 eco.1 eco.2
-  c ← wanted (nat_lt 0 sessions.0) Sessions eco.1
-  extra ← byte_at Extra sessions.1 sessions.1 sessions.2
-  timer ← byte_at Timer extra.1 extra.1 extra.2
-  d ← wanted (timer_fits master timer.0) Timer extra.1
-  keepalive ← byte_at KeepAlive timer.1 timer.1 timer.2
-  e ← wanted (keepalive_fits master keepalive.0) KeepAlive timer.1
-  Ok (record { size = size.0; eco = eco.0; sessions = sessions.0; extra = extra.0; timer = timer.0; keepalive = keepalive.0 }, keepalive.1, keepalive.2)
+  holding_at master size.0 version.1 version.2
 
--- what a START tells of its sender, with at most so many parameters
-unfoldable pub info_at : ℕ → Bool → ℕ → List ℕ → Result (StartInfo × ℕ × List ℕ) Bad
-info_at most master place bytes = do
-  limits ← limits_at master place bytes
-  facility ← number_at Facility limits.1 limits.2
-  product ← byte_at ProductType facility.1 facility.1 facility.2
-  version ← byte_at ProductVersion product.1 product.1 product.2
-  slave ← name_at SlaveName version.1 version.2
+-- the names, the location and the parameters of a START's sender, at most so many of these, behind the rest of it
+unfoldable pub named_at : ℕ → Limits → ℕ → ℕ → ℕ → ℕ → List ℕ → Result (StartInfo × ℕ × List ℕ) Bad
+named_at most limits facility product version place bytes = do
+  slave ← name_at SlaveName place bytes
   name ← name_at MasterName slave.1 slave.2
   location ← counted_at Location name.1 name.1 name.2
   params ← params_at most location.1 location.2
   Ok (
     record {
-      size = limits.0.size;
-      eco = limits.0.eco;
-      sessions = limits.0.sessions;
-      extra = limits.0.extra;
-      timer = limits.0.timer;
-      keepalive = limits.0.keepalive;
-      facility = facility.0;
-      product = product.0;
-      product_version = version.0;
+      size = limits.size;
+      eco = limits.eco;
+      sessions = limits.sessions;
+      extra = limits.extra;
+      timer = limits.timer;
+      keepalive = limits.keepalive;
+      facility = facility;
+      product = product;
+      product_version = version;
       slave = slave.0;
       name = name.0;
       location = location.0;
@@ -90,6 +96,15 @@ info_at most master place bytes = do
     params.1,
     params.2,
   )
+
+-- what a START tells of its sender, with at most so many parameters
+unfoldable pub info_at : ℕ → Bool → ℕ → List ℕ → Result (StartInfo × ℕ × List ℕ) Bad
+info_at most master place bytes = do
+  limits ← limits_at master place bytes
+  facility ← number_at Facility limits.1 limits.2
+  product ← byte_at ProductType facility.1 facility.1 facility.2
+  version ← byte_at ProductVersion product.1 product.1 product.2
+  named_at most limits.0 facility.0 product.0 version.0 version.1 version.2
 
 unfoldable pub start_at : ℕ → ℕ → Circuits → ℕ → List ℕ → Result (Message × ℕ × List ℕ) Bad
 start_at most first circuits place bytes = do
@@ -141,6 +156,14 @@ unfoldable pub message_at : MessageKind → ℕ → List ℕ → Result (Message
 message_at kind first bytes = do
   circuits ← circuits_at kind (is_master first) 1 bytes
   tail_at kind (length bytes + 2) first circuits.0 circuits.1 circuits.2
+
+-- the message whose first byte is this one, before these bytes of the payload, and the rule on trailing bytes
+unfoldable pub begun_at : ℕ → List ℕ → List ℕ → Result Message Bad
+begun_at first bytes payload = do
+  kind ← known (kind_of (first / 4)) Kind 0
+  message ← message_at kind first bytes
+  a ← wanted (length message.2 == 0 || nat_le (length payload) 46) Trailing message.1
+  Ok message.0
 
 -- the message that the payload is, or the first bad field
 unfoldable pub message_read : List ℕ → Result Message Bad

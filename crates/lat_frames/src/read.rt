@@ -1,11 +1,11 @@
 //! Reading a payload as a circuit message.
 
-ghost use Rattle.std.specs.Prelude.{◌+◌, ◌<◌, ◌≤◌, length, drop, Ok, IfOk};
+ghost use Rattle.std.specs.Prelude.{◌≡◌, ◌+◌, ◌<◌, ◌≤◌, ◌==◌, ◌||◌, nat_le, length, drop, Ok, IfOk};
 ghost use Rattle.lat_fields.specs.Reading.{Gives};
 ghost use Rattle.lat_fields.specs.Payloads.{PayloadText};
 ghost use Rattle.lat_frames.specs.declared.message.Message.{Message};
 ghost use Rattle.lat_frames.specs.MessageText.{MessageText};
-ghost use Rattle.lat_frames.specs.Reading.{tail_at, message_at, message_read};
+ghost use Rattle.lat_frames.specs.Reading.{tail_at, message_at, begun_at, message_read};
 
 use crate::kind::MessageKind;
 use crate::message::Message;
@@ -51,17 +51,33 @@ fn layout_of(
     tail_of(alloc, kind, first, circuits, payload, place)
 }
 
-#[tactic(auto, unfolding(crate::specs::Reading::message_read))]
+// Whether the payload may end as it does: nothing stands behind the message, or the payload is short.
+fn ends_right(end: usize, payload: &[u8]) -> bool
+    requires { end ≤ length payload.now }
+    ensures { result ≡ (length (drop end payload.now) == 0 || nat_le (length payload.now) 46) }
+{
+    end == payload.len() || payload.len() <= LEAST_PAYLOAD
+}
+
+// The message whose first byte is this one.
+#[tactic(auto, unfolding(crate::specs::Reading::begun_at))]
+fn begun_of(alloc: Global, first: u8, payload: &[u8]) -> Result<Message, LayoutFault>
+    requires { (0 < length payload.now) × (length payload.now ≤ 1500) }
+    ensures { Gives (λ m. m) result (begun_at first (drop 1 payload.now) payload.now) }
+{
+    let kind = known(MessageKind::from_bits(first / 4), Field::Kind, 0)?;
+    let (message, end) = layout_of(alloc, kind, first, payload)?;
+    wanted(ends_right(end, payload), Field::Trailing, end)?;
+    Ok(message)
+}
+
+#[tactic(auto, unfolding(crate::specs::Reading::message_read, crate::specs::Reading::begun_at))]
 fn message_of(alloc: Global, payload: &[u8]) -> Result<Message, LayoutFault>
     ensures { Gives (λ m. m) result (message_read payload.now) }
 {
     wanted(payload.len() <= PAYLOAD_BYTES, Field::Size, PAYLOAD_BYTES)?;
     let (first, _) = byte_of(Field::Kind, 0, payload, 0)?;
-    let kind = known(MessageKind::from_bits(first / 4), Field::Kind, 0)?;
-    let (message, end) = layout_of(alloc, kind, first, payload)?;
-    let ends = end == payload.len() || payload.len() <= LEAST_PAYLOAD;
-    wanted(ends, Field::Trailing, end)?;
-    Ok(message)
+    begun_of(alloc, first, payload)
 }
 
 /// Reads a payload, of any length, as a circuit message with the bytes that trail it. Refused with the first bad field,

@@ -1,8 +1,8 @@
 //! Reading START and STOP messages.
 
 ghost use Rattle.std.specs.Prelude.{◌≡◌, ◌+◌, ◌<◌, ◌≤◌, length, drop, IfOk};
-ghost use Rattle.lat_fields.specs.Reading.{Gives};
-ghost use Rattle.lat_frames.specs.Reading.{timer_fits, keepalive_fits, limits_at, info_at, start_at, stop_at};
+ghost use Rattle.lat_fields.specs.Reading.{Gives, counted_at};
+ghost use Rattle.lat_frames.specs.Reading.{timer_fits, keepalive_fits, timed_at, holding_at, limits_at, named_at, info_at, start_at, stop_at};
 
 use crate::message::{Message, StartInfo};
 use crate::read_head::{Circuits, asks, is_master};
@@ -27,13 +27,69 @@ pub struct Limits {
 fn timer_fits(master: bool, timer: u8) -> bool
     ensures { result ≡ timer_fits master timer }
 {
-    !master || (timer > 0 && timer <= 100)
+    if master {
+        timer > 0 && timer <= 100
+    } else {
+        true
+    }
 }
 
 fn keepalive_fits(master: bool, keepalive: u8) -> bool
     ensures { result ≡ keepalive_fits master keepalive }
 {
     !master || keepalive > 0
+}
+
+// The times of the circuit, which stand behind what else the sender can do, and all of it together.
+#[tactic(auto, unfolding(crate::specs::Reading::timed_at))]
+fn timed_of(
+    master: bool,
+    size: u16,
+    eco: u8,
+    sessions: u8,
+    extra: u8,
+    payload: &[u8],
+    place: usize,
+) -> Result<(Limits, usize), LayoutFault>
+    requires { (place ≤ length payload.now) × (length payload.now ≤ 1500) }
+    ensures gives { Gives (λ x. (x.0, x.1, drop x.1 payload.now)) result
+        (timed_at master size eco sessions extra place (drop place payload.now)) }
+    ensures within { IfOk result (λ x. x.1 ≤ length payload.now) }
+{
+    let (timer, keepalive_place) = byte_of(Field::Timer, place, payload, place)?;
+    wanted(timer_fits(master, timer), Field::Timer, place)?;
+    let (keepalive, behind) = byte_of(Field::KeepAlive, keepalive_place, payload, keepalive_place)?;
+    let fits = keepalive_fits(master, keepalive);
+    wanted(fits, Field::KeepAlive, keepalive_place)?;
+    let limits = Limits {
+        size,
+        eco,
+        sessions,
+        extra,
+        timer,
+        keepalive,
+    };
+    Ok((limits, behind))
+}
+
+// How many sessions and further messages the sender can hold, behind its frame size and the version, and the times.
+#[tactic(auto, unfolding(crate::specs::Reading::holding_at))]
+fn holding_of(
+    master: bool,
+    size: u16,
+    payload: &[u8],
+    place: usize,
+) -> Result<(Limits, usize), LayoutFault>
+    requires { (place ≤ length payload.now) × (length payload.now ≤ 1500) }
+    ensures gives { Gives (λ x. (x.0, x.1, drop x.1 payload.now)) result
+        (holding_at master size place (drop place payload.now)) }
+    ensures within { IfOk result (λ x. x.1 ≤ length payload.now) }
+{
+    let (eco, sessions_place) = byte_of(Field::Eco, place, payload, place)?;
+    let (sessions, place) = byte_of(Field::Sessions, sessions_place, payload, sessions_place)?;
+    wanted(sessions > 0, Field::Sessions, sessions_place)?;
+    let (extra, place) = byte_of(Field::Extra, place, payload, place)?;
+    timed_of(master, size, eco, sessions, extra, payload, place)
 }
 
 #[tactic(auto, unfolding(crate::specs::Reading::limits_at))]
@@ -44,34 +100,64 @@ fn limits_of(master: bool, payload: &[u8], place: usize) -> Result<(Limits, usiz
 {
     let (size, version_place) = number_of(Field::FrameSize, payload, place)?;
     wanted(size >= 576 && size <= 1518, Field::FrameSize, place)?;
-    let (version, eco_place) = byte_of(Field::Version, version_place, payload, version_place)?;
+    let (version, place) = byte_of(Field::Version, version_place, payload, version_place)?;
     wanted(version == VERSION, Field::Version, version_place)?;
-    let (eco, sessions_place) = byte_of(Field::Eco, eco_place, payload, eco_place)?;
-    let (sessions, extra_place) = byte_of(
-        Field::Sessions,
-        sessions_place,
-        payload,
-        sessions_place,
-    )?;
-    wanted(sessions > 0, Field::Sessions, sessions_place)?;
-    let (extra, timer_place) = byte_of(Field::Extra, extra_place, payload, extra_place)?;
-    let (timer, keepalive_place) = byte_of(Field::Timer, timer_place, payload, timer_place)?;
-    wanted(timer_fits(master, timer), Field::Timer, timer_place)?;
-    let (keepalive, behind) = byte_of(Field::KeepAlive, keepalive_place, payload, keepalive_place)?;
-    wanted(
-        keepalive_fits(master, keepalive),
-        Field::KeepAlive,
-        keepalive_place,
-    )?;
-    let limits = Limits {
-        size,
-        eco,
-        sessions,
-        extra,
-        timer,
-        keepalive,
+    holding_of(master, size, payload, place)
+}
+
+// A copy of the counted text at the place, for which it takes memory.
+fn copy_of(
+    alloc: Global,
+    field: Field,
+    payload: &[u8],
+    place: usize,
+) -> Result<(Bytes, usize), LayoutFault>
+    requires { (place ≤ length payload.now) × (length payload.now ≤ 1500) }
+    ensures gives { Gives (λ x. (x.0, x.1, drop x.1 payload.now)) result
+        (counted_at field place place (drop place payload.now)) }
+    ensures within { IfOk result (λ x. x.1 ≤ length payload.now) }
+{
+    let (text, behind) = counted_of(field, place, payload, place)?;
+    Ok((Bytes::copy(alloc, text)?, behind))
+}
+
+// The names, the location and the parameters of the sender, and with what stands before them all that it tells.
+#[tactic(auto, unfolding(crate::specs::Reading::named_at))]
+fn named_of(
+    alloc: Global,
+    limits: Limits,
+    facility: u16,
+    product: u8,
+    product_version: u8,
+    payload: &[u8],
+    place: usize,
+) -> Result<(StartInfo, usize), LayoutFault>
+    requires { (place ≤ length payload.now) × (length payload.now ≤ 1500) }
+    ensures gives { Gives (λ x. (x.0, x.1, drop x.1 payload.now)) result
+        (named_at (length payload.now + 1) limits facility product product_version
+        place (drop place payload.now)) }
+    ensures within { IfOk result (λ x. x.1 ≤ length payload.now) }
+{
+    let (slave, place) = name_of(Field::SlaveName, payload, place)?;
+    let (name, place) = name_of(Field::MasterName, payload, place)?;
+    let (location, place) = copy_of(alloc, Field::Location, payload, place)?;
+    let (params, place) = params_of(alloc, payload, place)?;
+    let info = StartInfo {
+        size: limits.size,
+        eco: limits.eco,
+        sessions: limits.sessions,
+        extra: limits.extra,
+        timer: limits.timer,
+        keepalive: limits.keepalive,
+        facility,
+        product,
+        product_version,
+        slave,
+        name,
+        location,
+        params,
     };
-    Ok((limits, behind))
+    Ok((info, place))
 }
 
 #[tactic(auto, unfolding(crate::specs::Reading::info_at))]
@@ -89,26 +175,15 @@ fn info_of(
     let (facility, place) = number_of(Field::Facility, payload, place)?;
     let (product, place) = byte_of(Field::ProductType, place, payload, place)?;
     let (product_version, place) = byte_of(Field::ProductVersion, place, payload, place)?;
-    let (slave, place) = name_of(Field::SlaveName, payload, place)?;
-    let (name, place) = name_of(Field::MasterName, payload, place)?;
-    let (location, place) = counted_of(Field::Location, place, payload, place)?;
-    let (params, place) = params_of(alloc, payload, place)?;
-    let info = StartInfo {
-        size: limits.size,
-        eco: limits.eco,
-        sessions: limits.sessions,
-        extra: limits.extra,
-        timer: limits.timer,
-        keepalive: limits.keepalive,
+    named_of(
+        alloc,
+        limits,
         facility,
         product,
         product_version,
-        slave,
-        name,
-        location: Bytes::copy(alloc, location)?,
-        params,
-    };
-    Ok((info, place))
+        payload,
+        place,
+    )
 }
 
 /// The START message that goes on at the place.
@@ -153,14 +228,14 @@ pub fn stop_of(
     let (_, place) = byte_of(Field::Sequence, place, payload, place)?;
     let (_, place) = byte_of(Field::Acknowledgement, place, payload, place)?;
     let (reason, place) = byte_of(Field::Reason, place, payload, place)?;
-    let (text, place) = counted_of(Field::Text, place, payload, place)?;
+    let (text, place) = copy_of(alloc, Field::Text, payload, place)?;
     let message = Message::Stop {
         master: is_master(first),
         ask: asks(first),
         to: circuits.to,
         from: circuits.from,
         reason,
-        text: Bytes::copy(alloc, text)?,
+        text,
     };
     Ok((message, place))
 }

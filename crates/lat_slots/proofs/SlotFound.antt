@@ -10,7 +10,7 @@ use Rattle.lat_slots.specs.declared.head.SlotHead.{SlotHead}
 use Rattle.lat_slots.specs.declared.kind.SlotKind.{SlotKind}
 use Rattle.lat_slots.specs.declared.slot.Slot.{Slot}
 use Rattle.lat_slots.specs.Kinds.{bits_of, kind_of}
-use Rattle.lat_slots.specs.Reading.{headed, destination_fits, source_fits, count_fits, body_at, head_at, slot_at}
+use Rattle.lat_slots.specs.Reading.{headed, destination_fits, source_fits, count_fits, body_at, fitting, head_at, slot_at}
 use Rattle.lat_slots.specs.Layout.{body_of, SlotText}
 use Rattle.lat_slots.proofs.TypeNumbers.{kind_bits}
 use Rattle.lat_slots.proofs.BodyFound.{body_found}
@@ -39,7 +39,7 @@ abbrev after_room : ℕ → ℕ → ℕ → ℕ → ℕ → List ℕ → ℕ →
 after_room place a b n w tail u = known (kind_of (w / 16)) SlotType (place + 3) >>= after_type place a b n w tail
 
 head_found : (place : ℕ) (bytes : List ℕ) (h : SlotHead) → head_at place bytes ≡ Ok h → FoundHead bytes h
-unfolding head_at
+unfolding head_at fitting
 head_found place [] h e = absurd (let no : bad SlotType (place + 3) ≡ Ok h = e in cc)
 head_found place (a ∷ []) h e = absurd (let no : bad SlotType (place + 3) ≡ Ok h = e in cc)
 head_found place (a ∷ b ∷ []) h e = absurd (let no : bad SlotType (place + 3) ≡ Ok h = e in cc)

@@ -15,13 +15,13 @@ use Rattle.lat_slots.specs.declared.kind.SlotKind.TheVariants as kinds
 use Rattle.lat_slots.specs.declared.slot.Slot.{Slot}
 use Rattle.lat_slots.specs.declared.slot.Slot.TheVariants.{Start, DataA, DataB, Attention, Reject, Stop}
 use Rattle.lat_slots.specs.Kinds.{bits_of}
-use Rattle.lat_slots.specs.Reading.{headed, destination_fits, source_fits, count_fits, start_at, body_at, head_at, slot_at}
+use Rattle.lat_slots.specs.Reading.{headed, destination_fits, source_fits, count_fits, asked_at, start_at, body_at, fitting, head_at, slot_at}
 use Rattle.lat_slots.specs.Layout.{body_of, type_of, to_of, from_of, HasLow, Fits, SlotText}
 use Rattle.lat_slots.proofs.TypeNumbers.{kind_back}
 
 head_taken : (place : ℕ) (k : SlotKind) (low to from n : ℕ) (tail : List ℕ) → low < 16 → destination_fits k to ≡ true → source_fits k from ≡ true → count_fits k n ≡ true → n ≤ length tail
     → head_at place (to ∷ from ∷ n ∷ (bits_of k * 16 + low) ∷ tail) ≡ Ok (headed k low to from n)
-unfolding head_at
+unfolding head_at fitting
 head_taken place k low to from n tail nibble to_ok from_ok count whole =
     let high : (bits_of k * 16 + low) / 16 ≡ bits_of k = omega arith in
     let rest : (bits_of k * 16 + low) % 16 ≡ low = omega arith in
@@ -31,7 +31,7 @@ head_taken place k low to from n tail nibble to_ok from_ok count whole =
 
 start_taken : (most low to from count attention size : ℕ) (service subject : List ℕ) (params : List Param) (place : ℕ) → 0 < size → IsName service → AllByRecursion IsEntry params → length params < most
     → start_at most (headed kinds.Start low to from count) place (1 ∷ attention ∷ size ∷ counted service ++ (counted subject ++ params_text params)) ≡ Ok (Start to from low attention size service subject params)
-unfolding start_at
+unfolding start_at asked_at
 start_taken most low to from count attention size service subject params place big name entries more =
     let one : ltb 0 size ≡ true = grind (arith, nat_tests) in
     let p1 = place + 1 + 1 + 1 in

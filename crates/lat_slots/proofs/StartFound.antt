@@ -14,7 +14,7 @@ use Rattle.lat_slots.specs.declared.head.SlotHead.{SlotHead}
 use Rattle.lat_slots.specs.declared.kind.SlotKind.TheVariants as kinds
 use Rattle.lat_slots.specs.declared.slot.Slot.{Slot}
 use Rattle.lat_slots.specs.declared.slot.Slot.TheVariants.{Start}
-use Rattle.lat_slots.specs.Reading.{start_at}
+use Rattle.lat_slots.specs.Reading.{asked_at, start_at}
 use Rattle.lat_slots.specs.Layout.{body_of, type_of, to_of, from_of, HasLow, Fits}
 
 -- a slot with this head and body
@@ -42,7 +42,7 @@ abbrev after_size : ℕ → SlotHead → ℕ → ℕ → ℕ → List ℕ → �
 after_size most h attention size place bytes v = name_at Service (place + 1 + 1 + 1) bytes >>= after_service most h attention size
 
 pub start_found : (most : ℕ) (h : SlotHead) (place : ℕ) (bytes : List ℕ) (s : Slot) → IsBytes bytes → h.kind ≡ kinds.Start → 0 < h.from → start_at most h place bytes ≡ Ok s → FoundBody h bytes s
-unfolding start_at
+unfolding start_at asked_at
 start_found most h place [] s all kind source read = absurd (let no : bad ServiceClass place ≡ Ok s = read in cc)
 start_found most h place (class ∷ []) s all kind source read =
     let one = bind_ok (wanted (eqb class 1) ServiceClass place) (λ u. bad AttentionSize (place + 1)) s read in

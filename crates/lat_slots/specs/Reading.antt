@@ -34,20 +34,31 @@ count_fits kinds.Stop n = n == 0
 abbrev pub headed : SlotKind → ℕ → ℕ → ℕ → ℕ → SlotHead
 headed kind low to from n = record { kind = kind; low = low; to = to; from = from; count = n }
 
+-- a head whose ids and number of bytes its type may have, and whose body is there in so many bytes of the slot
+unfoldable pub fitting : SlotHead → ℕ → ℕ → Result SlotHead Bad
+fitting h place len = do
+  v ← wanted (destination_fits h.kind h.to) DestinationSlot place
+  w ← wanted (source_fits h.kind h.from) SourceSlot (place + 1)
+  x ← wanted (count_fits h.kind h.count && nat_le (4 + h.count) len) ByteCount (place + 2)
+  Ok h
+
 -- The type is tested first, then the ids, then the number of bytes, which must be there.
 unfoldable pub head_at : ℕ → List ℕ → Result SlotHead Bad
-head_at place bytes =
-    let to = slice_index bytes 0 in
-    let from = slice_index bytes 1 in
-    let n = slice_index bytes 2 in do
-      u ← wanted (nat_lt 3 (length bytes)) SlotType (place + 3)
-      kind ← known (kind_of (slice_index bytes 3 / 16)) SlotType (place + 3)
-      v ← wanted (destination_fits kind to) DestinationSlot place
-      w ← wanted (source_fits kind from) SourceSlot (place + 1)
-      x ← wanted (count_fits kind n && nat_le (4 + n) (length bytes)) ByteCount (place + 2)
-      Ok (headed kind (slice_index bytes 3 % 16) to from n)
+head_at place bytes = do
+  u ← wanted (nat_lt 3 (length bytes)) SlotType (place + 3)
+  kind ← known (kind_of (slice_index bytes 3 / 16)) SlotType (place + 3)
+  fitting (headed kind (slice_index bytes 3 % 16) (slice_index bytes 0) (slice_index bytes 1) (slice_index bytes 2)) place (length bytes)
 
--- the body of a start, with at most so many parameters; it ends behind them
+-- what a start asks for, behind its two sizes, with at most so many parameters; it ends behind them
+unfoldable pub asked_at : ℕ → SlotHead → ℕ → ℕ → ℕ → List ℕ → Result Slot Bad
+asked_at most h attention size place body = do
+  service ← name_at Service place body
+  subject ← counted_at Subject service.1 service.1 service.2
+  params ← params_at most subject.1 subject.2
+  w ← wanted (length params.2 == 0) SlotEnd params.1
+  Ok (slots.Start h.to h.from h.low attention size service.0 subject.0 params.0)
+
+-- the body of a start
 unfoldable pub start_at : ℕ → SlotHead → ℕ → List ℕ → Result Slot Bad
 start_at most h place body = do
   class ← byte_at ServiceClass place place body
@@ -55,11 +66,7 @@ start_at most h place body = do
   attention ← byte_at AttentionSize class.1 class.1 class.2
   size ← byte_at DataSize attention.1 attention.1 attention.2
   v ← wanted (nat_lt 0 size.0) DataSize attention.1
-  service ← name_at Service size.1 size.2
-  subject ← counted_at Subject service.1 service.1 service.2
-  params ← params_at most subject.1 subject.2
-  w ← wanted (length params.2 == 0) SlotEnd params.1
-  Ok (slots.Start h.to h.from h.low attention.0 size.0 service.0 subject.0 params.0)
+  asked_at most h attention.0 size.0 size.1 size.2
 
 -- the slot of this type, of a head with this body, whose first byte is at the place
 abbrev pub body_as : SlotKind → ℕ → SlotHead → ℕ → List ℕ → Result Slot Bad

@@ -1,8 +1,9 @@
 //! Reading a slot.
 
-ghost use Rattle.std.specs.Prelude.{◌≡◌, ◌+◌, ◌<◌, ◌≤◌, ℕ, length, take, drop, Ok, IfOk, IsTrue, slice_index};
-ghost use Rattle.lat_fields.specs.Reading.{Gives};
-ghost use Rattle.lat_slots.specs.Reading.{count_fits, head_at, start_at, body_at, slot_at};
+ghost use Rattle.std.specs.Prelude.{◌≡◌, ◌+◌, ◌<◌, ◌≤◌, ◌==◌, ℕ, length, take, drop, Ok, IfOk, IsTrue, slice_index};
+ghost use Rattle.lat_fields.specs.Reading.{Gives, counted_at};
+ghost use Rattle.lat_base.specs.declared.field.Field.TheVariants as fields;
+ghost use Rattle.lat_slots.specs.Reading.{count_fits, fitting, head_at, asked_at, start_at, body_at, slot_at};
 ghost use Rattle.lat_slots.specs.Layout.{StandsAt};
 ghost use Rattle.lat_slots.specs.declared.slot.Slot.{Slot};
 ghost use Rattle.lat_slots.specs.declared.slot.Slot.TheVariants as slots;
@@ -13,6 +14,28 @@ use crate::slot::Slot;
 use lat_base::{Bytes, Field};
 use lat_fields::{LayoutFault, byte_of, counted_of, known, name_of, params_of, wanted};
 use std::alloc::Global;
+
+// The head, if its type may have its ids and its count, and its body is there in so many bytes of the slot.
+#[tactic(auto, unfolding(crate::specs::Reading::fitting))]
+fn fitting(head: SlotHead, at: usize, len: usize) -> Result<SlotHead, LayoutFault>
+    requires { at ≤ 1500 }
+    ensures gives { Gives (λ h. h) result (fitting head at len) }
+    ensures count { IfOk result (λ h. IsTrue (count_fits h.kind h.count)) }
+    ensures within { IfOk result (λ h. 4 + h.count ≤ len) }
+{
+    let SlotHead {
+        kind,
+        to,
+        from,
+        count,
+        ..
+    } = head;
+    wanted(destination_fits(kind, to), Field::DestinationSlot, at)?;
+    wanted(source_fits(kind, from), Field::SourceSlot, at + 1)?;
+    let whole = count_fits(kind, count) && 4 + count as usize <= len;
+    wanted(whole, Field::ByteCount, at + 2)?;
+    Ok(head)
+}
 
 // The head of the slot that stands at the place. The byte with its type is tested before the others.
 #[tactic(auto, unfolding(crate::specs::Reading::head_at))]
@@ -25,17 +48,62 @@ fn head_of(payload: &[u8], at: usize) -> Result<SlotHead, LayoutFault>
     let rest = &payload[at..];
     wanted(rest.len() > 3, Field::SlotType, at + 3)?;
     let kind = known(SlotKind::from_bits(rest[3] / 16), Field::SlotType, at + 3)?;
-    let (to, from, count) = (rest[0], rest[1], rest[2]);
-    wanted(destination_fits(kind, to), Field::DestinationSlot, at)?;
-    wanted(source_fits(kind, from), Field::SourceSlot, at + 1)?;
-    let whole = count_fits(kind, count) && 4 + count as usize <= rest.len();
-    wanted(whole, Field::ByteCount, at + 2)?;
-    Ok(SlotHead {
+    let head = SlotHead {
         kind,
         low: rest[3] % 16,
-        to,
-        from,
-        count,
+        to: rest[0],
+        from: rest[1],
+        count: rest[2],
+    };
+    fitting(head, at, rest.len())
+}
+
+// Whether the bytes end at the place.
+fn is_end(place: usize, bytes: &[u8]) -> bool
+    requires { place ≤ length bytes.now }
+    ensures { result ≡ (length (drop place bytes.now) == 0) }
+{
+    place == bytes.len()
+}
+
+// A copy of the subject at the place, for which it takes memory, and the place behind it.
+fn subject_of(alloc: Global, bytes: &[u8], place: usize) -> Result<(Bytes, usize), LayoutFault>
+    requires { (place ≤ length bytes.now) × (length bytes.now ≤ 1500) }
+    ensures gives { Gives (λ x. (x.0, x.1, drop x.1 bytes.now)) result
+        (counted_at fields.Subject place place (drop place bytes.now)) }
+    ensures within { IfOk result (λ x. x.1 ≤ length bytes.now) }
+{
+    let (text, behind) = counted_of(Field::Subject, place, bytes, place)?;
+    Ok((Bytes::copy(alloc, text)?, behind))
+}
+
+// The start of these sizes, whose body goes on at the place with the service that it asks for.
+#[tactic(auto, unfolding(crate::specs::Reading::asked_at))]
+fn asked_of(
+    alloc: Global,
+    head: SlotHead,
+    attention: u8,
+    size: u8,
+    bytes: &[u8],
+    place: usize,
+) -> Result<Slot, LayoutFault>
+    requires { (place ≤ length bytes.now) × (length bytes.now ≤ 1500) }
+    ensures { Gives (λ s. s) result
+        (asked_at (length bytes.now + 1) head attention size place (drop place bytes.now)) }
+{
+    let (service, at) = name_of(Field::Service, bytes, place)?;
+    let (subject, at) = subject_of(alloc, bytes, at)?;
+    let (params, at) = params_of(alloc, bytes, at)?;
+    wanted(is_end(at, bytes), Field::SlotEnd, at)?;
+    Ok(Slot::Start {
+        to: head.to,
+        from: head.from,
+        credits: head.low,
+        attention,
+        size,
+        service,
+        subject,
+        params,
     })
 }
 
@@ -50,21 +118,7 @@ fn start_of(alloc: Global, head: SlotHead, bytes: &[u8], place: usize) -> Result
     let (attention, size_at) = byte_of(Field::AttentionSize, at, bytes, at)?;
     let (size, at) = byte_of(Field::DataSize, size_at, bytes, size_at)?;
     wanted(size > 0, Field::DataSize, size_at)?;
-    let (service, at) = name_of(Field::Service, bytes, at)?;
-    let (subject, at) = counted_of(Field::Subject, at, bytes, at)?;
-    let (params, at) = params_of(alloc, bytes, at)?;
-    wanted(at == bytes.len(), Field::SlotEnd, at)?;
-    let subject = Bytes::copy(alloc, subject)?;
-    Ok(Slot::Start {
-        to: head.to,
-        from: head.from,
-        credits: head.low,
-        attention,
-        size,
-        service,
-        subject,
-        params,
-    })
+    asked_of(alloc, head, attention, size, bytes, at)
 }
 
 // The setting whose body is these five bytes.
