@@ -1,5 +1,5 @@
 -- A master hears a reply start or a reject.
-use Rattle.std.proofs.Common.{◌≡◌, ◌≢◌, ℕ, zero, suc, ◌+◌, ◌<◌, sym, ap, ◌∙◌, refl, arith, Bool, true, false, not, cond, ◌&&◌, ◌||◌, List, length, set, Option, Some, None, Result, is_ok, nat_le, subst, MatchOption}
+use Rattle.std.proofs.Common.{◌≡◌, ◌≢◌, ℕ, zero, suc, ◌+◌, ◌<◌, sym, ap, ◌∙◌, refl, arith, Bool, true, false, not, cond, ◌&&◌, ◌||◌, List, length, set, Option, Some, None, Result, is_ok, nat_le, subst, MatchOption, IfSome}
 use Rattle.std.proofs.lemmas.Bool.{true≢false, false≢true, and_parts}
 use Rattle.lat_base.specs.declared.state.SessionState as SessionStates
 use Rattle.lat_base.specs.declared.state.SessionState.TheVariants as kept_states
@@ -99,7 +99,20 @@ pub and_none : (b : Bool) → (b && not true) ≡ false
 and_none true = refl
 and_none false = refl
 
+pub and_all : (b : Bool) → (b && not false) ≡ b
+and_all true = refl
+and_all false = refl
+
 -- the place of the one that is Calling, as it is looked for
 pub calling_at : (t : Table) (id : ℕ) (o : Option ℕ) (i : ℕ) → MatchOption o (is_calling (state_at t id) ≡ false) (λ i. (i + 1 ≡ id) × (i < length t.sessions) × (is_calling (state_at t id) ≡ true)) → o ≡ Some i
     → (i + 1 ≡ id) × (i < length t.sessions) × (is_calling (state_at t id) ≡ true)
 calling_at t id o i h e = subst (λ o. MatchOption o (is_calling (state_at t id) ≡ false) (λ i. (i + 1 ≡ id) × (i < length t.sessions) × (is_calling (state_at t id) ≡ true))) e h
+
+pub replied_at : (t : Table) (id : ℕ) (o : Option ℕ) (i : ℕ) → IfSome o (λ i. (i + 1 ≡ id) × (i < length t.sessions) × (is_calling (state_at t id) ≡ true)) → o ≡ Some i
+    → (i + 1 ≡ id) × (i < length t.sessions) × (is_calling (state_at t id) ≡ true)
+replied_at t id o i h e = subst (λ o. IfSome o (λ i. (i + 1 ≡ id) × (i < length t.sessions) × (is_calling (state_at t id) ≡ true))) e h
+
+-- of the one that is found alone
+pub calling_some : (N : Type 0) (P : ℕ → Type 0) (o : Option ℕ) → MatchOption o N P → IfSome o P
+calling_some N P None h = tt
+calling_some N P (Some i) h = h

@@ -1,10 +1,11 @@
 //! The slots that the peer's sessions send. It takes no memory.
 
 ghost use Rattle.std.specs.Prelude.{◌≡◌, ◌+◌, ◌≤◌, ◌<◌, ◌++◌, ◌∷◌, [], ◌&&◌};
-ghost use Rattle.std.specs.Prelude.{true, false, cond, ℕ, List, Option, Some, None, MatchOption, OnErr, length, nat_eq, nat_lt};
+ghost use Rattle.std.specs.Prelude.{true, false, cond, ℕ, List, Option, Some, None, MatchOption, IfSome, OnErr, not, length, nat_eq, nat_lt};
 ghost use Rattle.std.specs.List.{list_any};
 ghost use Rattle.std.specs.Option.{is_some};
-ghost use Rattle.lat_model.specs.sessions.Hearing.{hear_slot, hear_behind, ask_in};
+ghost use Rattle.lat_model.specs.Lists.{any_up_to};
+ghost use Rattle.lat_model.specs.sessions.Hearing.{hear_slot, hear_behind, ask_in, names_running};
 ghost use Rattle.lat_model.specs.sessions.Session.{waits};
 ghost use Rattle.lat_model.specs.sessions.Sessions.{Sessions as States, named};
 ghost use Rattle.lat_model.specs.sessions.Slots as sessions;
@@ -169,12 +170,28 @@ impl Sessions {
         ensures err { OnErr result (self.new ≡ self.old) }
         ensures same { SameEnd self.old self.new }
     {
-        if self.has_peer(from) {
-            return Err(BadSlot);
-        }
-        let at = self.calling_place(to).ok_or(BadSlot)?;
+        let at = self.replied_place(to, from).ok_or(BadSlot)?;
         let session = self.sessions.reach(at);
         session.hear_start(from, credits, size)
+    }
+
+    // Where the Calling session of an id stands, and no session that is there has the peer's id `from`.
+    fn replied_place(&self, to: u8, from: u8) -> Option<usize>
+        requires { 1 ≤ from }
+        ensures place { IfSome result (λ i.
+            (i + 1 ≡ to)
+            × (i < length self.now.sessions)
+            × (is_calling (state_at self.now to) ≡ true)) }
+        ensures model { (e : States) →
+            Stands self.now e →
+            is_some result ≡ (e.master && waits (named e to)
+            && not (any_up_to (λ k. names_running from (e.session k)) e.made)) }
+    {
+        if self.has_peer(from) {
+            None
+        } else {
+            self.calling_place(to)
+        }
     }
 
     // A reject of the session that was asked for, which is Calling.

@@ -49,7 +49,7 @@ framed_fit xs ys h =
     let e : length (xs ++ h.0) ≡ length ys = ap length h.1 in
     omega (arith, length-append xs h.0)
 
-put_is : (m : Bool) (c : ℕ) (s : Session) (xs : List Item) → Sound m c s → put_open s ≡ true → record (kept_of m c s) { unframed = (kept_of m c s).unframed ++ map item_shown xs } ≡ kept_of m c (put_items s xs)
+pub put_is : (m : Bool) (c : ℕ) (s : Session) (xs : List Item) → Sound m c s → put_open s ≡ true → record (kept_of m c s) { unframed = (kept_of m c s).unframed ++ map item_shown xs } ≡ kept_of m c (put_items s xs)
 put_is m c s xs h o =
     let e : (rejected s ≡ false) × (has_stop s.came ≡ false) = put_some s o in
     let n : ℕ = length (items s.out) in

@@ -1,5 +1,5 @@
-use Rattle.std.proofs.Common.{sym, ◌∙◌}
-use Rattle.lat_circuit.proofs.HeardRun.{so_far_more, so_far_bad}
+use Rattle.std.proofs.Common.{sym, ◌∙◌, arith}
+use Rattle.lat_circuit.proofs.HeardRun.{so_far_more, so_far_bad, so_far_all}
 use Rattle.lat_circuit.proofs.heard_run.hear_slots.Goals as goal
 
 pub returns-then-is_err-clause-state : goal.returns-then-is_err-clause-state
@@ -22,3 +22,11 @@ loop-slot-preserved c = record {
     c.heard_slot.ensures.same.2 ∙ c.loop-slot.invariant.same.2,
   );
 }
+
+pub returns-clause-state : goal.returns-clause-state
+returns-clause-state c =
+    (so_far_all c.args.sessions.now c.loop-slot.sessions c.args.slots.now c.loop-slot.slot-index (omega arith) c.loop-slot.invariant.so_far).state
+
+pub returns-clause-answer : goal.returns-clause-answer
+returns-clause-answer c =
+    (so_far_all c.args.sessions.now c.loop-slot.sessions c.args.slots.now c.loop-slot.slot-index (omega arith) c.loop-slot.invariant.so_far).answer
