@@ -4,6 +4,7 @@ pub mod Places
 pub mod Ids
 pub mod Passing
 pub mod Begun
+pub mod Pushed
 pub mod Messages
 pub mod Found
 pub mod Calling

@@ -7,6 +7,7 @@ pub mod Pigeons
 pub mod HeldSeats
 pub mod Telling
 pub mod Standing
+pub mod Unchanged
 pub mod CoresLater
 pub mod Covered
 pub mod Acting

@@ -65,7 +65,7 @@ fn no_last(alloc: Global, count: u8) -> Result<Vec<Option<LineSession>>, Memory>
 {
     let mut last = Vec::with_capacity(alloc, count as usize)?;
     for _ in 0..count {
-        last.push(None)?;
+        last.push_reserved(None);
     }
     Ok(last)
 }

@@ -3,11 +3,11 @@ use Rattle.std.proofs.Common.{◌≡◌, ℕ, Bool, not, cond, ◌||◌, List, [
 use Rattle.lat_model.specs.Lists.{Each}
 use Rattle.lat_model.specs.sessions.Slots.{credits, costs, turned, starter}
 use Rattle.lat_model.specs.sessions.Session.{blank}
-use Rattle.lat_model.specs.ends.End.{End, lives}
+use Rattle.lat_model.specs.ends.End.{End}
 use Rattle.lat_machines.specs.cores.Books.{EndedClosed, EndedRejected, EndedCircuit, LineSession, reject_reason}
 use Rattle.lat_machines.specs.cores.Cores.{Seat, Core}
 use Rattle.lat_machines.specs.cores.Lines.{end_of}
-use Rattle.lat_lines.specs.Calm.{Look, look, IsCalm, CoreCalm}
+use Rattle.lat_lines.specs.Calm.{Look, IsCalm, CoreCalm}
 use Rattle.lat_lines.specs.Cores.{CoreLater}
 use Rattle.lat_lines.specs.Stands.{IsSeat}
 use Rattle.lat_lines.proofs.resting.Steady.{IsSteady, AllSteady}

@@ -9,6 +9,7 @@ use Rattle.lat_circuits.specs.Shown.{shown}
 use Rattle.lat_circuits.specs.Stands.{Simulates}
 use Rattle.lat_circuits.proofs.Called.{config_of}
 use Rattle.lat_circuits.proofs.Answered.{Begun, begun, too_is, answered_holds, answered_did}
+use Rattle.lat_circuits.proofs.Pushed.{ids_pushed}
 use Rattle.lat_circuits.proofs.circuits.Circuits.answer_start.Goals as goal
 
 pub invariant_of-self : goal.invariant_of-self
@@ -54,3 +55,15 @@ returns-clause-did c =
     subst Q (sym (too_is k q rooms c.push_reserved.new.self.items c.push_reserved.ensures.items))
     (answered_did k from c.args.source info (k.drawn + 1) c.in-Some.room rooms q out after b.answered)
     )
+
+pub returns-clause-core : goal.returns-clause-core
+returns-clause-core c = record {
+  own = ap (λ (z : Kept). z.own) c.self.view_is;
+  name = ap (λ (z : Kept). z.name) c.self.view_is;
+  timing = ap (λ (z : Kept). z.timing) c.self.view_is;
+  server = ap (λ (z : Kept). z.server) c.self.view_is;
+}
+
+pub returns-clause-held : goal.returns-clause-held
+returns-clause-held c =
+    ids_pushed c.args.self.now c.self.inside.held.items c.push_reserved.new.self.items c.answer_in-circuit.result (record { are = ap (λ (z : Kept). z.held) c.self.view_is; more = c.push_reserved.ensures.items })

@@ -11,6 +11,7 @@ use Rattle.lat_circuits.specs.Shown.{shown}
 use Rattle.lat_circuits.specs.Stands.{Simulates}
 use Rattle.lat_circuits.specs.Opens.{called_core}
 use Rattle.lat_circuits.proofs.Called.{Calls, config_of, call_holds, call_did, held_now, each_last}
+use Rattle.lat_circuits.proofs.Pushed.{ids_pushed, length_pushed, clear_pushed}
 use Rattle.lat_circuits.proofs.circuits.Circuits.call.Goals as goal
 
 pub invariant_of-self : goal.invariant_of-self
@@ -54,3 +55,26 @@ returns-clause-did c =
     let is = held_now k q left id c.push_reserved.new.self.items b.next (c.push_reserved.ensures.items ∙ ap (λ (z : Kept). z.held ++ q ∷ []) c.self.view_is) ∙ ap (λ (z : Kept). record z { drawn = id; held = c.push_reserved.new.self.items; rooms = left }) (sym c.self.view_is) in
     subst (λ l. Simulates (called_core (side_of k) (address c.args.peer.0) node) k l c.args.out.now c.call_in-circuit.new.out) is
     (call_did k c.args.peer node id c.in-Some.room left q c.args.out.now c.call_in-circuit.new.out b)
+
+pub returns-clause-core : goal.returns-clause-core
+returns-clause-core c = record {
+  own = ap (λ (z : Kept). z.own) c.self.view_is;
+  name = ap (λ (z : Kept). z.name) c.self.view_is;
+  timing = ap (λ (z : Kept). z.timing) c.self.view_is;
+  server = ap (λ (z : Kept). z.server) c.self.view_is;
+}
+
+pub returns-clause-timing : goal.returns-clause-timing
+returns-clause-timing c = (subst Holds c.self.view_is c.self.invariant.0).timing
+
+pub returns-clause-clear : goal.returns-clause-clear
+returns-clause-clear c =
+    clear_pushed c.args.self.now c.self.inside.held.items c.push_reserved.new.self.items c.call_in-circuit.result (record { are = ap (λ (z : Kept). z.held) c.self.view_is; more = c.push_reserved.ensures.items }) c.call_in-circuit.ensures.begins.state.ended
+
+pub returns-clause-held : goal.returns-clause-held
+returns-clause-held c =
+    length_pushed c.args.self.now c.self.inside.held.items c.push_reserved.new.self.items c.call_in-circuit.result (record { are = ap (λ (z : Kept). z.held) c.self.view_is; more = c.push_reserved.ensures.items })
+
+pub returns-clause-ids : goal.returns-clause-ids
+returns-clause-ids c =
+    ids_pushed c.args.self.now c.self.inside.held.items c.push_reserved.new.self.items c.call_in-circuit.result (record { are = ap (λ (z : Kept). z.held) c.self.view_is; more = c.push_reserved.ensures.items })

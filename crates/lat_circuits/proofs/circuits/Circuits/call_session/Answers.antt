@@ -7,7 +7,7 @@ use Rattle.lat_stream.specs.declared.calls.SessionFault.TheVariants.{Closed}
 use Rattle.lat_session.specs.Calls.{call_of, answer_of}
 use Rattle.lat_circuits.specs.Kept.{Kept, Holds, side_of}
 use Rattle.lat_circuits.proofs.Found.{living_told, place_found, place_none}
-use Rattle.lat_circuits.proofs.Calling.{called_of, living_is, end_at, lives_at, called_same, called_holds, called_stands, calls_none}
+use Rattle.lat_circuits.proofs.Calling.{called_of, living_is, end_at, lives_at, called_same, called_clear, called_holds, called_stands, calls_none}
 use Rattle.lat_circuits.proofs.circuits.Circuits.call_session.Goals as goal
 
 pub invariant_of-self : goal.invariant_of-self
@@ -30,6 +30,13 @@ returns-clause-same c =
     let a = call_of c.args.id c.args.call.now in
     let b = called_of k c.args.circuit c.in_ok-at.at a c.self.inside.held.items c.index_mut-circuit.result.now c.call_session.new.self _ (ap (λ (z : Kept). z.held) c.self.view_is) (place_found c.args.self.now c.args.circuit c.living_at.result c.in_ok-at.at c.living_at.ensures.place c.in_ok-at.ensures.ok_part) c.index_mut-circuit.ensures.value c.call_session.ensures.keeps c.call_session.ensures.ended c.call_session.ensures.state (ap (λ (z : Kept). record z { held = slice_set z.held c.in_ok-at.at c.call_session.new.self }) c.self.view_is) in
     called_same k c.args.circuit c.in_ok-at.at a c.index_mut-circuit.result.now c.call_session.new.self _ b
+
+pub returns-clause-clear : goal.returns-clause-clear
+returns-clause-clear c =
+    let k = c.args.self.now in
+    let a = call_of c.args.id c.args.call.now in
+    let b = called_of k c.args.circuit c.in_ok-at.at a c.self.inside.held.items c.index_mut-circuit.result.now c.call_session.new.self _ (ap (λ (z : Kept). z.held) c.self.view_is) (place_found c.args.self.now c.args.circuit c.living_at.result c.in_ok-at.at c.living_at.ensures.place c.in_ok-at.ensures.ok_part) c.index_mut-circuit.ensures.value c.call_session.ensures.keeps c.call_session.ensures.ended c.call_session.ensures.state (ap (λ (z : Kept). record z { held = slice_set z.held c.in_ok-at.at c.call_session.new.self }) c.self.view_is) in
+    called_clear k c.args.circuit c.in_ok-at.at a c.index_mut-circuit.result.now c.call_session.new.self _ b
 
 pub returns-clause-answer : goal.returns-clause-answer
 returns-clause-answer c = λ d st.

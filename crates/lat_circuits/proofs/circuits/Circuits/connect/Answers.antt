@@ -8,7 +8,7 @@ use Rattle.lat_machines.specs.server.Server.{has_room}
 use Rattle.lat_stream.specs.declared.calls.SessionFault.TheVariants.{Full}
 use Rattle.lat_circuits.specs.Kept.{Kept, Holds, side_of}
 use Rattle.lat_circuits.proofs.Found.{living_told, place_found, place_none}
-use Rattle.lat_circuits.proofs.Calling.{called_of, living_is, end_at, lives_at, called_same, called_holds, called_stands, calls_none}
+use Rattle.lat_circuits.proofs.Calling.{called_of, living_is, end_at, lives_at, called_same, called_clear, called_holds, called_stands, calls_none}
 use Rattle.lat_circuits.proofs.circuits.Circuits.connect.Goals as goal
 
 pub invariant_of-self : goal.invariant_of-self
@@ -28,6 +28,12 @@ returns-clause-same c =
     let k = c.args.self.now in
     let b = called_of k c.args.circuit c.in_ok-at.at (Connect c.args.service.now c.args.request) c.self.inside.held.items c.index_mut-circuit.result.now c.connect.new.self _ (ap (λ (z : Kept). z.held) c.self.view_is) (place_found c.args.self.now c.args.circuit c.living_at.result c.in_ok-at.at c.living_at.ensures.place c.in_ok-at.ensures.ok_part) c.index_mut-circuit.ensures.value c.connect.ensures.keeps c.connect.ensures.ended c.connect.ensures.state (ap (λ (z : Kept). record z { held = slice_set z.held c.in_ok-at.at c.connect.new.self }) c.self.view_is) in
     called_same k c.args.circuit c.in_ok-at.at (Connect c.args.service.now c.args.request) c.index_mut-circuit.result.now c.connect.new.self _ b
+
+pub returns-clause-clear : goal.returns-clause-clear
+returns-clause-clear c =
+    let k = c.args.self.now in
+    let b = called_of k c.args.circuit c.in_ok-at.at (Connect c.args.service.now c.args.request) c.self.inside.held.items c.index_mut-circuit.result.now c.connect.new.self _ (ap (λ (z : Kept). z.held) c.self.view_is) (place_found c.args.self.now c.args.circuit c.living_at.result c.in_ok-at.at c.living_at.ensures.place c.in_ok-at.ensures.ok_part) c.index_mut-circuit.ensures.value c.connect.ensures.keeps c.connect.ensures.ended c.connect.ensures.state (ap (λ (z : Kept). record z { held = slice_set z.held c.in_ok-at.at c.connect.new.self }) c.self.view_is) in
+    called_clear k c.args.circuit c.in_ok-at.at (Connect c.args.service.now c.args.request) c.index_mut-circuit.result.now c.connect.new.self _ b
 
 pub returns-clause-answer : goal.returns-clause-answer
 returns-clause-answer c = λ d st.

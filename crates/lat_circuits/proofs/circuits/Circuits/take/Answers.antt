@@ -9,7 +9,7 @@ use Rattle.lat_model.specs.ends.End.{End}
 use Rattle.lat_stream.specs.declared.calls.SessionFault.TheVariants.{Closed}
 use Rattle.lat_circuits.specs.Kept.{Kept, Holds, side_of}
 use Rattle.lat_circuits.proofs.Found.{living_told, place_found, place_none}
-use Rattle.lat_circuits.proofs.Calling.{called_of, living_is, end_at, lives_at, called_same, called_holds, called_stands, calls_none}
+use Rattle.lat_circuits.proofs.Calling.{called_of, living_is, end_at, lives_at, called_same, called_clear, called_holds, called_stands, calls_none}
 use Rattle.lat_circuits.proofs.circuits.Circuits.take.Goals as goal
 
 pub invariant_of-self : goal.invariant_of-self
@@ -29,6 +29,12 @@ returns-clause-same c =
     let k = c.args.self.now in
     let b = called_of k c.args.circuit c.in_ok-at.at (Take c.args.id (length c.args.out.now)) c.self.inside.held.items c.index_mut-circuit.result.now c.take.new.self _ (ap (λ (z : Kept). z.held) c.self.view_is) (place_found c.args.self.now c.args.circuit c.living_at.result c.in_ok-at.at c.living_at.ensures.place c.in_ok-at.ensures.ok_part) c.index_mut-circuit.ensures.value c.take.ensures.keeps c.take.ensures.ended c.take.ensures.state (ap (λ (z : Kept). record z { held = slice_set z.held c.in_ok-at.at c.take.new.self }) c.self.view_is) in
     called_same k c.args.circuit c.in_ok-at.at (Take c.args.id (length c.args.out.now)) c.index_mut-circuit.result.now c.take.new.self _ b
+
+pub returns-clause-clear : goal.returns-clause-clear
+returns-clause-clear c =
+    let k = c.args.self.now in
+    let b = called_of k c.args.circuit c.in_ok-at.at (Take c.args.id (length c.args.out.now)) c.self.inside.held.items c.index_mut-circuit.result.now c.take.new.self _ (ap (λ (z : Kept). z.held) c.self.view_is) (place_found c.args.self.now c.args.circuit c.living_at.result c.in_ok-at.at c.living_at.ensures.place c.in_ok-at.ensures.ok_part) c.index_mut-circuit.ensures.value c.take.ensures.keeps c.take.ensures.ended c.take.ensures.state (ap (λ (z : Kept). record z { held = slice_set z.held c.in_ok-at.at c.take.new.self }) c.self.view_is) in
+    called_clear k c.args.circuit c.in_ok-at.at (Take c.args.id (length c.args.out.now)) c.index_mut-circuit.result.now c.take.new.self _ b
 
 pub returns-clause-answer : goal.returns-clause-answer
 returns-clause-answer c = λ d st.

@@ -12,6 +12,7 @@ use Rattle.lat_lines.proofs.Says.{acted_calling}
 use Rattle.lat_lines.proofs.Acting.{ok_of}
 use Rattle.lat_lines.proofs.CoresLater.{calling_later}
 use Rattle.lat_lines.proofs.Accepting.{none_still, called_lives, accepted_leads, accepted_frees}
+use Rattle.lat_lines.proofs.Unchanged.{lines_same}
 use Rattle.lat_lines.proofs.lines.Lines.accept.Goals as goal
 
 pub returns-clause-state : goal.returns-clause-state
@@ -38,3 +39,7 @@ returns-clause-freed c = λ d st.
     let did = acted_calling k c.reap.new.self c.answer.new.self x (Answer c.args.id) d st2 c.answer.ensures.same.ids (c.answer.ensures.state d st2.circuits) c.reap.ensures.state c.reap.ensures.circuits in
     subst (λ (z : Kept). map key_in c.seat.new.self.freed ≡ freed_between d (accepted_core (side_of z) c.args.line x c.args.id d)) c.self.view_is
     (ap (map key_in) c.seat.ensures.freed ∙ did.freed ∙ accepted_frees (side_of k) c.args.line x c.args.id d)
+
+pub returns-clause-same : goal.returns-clause-same
+returns-clause-same c =
+    lines_same (shown c.self.inside) c.args.self.now c.seat.new.self c.answer.new.self (record { was = c.self.view_is; circuits = c.seat.ensures.circuits ∙ c.reap.ensures.circuits }) (c.seat.ensures.lines ∙ c.reap.ensures.same.lines) c.answer.ensures.same.core

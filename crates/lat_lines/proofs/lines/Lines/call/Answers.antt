@@ -18,6 +18,7 @@ use Rattle.lat_lines.specs.Shown.{shown}
 use Rattle.lat_lines.proofs.Calling.{call_agrees, agrees_at}
 use Rattle.lat_lines.proofs.Says.{settled_calling, says_called, refused, is_seat}
 use Rattle.lat_lines.proofs.resting.Calls.{call_calm}
+use Rattle.lat_lines.proofs.Unchanged.{lines_same, clear_same, moment_same}
 use Rattle.lat_lines.proofs.lines.Lines.call.Goals as goal
 
 put_fits : (line : ℕ) (call : SessionCall) (r : Result ℕ SessionFault) → IfOk r (λ n. n ≤ bytes_in call) → PutFits (call_answer call r) (event_of line call)
@@ -67,3 +68,15 @@ returns-in-Err-clause-says c =
     let r = refused c.args.self.now c.args.line (λ d t. call_on (side_of c.args.self.now) d t a) c.in-Err.answer (sym c.seat_on.ensures ∙ c.in-Err.is) in
     subst (λ z. SimulatesCall (λ d. on_line c.args.self.now.lines d c.args.line (λ t. call_on (side_of c.args.self.now) d t a)) c.args.self.now z c.refused.result) (sym c.refused.ensures.kept)
     (subst (SimulatesCall (λ d. on_line c.args.self.now.lines d c.args.line (λ t. call_on (side_of c.args.self.now) d t a)) c.args.self.now (record (c.args.self.now) { freed = [] })) (sym c.refused.ensures.answer) r)
+
+pub returns-in-Ok-clause-same : goal.returns-in-Ok-clause-same
+returns-in-Ok-clause-same c =
+    lines_same (shown c.self.inside) c.args.self.now c.reap_unless.new.self c.call_session-answer.new.self (record { was = c.self.view_is; circuits = c.reap_unless.ensures.circuits }) c.reap_unless.ensures.same.lines c.call_session-answer.ensures.same.core
+
+pub returns-in-Ok-clause-clear : goal.returns-in-Ok-clause-clear
+returns-in-Ok-clause-clear c =
+    clear_same (shown c.self.inside) c.args.self.now c.reap_unless.new.self c.call_session-answer.new.self (record { was = c.self.view_is; circuits = c.reap_unless.ensures.circuits }) c.call_session-answer.ensures.clear
+
+pub returns-in-Ok-clause-moment : goal.returns-in-Ok-clause-moment
+returns-in-Ok-clause-moment c =
+    moment_same (shown c.self.inside) c.args.self.now c.reap_unless.new.self c.call_session-answer.new.self (record { was = c.self.view_is; circuits = c.reap_unless.ensures.circuits }) c.call_session-answer.ensures.same.moment

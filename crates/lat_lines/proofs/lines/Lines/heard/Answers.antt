@@ -13,6 +13,7 @@ use Rattle.lat_lines.proofs.CoresLater.{heard_later}
 use Rattle.lat_lines.proofs.Acting.{ok_of, acted_unless}
 use Rattle.lat_lines.proofs.resting.Cores.{none_added}
 use Rattle.lat_lines.proofs.resting.Hears.{heard_calm}
+use Rattle.lat_lines.proofs.Unchanged.{lines_same, moment_same}
 use Rattle.lat_lines.proofs.lines.Lines.heard.Goals as goal
 
 -- where no frame went out and no slot was taken, lines know all of their sessions
@@ -41,3 +42,11 @@ returns-clause-did c = λ d st.
 pub returns-clause-held : goal.returns-clause-held
 returns-clause-held c = λ x h.
     subst (λ z. has_id x z ≡ true) (sym c.reap_unless.ensures.circuits) (c.heard-hearing.ensures.held x (subst (λ (z : Kept). has_id x z.circuits ≡ true) (sym c.self.view_is) h))
+
+pub returns-clause-same : goal.returns-clause-same
+returns-clause-same c =
+    lines_same (shown c.self.inside) c.args.self.now c.reap_unless.new.self c.heard-hearing.new.self (record { was = c.self.view_is; circuits = c.reap_unless.ensures.circuits }) c.reap_unless.ensures.same.lines c.heard-hearing.ensures.core
+
+pub returns-clause-moment : goal.returns-clause-moment
+returns-clause-moment c =
+    moment_same (shown c.self.inside) c.args.self.now c.reap_unless.new.self c.heard-hearing.new.self (record { was = c.self.view_is; circuits = c.reap_unless.ensures.circuits }) c.heard-hearing.ensures.moment

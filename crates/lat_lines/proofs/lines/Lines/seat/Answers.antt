@@ -6,7 +6,7 @@ use Rattle.lat_stream.specs.Kept.{saturated}
 use Rattle.lat_circuits.specs.Info.{telling, telling_of}
 use Rattle.lat_machines.specs.cores.Cores.{Seat}
 use Rattle.lat_lines.specs.declared.seat.Seat as own
-use Rattle.lat_lines.specs.Kept.{Holds, IsLine}
+use Rattle.lat_lines.specs.Kept.{Kept, Holds, IsLine}
 use Rattle.lat_lines.specs.Stands.{Stands}
 use Rattle.lat_lines.specs.Opens.{session_begun, seated_core}
 use Rattle.lat_lines.specs.Shown.{shown}
@@ -57,3 +57,11 @@ returns-in-Some-clause-state c = λ d serial st h l leads.
     let made : c.saturating_add-self-inside.result ≡ saturated (suc (length d.seats)) = let m = st2.seated.made in omega (arith, m, c.saturating_add-self-inside.ensures) in
     let begun = begins k d t c.args.key c.begun-session.result st2 h line l leads drawn refl (c.begun-session.ensures.value ∙ ap₂ (λ n u. session_begun n c.args.circuit c.args.session u) made tells) in
     subst (λ ss. Stands (record k { seats = ss; made = c.saturating_add-self-inside.result }) (seated_core d t)) (sym c.push_reserved.ensures.items) (stands_push k d t s c.saturating_add-self-inside.result st2 begun made)
+
+pub returns-in-Some-clause-side : goal.returns-in-Some-clause-side
+returns-in-Some-clause-side c = λ d st h l.
+    let k = shown c.self.inside in
+    let st2 : Stands k d = subst (λ z. Stands z d) (sym c.self.view_is) st in
+    let side : (d.circuits.circuit_at c.args.circuit).end.half.sessions.master ≡ k.circuits.server =
+    subst (λ o. IfSome o (λ u. (d.circuits.circuit_at c.args.circuit).end.half.sessions.master ≡ k.circuits.server)) c.in-Some.is (c.info.ensures.side d st2.circuits) in
+    side ∙ ap (λ (z : Kept). z.circuits.server) c.self.view_is

@@ -12,6 +12,7 @@ use Rattle.lat_lines.proofs.Telling.{takes_at}
 use Rattle.lat_lines.proofs.Calling.{taking, giving, take_agrees, agrees_at}
 use Rattle.lat_lines.proofs.Says.{settled_calling, says_called, refused, is_seat}
 use Rattle.lat_lines.proofs.resting.Calls.{take_calm}
+use Rattle.lat_lines.proofs.Unchanged.{lines_same, clear_same, moment_same}
 use Rattle.lat_lines.proofs.lines.Lines.take.Goals as goal
 
 pub returns-in_ok-items-in-Ok-clause-says : goal.returns-in_ok-items-in-Ok-clause-says
@@ -38,3 +39,15 @@ returns-in-Err-clause-says c =
     let r = refused c.args.self.now c.args.line (λ d t. take_on (side_of c.args.self.now) d t c.args.n) c.in-Err.answer (sym c.seat_on.ensures ∙ c.in-Err.is) in
     subst (λ z. SimulatesCall (λ d. on_line c.args.self.now.lines d c.args.line (λ t. take_on (side_of c.args.self.now) d t c.args.n)) c.args.self.now z c.refused.result) (sym c.refused.ensures.kept)
     (subst (SimulatesCall (λ d. on_line c.args.self.now.lines d c.args.line (λ t. take_on (side_of c.args.self.now) d t c.args.n)) c.args.self.now (record (c.args.self.now) { freed = [] })) (sym c.refused.ensures.answer) r)
+
+pub returns-in_ok-items-in-Ok-clause-same : goal.returns-in_ok-items-in-Ok-clause-same
+returns-in_ok-items-in-Ok-clause-same c =
+    lines_same (shown c.self.inside) c.args.self.now c.reap_unless.new.self c.take-answer.new.self (record { was = c.self.view_is; circuits = c.reap_unless.ensures.circuits }) c.reap_unless.ensures.same.lines c.take-answer.ensures.same.core
+
+pub returns-in_ok-items-in-Ok-clause-clear : goal.returns-in_ok-items-in-Ok-clause-clear
+returns-in_ok-items-in-Ok-clause-clear c =
+    clear_same (shown c.self.inside) c.args.self.now c.reap_unless.new.self c.take-answer.new.self (record { was = c.self.view_is; circuits = c.reap_unless.ensures.circuits }) c.take-answer.ensures.clear
+
+pub returns-in_ok-items-in-Ok-clause-moment : goal.returns-in_ok-items-in-Ok-clause-moment
+returns-in_ok-items-in-Ok-clause-moment c =
+    moment_same (shown c.self.inside) c.args.self.now c.reap_unless.new.self c.take-answer.new.self (record { was = c.self.view_is; circuits = c.reap_unless.ensures.circuits }) c.take-answer.ensures.same.moment

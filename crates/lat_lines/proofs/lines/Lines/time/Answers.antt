@@ -8,6 +8,7 @@ use Rattle.lat_lines.specs.Stands.{Stands, HasStepped}
 use Rattle.lat_lines.proofs.CoresLater.{time_passes_later}
 use Rattle.lat_lines.proofs.Acting.{ok_of, same_held, acted_unless}
 use Rattle.lat_lines.proofs.resting.Cores.{has_ended, none_added, time_calm, all_go_on}
+use Rattle.lat_lines.proofs.Unchanged.{lines_same, moment_same}
 use Rattle.lat_lines.proofs.lines.Lines.time.Goals as goal
 
 -- where no frame went out and no circuit that has ended is held, lines know all of their sessions
@@ -32,3 +33,11 @@ pub returns-clause-did : goal.returns-clause-did
 returns-clause-did c = λ d st.
     subst (λ (z : Kept). HasStepped d (passes_time (side_of z) d) c.reap_unless.new.self c.args.out.now c.time.new.out) c.self.view_is
     (did_time c d (subst (λ z. Stands z d) (sym c.self.view_is) st))
+
+pub returns-clause-same : goal.returns-clause-same
+returns-clause-same c =
+    lines_same (shown c.self.inside) c.args.self.now c.reap_unless.new.self c.time.new.self (record { was = c.self.view_is; circuits = c.reap_unless.ensures.circuits }) c.reap_unless.ensures.same.lines c.time.ensures.same.core
+
+pub returns-clause-moment : goal.returns-clause-moment
+returns-clause-moment c =
+    moment_same (shown c.self.inside) c.args.self.now c.reap_unless.new.self c.time.new.self (record { was = c.self.view_is; circuits = c.reap_unless.ensures.circuits }) c.time.ensures.same.moment
