@@ -121,6 +121,59 @@ fn printed<C: Core, T: Tx, S: Sink, E: Ledger, B: Ledger, F: Ledger>(
     print_end(alloc, cell, shares, ends, out)
 }
 
+// Runs all workers until each has ended, and prints what came of it.
+fn run_started<
+    C: Core + Send,
+    T: Tx + Send,
+    X: Rx + Send,
+    L: LineEnd + Send,
+    K: Clock + Send,
+    G: Gate + Sync,
+    S: Sink,
+    E: Ledger + Sync,
+    B: Ledger + Sync,
+    F: Ledger + Sync,
+    R: Threads + Wait + Sync,
+>(
+    rt: &R,
+    alloc: Global,
+    plan: &Plan,
+    start: Start<C, T, X, L, E, B, F>,
+    clock: K,
+    gate: &G,
+    out: &mut S,
+) -> CoreServed<C, T, L, E, B, F>
+    requires lines { (1 ≤ plan.now.lines) × (plan.now.lines ≤ 64) }
+    requires fresh { AreFresh plan.now.lines start.seated start.given }
+    ensures ended { CoreHasPrinted S.written S.faults out.old out.new result }
+    ensures back { CoreIsBack L.faults plan.now.lines result }
+    ensures own { IsOwn result.status ⊎ (result.status ≡ 5) }
+    ensures other { result.status ≢ 4 }
+    ensures sink { result.status ≡ 5 → RoseIn S.faults out.old out.new }
+    ensures memory { result.status ≡ 9 → S.written out.new ≡ S.written out.old }
+    ensures ran { result.ran ≢ None }
+{
+    let Start {
+        cell,
+        rx,
+        seated,
+        given,
+    } = start;
+    let ending = Ending {
+        announce: plan.announce,
+        sessions: plan.sessions,
+    };
+    let (cell, seated) = run_all(rt, alloc, cell, rx, seated, clock, gate, ending);
+    let given = given.filled(seated);
+    let (shares, ends) = (given.shares.as_slice(), given.ends.as_slice());
+    let status = printed(alloc, &cell, shares, ends, out);
+    CoreServed {
+        status,
+        ran: Some(cell),
+        given,
+    }
+}
+
 /// Opens the carrier and then the lines by rising number, runs all workers of a cell round the core at once until each has ended,
 /// and prints what came of it. It may wait, and its return isn't promised. The core is as it was made; where no memory was found
 /// for it, nothing is opened.
@@ -165,28 +218,9 @@ pub fn serve_core<
     ensures none { result.ran ≡ None → (result.status ≡ 4) ⊎ (result.status ≡ 9) }
     ensures empty { result.ran ≡ None → IsNothing result.given }
 {
-    let start = match opened::<O, C, E, B, F>(alloc, plan, core, blanks, opener) {
-        Ok(start) => start,
-        Err(OpenFault::Failed) => return not_run(alloc, 4),
-        Err(OpenFault::Memory) => return not_run(alloc, 9),
-    };
-    let Start {
-        cell,
-        rx,
-        seated,
-        given,
-    } = start;
-    let ending = Ending {
-        announce: plan.announce,
-        sessions: plan.sessions,
-    };
-    let (cell, seated) = run_all(rt, alloc, cell, rx, seated, clock, gate, ending);
-    let given = given.filled(seated);
-    let (shares, ends) = (given.shares.as_slice(), given.ends.as_slice());
-    let status = printed(alloc, &cell, shares, ends, out);
-    CoreServed {
-        status,
-        ran: Some(cell),
-        given,
+    match opened::<O, C, E, B, F>(alloc, plan, core, blanks, opener) {
+        Ok(start) => run_started(rt, alloc, plan, start, clock, gate, out),
+        Err(OpenFault::Failed) => not_run(alloc, 4),
+        Err(OpenFault::Memory) => not_run(alloc, 9),
     }
 }

@@ -1,11 +1,11 @@
 use Rattle.lat_live.specs.Seating.{done_of, line_of}
 use Rattle.lat_live.proofs.Seating.{all_back, counted_back, many_back}
-use Rattle.lat_live.proofs.serving.serve_core.Goals as goal
+use Rattle.lat_live.proofs.serving.run_started.Goals as goal
 
 pub returns-clause-back : goal.returns-clause-back
 returns-clause-back g c =
-    let faults = g.O.L.LineEnd.faults in
-    let opened = c.in-Ok.ensures.fresh in
+    let faults = g.L.LineEnd.faults in
+    let opened = c.requires.fresh in
     let ran = c.run_all-cell.ensures in
     let given = c.filled-given.ensures in
     record {
