@@ -1,14 +1,29 @@
 //! Items, written to a line.
 
-ghost use Rattle.std.specs.Prelude.{◌≡◌, ◌≤◌, ℕ, length, take, OnOk, OnErr};
+ghost use Rattle.std.specs.Prelude.{◌≡◌, ◌+◌, ◌<◌, ◌≤◌, ◌++◌, ℕ, length, take, OnOk, OnErr};
 ghost use Rattle.std.specs.Io.KnownBytes.{Appends};
 ghost use Rattle.lat_outside.specs.Causes.{Rose};
-ghost use Rattle.lat_cell.specs.Written.{items_bytes};
+ghost use Rattle.lat_cell.specs.Written.{item_bytes, items_bytes};
 
 use lat_base::Item;
 use lat_outside::{Failed, LineEnd};
 
 const PIECE_BYTES: usize = 1024;
+
+// The byte of an item, if it is one, behind so many that are in the place.
+fn copy_item(item: &Item, place: &mut [u8; 1024], count: usize) -> usize
+    requires { count < 1024 }
+    ensures bound { result ≤ count + 1 }
+    ensures bytes { take result place.new ≡ take count place.old ++ item_bytes item.now }
+{
+    match item {
+        Item::Byte(byte) => {
+            place[count] = *byte;
+            count + 1
+        }
+        Item::Set(_) => count,
+    }
+}
 
 // The bytes among the items, at the front of the place.
 fn copy_bytes(items: &[Item], place: &mut [u8; 1024]) -> usize
@@ -18,10 +33,7 @@ fn copy_bytes(items: &[Item], place: &mut [u8; 1024]) -> usize
 {
     let mut count = 0;
     for item in items {
-        if let Item::Byte(byte) = item {
-            place[count] = *byte;
-            count += 1;
-        }
+        count = copy_item(item, place, count);
     }
     count
 }

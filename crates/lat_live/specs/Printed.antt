@@ -1,5 +1,6 @@
 -- What a daemon prints.
-use Rattle.std.specs.Prelude.{◌≡◌, ◌⊎◌, ℕ, List, Option, option_map}
+use Rattle.std.specs.Prelude.{◌≡◌, ◌⊎◌, ℕ, List, take, Option, option_map}
+use Rattle.std.specs.Io.KnownBytes.{Appends}
 use Rattle.lat_outside.specs.Causes.{Rose}
 use Rattle.lat_history.specs.declared.past.Past.{Past}
 use Rattle.lat_history.specs.declared.fault.FullAt.{FullAt}
@@ -22,11 +23,16 @@ printed_in ran = option_map printed ran
 abbrev pub IsOwn : ℕ → Type 0
 IsOwn status = (status ≡ 0) ⊎ ((status ≡ 6) ⊎ ((status ≡ 7) ⊎ (status ≡ 9)))
 
+-- some of the text's first bytes were written
+abbrev pub AppendsPart : Option (List ℕ) → Option (List ℕ) → List ℕ → Type 0
+AppendsPart old new text = (n : ℕ) × Appends old new (take n text)
+
 -- a count of faults rose
 abbrev pub RoseIn : {A : Type 0} → (A → ℕ) → A → A → Type 0
 RoseIn faults old new = Rose (faults old) (faults new)
 
 -- what a sink was given, and the status, are those of the last text of a cell that tells this, with these shares and these ends
-abbrev pub IsPrinted : {S : Type 0} → (S → Option (List ℕ)) → (S → ℕ) → S → S → Printed → List SeatView → List LineDone → ℕ → Type 0
+abbrev pub IsPrinted : {S : Type 0} → (S → Option (List ℕ)) → (S → ℕ) → S → S → Printed → List SeatView
+    → List LineDone → ℕ → Type 0
 IsPrinted told_by faults old new t shares ends status =
     Ended (told_by old) (told_by new) (faults old) (faults new) t.history t.full shares ends status

@@ -1,12 +1,10 @@
 -- What a daemon hands back.
-use Rattle.std.specs.Prelude.{◌≡◌, ℕ, ◌⊎◌, List, Option, Some, None, true, false, is_some, codes, IfSome}
+use Rattle.std.specs.Prelude.{◌≡◌, ℕ, ◌⊎◌, List, Option, Some, None, true, false, is_some, codes, option_map, IfSome}
 use Rattle.lat_words.specs.Configs.{config_of}
 use Rattle.lat_words.specs.declared.config.Config.{Config}
 use Rattle.lat_words.specs.declared.config.Role.{Role}
 use Rattle.lat_words.specs.declared.config.Role.TheVariants as roles
-use Rattle.lat_cell.specs.declared.seat.LineDone.{LineDone}
-use Rattle.lat_history.specs.CellView.{SeatView}
-use Rattle.lat_live.specs.Printed.{Printed, printed, printed_in}
+use Rattle.lat_live.specs.Printed.{Printed, printed, printed_in, IsPrinted}
 use Rattle.lat_live.specs.Seating.{GivenBack}
 use Rattle.lat_live.specs.declared.ran.Ran.{Ran}
 use Rattle.lat_live.specs.declared.ran.Ran.TheVariants as ran
@@ -29,6 +27,28 @@ role_of (ran.Node cell) = Some roles.Node
 role_of (ran.Tariff cell) = Some roles.Tariff
 role_of ran.Not = None
 
+-- what is written, and the status, are those of the last text of the cell that is handed back
+abbrev pub HasPrinted : {H P T L E B F S : Type 0} → (S → Option (List ℕ)) → (S → ℕ) → S → S
+    → Served H P T L E B F → Type 0
+HasPrinted told_by faults old new served =
+    IfSome (printed_of served.ran) (λ t. IsPrinted told_by faults old new t served.shares served.ends served.status)
+
+abbrev pub CoreHasPrinted : {C T L E B F S : Type 0} → (S → Option (List ℕ)) → (S → ℕ) → S → S
+    → CoreServed C T L E B F → Type 0
+CoreHasPrinted told_by faults old new done =
+    IfSome (printed_in done.ran)
+    (λ t. IsPrinted told_by faults old new t done.given.shares.items done.given.ends.items done.status)
+
+-- where a cell is handed back: the shares of all seats, and of each of so many lines how its worker ended, and the line
+abbrev pub IsBack : {H P T L E B F : Type 0} → (L → ℕ) → ℕ → Served H P T L E B F → Type 0
+IsBack faults count served =
+    IfSome (printed_of served.ran) (λ t. GivenBack faults count served.shares served.ends served.lines)
+
+abbrev pub CoreIsBack : {C T L E B F : Type 0} → (L → ℕ) → ℕ → CoreServed C T L E B F → Type 0
+CoreIsBack faults count done =
+    IfSome (printed_in done.ran)
+    (λ t. GivenBack faults count done.given.shares.items done.given.ends.items done.given.lines.items)
+
 -- what a daemon of this role hands back is what came of its core
 pub record CameOf {H P C T L E B F : Type 0} (its_role : Role) (done : CoreServed C T L E B F) (served : Served H P T L E B F) : Type 0 where
   pub status : served.status ≡ done.status
@@ -50,13 +70,21 @@ abbrev pub count_in : Option Config → ℕ
 count_in (Some c) = c.lines.count
 count_in None = 0
 
--- where a cell is handed back: the shares of all seats, and of each line that the words tell of how its worker ended, and the line
-abbrev pub BackOf : {L : Type 0} → (L → ℕ) → List (List ℕ) → List SeatView → List LineDone → List L → Type 0
-BackOf faults words shares ends lines = GivenBack faults (count_in (config_of words)) shares ends lines
+-- the same for the lines that the words tell of
+abbrev pub BackOf : {H P T L E B F : Type 0} → (L → ℕ) → List (List ℕ) → Served H P T L E B F → Type 0
+BackOf faults words served = IsBack faults (count_in (config_of words)) served
+
+-- the role that ran is that of the words
+abbrev pub IsRoleOf : {H P T E B F : Type 0} → List (List ℕ) → Ran H P T E B F → Type 0
+IsRoleOf words ran = IfSome (role_of ran) (λ role. option_map (λ c. c.role) (config_of words) ≡ Some role)
 
 -- what is written where they aren't right
 abbrev pub refusal : List ℕ
 refusal = codes "words\n"
+
+-- the statuses where they aren't right
+abbrev pub IsRefusal : ℕ → Type 0
+IsRefusal status = (status ≡ 1) ⊎ ((status ≡ 5) ⊎ (status ≡ 9))
 
 -- the statuses at which no worker was started, 5 only where the words are wrong
 abbrev pub IsNotRun : List (List ℕ) → ℕ → Type 0

@@ -1,12 +1,11 @@
 //! The call that does all that the program `latd` does.
 
-ghost use Rattle.std.specs.Prelude.{◌≡◌, ◌⊎◌, ℕ, map, string_bytes, take, [], IfSome, Some, option_map};
+ghost use Rattle.std.specs.Prelude.{◌≡◌, ◌⊎◌, map, string_bytes, []};
 ghost use Rattle.std.specs.Io.KnownBytes.{Appends};
-ghost use Rattle.lat_words.specs.Configs.{config_of};
 ghost use Rattle.lat_tariff.specs.Tariffs.{AreKnown};
 ghost use Rattle.lat_live.specs.declared.ran.Ran.TheVariants as ran;
-ghost use Rattle.lat_live.specs.Printed.{IsPrinted, IsOwn, RoseIn};
-ghost use Rattle.lat_live.specs.Served.{printed_of, role_of, AreRight, AreWrong, BackOf, refusal, IsNotRun};
+ghost use Rattle.lat_live.specs.Printed.{AppendsPart, IsOwn, RoseIn};
+ghost use Rattle.lat_live.specs.Served.{AreRight, AreWrong, BackOf, HasPrinted, IsNotRun, IsRefusal, IsRoleOf, refusal};
 
 use crate::ran::Served;
 use crate::roles::serve_in_role;
@@ -25,7 +24,7 @@ use std::thread::Threads;
 fn refuse<S: Sink>(out: &mut S) -> u8
     ensures status { (result ≡ 1) ⊎ (result ≡ 5) }
     ensures written { result ≡ 1 → Appends (S.written out.old) (S.written out.new) refusal }
-    ensures part { result ≡ 5 → (n : ℕ) × Appends (S.written out.old) (S.written out.new) (take n refusal) }
+    ensures part { result ≡ 5 → AppendsPart (S.written out.old) (S.written out.new) refusal }
     ensures fault { result ≡ 5 → RoseIn S.faults out.old out.new }
 {
     match write_all(out, "words\n".as_bytes()) {
@@ -72,9 +71,10 @@ pub fn serve<
     requires parts { (blanks.events.parts ≡ E.parts) × (blanks.bytes.parts ≡ B.parts) × (blanks.full.parts ≡ F.parts) }
     requires many { (E.parts ≡ 66) × (B.parts ≡ 66) × (F.parts ≡ 66) }
     ensures wrong { result.status ≡ 1 → AreWrong (map string_bytes words.now) }
-    ensures refused { AreWrong (map string_bytes words.now) → (result.status ≡ 1) ⊎ ((result.status ≡ 5) ⊎ (result.status ≡ 9)) }
+    ensures refused { AreWrong (map string_bytes words.now) → IsRefusal result.status }
     ensures written { result.status ≡ 1 → Appends (S.written out.old) (S.written out.new) refusal }
-    ensures part { AreWrong (map string_bytes words.now) → result.status ≡ 5 → (n : ℕ) × Appends (S.written out.old) (S.written out.new) (take n refusal) }
+    ensures part { AreWrong (map string_bytes words.now) → result.status ≡ 5 →
+        AppendsPart (S.written out.old) (S.written out.new) refusal }
     ensures opener { result.status ≡ 4 → RoseIn O.faults opener.old opener.new }
     ensures sink { result.status ≡ 5 → RoseIn S.faults out.old out.new }
     ensures silent { result.status ≡ 4 → S.written out.new ≡ S.written out.old }
@@ -83,9 +83,9 @@ pub fn serve<
         IsOwn result.status ⊎ (RoseIn O.faults opener.old opener.new ⊎ RoseIn S.faults out.old out.new) }
     ensures not { result.ran ≡ ran.Not → IsNotRun (map string_bytes words.now) result.status }
     ensures empty { result.ran ≡ ran.Not → (result.shares ≡ []) × (result.ends ≡ []) × (result.lines ≡ []) }
-    ensures role { IfSome (role_of result.ran) (λ role. option_map (λ c. c.role) (config_of (map string_bytes words.now)) ≡ Some role) }
-    ensures ended { IfSome (printed_of result.ran) (λ t. IsPrinted S.written S.faults out.old out.new t result.shares result.ends result.status) }
-    ensures back { IfSome (printed_of result.ran) (λ t. BackOf O.L.faults (map string_bytes words.now) result.shares result.ends result.lines) }
+    ensures role { IsRoleOf (map string_bytes words.now) result.ran }
+    ensures ended { HasPrinted S.written S.faults out.old out.new result }
+    ensures back { BackOf O.L.faults (map string_bytes words.now) result }
 {
     let config = match config_of(alloc, words) {
         Ok(Some(config)) => config,

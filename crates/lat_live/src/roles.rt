@@ -4,9 +4,8 @@ ghost use Rattle.std.specs.Prelude.{◌≡◌, ◌⊎◌, [], IfSome};
 ghost use Rattle.lat_words.specs.Configs.{Within};
 ghost use Rattle.lat_tariff.specs.Tariffs.{AreKnown};
 ghost use Rattle.lat_live.specs.declared.ran.Ran.TheVariants as ran;
-ghost use Rattle.lat_live.specs.Printed.{IsPrinted, IsOwn, RoseIn};
-ghost use Rattle.lat_live.specs.Seating.{GivenBack};
-ghost use Rattle.lat_live.specs.Served.{printed_of, role_of};
+ghost use Rattle.lat_live.specs.Printed.{IsOwn, RoseIn};
+ghost use Rattle.lat_live.specs.Served.{HasPrinted, IsBack, role_of};
 
 use crate::cores::{ANNOUNCE_SECONDS, node_core, server_core, switch_core, tariff_core};
 use crate::ran::Served;
@@ -73,8 +72,8 @@ pub fn serve_in_role<
     requires parts { (blanks.events.parts ≡ E.parts) × (blanks.bytes.parts ≡ B.parts) × (blanks.full.parts ≡ F.parts) }
     requires many { (E.parts ≡ 66) × (B.parts ≡ 66) × (F.parts ≡ 66) }
     ensures role { IfSome (role_of result.ran) (λ role. role ≡ config.now.role) }
-    ensures ended { IfSome (printed_of result.ran) (λ t. IsPrinted S.written S.faults out.old out.new t result.shares result.ends result.status) }
-    ensures back { IfSome (printed_of result.ran) (λ t. GivenBack O.L.faults config.now.lines.count result.shares result.ends result.lines) }
+    ensures ended { HasPrinted S.written S.faults out.old out.new result }
+    ensures back { IsBack O.L.faults config.now.lines.count result }
     ensures own { IsOwn result.status ⊎ ((result.status ≡ 4) ⊎ (result.status ≡ 5)) }
     ensures opener { result.status ≡ 4 → RoseIn O.faults opener.old opener.new }
     ensures sink { result.status ≡ 5 → RoseIn S.faults out.old out.new }

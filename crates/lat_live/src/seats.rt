@@ -1,8 +1,8 @@
 //! Who sits where.
 
 ghost use Rattle.std.specs.Prelude.{◌≡◌, ◌+◌, ◌-◌, ◌<◌, ◌≤◌, [], ◌∷◌, ◌++◌, map, IfOk, vec_len, vec_capacity};
-ghost use Rattle.lat_history.specs.Seats.{all_seats, fresh, seats_from};
-ghost use Rattle.lat_live.specs.Seating.{share_of, done_of, line_of};
+ghost use Rattle.lat_history.specs.Seats.{all_seats, seats_from};
+ghost use Rattle.lat_live.specs.Seating.{HasRoom, IsFreshAround, IsNothing, share_of, done_of, line_of};
 
 use lat_base::Name;
 use lat_cell::{LineDone, LineShare, Seat, Shares};
@@ -26,7 +26,7 @@ pub fn take_seats<L: LineEnd, E: Ledger, B: Ledger, F: Ledger>(
     service: &Option<Name>,
 ) -> Result<Seated<L, E, B, F>, AllocError>
     requires shares { shares ≡ all_seats (vec_len lines) }
-    ensures around { IfOk result (λ s. (s.wire ≡ fresh 0 1) × (s.clock ≡ fresh 65 (65 - vec_len lines))) }
+    ensures around { IfOk result (IsFreshAround (vec_len lines)) }
     ensures shares { IfOk result (λ s. map share_of s.lines.items ≡ seats_from (vec_len lines) 1) }
     ensures lines { IfOk result (λ s. map line_of s.lines.items ≡ lines.items) }
     ensures count { IfOk result (λ s. vec_len s.lines ≡ vec_len lines) }
@@ -65,7 +65,7 @@ pub struct Given<L: LineEnd, E: Ledger, B: Ledger, F: Ledger> {
 impl<L: LineEnd, E: Ledger, B: Ledger, F: Ledger> Given<L, E, B, F> {
     /// Nothing. It takes no memory.
     pub fn none(alloc: Global) -> Given<L, E, B, F>
-        ensures { (result.shares.items ≡ []) × (result.ends.items ≡ []) × (result.lines.items ≡ []) }
+        ensures { IsNothing result }
     {
         Given {
             shares: Vec::new(alloc),
@@ -77,9 +77,9 @@ impl<L: LineEnd, E: Ledger, B: Ledger, F: Ledger> Given<L, E, B, F> {
     /// Room for so many lines.
     pub fn room(alloc: Global, lines: usize) -> Result<Given<L, E, B, F>, AllocError>
         requires { lines ≤ 64 }
-        ensures empty { IfOk result (λ g. (g.shares.items ≡ []) × (g.ends.items ≡ []) × (g.lines.items ≡ [])) }
+        ensures empty { IfOk result IsNothing }
         ensures room { IfOk result (λ g. lines + 2 ≤ vec_capacity g.shares) }
-        ensures lines { IfOk result (λ g. (lines ≤ vec_capacity g.ends) × (lines ≤ vec_capacity g.lines)) }
+        ensures lines { IfOk result (HasRoom lines) }
     {
         Ok(Given {
             shares: Vec::with_capacity(alloc, lines + 2)?,
@@ -90,9 +90,9 @@ impl<L: LineEnd, E: Ledger, B: Ledger, F: Ledger> Given<L, E, B, F> {
 
     /// What the seats have, in the room that was taken before.
     pub fn filled(self, seated: Seated<L, E, B, F>) -> Given<L, E, B, F>
-        requires empty { (self.shares.items ≡ []) × (self.ends.items ≡ []) × (self.lines.items ≡ []) }
+        requires empty { IsNothing self }
         requires room { vec_len seated.lines + 2 ≤ vec_capacity self.shares }
-        requires lines { (vec_len seated.lines ≤ vec_capacity self.ends) × (vec_len seated.lines ≤ vec_capacity self.lines) }
+        requires lines { HasRoom (vec_len seated.lines) self }
         ensures shares { result.shares.items ≡ seated.wire ∷ map share_of seated.lines.items ++ seated.clock ∷ [] }
         ensures ends { result.ends.items ≡ map done_of seated.lines.items }
         ensures lines { result.lines.items ≡ map line_of seated.lines.items }

@@ -1,10 +1,10 @@
 //! The call that does all that a daemon does once its words are read and its core is made.
 
-ghost use Rattle.std.specs.Prelude.{◌≡◌, ◌≢◌, ◌⊎◌, ◌+◌, ◌-◌, ◌<◌, ◌≤◌, map, length, vec_len, vec_capacity, IfSome, IfOk, [], None, Err};
+ghost use Rattle.std.specs.Prelude.{◌≡◌, ◌≢◌, ◌⊎◌, ◌+◌, ◌≤◌, length, IfOk, None, Err};
 ghost use Rattle.lat_outside.specs.Causes.{Rose};
-ghost use Rattle.lat_history.specs.Seats.{fresh, seats_from};
-ghost use Rattle.lat_live.specs.Printed.{printed, printed_in, IsPrinted, IsOwn, RoseIn};
-ghost use Rattle.lat_live.specs.Seating.{GivenBack, share_of};
+ghost use Rattle.lat_live.specs.Printed.{printed, IsOwn, IsPrinted, RoseIn};
+ghost use Rattle.lat_live.specs.Seating.{AreFresh, IsNothing};
+ghost use Rattle.lat_live.specs.Served.{CoreHasPrinted, CoreIsBack};
 
 use crate::opening::{OpenFault, open_lines};
 use crate::running::{Ending, run_all};
@@ -71,12 +71,7 @@ fn opened<O: Opener, C: Core, E: Ledger, B: Ledger, F: Ledger>(
     requires names { (blanks.events.name ≡ E.name) × (blanks.bytes.name ≡ B.name) × (blanks.full.name ≡ F.name) }
     requires parts { (blanks.events.parts ≡ E.parts) × (blanks.bytes.parts ≡ B.parts) × (blanks.full.parts ≡ F.parts) }
     requires many { (E.parts ≡ 66) × (B.parts ≡ 66) × (F.parts ≡ 66) }
-    ensures around { IfOk result (λ s. (s.seated.wire ≡ fresh 0 1) × (s.seated.clock ≡ fresh 65 (65 - plan.now.lines))) }
-    ensures lines { IfOk result (λ s. map share_of s.seated.lines.items ≡ seats_from plan.now.lines 1) }
-    ensures count { IfOk result (λ s. vec_len s.seated.lines ≡ plan.now.lines) }
-    ensures empty { IfOk result (λ s. (s.given.shares.items ≡ []) × (s.given.ends.items ≡ []) × (s.given.lines.items ≡ [])) }
-    ensures room { IfOk result (λ s. plan.now.lines + 2 ≤ vec_capacity s.given.shares) }
-    ensures rooms { IfOk result (λ s. (plan.now.lines ≤ vec_capacity s.given.ends) × (plan.now.lines ≤ vec_capacity s.given.lines)) }
+    ensures fresh { IfOk result (λ s. AreFresh plan.now.lines s.seated s.given) }
     ensures fault { result ≡ Err OpenFault.Failed → Rose (O.faults opener.old) (O.faults opener.new) }
 {
     let core = core?;
@@ -99,7 +94,7 @@ fn not_run<C: Core, T: Tx, L: LineEnd, E: Ledger, B: Ledger, F: Ledger>(
     status: u8,
 ) -> CoreServed<C, T, L, E, B, F>
     ensures ran { (result.status ≡ status) × (result.ran ≡ None) }
-    ensures given { (result.given.shares.items ≡ []) × (result.given.ends.items ≡ []) × (result.given.lines.items ≡ []) }
+    ensures given { IsNothing result.given }
 {
     CoreServed {
         status,
@@ -124,6 +119,59 @@ fn printed<C: Core, T: Tx, S: Sink, E: Ledger, B: Ledger, F: Ledger>(
     ensures memory { result ≡ 9 → S.written out.new ≡ S.written out.old }
 {
     print_end(alloc, cell, shares, ends, out)
+}
+
+// Runs all workers until each has ended, and prints what came of it.
+fn run_started<
+    C: Core + Send,
+    T: Tx + Send,
+    X: Rx + Send,
+    L: LineEnd + Send,
+    K: Clock + Send,
+    G: Gate + Sync,
+    S: Sink,
+    E: Ledger + Sync,
+    B: Ledger + Sync,
+    F: Ledger + Sync,
+    R: Threads + Wait + Sync,
+>(
+    rt: &R,
+    alloc: Global,
+    plan: &Plan,
+    start: Start<C, T, X, L, E, B, F>,
+    clock: K,
+    gate: &G,
+    out: &mut S,
+) -> CoreServed<C, T, L, E, B, F>
+    requires lines { (1 ≤ plan.now.lines) × (plan.now.lines ≤ 64) }
+    requires fresh { AreFresh plan.now.lines start.seated start.given }
+    ensures ended { CoreHasPrinted S.written S.faults out.old out.new result }
+    ensures back { CoreIsBack L.faults plan.now.lines result }
+    ensures own { IsOwn result.status ⊎ (result.status ≡ 5) }
+    ensures other { result.status ≢ 4 }
+    ensures sink { result.status ≡ 5 → RoseIn S.faults out.old out.new }
+    ensures memory { result.status ≡ 9 → S.written out.new ≡ S.written out.old }
+    ensures ran { result.ran ≢ None }
+{
+    let Start {
+        cell,
+        rx,
+        seated,
+        given,
+    } = start;
+    let ending = Ending {
+        announce: plan.announce,
+        sessions: plan.sessions,
+    };
+    let (cell, seated) = run_all(rt, alloc, cell, rx, seated, clock, gate, ending);
+    let given = given.filled(seated);
+    let (shares, ends) = (given.shares.as_slice(), given.ends.as_slice());
+    let status = printed(alloc, &cell, shares, ends, out);
+    CoreServed {
+        status,
+        ran: Some(cell),
+        given,
+    }
 }
 
 /// Opens the carrier and then the lines by rising number, runs all workers of a cell round the core at once until each has ended,
@@ -160,40 +208,19 @@ pub fn serve_core<
     requires names { (blanks.events.name ≡ E.name) × (blanks.bytes.name ≡ B.name) × (blanks.full.name ≡ F.name) }
     requires parts { (blanks.events.parts ≡ E.parts) × (blanks.bytes.parts ≡ B.parts) × (blanks.full.parts ≡ F.parts) }
     requires many { (E.parts ≡ 66) × (B.parts ≡ 66) × (F.parts ≡ 66) }
-    ensures ended { IfSome (printed_in result.ran) (λ t.
-        IsPrinted S.written S.faults out.old out.new t result.given.shares.items result.given.ends.items result.status) }
-    ensures back { IfSome (printed_in result.ran) (λ t.
-        GivenBack O.L.faults plan.now.lines result.given.shares.items result.given.ends.items result.given.lines.items) }
+    ensures ended { CoreHasPrinted S.written S.faults out.old out.new result }
+    ensures back { CoreIsBack O.L.faults plan.now.lines result }
     ensures own { IsOwn result.status ⊎ ((result.status ≡ 4) ⊎ (result.status ≡ 5)) }
     ensures opener { result.status ≡ 4 → RoseIn O.faults opener.old opener.new }
     ensures sink { result.status ≡ 5 → RoseIn S.faults out.old out.new }
     ensures silent { result.status ≡ 4 → S.written out.new ≡ S.written out.old }
     ensures memory { result.status ≡ 9 → S.written out.new ≡ S.written out.old }
     ensures none { result.ran ≡ None → (result.status ≡ 4) ⊎ (result.status ≡ 9) }
-    ensures empty { result.ran ≡ None → (result.given.shares.items ≡ []) × (result.given.ends.items ≡ []) × (result.given.lines.items ≡ []) }
+    ensures empty { result.ran ≡ None → IsNothing result.given }
 {
-    let start = match opened::<O, C, E, B, F>(alloc, plan, core, blanks, opener) {
-        Ok(start) => start,
-        Err(OpenFault::Failed) => return not_run(alloc, 4),
-        Err(OpenFault::Memory) => return not_run(alloc, 9),
-    };
-    let Start {
-        cell,
-        rx,
-        seated,
-        given,
-    } = start;
-    let ending = Ending {
-        announce: plan.announce,
-        sessions: plan.sessions,
-    };
-    let (cell, seated) = run_all(rt, alloc, cell, rx, seated, clock, gate, ending);
-    let given = given.filled(seated);
-    let (shares, ends) = (given.shares.as_slice(), given.ends.as_slice());
-    let status = printed(alloc, &cell, shares, ends, out);
-    CoreServed {
-        status,
-        ran: Some(cell),
-        given,
+    match opened::<O, C, E, B, F>(alloc, plan, core, blanks, opener) {
+        Ok(start) => run_started(rt, alloc, plan, start, clock, gate, out),
+        Err(OpenFault::Failed) => not_run(alloc, 4),
+        Err(OpenFault::Memory) => not_run(alloc, 9),
     }
 }

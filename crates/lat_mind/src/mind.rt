@@ -145,8 +145,8 @@ impl LineMind {
 
     /// The first move that applies: `Finish` where the cell is stopping or the session that was called is over; `Connect`
     /// where it is to be called and a second has passed since the last try; `Take` where items wait; then, where the
-    /// session takes puts, `Put` where bytes are left and the last put at this moment took some, `Close` where the line has
-    /// ended and all was put, `Read` where nothing is left; else `Rest`.
+    /// session takes puts, `Put` where bytes are left, unless the last put was at this moment and took none, `Close` where the
+    /// line has ended and all was put, `Read` where nothing is left; else `Rest`.
     pub fn next(&self, see: &Seen) -> Move
         ensures exact { result ≡ mind_next self.now see.now }
         ensures read { result ≡ Move.Read → self.now.left ≡ 0 }

@@ -1,21 +1,22 @@
 -- The command is simple, and no argument has a rule on another.
 use Rattle.std.specs.Prelude.{Result, Ok, Err, Option, None, IfOk, is_some}
 use Rattle.std.proofs.Common.{◌≡◌, true, false, refl, sym, inl, inr, List, [], ◌∷◌}
+use Rattle.std.proofs.lemmas.Bool.{and_parts}
 use Rattle.clap.specs.Words.{IsAmong, HasKind, kind_of}
 use Rattle.clap.specs.declared.error.Error.{Error}
 use Rattle.clap.specs.declared.error.kind.ErrorKind.TheVariants as kind
 use Rattle.clap.specs.declared.error.kind.ErrorKind.{ErrorKind}
-use Rattle.clap.specs.Words.{is_simple, is_simple_and_free}
+use Rattle.clap.specs.Faults.{is_free_app}
+use Rattle.clap.specs.Words.{built, is_simple, is_simple_and_free}
 use Rattle.clap.proofs.OnLiterals.{clap_on_literals}
 use Rattle.lat_words.specs.Commands.{latd, no_fault}
-
-pub latd_simple : is_simple latd ≡ true
-unfolding latd clap_on_literals
-latd_simple = refl
 
 pub latd_free : is_simple_and_free latd ≡ true
 unfolding latd clap_on_literals
 latd_free = refl
+
+pub latd_simple : is_simple latd ≡ true
+latd_simple = (and_parts (is_simple latd) (is_free_app (built latd)) latd_free).0
 
 pub no_of : (ks : List ErrorKind) (k : ErrorKind) → IsAmong k ks → false ≡ no_fault ks
 no_of [] k h = absurd h

@@ -1,0 +1,72 @@
+use Rattle.std.proofs.Common.{◌≡◌, ◌⊎◌, ◌∙◌, sym, subst}
+use Rattle.lat_live.specs.Printed.{IsOwn}
+use Rattle.lat_live.proofs.Came.{came_back, came_printed, came_role}
+use Rattle.lat_live.proofs.roles.serve_in_role.Goals as goal
+
+pub returns-in-Server : goal.returns-in-Server
+returns-in-Server g c =
+    let core = c.serve_core-done.ensures in
+    let came = c.of_server.ensures in
+    record {
+      role = came_role _ _ _ _ came c.in-Server.is;
+      ended = came_printed g.S.Sink.written g.S.Sink.faults _ _ _ _ _ came core.ended;
+      back = came_back g.O.L.LineEnd.faults _ _ _ _ _ came c.plan_of-plan.ensures.0 core.back;
+      own = subst (λ n. IsOwn n ⊎ ((n ≡ 4) ⊎ (n ≡ 5))) (sym came.status) core.own;
+      opener = λ four. core.opener (sym came.status ∙ four);
+      sink = λ five. core.sink (sym came.status ∙ five);
+      none = λ not. subst (λ n. (n ≡ 4) ⊎ (n ≡ 9)) (sym came.status) (core.none (came.none not));
+      silent = λ four. core.silent (sym came.status ∙ four);
+      memory = λ nine. core.memory (sym came.status ∙ nine);
+      empty = λ not. let none = core.empty (came.none not) in (came.shares ∙ none.0, came.ends ∙ none.1, came.lines ∙ none.2);
+    }
+
+pub returns-in-Switch : goal.returns-in-Switch
+returns-in-Switch g c =
+    let core = c.serve_core-done-in-Switch.ensures in
+    let came = c.of_switch.ensures in
+    record {
+      role = came_role _ _ _ _ came c.in-Switch.is;
+      ended = came_printed g.S.Sink.written g.S.Sink.faults _ _ _ _ _ came core.ended;
+      back = came_back g.O.L.LineEnd.faults _ _ _ _ _ came c.plan_of-plan.ensures.0 core.back;
+      own = subst (λ n. IsOwn n ⊎ ((n ≡ 4) ⊎ (n ≡ 5))) (sym came.status) core.own;
+      opener = λ four. core.opener (sym came.status ∙ four);
+      sink = λ five. core.sink (sym came.status ∙ five);
+      none = λ not. subst (λ n. (n ≡ 4) ⊎ (n ≡ 9)) (sym came.status) (core.none (came.none not));
+      silent = λ four. core.silent (sym came.status ∙ four);
+      memory = λ nine. core.memory (sym came.status ∙ nine);
+      empty = λ not. let none = core.empty (came.none not) in (came.shares ∙ none.0, came.ends ∙ none.1, came.lines ∙ none.2);
+    }
+
+pub returns-in-Node : goal.returns-in-Node
+returns-in-Node g c =
+    let core = c.serve_core-done-in-Node.ensures in
+    let came = c.of_node.ensures in
+    record {
+      role = came_role _ _ _ _ came c.in-Node.is;
+      ended = came_printed g.S.Sink.written g.S.Sink.faults _ _ _ _ _ came core.ended;
+      back = came_back g.O.L.LineEnd.faults _ _ _ _ _ came c.plan_of-plan.ensures.0 core.back;
+      own = subst (λ n. IsOwn n ⊎ ((n ≡ 4) ⊎ (n ≡ 5))) (sym came.status) core.own;
+      opener = λ four. core.opener (sym came.status ∙ four);
+      sink = λ five. core.sink (sym came.status ∙ five);
+      none = λ not. subst (λ n. (n ≡ 4) ⊎ (n ≡ 9)) (sym came.status) (core.none (came.none not));
+      silent = λ four. core.silent (sym came.status ∙ four);
+      memory = λ nine. core.memory (sym came.status ∙ nine);
+      empty = λ not. let none = core.empty (came.none not) in (came.shares ∙ none.0, came.ends ∙ none.1, came.lines ∙ none.2);
+    }
+
+pub returns-in-Tariff : goal.returns-in-Tariff
+returns-in-Tariff g c =
+    let core = c.serve_core-done-in-Tariff.ensures in
+    let came = c.of_tariff.ensures in
+    record {
+      role = came_role _ _ _ _ came c.in-Tariff.is;
+      ended = came_printed g.S.Sink.written g.S.Sink.faults _ _ _ _ _ came core.ended;
+      back = came_back g.O.L.LineEnd.faults _ _ _ _ _ came c.plan_of-plan.ensures.0 core.back;
+      own = subst (λ n. IsOwn n ⊎ ((n ≡ 4) ⊎ (n ≡ 5))) (sym came.status) core.own;
+      opener = λ four. core.opener (sym came.status ∙ four);
+      sink = λ five. core.sink (sym came.status ∙ five);
+      none = λ not. subst (λ n. (n ≡ 4) ⊎ (n ≡ 9)) (sym came.status) (core.none (came.none not));
+      silent = λ four. core.silent (sym came.status ∙ four);
+      memory = λ nine. core.memory (sym came.status ∙ nine);
+      empty = λ not. let none = core.empty (came.none not) in (came.shares ∙ none.0, came.ends ∙ none.1, came.lines ∙ none.2);
+    }
