@@ -43,6 +43,15 @@ node_made front groups services = record {
 abbrev pub setup_of : Front → Groups → List (List ℕ) → List Offer → Setup
 setup_of front groups services offers = record { server = server_made front groups.server offers; node = node_made front groups.node services }
 
+-- What both cores are made of where the first four lines say this, by the lines behind them, and the lines behind those: the
+-- groups, the services and the offers
+abbrev pub setup_at : Front → Place → Setup × Place
+setup_at front at =
+    let groups = groups_at front.version at in
+    let services = many service_of groups.1 in
+    let offers = many (offer_of front.server.lines) services.1 in
+    (setup_of front groups.0 services.0 offers.0, offers.1)
+
 -- a line of one word
 abbrev pub if_word : List ℕ → List ℕ → Option (Unit {0})
 if_word word line = if bytes_eq line word then Some tt else None
@@ -68,13 +77,11 @@ told_number number = min number (2 ^ 32 - 1)
 abbrev pub schedule_at : Place → Result Schedule ℕ
 schedule_at at = do
   front ← front_at at
-  groups ← Ok (groups_at front.0.version front.1)
-  services ← Ok (many service_of groups.1)
-  offers ← Ok (many (offer_of front.0.server.lines) services.1)
-  began ← word_at (codes "go") offers.1
+  made ← Ok (setup_at front.0 front.1)
+  began ← word_at (codes "go") made.1
   events ← Ok (many (λ before. event_of front.0.server.own) began)
   ended ← ending_at events.1
-  Ok (record { setup = setup_of front.0 groups.0 services.0 offers.0; first = told_number began.number; events = events.0 })
+  Ok (record { setup = made.0; first = told_number began.number; events = events.0 })
 
 abbrev pub form_at : ℕ → ScheduleFault
 form_at number = Form (told_number number)

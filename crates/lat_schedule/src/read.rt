@@ -11,7 +11,7 @@ ghost use Rattle.lat_schedule.specs.Events.{IsEvent};
 ghost use Rattle.lat_schedule.specs.Front.{FitsFront};
 ghost use Rattle.lat_schedule.specs.Places.{place};
 ghost use Rattle.lat_schedule.specs.Setups.{IsSetup};
-ghost use Rattle.lat_schedule.specs.ScheduleText.{ReadsSchedule, told_number, form_at, word_at, ending_at, server_made, node_made, schedule_at, within_limit};
+ghost use Rattle.lat_schedule.specs.ScheduleText.{ReadsSchedule, told_number, form_at, word_at, ending_at, server_made, node_made, setup_at, schedule_at, within_limit};
 ghost use Rattle.lat_schedule.specs.ReadsAll.{ReadsAll};
 
 use crate::front::{Front, front_of};
@@ -103,6 +103,21 @@ fn node_made(front: &Front, groups: Bytes, services: Services16) -> NodeConfig
     }
 }
 
+// What both cores are made of, by the lines behind the first four, and the lines behind it.
+fn setup_at<'a>(alloc: Global, front: &Front, at: Rest<'a>) -> Result<(Setup, Rest<'a>), Memory>
+    requires { FitsFront front.now }
+    ensures value { IfOk result (λ r. (r.0, place r.1) ≡ setup_at front.now (place at.entry)) }
+    ensures setup { IfOk result (λ r. IsSetup r.0) }
+    ensures own { IfOk result (λ r. r.0.server.own ≡ front.now.server.own) }
+{
+    let (groups, at) = groups_of(alloc, front.version, at)?;
+    let (services, at) = services_of(alloc, at)?;
+    let (offers, at) = offers_of(alloc, front.server.lines, at)?;
+    let server = server_made(front, groups.server, offers);
+    let node = node_made(front, groups.node, services);
+    Ok((Setup { server, node }, at))
+}
+
 // A schedule has 100,000 events at most.
 fn within_limit(schedule: Schedule) -> Result<Schedule, ScheduleFault>
     ensures value { result ≡ within_limit schedule }
@@ -154,17 +169,13 @@ fn schedule_at(alloc: Global, text: &[u8]) -> Result<Schedule, Stop>
         Ok(found) => found,
         Err(number) => return Err(Stop::Line(number)),
     };
-    let (groups, at) = groups_of(alloc, front.version, at)?;
-    let (services, at) = services_of(alloc, at)?;
-    let (offers, at) = offers_of(alloc, front.server.lines, at)?;
+    let (setup, at) = setup_at(alloc, &front, at)?;
     let at = word_at("go", at)?;
     let first = told_number(at.number);
     let (events, at) = events_of(alloc, front.server.own, at)?;
     ending_at(at)?;
-    let server = server_made(&front, groups.server, offers);
-    let node = node_made(&front, groups.node, services);
     Ok(Schedule {
-        setup: Setup { server, node },
+        setup,
         first,
         events,
     })

@@ -47,18 +47,18 @@ fn lines_of<H: RatingRule>(world: &World<H>, server: bool) -> u8
     }
 }
 
-// An event.
+// An event, which is let go of behind it.
 fn tell<H: RatingRule>(
     alloc: Global,
     world: &mut World<H>,
-    event: &WorldEvent,
+    event: WorldEvent,
 ) -> Result<(), EventFault>
-    requires { IsPlayable event.now }
-    ensures tells { (s : State) → StandsAt world.old s → TellsAs (setups_of world.old) s (event.now ∷ []) result world.new }
-    ensures moment { OnOk result (moment_of world.new ≡ moment_behind (moment_of world.old) event.now) }
+    requires { IsPlayable event }
+    ensures tells { (s : State) → StandsAt world.old s → TellsAs (setups_of world.old) s (event ∷ []) result world.new }
+    ensures moment { OnOk result (moment_of world.new ≡ moment_behind (moment_of world.old) event) }
     ensures setups { setups_of world.new ≡ setups_of world.old }
 {
-    world.step(alloc, event)
+    world.step(alloc, &event)
 }
 
 // Both ends are told the next moment, the server first.
@@ -74,7 +74,7 @@ fn tell_times<H: RatingRule>(alloc: Global, world: &mut World<H>) -> Result<(), 
     tell(
         alloc,
         world,
-        &WorldEvent::Local {
+        WorldEvent::Local {
             server: true,
             event: Event::Time { now },
         },
@@ -82,7 +82,7 @@ fn tell_times<H: RatingRule>(alloc: Global, world: &mut World<H>) -> Result<(), 
     tell(
         alloc,
         world,
-        &WorldEvent::Local {
+        WorldEvent::Local {
             server: false,
             event: Event::Time { now },
         },
@@ -97,7 +97,7 @@ fn deliver_all<H: RatingRule>(alloc: Global, world: &mut World<H>) -> Result<(),
 {
     for _ in 0..FRAMES {
         match world.undelivered() {
-            Some(index) => tell(alloc, world, &WorldEvent::Deliver { index })?,
+            Some(index) => tell(alloc, world, WorldEvent::Deliver { index })?,
             None => return Ok(()),
         }
     }
@@ -142,7 +142,7 @@ fn take<H: RatingRule>(
     tell(
         alloc,
         world,
-        &WorldEvent::Local {
+        WorldEvent::Local {
             server,
             event: Event::Take { line, n: ITEMS },
         },

@@ -3,30 +3,19 @@
 ghost use Rattle.std.specs.Prelude.{◌≡◌, ◌<◌, ◌^◌, ◌++◌, OnOk, IfOk, string_bytes};
 ghost use Rattle.lat_replay.specs.Kept.{moment_of, setups_of};
 ghost use Rattle.lat_replay.specs.Played.{State, StandsAt};
-ghost use Rattle.lat_report.specs.RefusedText.{old_word};
 ghost use Rattle.lat_settle.specs.Rounds.{rounds_moment};
 ghost use Rattle.lat_settle.specs.Texts.{Prints, flag_text, lossless_text, round_text};
 
 use crate::settling::{Unsettled, run_rounds};
 use lat_base::Memory;
 use lat_replay::{RatingRule, World, refused_of};
-use lat_report::Refused;
+use lat_report::{Refused, why_onto};
 use std::alloc::{AllocError, Global};
 
 fn flag_text(flag: bool) -> &'static str
     ensures { result.now ≡ flag_text flag }
 {
     if flag { "1" } else { "0" }
-}
-
-fn old_word(acknowledgement: bool) -> &'static str
-    ensures { result.now ≡ old_word acknowledgement }
-{
-    if acknowledgement {
-        "acknowledgement"
-    } else {
-        "number"
-    }
 }
 
 // Adds the line that says whether nothing was lost.
@@ -41,21 +30,9 @@ fn lossless_onto(text: &mut String, lossless: bool) -> Result<(), AllocError>
 fn round_onto(text: &mut String, round: u32, refused: Refused) -> Result<(), AllocError>
     ensures { OnOk result (string_bytes text.new ≡ string_bytes text.old ++ round_text round refused) }
 {
-    match refused {
-        Refused::Backward { at, last } => write!(text, "round {round} backward {at} {last}\n"),
-        Refused::OwnAddress => write!(text, "round {round} own-address\n"),
-        Refused::NoFrame { index, sent } => write!(text, "round {round} noframe {index} {sent}\n"),
-        Refused::Old {
-            acknowledgement,
-            number,
-            newest,
-        } => {
-            let word = old_word(acknowledgement);
-            write!(text, "round {round} old {word} {number} {newest}\n")
-        }
-        Refused::FramesLimit => write!(text, "round {round} limit frames\n"),
-        Refused::EventsLimit => write!(text, "round {round} limit events\n"),
-    }
+    write!(text, "round {round} ")?;
+    why_onto(text, refused)?;
+    text.push_str("\n")
 }
 
 /// Runs so many rounds, as `run_rounds` does, and adds to a text what `lat settle` prints of them: whether nothing was lost
