@@ -1,7 +1,7 @@
 #!/usr/bin/env python3
 """Writes the schedules by which the pace of both cores is measured: what their events cost, and that it grows with their number alone.
 
-    tools/paces_of_cores.py FOLDER [--size PERCENT] [--title]
+    tools/paces_of_cores.py FOLDER [--size PERCENT]
 
 It writes a schedule for each case to FOLDER/CASE.txt, at full size or at so many percent of it:
 
@@ -15,10 +15,9 @@ It writes a schedule for each case to FOLDER/CASE.txt, at full size or at so man
     offers-waiting  the same with 64 requests that wait, as no ninth circuit can be had for them
     nodes           250 nodes that announce two services every 30 seconds, for five minutes of times, and connects that find no service
 
-Nothing is lost in any of them. With --title a line `# CASE` stands in front of each, as `lat_worlds` wants it; without it they are
-for `lat replay`. It needs Python 3. How to measure with valgrind, for a program that reads them from its input:
+Nothing is lost in any of them. They are for `lat replay`. It needs Python 3. How to measure with valgrind, PROGRAM being `lat`:
 
-    valgrind --tool=callgrind --callgrind-out-file=OUT PROGRAM < FOLDER/CASE.txt > REPORT
+    valgrind --tool=callgrind --callgrind-out-file=OUT PROGRAM replay < FOLDER/CASE.txt > REPORT
     callgrind_annotate --inclusive=yes --threshold=100 OUT | grep -e ServerCore -e NodeCore
 
 The cores' own figure is that of `ServerCoreCore::step` and of `NodeCoreCore::step`; the other lines of the world's `play` are the
@@ -26,7 +25,7 @@ frames and rows that the report is made of. Setting up is `ServerCore::make` and
 its caller hides its line: give both `step` and both `make` the LLVM attribute `noinline`, or take the figure of the whole program
 less that of the same schedule without its last line, `end`, which is read and not played. For microseconds, where perf is there:
 
-    perf record -e cpu-clock:u -F 10000 --call-graph fp -o OUT PROGRAM < FOLDER/CASE.txt > REPORT
+    perf record -e cpu-clock:u -F 10000 --call-graph fp -o OUT PROGRAM replay < FOLDER/CASE.txt > REPORT
     perf report -i OUT --children --stdio -g none
 
 Growth is linear where --size 50 comes to half. Two programs did the same where their reports are the same.
@@ -367,13 +366,11 @@ def main():
     words = argparse.ArgumentParser()
     words.add_argument("folder", type=pathlib.Path)
     words.add_argument("--size", type=int, default=100)
-    words.add_argument("--title", action="store_true")
     given = words.parse_args()
     given.folder.mkdir(parents=True, exist_ok=True)
     for case in CASES:
         name = case.__name__.replace("_", "-")
-        written = f"# {name}\n" * given.title + case(given.size)
-        (given.folder / f"{name}.txt").write_text(written)
+        (given.folder / f"{name}.txt").write_text(case(given.size))
 
 
 if __name__ == "__main__":
