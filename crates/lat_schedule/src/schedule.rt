@@ -3,6 +3,7 @@
 use crate::event::WorldEvents;
 use crate::setup::Setup;
 use lat_base::Memory;
+use thiserror::Error;
 
 /// What a text of a schedule says.
 #[derive(Drop)]
@@ -16,13 +17,16 @@ pub struct Schedule {
 }
 
 /// Why a schedule isn't read from a text. Lines are counted from 1; a line past the greatest number is told as that.
-#[derive(Clone, Copy)]
+#[derive(Clone, Copy, Debug, PartialEq, Eq, Error)]
 pub enum ScheduleFault {
     /// The text is no schedule. This is the first line that is wrong or missing.
+    #[error("line {line} form")]
     Form { line: u32 },
     /// The text is a schedule with more than 100,000 events. This is the line of the first one too many.
+    #[error("line {line} limit events")]
     Events { line: u32 },
     /// No memory was found.
+    #[error("memory")]
     Memory,
 }
 
