@@ -64,7 +64,8 @@ impl Auditor {
     pub fn hear(&mut self, alloc: Global, entry: &Entry) -> Result<(), Memory>
         requires counted { Counted self.old }
         requires room { self.old.count + 4 < 2 ^ 64 }
-        ensures follows { (t : Title) (q : Progress) → Follows t self.old q → OnOk result (Follows t self.new (after_entry t q entry.now)) }
+        ensures follows { (t : Title) (q : Progress) → Follows t self.old q →
+            OnOk result (Follows t self.new (after_entry t q entry.now)) }
         ensures counted { OnOk result (Counted self.new) }
         ensures count { OnOk result (self.new.count ≤ self.old.count + 1) }
     {
@@ -79,7 +80,8 @@ impl Auditor {
 
     /// The text of the verdict on the entries so far.
     pub fn verdict(&self, alloc: Global) -> Result<String, AllocError>
-        ensures { (t : Title) (q : Progress) → Follows t self.now q → IfOk result (λ text. string_bytes text ≡ verdict_text (verdict_of q)) }
+        ensures { (t : Title) (q : Progress) → Follows t self.now q →
+            IfOk result (λ text. string_bytes text ≡ verdict_text (verdict_of q)) }
     {
         match self.broken {
             None => {

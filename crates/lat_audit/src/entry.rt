@@ -73,8 +73,10 @@ fn message_checked(
     requires runs { runs_of checker.old + 3 < 2 ^ 64 }
     requires ok { IsWritable message.now }
     ensures answer { Checks checker.old (message_entry by_master message.now) checker.new result }
-    ensures runs { IfOk result (λ broken. broken ≡ None → runs_of checker.new ≤ runs_of checker.old + 1) }
-    ensures title { IfOk result (λ broken. broken ≡ None → title_of checker.new ≡ title_of checker.old) }
+    ensures runs { IfOk result (λ broken.
+        broken ≡ None → runs_of checker.new ≤ runs_of checker.old + 1) }
+    ensures title { IfOk result (λ broken.
+        broken ≡ None → title_of checker.new ≡ title_of checker.old) }
 {
     match head_of(message) {
         Some(head) => run_checked(checker, alloc, by_master, &head, slots_of(message)),
@@ -91,8 +93,10 @@ pub fn entry_checked(
 ) -> Result<Option<Rule>, Memory>
     requires { runs_of checker.old + 3 < 2 ^ 64 }
     ensures answer { Checks checker.old (entry_shown entry.now) checker.new result }
-    ensures runs { IfOk result (λ broken. broken ≡ None → runs_of checker.new ≤ runs_of checker.old + 1) }
-    ensures title { IfOk result (λ broken. broken ≡ None → title_of checker.new ≡ title_of checker.old) }
+    ensures runs { IfOk result (λ broken.
+        broken ≡ None → runs_of checker.new ≤ runs_of checker.old + 1) }
+    ensures title { IfOk result (λ broken.
+        broken ≡ None → title_of checker.new ≡ title_of checker.old) }
 {
     match read_value(alloc, entry.payload.as_slice()) {
         Ok(Value::Circuit(message)) => message_checked(checker, alloc, entry.by_master, &message),

@@ -17,7 +17,14 @@ use std::alloc::Global;
 
 // What the rules look at in a start.
 fn start_facts(to: u8, from: u8, credits: u8) -> SlotFacts
-    ensures { result ≡ record { to = to; from = from; credits = credits; cost = 0; asks = nat_eq to 0; replies = not (nat_eq to 0) } }
+    ensures { result ≡ record {
+      to = to;
+      from = from;
+      credits = credits;
+      cost = 0;
+      asks = nat_eq to 0;
+      replies = not (nat_eq to 0);
+    } }
 {
     SlotFacts {
         to,
@@ -31,7 +38,14 @@ fn start_facts(to: u8, from: u8, credits: u8) -> SlotFacts
 
 // And in any other slot.
 fn slot_facts(to: u8, from: u8, credits: u8, cost: u8) -> SlotFacts
-    ensures { result ≡ record { to = to; from = from; credits = credits; cost = cost; asks = false; replies = false } }
+    ensures { result ≡ record {
+      to = to;
+      from = from;
+      credits = credits;
+      cost = cost;
+      asks = false;
+      replies = false;
+    } }
 {
     SlotFacts {
         to,
@@ -111,8 +125,10 @@ pub fn run_checked(
     requires ok { AllByRecursion SlotIsWritable slots.now }
     requires room { length (slots_text slots.now) ≤ 1500 }
     ensures answer { ChecksRun checker.old by_master head.now slots.now checker.new result }
-    ensures runs { IfOk result (λ broken. broken ≡ None → runs_of checker.new ≡ runs_of checker.old + 1) }
-    ensures title { IfOk result (λ broken. broken ≡ None → title_of checker.new ≡ title_of checker.old) }
+    ensures runs { IfOk result (λ broken.
+        broken ≡ None → runs_of checker.new ≡ runs_of checker.old + 1) }
+    ensures title { IfOk result (λ broken.
+        broken ≡ None → title_of checker.new ≡ title_of checker.old) }
 {
     let facts = facts_of_all(alloc, slots)?;
     let mut text = Payload::empty();

@@ -24,7 +24,8 @@ impl Announcing {
     // Whether one is due now; then it is the last one.
     fn is_due(&mut self, now: u64) -> bool
         ensures due { result ≡ is_due self.old now }
-        ensures last { self.new ≡ (if is_due self.old now then record self.old { last = now } else self.old) }
+        ensures last { self.new ≡ (if is_due self.old now then record self.old { last = now }
+            else self.old) }
     {
         match self.each {
             Some(each) if now.saturating_sub(self.last) >= each => {

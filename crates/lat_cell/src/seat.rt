@@ -66,10 +66,13 @@ impl<L: LineEnd, E: Ledger, B: Ledger, F: Ledger> Seat<L, E, B, F> {
         gate: &G,
         desk: &mut Desk,
     ) -> Option<LineDone>
-        ensures seat { (self.new.share.seat ≡ self.old.share.seat) × (self.new.share.parts ≡ self.old.share.parts) }
-        ensures gave { Within (L.left self.old.line) (L.left self.new.line) (in_hand self.old.share desk.old) (in_hand self.new.share desk.new) }
+        ensures seat { (self.new.share.seat ≡ self.old.share.seat)
+            × (self.new.share.parts ≡ self.old.share.parts) }
+        ensures gave { Within (L.left self.old.line) (L.left self.new.line)
+            (in_hand self.old.share desk.old) (in_hand self.new.share desk.new) }
         ensures later { L.faults self.old.line ≤ L.faults self.new.line }
-        ensures fault { result ≡ Some LineDone.Fault → Rose (L.faults self.old.line) (L.faults self.new.line) }
+        ensures fault { result ≡ Some LineDone.Fault →
+            Rose (L.faults self.old.line) (L.faults self.new.line) }
         ensures full { result ≡ Some LineDone.Full → self.new.share.full ≡ true }
     {
         let held = hold(
@@ -107,7 +110,8 @@ impl<L: LineEnd, E: Ledger, B: Ledger, F: Ledger> Seat<L, E, B, F> {
 
     // Closes the session, unless the cell is full or no memory is found for the event.
     fn close<C: Core, T: Tx>(&mut self, alloc: Global, cell: &mut Cell<C, T, E, B, F>)
-        ensures seat { (self.new.share.seat ≡ self.old.share.seat) × (self.new.share.parts ≡ self.old.share.parts) }
+        ensures seat { (self.new.share.seat ≡ self.old.share.seat)
+            × (self.new.share.parts ≡ self.old.share.parts) }
         ensures bytes { self.new.share.bytes ≡ self.old.share.bytes }
         ensures line { self.new.line ≡ self.old.line }
     {
@@ -125,10 +129,13 @@ impl<L: LineEnd, E: Ledger, B: Ledger, F: Ledger> Seat<L, E, B, F> {
         cell: &Mutex<Cell<C, T, E, B, F>>,
         gate: &G,
     )
-        ensures seat { (self.new.share.seat ≡ self.old.share.seat) × (self.new.share.parts ≡ self.old.share.parts) }
-        ensures gave { Within (L.left self.old.line) (L.left self.new.line) self.old.share.bytes self.new.share.bytes }
+        ensures seat { (self.new.share.seat ≡ self.old.share.seat)
+            × (self.new.share.parts ≡ self.old.share.parts) }
+        ensures gave { Within (L.left self.old.line)
+            (L.left self.new.line) self.old.share.bytes self.new.share.bytes }
         ensures later { L.faults self.old.line ≤ L.faults self.new.line }
-        ensures fault { self.new.done ≡ LineDone.Fault → Rose (L.faults self.old.line) (L.faults self.new.line) }
+        ensures fault { self.new.done ≡ LineDone.Fault →
+            Rose (L.faults self.old.line) (L.faults self.new.line) }
         ensures full { self.new.done ≡ LineDone.Full → self.new.share.full ≡ true }
     {
         let mut desk = Desk::new(self.service.is_some());

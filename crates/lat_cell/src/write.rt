@@ -41,7 +41,8 @@ fn copy_bytes(items: &[Item], place: &mut [u8; 1024]) -> usize
 // Writes all of a piece, offering all that is left of it at each write. After `Failed` a prefix of it was written.
 fn write_piece<L: LineEnd>(line: &mut L, piece: &[u8]) -> Result<(), Failed>
     ensures written { OnOk result (Appends (L.written line.old) (L.written line.new) piece.now) }
-    ensures part { OnErr result ((n : ℕ) × Appends (L.written line.old) (L.written line.new) (take n piece.now)) }
+    ensures part { OnErr result ((n : ℕ)
+        × Appends (L.written line.old) (L.written line.new) (take n piece.now)) }
     ensures left { L.left line.new ≡ L.left line.old }
     ensures later { L.faults line.old ≤ L.faults line.new }
     ensures fault { OnErr result (Rose (L.faults line.old) (L.faults line.new)) }
@@ -60,8 +61,10 @@ fn write_piece<L: LineEnd>(line: &mut L, piece: &[u8]) -> Result<(), Failed>
 
 /// Writes the bytes among the items, in order. A setting isn't written. After `Failed` the first of the bytes were written.
 pub fn write_items<L: LineEnd>(line: &mut L, items: &[Item]) -> Result<(), Failed>
-    ensures written { OnOk result (Appends (L.written line.old) (L.written line.new) (items_bytes items.now)) }
-    ensures part { OnErr result ((n : ℕ) × Appends (L.written line.old) (L.written line.new) (take n (items_bytes items.now))) }
+    ensures written { OnOk result (Appends (L.written line.old) (L.written line.new)
+        (items_bytes items.now)) }
+    ensures part { OnErr result ((n : ℕ)
+        × Appends (L.written line.old) (L.written line.new) (take n (items_bytes items.now))) }
     ensures left { L.left line.new ≡ L.left line.old }
     ensures later { L.faults line.old ≤ L.faults line.new }
     ensures fault { OnErr result (Rose (L.faults line.old) (L.faults line.new)) }

@@ -168,7 +168,8 @@ impl Accounts {
 
     // The slave forms a slot, which is that of this place. None where its session hasn't the credit.
     fn slave_forms(&mut self, place: u128, slot: &SlotFacts) -> Option<OwnedSlot>
-        ensures { slave_forms place (sums_of self.old) slot.now ≡ option_map (λ owned. (sums_of self.new, owned)) result }
+        ensures { slave_forms place (sums_of self.old) slot.now
+            ≡ option_map (λ owned. (sums_of self.new, owned)) result }
     {
         let mut account = self.slave[slot.from as usize];
         if slot.replies {
@@ -186,7 +187,8 @@ impl Accounts {
 
     // The master forms a slot. None where its session hasn't the credit.
     fn master_forms(&mut self, slot: &SlotFacts) -> Option<OwnedSlot>
-        ensures { master_forms (sums_of self.old) slot.now ≡ option_map (λ owned. (sums_of self.new, owned)) result }
+        ensures { master_forms (sums_of self.old) slot.now
+            ≡ option_map (λ owned. (sums_of self.new, owned)) result }
     {
         let account = &mut self.master[slot.to as usize];
         if !pay(account, slot.cost) {
@@ -201,7 +203,8 @@ impl Accounts {
 
     // An end forms a slot, which is that of this place where the end is the slave. None where its session hasn't the credit.
     fn forms(&mut self, by_master: bool, place: u128, slot: &SlotFacts) -> Option<OwnedSlot>
-        ensures { forms by_master place (sums_of self.old) slot.now ≡ option_map (λ owned. (sums_of self.new, owned)) result }
+        ensures { forms by_master place (sums_of self.old) slot.now
+            ≡ option_map (λ owned. (sums_of self.new, owned)) result }
     {
         if by_master {
             self.master_forms(slot)
@@ -219,7 +222,8 @@ impl Accounts {
         places: u128,
         slots: &[SlotFacts],
     ) -> Result<Option<Vec<OwnedSlot>>, Memory>
-        ensures { IfOk result (λ formed. FormsAll by_master places self.old self.new slots.now formed) }
+        ensures { IfOk result (λ formed.
+            FormsAll by_master places self.old self.new slots.now formed) }
     {
         let mut formed = Vec::with_capacity(alloc, slots.len())?;
         let mut place = places;

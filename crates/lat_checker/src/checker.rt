@@ -82,7 +82,8 @@ impl Checker {
         text: &[u8],
     ) -> Result<bool, Memory>
         requires { self.old.runs + 1 < 2 ^ 64 }
-        ensures { IfOk result (λ sent. SendsSlots by_master self.old self.new slots.now text.now sent) }
+        ensures { IfOk result (λ sent.
+            SendsSlots by_master self.old self.new slots.now text.now sent) }
     {
         let Some(owned) = self
             .accounts
@@ -163,8 +164,10 @@ impl Checker {
     ) -> Result<Option<Rule>, Memory>
         requires { runs_of self.old + 3 < 2 ^ 64 }
         ensures answer { AnswersRunBy by_master self.old head.now slots.now text.now self.new result }
-        ensures runs { IfOk result (λ broken. broken ≡ None → runs_of self.new ≡ runs_of self.old + 1) }
-        ensures title { IfOk result (λ broken. broken ≡ None → title_of self.new ≡ title_of self.old) }
+        ensures runs { IfOk result (λ broken.
+            broken ≡ None → runs_of self.new ≡ runs_of self.old + 1) }
+        ensures title { IfOk result (λ broken.
+            broken ≡ None → title_of self.new ≡ title_of self.old) }
     {
         let near = match self.tested(by_master, head, slots.is_empty(), text) {
             Ok(near) => near,

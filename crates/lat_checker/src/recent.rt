@@ -34,7 +34,8 @@ impl Model for SentMessage {
 impl SentMessage {
     /// A message with this text and these slots. Takes memory for its text.
     pub fn make(alloc: Global, text: &[u8], slots: Vec<OwnedSlot>) -> Result<SentMessage, Memory>
-        ensures { IfOk result (λ message. message ≡ record { text = text.now; slots = slots.items }) }
+        ensures { IfOk result (λ message.
+            message ≡ record { text = text.now; slots = slots.items }) }
     {
         let text = Vec::from_slice(alloc, text)?;
         Ok(SentMessage { text, slots })

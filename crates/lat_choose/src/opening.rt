@@ -25,7 +25,8 @@ fn groups_of(line: &[u8]) -> Option<[u8; 32]>
 /// The groups that are listened to, the number of the first line of the entries, and these lines: behind a first line
 /// that gives the groups, or all lines and all groups.
 pub fn opening(input: &[u8]) -> ([u8; 32], usize, &[u8])
-    ensures opens { record { groups = result.0; number = result.1; lines = lines_of result.2.now } ≡ opening_of (lines_of input.now) }
+    ensures opens { record { groups = result.0; number = result.1; lines = lines_of result.2.now }
+        ≡ opening_of (lines_of input.now) }
     ensures number { result.1 + length result.2.now ≤ length input.now + 1 }
 {
     if let Some((line, behind)) = first_line(input) {

@@ -32,13 +32,15 @@ fn full_onto(text: &mut String, number: usize) -> Result<(), AllocError>
 // Adds the six bytes of a station's address.
 fn station_onto(alloc: Global, text: &mut String, station: &[u8]) -> Result<(), AllocError>
     requires { length station.now ≡ 6 }
-    ensures { OnOk result (string_bytes text.new ≡ string_bytes text.old ++ encode_lower (low_bytes 6 (address station.now))) }
+    ensures { OnOk result (string_bytes text.new
+        ≡ string_bytes text.old ++ encode_lower (low_bytes 6 (address station.now))) }
 {
     hex_onto(alloc, text, station)
 }
 
 fn choice_onto(alloc: Global, text: &mut String, best: Option<Best>) -> Result<(), AllocError>
-    ensures { OnOk result (string_bytes text.new ≡ string_bytes text.old ++ choice_line (option_map best_shown best)) }
+    ensures { OnOk result (string_bytes text.new
+        ≡ string_bytes text.old ++ choice_line (option_map best_shown best)) }
 {
     let Some(best) = best else {
         return text.push_str("none\n");
@@ -59,7 +61,8 @@ fn best_onto(
     requires { directory.now.moment ≤ at }
     ensures { (h : List HeardAnnouncement) →
         Stands directory.now h →
-        OnOk result (string_bytes text.new ≡ string_bytes text.old ++ choice_line (best directory.now.groups service.now at h)) }
+        OnOk result (string_bytes text.new
+        ≡ string_bytes text.old ++ choice_line (best directory.now.groups service.now at h)) }
 {
     choice_onto(alloc, text, directory.best(service, at))
 }
@@ -77,7 +80,8 @@ fn hear_onto(
     requires { directory.old.moment ≤ at }
     ensures text { (h : List HeardAnnouncement) →
         Stands directory.old h →
-        OnOk result (string_bytes text.new ≡ string_bytes text.old ++ hear_printed directory.old.groups number at found h) }
+        OnOk result (string_bytes text.new
+        ≡ string_bytes text.old ++ hear_printed directory.old.groups number at found h) }
     ensures stands { (h : List HeardAnnouncement) →
         Stands directory.old h →
         OnOk result (Stands directory.new (with_heard directory.old.groups at from found h)) }
@@ -106,7 +110,8 @@ pub fn entry_onto(
     requires { directory.old.moment ≤ moment entry }
     ensures text { (h : List HeardAnnouncement) →
         Stands directory.old h →
-        OnOk result (string_bytes text.new ≡ string_bytes text.old ++ entry_printed directory.old.groups number h entry) }
+        OnOk result (string_bytes text.new
+        ≡ string_bytes text.old ++ entry_printed directory.old.groups number h entry) }
     ensures stands { (h : List HeardAnnouncement) →
         Stands directory.old h →
         OnOk result (Stands directory.new (heard_after directory.old.groups h entry)) }

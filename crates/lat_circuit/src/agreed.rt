@@ -35,7 +35,8 @@ pub(crate) struct Agreed {
 /// What an end of this timing agrees on with the peer whose START this is.
 pub(crate) fn agreed_by(timing: &Timing, info: &StartInfo) -> Agreed
     requires { (576 ≤ info.now.size) × (1 ≤ info.now.sessions) }
-    ensures value { agreed_shown result ≡ agreed_by (timing_shown timing.now) (info_shown info.now) }
+    ensures value { agreed_shown result
+        ≡ agreed_by (timing_shown timing.now) (info_shown info.now) }
     ensures works { Works result }
 {
     let wide = timing.wide && is_wide(info.params.as_slice());
@@ -92,7 +93,8 @@ pub(crate) fn span_of(wide: bool) -> Span
 /// Both ends agree on the least of both numbers of sessions.
 pub(crate) fn agree_sessions(sessions: &mut Sessions, stated: u8)
     requires { 1 ≤ stated }
-    ensures state { (e : States) → SessionsStand sessions.old e → SessionsStand sessions.new (record e { agreed = min stated e.agreed }) }
+    ensures state { (e : States) → SessionsStand sessions.old e →
+        SessionsStand sessions.new (record e { agreed = min stated e.agreed }) }
     ensures same { SameEnd sessions.old sessions.new }
 {
     let agreed = stated.min(sessions.agreed());

@@ -52,7 +52,8 @@ impl Circuit {
             result ≡ (if nat_lt (held e.half.sessions) e.half.sessions.agreed
             then Ok (least_free e.half.sessions)
             else Err SessionFault.Full) }
-        ensures state { (e : End) → Stands self.old e → Stands self.new (note_empty e (still (call_end (Connect service.now request) e))).end }
+        ensures state { (e : End) → Stands self.old e →
+            Stands self.new (note_empty e (still (call_end (Connect service.now request) e))).end }
         ensures keeps { Keeps self.old self.new }
         ensures ended { self.new.ended ≡ self.old.ended }
     {
@@ -63,7 +64,8 @@ impl Circuit {
     pub fn answer_session(&mut self, id: u8)
         requires lives { self.old.ended ≡ None }
         requires asked { state_at self.old.sessions id ≡ states.Asked }
-        ensures state { (e : End) → Stands self.old e → Stands self.new (note_empty e (still (call_end (Answer id) e))).end }
+        ensures state { (e : End) → Stands self.old e →
+            Stands self.new (note_empty e (still (call_end (Answer id) e))).end }
         ensures keeps { Keeps self.old self.new }
         ensures ended { self.new.ended ≡ self.old.ended }
     {
@@ -75,7 +77,8 @@ impl Circuit {
         requires lives { self.old.ended ≡ None }
         requires asked { state_at self.old.sessions id ≡ states.Asked }
         requires reason { reason ≤ 15 }
-        ensures state { (e : End) → Stands self.old e → Stands self.new (note_empty e (still (call_end (Refuse id reason) e))).end }
+        ensures state { (e : End) → Stands self.old e →
+            Stands self.new (note_empty e (still (call_end (Refuse id reason) e))).end }
         ensures keeps { Keeps self.old self.new }
         ensures ended { self.new.ended ≡ self.old.ended }
     {
@@ -88,9 +91,11 @@ impl Circuit {
     /// each does and where it is refused.
     pub fn call_session(&mut self, id: u8, call: &SessionCall) -> Result<usize, SessionFault>
         requires lives { self.old.ended ≡ None }
-        ensures answer { (e : End) → Stands self.old e → result ≡ answer_of (named e.half.sessions id) call.now }
+        ensures answer { (e : End) → Stands self.old e →
+            result ≡ answer_of (named e.half.sessions id) call.now }
         ensures most { IfOk result (λ n. n ≤ bytes_in call.now) }
-        ensures state { (e : End) → Stands self.old e → Stands self.new (note_empty e (still (call_end (call_of id call.now) e))).end }
+        ensures state { (e : End) → Stands self.old e →
+            Stands self.new (note_empty e (still (call_end (call_of id call.now) e))).end }
         ensures keeps { Keeps self.old self.new }
         ensures ended { self.new.ended ≡ self.old.ended }
     {
@@ -121,10 +126,12 @@ impl Circuit {
             then map item_shown (took e.half.sessions id (length out.old))
             ++ drop (take_count (named e.half.sessions id) (length out.old)) out.old
             else out.old) }
-        ensures count { IfOk result (λ n. n ≡ min (length out.old) (waiting_at self.old.sessions id)) }
+        ensures count { IfOk result (λ n.
+            n ≡ min (length out.old) (waiting_at self.old.sessions id)) }
         ensures most { IfOk result (λ n. n ≤ length out.old) }
         ensures places { length out.new ≡ length out.old }
-        ensures state { (e : End) → Stands self.old e → Stands self.new (note_empty e (still (call_end (Take id (length out.old)) e))).end }
+        ensures state { (e : End) → Stands self.old e →
+            Stands self.new (note_empty e (still (call_end (Take id (length out.old)) e))).end }
         ensures keeps { Keeps self.old self.new }
         ensures ended { self.new.ended ≡ self.old.ended }
     {

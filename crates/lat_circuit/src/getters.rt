@@ -133,7 +133,8 @@ impl Circuit {
         ensures id { IfSome result (λ a. a.id ≡ id) }
         ensures model { (e : End) →
             Stands self.now e →
-            result ≡ cond (is_asked (state_shown (state e.half.sessions.master (named e.half.sessions id))))
+            result ≡ cond (is_asked (state_shown (state e.half.sessions.master
+            (named e.half.sessions id))))
             (Some (asked_at e.half.sessions id))
             None }
         ensures slave { (e : End) →
@@ -204,7 +205,10 @@ impl Circuit {
     pub fn totals(&self, id: u8) -> (u64, u64)
         ensures { (e : End) →
             Stands self.now e →
-            result ≡ (saturated (credits (named e.half.sessions id).out), saturated (costs (named e.half.sessions id).out)) }
+            result ≡ (
+              saturated (credits (named e.half.sessions id).out),
+              saturated (costs (named e.half.sessions id).out),
+            ) }
     {
         self.sessions.totals(id)
     }

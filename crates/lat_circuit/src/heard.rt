@@ -26,7 +26,8 @@ impl Circuit {
         requires room { length out.old + 16 ≤ 256 }
         requires moment { self.old.moments.now ≤ now }
         ensures did { Simulates (noted_by self.old.facts now m.now) self.old self.new out.old out.new }
-        ensures answer { (e : End) → Stands self.old e → heard_shown result ≡ (heard_by self.old.facts now m.now e).answer }
+        ensures answer { (e : End) → Stands self.old e →
+            heard_shown result ≡ (heard_by self.old.facts now m.now e).answer }
         ensures remains { Remains now self.old self.new }
         ensures most { length out.new ≤ length out.old + 1 }
     {
@@ -120,7 +121,9 @@ impl Circuit {
 
     // Whether a reply with these ids is one to this end.
     fn is_replied(&self, to: u16, from: u16) -> bool
-        ensures { (e : End) → Stands self.now e → result ≡ e.master && (nat_eq to self.now.facts.id && (not e.running || nat_eq e.peer from)) }
+        ensures { (e : End) → Stands self.now e →
+            result ≡ e.master
+            && (nat_eq to self.now.facts.id && (not e.running || nat_eq e.peer from)) }
     {
         let ids = self.link.ids();
         ids.master && to == ids.from && (!self.running || ids.to == from)
@@ -134,7 +137,8 @@ impl Circuit {
         requires heard { self.old.moments.heard_at ≡ self.old.moments.now }
         ensures did { (e : End) →
             Stands self.old e →
-            Stands self.new (reply_end self.old.moments.now from (agreed_by (timing_shown self.old.facts.config.timing) (info_shown info.now)) e) }
+            Stands self.new (reply_end self.old.moments.now from (agreed_by (timing_shown self.old.facts.config.timing)
+            (info_shown info.now)) e) }
         ensures remains { Remains self.old.moments.now self.old self.new }
     {
         let agreed = agreed_by(&self.config.timing, info);
@@ -168,7 +172,8 @@ impl Circuit {
 
     // Whether a STOP with these ids is one of this circuit.
     fn is_stopped(&self, to: u16, from: u16) -> bool
-        ensures { (e : End) → Stands self.now e → result ≡ nat_eq to self.now.facts.id && (nat_eq e.peer from || nat_eq from 0) }
+        ensures { (e : End) → Stands self.now e →
+            result ≡ nat_eq to self.now.facts.id && (nat_eq e.peer from || nat_eq from 0) }
     {
         let ids = self.link.ids();
         to == ids.from && (ids.to == from || from == 0)

@@ -47,7 +47,8 @@ impl Circuit {
         requires moment { self.old.moments.now ≤ now }
         requires fields { wide ≡ false → (head.seq < 256) × (head.ack < 256) }
         requires slots { (length slots.now < 256) × AllByRecursion IsWritable slots.now }
-        ensures did { SimulatesHearing (hears_run self.old.facts.id now wide (wide_head_shown head) (map slot_heard slots.now)) result
+        ensures did { SimulatesHearing (hears_run self.old.facts.id now wide (wide_head_shown head)
+            (map slot_heard slots.now)) result
             self.old self.new out.old out.new }
         ensures remains { Remains now self.old self.new }
         ensures most { length out.new ≤ length out.old + 1 }
@@ -66,7 +67,8 @@ impl Circuit {
 
     // Whether these are the ids of both ends, and this end runs.
     fn is_named(&self, to: u16, from: u16) -> bool
-        ensures model { (e : End) → Stands self.now e → result ≡ nat_eq to self.now.facts.id && (nat_eq from e.peer && e.running) }
+        ensures model { (e : End) → Stands self.now e →
+            result ≡ nat_eq to self.now.facts.id && (nat_eq from e.peer && e.running) }
         ensures running { result ≡ true → self.now.running ≡ true }
     {
         let ids = self.link.ids();
@@ -86,9 +88,11 @@ impl Circuit {
         requires lives { self.old.ended ≡ None }
         requires running { self.old.running ≡ true }
         requires room { length out.old < 256 }
-        requires fields { (head.now.seq < 2 * half self.old.link.sending.span) × (head.now.ack < 2 * half self.old.link.sending.span) }
+        requires fields { (head.now.seq < 2 * half self.old.link.sending.span)
+            × (head.now.ack < 2 * half self.old.link.sending.span) }
         requires slots { (length slots.now < 256) × AllByRecursion IsWritable slots.now }
-        ensures did { SimulatesHearing (λ e. applied_step (apply (wide_head_shown head.now) (map slot_heard slots.now) e)) result
+        ensures did { SimulatesHearing (λ e.
+            applied_step (apply (wide_head_shown head.now) (map slot_heard slots.now) e)) result
             self.old self.new out.old out.new }
         ensures keeps { Keeps self.old self.new }
         ensures most { length out.new ≤ length out.old + 1 }
@@ -122,9 +126,11 @@ impl Circuit {
     // The acknowledgement of a RUN, and then its message.
     fn apply(&mut self, head: &WideHead, slots: &[Slot]) -> Result<Heard, Broken>
         requires running { self.old.running ≡ true }
-        requires fields { (head.now.seq < 2 * half self.old.link.sending.span) × (head.now.ack < 2 * half self.old.link.sending.span) }
+        requires fields { (head.now.seq < 2 * half self.old.link.sending.span)
+            × (head.now.ack < 2 * half self.old.link.sending.span) }
         requires slots { (length slots.now < 256) × AllByRecursion IsWritable slots.now }
-        ensures applies { Applies (apply (wide_head_shown head.now) (map slot_heard slots.now)) result self.old self.new }
+        ensures applies { Applies (apply (wide_head_shown head.now)
+            (map slot_heard slots.now)) result self.old self.new }
         ensures keeps { Keeps self.old self.new }
         ensures goes_on { GoesOn self.old self.new }
     {
@@ -136,7 +142,8 @@ impl Circuit {
     fn hear_ack(&mut self, ack: u16) -> Result<(), Broken>
         requires running { self.old.running ≡ true }
         requires field { ack < 2 * half self.old.link.sending.span }
-        ensures answer { (e : End) → Stands self.old e → is_err result ≡ is_unsent e.half.link (ack_heard ack e) }
+        ensures answer { (e : End) → Stands self.old e →
+            is_err result ≡ is_unsent e.half.link (ack_heard ack e) }
         ensures state { (e : End) →
             Stands self.old e →
             is_unsent e.half.link (ack_heard ack e) ≡ false →
@@ -162,7 +169,8 @@ impl Circuit {
         requires running { self.old.running ≡ true }
         requires field { number < 2 * half self.old.link.sending.span }
         requires slots { (length slots.now < 256) × AllByRecursion IsWritable slots.now }
-        ensures applies { Applies (λ e. apply_body (number_heard number e) ask (map slot_heard slots.now) e) result self.old self.new }
+        ensures applies { Applies (λ e.
+            apply_body (number_heard number e) ask (map slot_heard slots.now) e) result self.old self.new }
         ensures keeps { Keeps self.old self.new }
         ensures goes_on { GoesOn self.old self.new }
     {
@@ -195,8 +203,10 @@ impl Circuit {
 // Applies the slots in order, up to the first bad one.
 fn hear_slots(sessions: &mut Sessions, slots: &[Slot]) -> Result<(), Broken>
     requires { AllByRecursion IsWritable slots.now }
-    ensures state { (e : States) → SessionsStand sessions.old e → SessionsStand sessions.new (hear_all (map slot_heard slots.now) e).after }
-    ensures answer { (e : States) → SessionsStand sessions.old e → is_ok result ≡ (hear_all (map slot_heard slots.now) e).good }
+    ensures state { (e : States) → SessionsStand sessions.old e →
+        SessionsStand sessions.new (hear_all (map slot_heard slots.now) e).after }
+    ensures answer { (e : States) → SessionsStand sessions.old e →
+        is_ok result ≡ (hear_all (map slot_heard slots.now) e).good }
     ensures same { SameEnd sessions.old sessions.new }
 {
     for slot in slots {

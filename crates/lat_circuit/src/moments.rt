@@ -23,7 +23,15 @@ pub struct Moments {
 impl Moments {
     /// Those of a master that is called now.
     pub(crate) fn called(now: u64) -> Moments
-        ensures { result ≡ record { now = now; due_at = now; heard_at = 0; sent_at = now; since = 0; start_at = now; empty_at = 0 } }
+        ensures { result ≡ record {
+          now = now;
+          due_at = now;
+          heard_at = 0;
+          sent_at = now;
+          since = 0;
+          start_at = now;
+          empty_at = 0;
+        } }
     {
         Moments {
             now,
@@ -38,7 +46,15 @@ impl Moments {
 
     /// Those of a slave that answers now.
     pub(crate) fn answered(now: u64) -> Moments
-        ensures { result ≡ record { now = now; due_at = now; heard_at = now; sent_at = now; since = now; start_at = 0; empty_at = now } }
+        ensures { result ≡ record {
+          now = now;
+          due_at = now;
+          heard_at = now;
+          sent_at = now;
+          since = now;
+          start_at = 0;
+          empty_at = now;
+        } }
     {
         Moments {
             now,

@@ -23,7 +23,8 @@ impl Circuit {
             then Ok (put_count (named e.half.sessions id) (length bytes.now))
             else Err SessionFault.Closed) }
         ensures most { IfOk result (λ n. n ≤ length bytes.now) }
-        ensures state { (e : End) → Stands self.old e → Stands self.new (note_empty e (still (call_end (Put id bytes.now) e))).end }
+        ensures state { (e : End) → Stands self.old e →
+            Stands self.new (note_empty e (still (call_end (Put id bytes.now) e))).end }
         ensures keeps { Keeps self.old self.new }
         ensures ended { self.new.ended ≡ self.old.ended }
     {
@@ -36,9 +37,11 @@ impl Circuit {
         ensures answer { (e : End) →
             Stands self.old e →
             result ≡ (if put_open (named e.half.sessions id)
-            then (if nat_lt (length (unframed (named e.half.sessions id))) 4096 then Ok tt else Err SessionFault.Full)
+            then (if nat_lt (length (unframed (named e.half.sessions id))) 4096 then Ok tt
+            else Err SessionFault.Full)
             else Err SessionFault.Closed) }
-        ensures state { (e : End) → Stands self.old e → Stands self.new (note_empty e (still (call_end (Set id setting) e))).end }
+        ensures state { (e : End) → Stands self.old e →
+            Stands self.new (note_empty e (still (call_end (Set id setting) e))).end }
         ensures keeps { Keeps self.old self.new }
         ensures ended { self.new.ended ≡ self.old.ended }
     {
@@ -51,8 +54,10 @@ impl Circuit {
         requires lives { self.old.ended ≡ None }
         ensures answer { (e : End) →
             Stands self.old e →
-            result ≡ (if put_open (named e.half.sessions id) then Ok tt else Err SessionFault.Closed) }
-        ensures state { (e : End) → Stands self.old e → Stands self.new (note_empty e (still (call_end (Attend id flag) e))).end }
+            result ≡ (if put_open (named e.half.sessions id) then Ok tt
+            else Err SessionFault.Closed) }
+        ensures state { (e : End) → Stands self.old e →
+            Stands self.new (note_empty e (still (call_end (Attend id flag) e))).end }
         ensures keeps { Keeps self.old self.new }
         ensures ended { self.new.ended ≡ self.old.ended }
     {
@@ -65,8 +70,10 @@ impl Circuit {
         requires lives { self.old.ended ≡ None }
         ensures answer { (e : End) →
             Stands self.old e →
-            result ≡ (if take_open (named e.half.sessions id) then Ok tt else Err SessionFault.Closed) }
-        ensures state { (e : End) → Stands self.old e → Stands self.new (note_empty e (still (call_end (Close id) e))).end }
+            result ≡ (if take_open (named e.half.sessions id) then Ok tt
+            else Err SessionFault.Closed) }
+        ensures state { (e : End) → Stands self.old e →
+            Stands self.new (note_empty e (still (call_end (Close id) e))).end }
         ensures keeps { Keeps self.old self.new }
         ensures ended { self.new.ended ≡ self.old.ended }
     {

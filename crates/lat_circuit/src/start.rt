@@ -187,7 +187,8 @@ impl Circuit {
     /// Writes the STOP of this end into an empty payload.
     pub(crate) fn write_stop(&self, reason: u8, out: &mut Payload)
         requires { out.old ≡ [] }
-        ensures { out.new ≡ padded (message_text (message_of (message_sent self.now.facts (Stopped reason)))) }
+        ensures { out.new ≡ padded (message_text (message_of (message_sent self.now.facts
+            (Stopped reason)))) }
     {
         let ids = self.link.ids();
         write_stop(ids.master, ids.to, ids.from, reason, out);

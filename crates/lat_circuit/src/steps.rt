@@ -53,7 +53,8 @@ impl Circuit {
 
     // The moment from which the second for repeats counts after a message is formed.
     fn since_forming(&self) -> u64
-        ensures model { (e : End) → Stands self.now e → result ≡ cond (all_known e) e.moment e.since }
+        ensures model { (e : End) → Stands self.now e →
+            result ≡ cond (all_known e) e.moment e.since }
         ensures past { result ≤ self.now.moments.now }
     {
         if self.all_known() {
@@ -74,7 +75,8 @@ impl Circuit {
             payload.old ≡ unformed_payload self.old.link e.half.link m →
             length m ≡ slots →
             Stands self.new (form_slots m e).end
-            × (frame_of self.new.facts.config.peer self.new.facts.id Fresh payload.new ∷ [] ≡ map (frame_sent self.new.facts) (form_slots m e).sent)
+            × (frame_of self.new.facts.config.peer self.new.facts.id Fresh payload.new ∷ []
+            ≡ map (frame_sent self.new.facts) (form_slots m e).sent)
             × AreFormed self.new.facts (form_slots m e).sent }
         ensures keeps { Keeps self.old self.new }
     {
@@ -109,7 +111,9 @@ impl Circuit {
     // Sends all unacknowledged messages again, oldest first.
     fn repeat_all(&self, out: &mut OutBox)
         requires { length out.old + 8 ≤ 256 }
-        ensures frames { (e : End) → Stands self.now e → out.new ≡ out.old ++ map (frame_sent self.now.facts) (marked (again_frames e.half.link)) }
+        ensures frames { (e : End) → Stands self.now e →
+            out.new ≡ out.old
+            ++ map (frame_sent self.now.facts) (marked (again_frames e.half.link)) }
         ensures most { length out.new ≤ length out.old + 8 }
     {
         let count = self.link.unacknowledged();

@@ -33,8 +33,10 @@ impl Circuit {
         requires lives { self.old.ended ≡ None }
         requires room { length out.old + 16 ≤ 256 }
         requires moment { self.old.moments.now ≤ now }
-        ensures did { Simulates (λ e. note_empty e (time_step now e)) self.old self.new out.old out.new }
-        ensures answer { (e : End) → Stands self.old e → result ≡ due_of (note_empty e (time_step now e)) }
+        ensures did { Simulates (λ e.
+            note_empty e (time_step now e)) self.old self.new out.old out.new }
+        ensures answer { (e : End) → Stands self.old e →
+            result ≡ due_of (note_empty e (time_step now e)) }
         ensures facts { self.new.facts ≡ self.old.facts }
         ensures moment { self.new.moments.now ≡ now }
         ensures sessions { SameEnd self.old.sessions self.new.sessions }
@@ -62,7 +64,8 @@ impl Circuit {
     /// Gives it a moment.
     pub(crate) fn pass(&mut self, now: u64)
         requires { self.old.moments.now ≤ now }
-        ensures state { (e : End) → Stands self.old e → Stands self.new (record e { moment = now }) }
+        ensures state { (e : End) → Stands self.old e →
+            Stands self.new (record e { moment = now }) }
         ensures value { self.new ≡ record self.old { moments = record (self.old.moments) { now = now } } }
     {
         self.moments.now = now;
@@ -166,7 +169,8 @@ impl Circuit {
     }
 
     fn note_due(&mut self)
-        ensures state { (e : End) → Stands self.old e → Stands self.new (record e { due_at = e.moment }) }
+        ensures state { (e : End) → Stands self.old e →
+            Stands self.new (record e { due_at = e.moment }) }
         ensures keeps { Keeps self.old self.new }
     {
         self.moments.due_at = self.moments.now;

@@ -37,7 +37,8 @@ impl Circuit {
 
     /// Whether messages are unacknowledged, and it is time that they go out again.
     pub(crate) fn repeats_are_due(&self) -> bool
-        ensures { (e : End) → Stands self.now e → result ≡ (not (all_known e) && passed e.since 1000 e) }
+        ensures { (e : End) → Stands self.now e →
+            result ≡ (not (all_known e) && passed e.since 1000 e) }
     {
         let is_over = passed(self.moments.since, REPEAT, self.moments.now);
         let waits = !self.all_known();
@@ -61,7 +62,8 @@ impl Circuit {
 
     /// Whether it is a master that runs, and has sent nothing for the keep-alive.
     pub(crate) fn answer_is_due(&self) -> bool
-        ensures model { (e : End) → Stands self.now e → result ≡ (e.master && e.running && passed e.sent_at (1000 * e.keepalive) e) }
+        ensures model { (e : End) → Stands self.now e →
+            result ≡ (e.master && e.running && passed e.sent_at (1000 * e.keepalive) e) }
         ensures running { result ≡ true → self.now.running ≡ true }
     {
         self.keepalive_is_over(self.moments.sent_at)
@@ -70,7 +72,8 @@ impl Circuit {
     // Whether it is a master that runs, and the keep-alive has passed since a moment.
     fn keepalive_is_over(&self, since: u64) -> bool
         requires { since ≤ self.now.moments.now }
-        ensures model { (e : End) → Stands self.now e → result ≡ (e.master && e.running && passed since (1000 * e.keepalive) e) }
+        ensures model { (e : End) → Stands self.now e →
+            result ≡ (e.master && e.running && passed since (1000 * e.keepalive) e) }
         ensures running { result ≡ true → self.now.running ≡ true }
     {
         let time = 1000 * u64::from(self.keepalive);
@@ -81,7 +84,8 @@ impl Circuit {
 
     /// Whether a due timer gives it an occasion: a slave only once it has heard a RUN.
     pub(crate) fn may_form(&self) -> bool
-        ensures value { result ≡ (self.now.running && (self.now.facts.master || self.now.heard_run)) }
+        ensures value { result ≡ (self.now.running
+            && (self.now.facts.master || self.now.heard_run)) }
         ensures model { (e : End) → Stands self.now e → result ≡ may_form e }
     {
         let master = self.is_master();

@@ -45,12 +45,14 @@ impl Circuits {
     pub fn take(&mut self, circuit: u16, id: u8, out: &mut [Item]) -> Result<usize, SessionFault>
         ensures answer { (c : Core) →
             Stands self.old c →
-            result ≡ (if lives (c.circuits.circuit_at circuit).end && take_open (session_at c circuit id)
+            result ≡ (if lives (c.circuits.circuit_at circuit).end
+            && take_open (session_at c circuit id)
             then Ok (take_count (session_at c circuit id) (length out.old))
             else Err SessionFault.Closed) }
         ensures items { (c : Core) →
             Stands self.old c →
-            out.new ≡ (if lives (c.circuits.circuit_at circuit).end && take_open (session_at c circuit id)
+            out.new ≡ (if lives (c.circuits.circuit_at circuit).end
+            && take_open (session_at c circuit id)
             then map item_shown (took (sessions_at c circuit) id (length out.old))
             ++ drop (take_count (session_at c circuit id) (length out.old)) out.old
             else out.old) }
@@ -99,7 +101,8 @@ impl Circuits {
 
     // Where the living circuit of this id stands, whose session of this id is asked for.
     fn asked_place(&self, circuit: u16, id: u8) -> Option<usize>
-        ensures place { MatchOption result (NoneAsks self.now circuit id) (AsksAt self.now circuit id) }
+        ensures place { MatchOption result (NoneAsks self.now circuit id)
+            (AsksAt self.now circuit id) }
         ensures within { IfSome result (λ at. at < length self.now.held) }
     {
         let at = self.living_at(circuit)?;
@@ -112,7 +115,8 @@ impl Circuits {
 
     // Where the living circuit of this id stands.
     pub(crate) fn living_at(&self, circuit: u16) -> Option<usize>
-        ensures place { MatchOption result (lives_in (held_circuit self.now circuit) ≡ false) (LivesAt self.now circuit) }
+        ensures place { MatchOption result (lives_in (held_circuit self.now circuit) ≡ false)
+            (LivesAt self.now circuit) }
         ensures within { IfSome result (λ at. at < length self.now.held) }
     {
         let at = self.held_at(circuit)?;

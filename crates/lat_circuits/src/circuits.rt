@@ -61,7 +61,8 @@ impl Model for Circuits {
 
     ghost view = { shown };
 
-    ghost invariant = { λ a. Holds (shown a) × (8 ≤ vec_capacity a.held) × (8 ≤ vec_capacity a.rooms) };
+    ghost invariant = { λ a. Holds (shown a) × (8 ≤ vec_capacity a.held)
+        × (8 ≤ vec_capacity a.rooms) };
 }
 
 // The memory of eight circuits with so many sessions.
@@ -89,7 +90,8 @@ impl Circuits {
     ) -> Result<Circuits, Memory>
         requires timing { IsTiming timing }
         ensures stands { IfOk result (λ k. Stands k (open_core (side_of k) (address own.0))) }
-        ensures own { IfOk result (λ k. (k.own ≡ own) × (k.name ≡ name) × (k.timing ≡ timing) × (k.server ≡ server)) }
+        ensures own { IfOk result (λ k.
+            (k.own ≡ own) × (k.name ≡ name) × (k.timing ≡ timing) × (k.server ≡ server)) }
         ensures none { IfOk result (λ k. (k.held ≡ []) × (k.moment ≡ 0)) }
     {
         Ok(Circuits {

@@ -45,7 +45,8 @@ impl Circuits {
 
     /// The present or last session of an id, `None` where the circuit isn't held.
     pub fn info(&self, circuit: u16, id: u8) -> Option<Info>
-        ensures model { (c : Core) → Stands self.now c → IfSome result (λ t. telling t ≡ telling_of c circuit id) }
+        ensures model { (c : Core) → Stands self.now c →
+            IfSome result (λ t. telling t ≡ telling_of c circuit id) }
         ensures held { is_some result ≡ has_id circuit self.now }
         ensures within { IfSome result (λ t. (1 ≤ circuit) × (circuit ≤ self.now.drawn)) }
         ensures side { (c : Core) →
@@ -58,7 +59,8 @@ impl Circuits {
 
     /// The state of the present or last session of an id: `Free` where the circuit doesn't live.
     pub fn state(&self, circuit: u16, id: u8) -> SessionState
-        ensures model { (c : Core) → Stands self.now c → result ≡ session_state (c.circuits.circuit_at circuit).end id }
+        ensures model { (c : Core) → Stands self.now c →
+            result ≡ session_state (c.circuits.circuit_at circuit).end id }
         ensures side { (c : Core) →
             Stands self.now c →
             lives (c.circuits.circuit_at circuit).end ≡ true →
@@ -73,7 +75,8 @@ impl Circuits {
         ensures value { result ≡ ready self.now circuit id }
         ensures model { (c : Core) →
             Stands self.now c →
-            result ≡ cond (lives (c.circuits.circuit_at circuit).end && take_open (session_at c circuit id))
+            result ≡ cond (lives (c.circuits.circuit_at circuit).end
+            && take_open (session_at c circuit id))
             (length (items (session_at c circuit id).came) - (session_at c circuit id).taken)
             0 }
     {
@@ -86,7 +89,8 @@ impl Circuits {
         ensures model { (c : Core) →
             Stands self.now c →
             self.now.server ≡ false →
-            result ≡ cond (lives (c.circuits.circuit_at circuit).end && waits (session_at c circuit id))
+            result ≡ cond (lives (c.circuits.circuit_at circuit).end
+            && waits (session_at c circuit id))
             (Some (asked_at (sessions_at c circuit) id))
             None }
     {
@@ -111,14 +115,16 @@ impl Circuits {
 
     /// Whether a circuit of this id lives.
     pub fn lives(&self, circuit: u16) -> bool
-        ensures { (c : Core) → Stands self.now c → result ≡ lives (c.circuits.circuit_at circuit).end }
+        ensures { (c : Core) → Stands self.now c →
+            result ≡ lives (c.circuits.circuit_at circuit).end }
     {
         self.circuit(circuit).is_some_and(Circuit::lives)
     }
 
     /// Whether a RUN from a station with these ids names a living circuit whose reply was heard.
     pub fn names(&self, from: Addr, to: u16, source: u16) -> bool
-        ensures { (c : Core) → Stands self.now c → result ≡ names c.circuits (address from.0) to source }
+        ensures { (c : Core) → Stands self.now c →
+            result ≡ names c.circuits (address from.0) to source }
     {
         self.circuit(to)
             .is_some_and(|held| is_named(held, from, source))
@@ -162,7 +168,8 @@ fn circuit_of(held: &[Circuit], id: u16) -> Option<&Circuit>
 
 // What a circuit tells of a session.
 fn tell(circuit: &Circuit, id: u8) -> Info
-    ensures { (c : Core) → IsCircuit c circuit.now → telling result ≡ telling_of c circuit.now.facts.id id }
+    ensures { (c : Core) → IsCircuit c circuit.now →
+        telling result ≡ telling_of c circuit.now.facts.id id }
 {
     let (given, used) = circuit.totals(id);
     Info {

@@ -42,11 +42,13 @@ impl Circuits {
         requires ok { IsWritable m.now }
         requires clear { IsClear self.old }
         requires room { length out.old + 16 ≤ 256 }
-        ensures did { Simulates (λ c. (heard_core (side_of self.old) (address from.0) (message_shown m.now) c).doing)
+        ensures did { Simulates (λ c.
+            (heard_core (side_of self.old) (address from.0) (message_shown m.now) c).doing)
             self.old self.new out.old out.new }
         ensures answer { (c : Core) →
             Stands self.old c →
-            hearing_shown result ≡ (heard_core (side_of self.old) (address from.0) (message_shown m.now) c).answer }
+            hearing_shown result
+            ≡ (heard_core (side_of self.old) (address from.0) (message_shown m.now) c).answer }
         ensures core { SameCore self.old self.new }
         ensures moment { self.new.moment ≡ self.old.moment }
         ensures held { (x : ℕ) → has_id x self.old ≡ true → has_id x self.new ≡ true }
@@ -85,11 +87,14 @@ impl Circuits {
         requires ok { IsWritable m.now }
         requires clear { IsClear self.old }
         requires room { length out.old + 16 ≤ 256 }
-        ensures did { Simulates (λ c. (hears_named (side_of self.old) id (address from.0) (message_shown m.now) c).doing)
+        ensures did { Simulates (λ c.
+            (hears_named (side_of self.old) id (address from.0) (message_shown m.now) c).doing)
             self.old self.new out.old out.new }
         ensures answer { (c : Core) →
             Stands self.old c →
-            hearing_shown result ≡ (hears_named (side_of self.old) id (address from.0) (message_shown m.now) c).answer }
+            hearing_shown result
+            ≡ (hears_named (side_of self.old) id (address from.0)
+            (message_shown m.now) c).answer }
         ensures same { SameCircuits self.old self.new }
         ensures most { length out.new ≤ length out.old + 1 }
     {
@@ -105,11 +110,15 @@ impl Circuits {
         requires ok { IsWritable m.now }
         requires clear { IsClear self.old }
         requires room { length out.old + 16 ≤ 256 }
-        ensures did { Simulates (λ c. (hears_at (side_of self.old) (slice_index (ids self.old) at) (message_shown m.now) c).doing)
+        ensures did { Simulates (λ c.
+            (hears_at (side_of self.old) (slice_index (ids self.old) at)
+            (message_shown m.now) c).doing)
             self.old self.new out.old out.new }
         ensures answer { (c : Core) →
             Stands self.old c →
-            CircuitAnswer (heard_shown result) ≡ (hears_at (side_of self.old) (slice_index (ids self.old) at) (message_shown m.now) c).answer }
+            CircuitAnswer (heard_shown result)
+            ≡ (hears_at (side_of self.old) (slice_index (ids self.old) at)
+            (message_shown m.now) c).answer }
         ensures same { SameCircuits self.old self.new }
         ensures most { length out.new ≤ length out.old + 1 }
     {
@@ -142,9 +151,12 @@ impl Circuits {
         requires source { 0 < source }
         requires clear { IsClear self.old }
         requires room { length out.old + 16 ≤ 256 }
-        ensures did { Simulates (λ c. (start_core (side_of self.old) c (address from.0) source (info_shown info.now) (new_fact c.circuits)).doing)
+        ensures did { Simulates (λ c.
+            (start_core (side_of self.old) c (address from.0) source (info_shown info.now)
+            (new_fact c.circuits)).doing)
             self.old self.new out.old out.new }
-        ensures answer { (c : Core) → Stands self.old c → hearing_shown result ≡ start_answer (new_fact c.circuits) }
+        ensures answer { (c : Core) → Stands self.old c →
+            hearing_shown result ≡ start_answer (new_fact c.circuits) }
         ensures core { SameCore self.old self.new }
         ensures moment { self.new.moment ≡ self.old.moment }
         ensures held { (x : ℕ) → has_id x self.old ≡ true → has_id x self.new ≡ true }
@@ -177,7 +189,9 @@ impl Circuits {
         requires few { length self.old.held < 8 }
         requires ids { self.old.drawn < 65535 }
         requires room { length out.old + 16 ≤ 256 }
-        ensures did { Simulates (λ c. (start_core (side_of self.old) c (address from.0) source (info_shown info.now) (Makes (suc c.circuits.drawn))).doing)
+        ensures did { Simulates (λ c.
+            (start_core (side_of self.old) c (address from.0) source (info_shown info.now)
+            (Makes (suc c.circuits.drawn))).doing)
             self.old self.new out.old out.new }
         ensures id { result ≡ suc self.old.drawn }
         ensures core { SameCore self.old self.new }

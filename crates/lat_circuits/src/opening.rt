@@ -27,8 +27,10 @@ use lat_circuit::{Circuit, SessionFault};
 impl Circuits {
     /// The id of the living circuit to a station, `None` where none lives.
     pub fn to(&self, peer: Addr) -> Option<u16>
-        ensures model { (c : Core) → Stands self.now c → id_or_zero result ≡ circuit_to c (address peer.0) }
-        ensures lives { (c : Core) → Stands self.now c → IfSome result (λ id. lives (c.circuits.circuit_at id).end ≡ true) }
+        ensures model { (c : Core) → Stands self.now c →
+            id_or_zero result ≡ circuit_to c (address peer.0) }
+        ensures lives { (c : Core) → Stands self.now c →
+            IfSome result (λ id. lives (c.circuits.circuit_at id).end ≡ true) }
     {
         id_to(&self.held, peer)
     }
@@ -69,7 +71,8 @@ impl Circuits {
         requires few { length self.old.held < 8 }
         requires ids { self.old.drawn < 65535 }
         requires room { length out.old + 16 ≤ 256 }
-        ensures did { Simulates (called_core (side_of self.old) (address peer.0) node.now) self.old self.new out.old out.new }
+        ensures did { Simulates (called_core (side_of self.old)
+            (address peer.0) node.now) self.old self.new out.old out.new }
         ensures id { result ≡ suc self.old.drawn }
         ensures drawn { self.new.drawn ≡ suc self.old.drawn }
         ensures core { SameCore self.old self.new }
@@ -120,7 +123,8 @@ impl Circuits {
 // The id of the living circuit to a station.
 fn id_to(held: &[Circuit], peer: Addr) -> Option<u16>
     ensures { result ≡ option_map (λ (q : Kept). q.facts.id)
-        (find (λ (q : Kept). is_none q.ended && nat_eq (address q.facts.config.peer.0) (address peer.0)) held.now) }
+        (find (λ (q : Kept). is_none q.ended
+        && nat_eq (address q.facts.config.peer.0) (address peer.0)) held.now) }
 {
     let found = held
         .iter()

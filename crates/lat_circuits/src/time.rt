@@ -27,7 +27,8 @@ impl Circuits {
     fn time_at(&mut self, at: usize, out: &mut OutBox)
         requires at { at < length self.old.held }
         requires room { length out.old + 16 ≤ 256 }
-        ensures did { Simulates (passes_one (side_of self.old) (slice_index (ids self.old) at)) self.old self.new out.old out.new }
+        ensures did { Simulates (passes_one (side_of self.old)
+            (slice_index (ids self.old) at)) self.old self.new out.old out.new }
         ensures same { SameCircuits self.old self.new }
         ensures most { length out.new ≤ length out.old + 16 }
     {

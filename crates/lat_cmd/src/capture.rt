@@ -22,8 +22,10 @@ fn captured<H: RatingRule>(
     world: World<H>,
     circuit: u16,
 ) -> Result<Outcome<H>, Memory>
-    ensures answer { IfOk result (λ o. (t : State) → StandsAt world t → IsOutcome (captured circuit (setups_of world) t) o) }
-    ensures legal { IfOk result (λ o. (t : State) → StandsAt world t → AuditIsLegal (setups_of world) t.machines circuit) }
+    ensures answer { IfOk result (λ o.
+        (t : State) → StandsAt world t → IsOutcome (captured circuit (setups_of world) t) o) }
+    ensures legal { IfOk result (λ o.
+        (t : State) → StandsAt world t → AuditIsLegal (setups_of world) t.machines circuit) }
 {
     let text = lat_tap::captured(alloc, world.wire(), circuit)?;
     Ok(Outcome::done(text, world))

@@ -16,7 +16,8 @@ use std::alloc::Global;
 
 // The report of a world.
 fn reported<H: RatingRule>(alloc: Global, world: World<H>) -> Result<Outcome<H>, Memory>
-    ensures { IfOk result (λ o. (t : State) → StandsAt world t → IsOutcome (reported (setups_of world) t) o) }
+    ensures { IfOk result (λ o.
+        (t : State) → StandsAt world t → IsOutcome (reported (setups_of world) t) o) }
 {
     let mut text = String::new(alloc);
     world.report(alloc, &mut text)?;

@@ -24,7 +24,8 @@ fn settled<H: RatingRule>(
     rounds: u32,
 ) -> Result<Outcome<H>, Memory>
     requires { rounds_moment (setups_of world) (moment_of world) rounds < 2 ^ 64 }
-    ensures { IfOk result (λ o. (t : State) → StandsAt world t → IsOutcome (settled rounds (setups_of world) t) o) }
+    ensures { IfOk result (λ o.
+        (t : State) → StandsAt world t → IsOutcome (settled rounds (setups_of world) t) o) }
 {
     let mut text = String::new(alloc);
     let status = settle_onto(alloc, &mut world, rounds, &mut text)?;
@@ -46,7 +47,8 @@ pub(crate) fn settle<H: RatingRule>(
     requires rates { RatesWhatIsLeft (H.may rule) }
     requires few { rounds ≤ 100000 }
     ensures answer { IfOk result (λ o. IsOutcome (settle_of rounds input.now) o) }
-    ensures all { IfOk result (λ o. SettleTakesAll rounds input.now (settle_of rounds input.now).status) }
+    ensures all { IfOk result (λ o.
+        SettleTakesAll rounds input.now (settle_of rounds input.now).status) }
 {
     match course_of(alloc, rule, input)? {
         Course::Through(world) => settled(alloc, world, rounds),

@@ -25,7 +25,8 @@ pub const INPUT_BYTES: usize = 16_777_216;
 // What the command reads: all that the source has left, or nothing.
 fn input_of<S: Source>(alloc: Global, command: Command, src: &mut S) -> Result<Vec<u8>, ReadEnd>
     ensures all { IfOk result (λ input. IsRead command (S.left src.old) input.items) }
-    ensures limit { result ≡ Err ends.Limit → IfSome (input_of command (S.left src.old)) (λ xs. 16777216 < length xs) }
+    ensures limit { result ≡ Err ends.Limit →
+        IfSome (input_of command (S.left src.old)) (λ xs. 16777216 < length xs) }
     ensures fault { result ≡ Err ends.Fault → Rose (S.faults src.old) (S.faults src.new) }
     ensures later { S.faults src.old ≤ S.faults src.new }
     ensures reads { OnErr result (reads command ≡ true) }
@@ -122,14 +123,19 @@ pub fn run<S: Source, K: Sink, H: RatingRule>(
 
     // The words are no command: nothing is read.
     ensures words { command_of (map string_bytes words.now) ≡ None →
-        Tells (plain (1, codes "words\n")) result (K.written out.old) (K.written out.new) × (src.new ≡ src.old) }
+        Tells (plain (1, codes "words\n")) result (K.written out.old) (K.written out.new)
+        × (src.new ≡ src.old) }
 
     // They are one: unless a read or a write fails or no memory is found, the answer to the input, and the world that it tells of.
     ensures answer { IfSome (command_of (map string_bytes words.now)) (λ c.
-        IfSome (input_of c (S.left src.old)) (λ input. Answers (answer_of c input) result (K.written out.old) (K.written out.new))) }
-    ensures status { IfSome (command_of (map string_bytes words.now)) (λ c. IsStatusOf c result.status) }
-    ensures world { IfSome (command_of (map string_bytes words.now)) (λ c. WorldWhereDone c result.status result.world) }
-    ensures unread { IfSome (command_of (map string_bytes words.now)) (λ c. reads c ≡ false → src.new ≡ src.old) }
+        IfSome (input_of c (S.left src.old)) (λ input.
+        Answers (answer_of c input) result (K.written out.old) (K.written out.new))) }
+    ensures status { IfSome (command_of (map string_bytes words.now)) (λ c.
+        IsStatusOf c result.status) }
+    ensures world { IfSome (command_of (map string_bytes words.now)) (λ c.
+        WorldWhereDone c result.status result.world) }
+    ensures unread { IfSome (command_of (map string_bytes words.now)) (λ c.
+        reads c ≡ false → src.new ≡ src.old) }
 
     // What it prints of a circuit is `none`, or `audit` finds it legal; and where nothing was lost, enough rounds bring all that
     // was put, and are refused for the number of frames alone.

@@ -28,7 +28,12 @@ impl Model for Credits {
 
     ghost Value = { Kept };
 
-    ghost view = { λ a. record { ceiling = a.ceiling; outstanding = a.outstanding; held = a.held; unused = a.unused } };
+    ghost view = { λ a. record {
+      ceiling = a.ceiling;
+      outstanding = a.outstanding;
+      held = a.held;
+      unused = a.unused;
+    } };
 
     ghost invariant = { λ a. Holds a.ceiling a.outstanding a.held };
 
@@ -39,7 +44,12 @@ impl Credits {
     /// A new account. At most `ceiling` credits, 1 to 15, are outstanding or bound by a held slot at any time.
     pub fn make(ceiling: u8) -> Credits
         requires { (1 ≤ ceiling) × (ceiling ≤ 15) }
-        ensures value { result ≡ record { ceiling = ceiling; outstanding = 0; held = 0; unused = 0 } }
+        ensures value { result ≡ record {
+          ceiling = ceiling;
+          outstanding = 0;
+          held = 0;
+          unused = 0;
+        } }
         ensures account { Keeps result none }
     {
         Credits {
@@ -76,7 +86,8 @@ impl Credits {
     pub fn slot_in(&mut self, keep: bool) -> Result<(), NoCredit>
         ensures value { is_ok result ≡ nat_lt 0 self.old.outstanding }
         ensures answer { (a : Account) → Keeps self.old a → is_ok result ≡ nat_lt a.heard a.given }
-        ensures account { (a : Account) → Keeps self.old a → OnOk result (Keeps self.new (heard_slot a keep)) }
+        ensures account { (a : Account) → Keeps self.old a →
+            OnOk result (Keeps self.new (heard_slot a keep)) }
         ensures err { OnErr result (self.new ≡ self.old) }
         ensures after { OnOk result (self.new ≡ record self.old {
           outstanding = self.old.outstanding - 1;
@@ -113,7 +124,8 @@ impl Credits {
     pub fn spend(&mut self) -> Result<(), NoCredit>
         ensures value { is_ok result ≡ nat_lt 0 self.old.unused }
         ensures answer { (a : Account) → Keeps self.old a → is_ok result ≡ nat_lt a.used a.granted }
-        ensures account { (a : Account) → Keeps self.old a → OnOk result (Keeps self.new (spent a)) }
+        ensures account { (a : Account) → Keeps self.old a →
+            OnOk result (Keeps self.new (spent a)) }
         ensures err { OnErr result (self.new ≡ self.old) }
         ensures after { OnOk result (self.new ≡ record self.old { unused = self.old.unused - 1 }) }
     {
@@ -125,8 +137,10 @@ impl Credits {
     /// unused.
     pub fn heard(&mut self, n: u8) -> Result<(), TooMany>
         ensures value { is_ok result ≡ nat_le (self.old.unused + n) 255 }
-        ensures answer { (a : Account) → Keeps self.old a → is_ok result ≡ nat_le (a.granted + n) (a.used + 255) }
-        ensures account { (a : Account) → Keeps self.old a → OnOk result (Keeps self.new (granted_more a n)) }
+        ensures answer { (a : Account) → Keeps self.old a →
+            is_ok result ≡ nat_le (a.granted + n) (a.used + 255) }
+        ensures account { (a : Account) → Keeps self.old a →
+            OnOk result (Keeps self.new (granted_more a n)) }
         ensures err { OnErr result (self.new ≡ self.old) }
         ensures after { OnOk result (self.new ≡ record self.old { unused = self.old.unused + n }) }
     {

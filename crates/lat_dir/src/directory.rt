@@ -121,8 +121,10 @@ impl Directory {
         now: u64,
     ) -> Result<bool, DirFault>
         requires { self.old.moment ≤ now }
-        ensures stands { (h : List HeardAnnouncement) → Stands self.old h → UnlessMemory result (Stands self.new (heard self.old.groups now from a.now h)) }
-        ensures answer { (h : List HeardAnnouncement) → Stands self.old h → UnlessMemory result (result ≡ answer_to self.old.groups now a.now h) }
+        ensures stands { (h : List HeardAnnouncement) → Stands self.old h →
+            UnlessMemory result (Stands self.new (heard self.old.groups now from a.now h)) }
+        ensures answer { (h : List HeardAnnouncement) → Stands self.old h →
+            UnlessMemory result (result ≡ answer_to self.old.groups now a.now h) }
         ensures full { result ≡ Err DirFault.Full → self.new ≡ at_moment now self.old }
         ensures memory { result ≡ Err DirFault.Memory → self.new ≡ self.old }
         ensures groups { self.new.groups ≡ self.old.groups }
@@ -143,7 +145,8 @@ impl Directory {
     /// directory was told before by `hear` or `expire`.
     pub fn best(&self, service: &Name, now: u64) -> Option<Best>
         requires { self.now.moment ≤ now }
-        ensures best { (h : List HeardAnnouncement) → Stands self.now h → option_map best_shown result ≡ best self.now.groups service.now now h }
+        ensures best { (h : List HeardAnnouncement) → Stands self.now h →
+            option_map best_shown result ≡ best self.now.groups service.now now h }
         ensures above { IfSome result (λ b. 0 < b.rating) }
     {
         self.nodes.best(&service.folded(), now)

@@ -69,7 +69,8 @@ fn make_room(nodes: &mut IndexMap<Name, Node>, until: &mut u128, now: u64) -> bo
 
 // The best node, looked at from the last heard to the first; any order would choose the same.
 fn chosen(nodes: &IndexMap<Name, Node>, service: &Name, now: u64) -> Option<Best>
-    ensures { result ≡ fold (better_in service.now now) None (reverse (map (λ e. e.1) nodes.now.entries)) }
+    ensures { result ≡ fold (better_in service.now now) None (reverse (map (λ e.
+        e.1) nodes.now.entries)) }
 {
     nodes
         .values()
@@ -150,7 +151,8 @@ impl Nodes {
 
     /// The best node for a service whose name is given in upper case.
     pub fn best(&self, service: &Name, now: u64) -> Option<Best>
-        ensures { result ≡ fold (better_in service.now now) None (reverse (map (λ e. e.1) self.now)) }
+        ensures { result ≡ fold (better_in service.now now) None (reverse (map (λ e.
+            e.1) self.now)) }
     {
         chosen(&self.nodes, service, now)
     }

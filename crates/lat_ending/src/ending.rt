@@ -50,7 +50,8 @@ fn took_items(line: u8, history: &[Past]) -> u128
 // Adds the text of one line.
 fn line_onto(text: &mut String, k: u8, history: &[Past], done: LineDone) -> Result<(), AllocError>
     requires { length history.now ≤ 1000000 }
-    ensures { OnOk result (string_bytes text.new ≡ string_bytes text.old ++ line_text k history.now done) }
+    ensures { OnOk result (string_bytes text.new
+        ≡ string_bytes text.old ++ line_text k history.now done) }
 {
     let put = past_bytes(k, history);
     let took = took_items(k, history);
@@ -93,7 +94,8 @@ pub fn print_end<C: Core, T: Tx, K: Sink, E: Ledger, B: Ledger, F: Ledger>(
     out: &mut K,
 ) -> u8
     requires { length ends.now ≤ 64 }
-    ensures { Ended (K.written out.old) (K.written out.new) (K.faults out.old) (K.faults out.new) cell.now.history cell.now.full shares.now ends.now result }
+    ensures { Ended (K.written out.old) (K.written out.new) (K.faults out.old)
+        (K.faults out.new) cell.now.history cell.now.full shares.now ends.now result }
 {
     let (made, status) = match cell.audit(shares) {
         Err(fault) => (fault_text(alloc, fault), 7),

@@ -35,7 +35,8 @@ pub fn entry_onto(
     by_master: bool,
     payload: &[u8],
 ) -> Result<(), AllocError>
-    ensures { OnOk result (string_bytes text.new ≡ string_bytes text.old ++ entry_text by_master payload.now) }
+    ensures { OnOk result (string_bytes text.new
+        ≡ string_bytes text.old ++ entry_text by_master payload.now) }
 {
     text.push_str(side_text(by_master))?;
     text.push_str(" ")?;

@@ -15,7 +15,11 @@ use std::alloc::Global;
 #[tactic(auto, unfolding(crate::specs::ParamsReading::params_at))]
 pub fn params_of(alloc: Global, bytes: &[u8], place: usize) -> Result<(Params, usize), LayoutFault>
     requires { (place ≤ length bytes.now) × (length bytes.now ≤ 1500) }
-    ensures gives { Gives (λ x. (x.0, x.1, drop x.1 bytes.now)) result (params_at (length bytes.now + 1) place (drop place bytes.now)) }
+    ensures gives { Gives (λ x. (
+      x.0,
+      x.1,
+      drop x.1 bytes.now,
+    )) result (params_at (length bytes.now + 1) place (drop place bytes.now)) }
     ensures within { IfOk result (λ x. x.1 ≤ length bytes.now) }
 {
     let mut entries = Params::new(alloc);

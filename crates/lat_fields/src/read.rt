@@ -47,7 +47,11 @@ pub fn byte_of(
     place: usize,
 ) -> Result<(u8, usize), LayoutFault>
     requires { (at ≤ 1500) × (place ≤ length bytes.now) × (length bytes.now ≤ 1500) }
-    ensures gives { Gives (λ x. (x.0, x.1, drop x.1 bytes.now)) result (byte_at field at place (drop place bytes.now)) }
+    ensures gives { Gives (λ x. (
+      x.0,
+      x.1,
+      drop x.1 bytes.now,
+    )) result (byte_at field at place (drop place bytes.now)) }
     ensures within { IfOk result (λ x. x.1 ≤ length bytes.now) }
 {
     if place == bytes.len() {
@@ -60,7 +64,11 @@ pub fn byte_of(
 #[tactic(auto, unfolding(crate::specs::Reading::number_at))]
 pub fn number_of(field: Field, bytes: &[u8], place: usize) -> Result<(u16, usize), LayoutFault>
     requires { (place ≤ length bytes.now) × (length bytes.now ≤ 1500) }
-    ensures gives { Gives (λ x. (x.0, x.1, drop x.1 bytes.now)) result (number_at field place (drop place bytes.now)) }
+    ensures gives { Gives (λ x. (
+      x.0,
+      x.1,
+      drop x.1 bytes.now,
+    )) result (number_at field place (drop place bytes.now)) }
     ensures within { IfOk result (λ x. x.1 ≤ length bytes.now) }
 {
     let (low, behind) = byte_of(field, place, bytes, place)?;
@@ -77,7 +85,11 @@ pub fn counted_of(
     place: usize,
 ) -> Result<(&[u8], usize), LayoutFault>
     requires { (at ≤ 1500) × (place ≤ length bytes.now) × (length bytes.now ≤ 1500) }
-    ensures gives { Gives (λ x. (x.0.now, x.1, drop x.1 bytes.now)) result (counted_at field at place (drop place bytes.now)) }
+    ensures gives { Gives (λ x. (
+      x.0.now,
+      x.1,
+      drop x.1 bytes.now,
+    )) result (counted_at field at place (drop place bytes.now)) }
     ensures within { IfOk result (λ x. x.1 ≤ length bytes.now) }
 {
     let (count, place) = byte_of(field, at, bytes, place)?;
@@ -92,7 +104,11 @@ pub fn counted_of(
 #[tactic(auto, unfolding(crate::specs::Reading::name_at))]
 pub fn name_of(field: Field, bytes: &[u8], place: usize) -> Result<(Name, usize), LayoutFault>
     requires { (place ≤ length bytes.now) × (length bytes.now ≤ 1500) }
-    ensures gives { Gives (λ x. (x.0, x.1, drop x.1 bytes.now)) result (name_at field place (drop place bytes.now)) }
+    ensures gives { Gives (λ x. (
+      x.0,
+      x.1,
+      drop x.1 bytes.now,
+    )) result (name_at field place (drop place bytes.now)) }
     ensures within { IfOk result (λ x. x.1 ≤ length bytes.now) }
 {
     let (text, end) = counted_of(field, place, bytes, place)?;

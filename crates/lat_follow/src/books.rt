@@ -17,7 +17,8 @@ use lat_wire::{RatingRule, Wire};
 
 /// How many line sessions the server or the node has had. It stops at the greatest number of 64 bits.
 pub(crate) fn made<H: RatingRule>(wire: &Wire<H>, server: bool) -> u64
-    ensures { (w : Machines) → Stands wire.now w → result ≡ saturated (length (core_of w server).seats) }
+    ensures { (w : Machines) → Stands wire.now w →
+        result ≡ saturated (length (core_of w server).seats) }
 {
     if server {
         wire.server().made()
@@ -29,7 +30,8 @@ pub(crate) fn made<H: RatingRule>(wire: &Wire<H>, server: bool) -> u64
 /// The last two sessions of a line of the server or of the node, which must exist.
 pub(crate) fn book_on<H: RatingRule>(wire: &Wire<H>, server: bool, line: u8) -> LineBook
     requires { IsLine (lines_at server (setups_of wire.now)) line }
-    ensures { (w : Machines) → Stands wire.now w → book_shown result ≡ book_info (book (core_of w server) line) }
+    ensures { (w : Machines) → Stands wire.now w →
+        book_shown result ≡ book_info (book (core_of w server) line) }
 {
     if server {
         wire.server().book(line)
@@ -47,7 +49,9 @@ fn present_on<H: RatingRule>(
     number: u64,
 ) -> Option<Newcomer>
     requires { IsLine (lines_at server (setups_of wire.now)) line }
-    ensures { (w : Machines) → Stands wire.now w → MatchOption result (NotOn (core_of w server) number line) (λ n. IsPresent (core_of w server) number n) }
+    ensures { (w : Machines) → Stands wire.now w →
+        MatchOption result (NotOn (core_of w server) number line) (λ n.
+        IsPresent (core_of w server) number n) }
 {
     let book = book_on(wire, server, line);
     let session = book.present?;

@@ -36,7 +36,8 @@ pub fn add_items(server: bool, event: &Event, answer: &Answer, roster: &mut Rost
 // The first bytes of a put, as many as its answer says.
 fn put_bytes(server: bool, line: u8, bytes: &[u8], answer: &Answer, roster: &mut Roster)
     requires { ReservedAt roster.old.rows (place_of roster.old server line) server (length bytes.now) 0 }
-    ensures shows { HasAdded roster.old roster.new server line answer.now (accepted_bytes bytes.now) (λ a. []) }
+    ensures shows { HasAdded roster.old roster.new server line answer.now (accepted_bytes bytes.now)
+        (λ a. []) }
     ensures places { (n : ℕ) → HasPlaces n roster.old → HasPlaces n roster.new }
 {
     if let Answer::Put(n) = answer {
@@ -48,7 +49,8 @@ fn put_bytes(server: bool, line: u8, bytes: &[u8], answer: &Answer, roster: &mut
 // A setting that was taken.
 fn put_setting(server: bool, line: u8, setting: &[u8; 5], answer: &Answer, roster: &mut Roster)
     requires { ReservedAt roster.old.rows (place_of roster.old server line) server 1 0 }
-    ensures shows { HasAdded roster.old roster.new server line answer.now (accepted_setting setting.now) (λ a. []) }
+    ensures shows { HasAdded roster.old roster.new server line answer.now (accepted_setting setting.now)
+        (λ a. []) }
     ensures places { (n : ℕ) → HasPlaces n roster.old → HasPlaces n roster.new }
 {
     if matches!(answer, Answer::Done) {

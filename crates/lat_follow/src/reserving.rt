@@ -30,7 +30,8 @@ pub fn reserve_for<H: RatingRule>(
     ensures items { OnOk result ((w : Machines) →
         Stands wire.now w →
         FitsIn roster.new server event.now (answered (setups_of wire.now) w server (event_shown event.now))) }
-    ensures before { IfOk result (λ before. (w : Machines) → Stands wire.now w → before ≡ length (core_of w server).seats) }
+    ensures before { IfOk result (λ before.
+        (w : Machines) → Stands wire.now w → before ≡ length (core_of w server).seats) }
     ensures few { IfOk result (λ before. before + lines < 2 ^ 64 - 1) }
 {
     let before = reserve_new(wire, server, lines, roster)?;
@@ -54,7 +55,8 @@ pub fn reserve_new<H: RatingRule>(
 ) -> Result<u64, Memory>
     ensures same { (k : RowsAfter) → Shows roster.old k → Shows roster.new k }
     ensures places { OnOk result (HasPlaces lines roster.new) }
-    ensures before { IfOk result (λ before. (w : Machines) → Stands wire.now w → before ≡ length (core_of w server).seats) }
+    ensures before { IfOk result (λ before.
+        (w : Machines) → Stands wire.now w → before ≡ length (core_of w server).seats) }
     ensures few { IfOk result (λ before. before + lines < 2 ^ 64 - 1) }
 {
     let before = made(wire, server);

@@ -114,7 +114,8 @@ fn follow_one<H: RatingRule>(
 fn connect(alloc: Global, newcomer: Newcomer, roster: &mut Roster)
     requires { HasPlaces 1 roster.old }
     ensures places { (n : ℕ) → HasPlaces (suc n) roster.old → HasPlaces n roster.new }
-    ensures stage { (u : Setups) (x : Machines) (front rest : List Seat) (s : Seat) (k target : RowsAfter) →
+    ensures stage { (u : Setups) (x : Machines) (front rest : List Seat) (s : Seat)
+        (k target : RowsAfter) →
         Stage u x true front (s ∷ rest) k target roster.old →
         IsNewcomer x.server.core front s newcomer →
         Stage u x true (front ++ s ∷ []) rest
@@ -133,12 +134,14 @@ fn connect(alloc: Global, newcomer: Newcomer, roster: &mut Roster)
 // A line of the node has got a session.
 fn accept<H: RatingRule>(wire: &Wire<H>, newcomer: Newcomer, roster: &mut Roster)
     ensures places { (n : ℕ) → HasPlaces n roster.old → HasPlaces n roster.new }
-    ensures stage { (u : Setups) (x : Machines) (front rest : List Seat) (t : Seat) (k target : RowsAfter) →
+    ensures stage { (u : Setups) (x : Machines) (front rest : List Seat) (t : Seat)
+        (k target : RowsAfter) →
         setups_of wire.now ≡ u →
         Stage u x false front (t ∷ rest) k target roster.old →
         IsNewcomer x.node.core front t newcomer →
         Stage u x false (front ++ t ∷ []) rest
-        (accepts t.line (mate_by_ids u x t) (figures_of x.node.core (last_on t.line no_seat front)) k)
+        (accepts t.line (mate_by_ids u x t)
+        (figures_of x.node.core (last_on t.line no_seat front)) k)
         target roster.new }
 {
     let place = mate_of(wire, newcomer.session, roster);
@@ -153,7 +156,8 @@ fn mate_of<H: RatingRule>(wire: &Wire<H>, session: LineSession, roster: &Roster)
         setups_of wire.now ≡ u →
         session_shown session ≡ session_info (line_session x.node.core number t) →
         Shows roster.now k →
-        ((circuit id : ℕ) → last_row circuit id 0 0 k.rows ≡ last_named circuit id 0 0 x.server.core.seats) →
+        ((circuit id : ℕ) →
+        last_row circuit id 0 0 k.rows ≡ last_named circuit id 0 0 x.server.core.seats) →
         result ≡ mate_by_ids u x t }
 {
     let own = wire.own(true);

@@ -16,7 +16,8 @@ use lat_slots::{Slot, slot_len, slot_ok};
 
 // Whether each slot has a text, and these have so many bytes in all at most.
 fn slots_fit(slots: &[Slot], most: usize) -> bool
-    ensures { IsTrue result ↔ (AllByRecursion SlotIsWritable slots.now × (length (slots_text slots.now) ≤ most)) }
+    ensures { IsTrue result ↔ (AllByRecursion SlotIsWritable slots.now
+        × (length (slots_text slots.now) ≤ most)) }
 {
     let mut left = most;
     for slot in slots {

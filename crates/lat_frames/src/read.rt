@@ -25,7 +25,8 @@ fn tail_of(
     place: usize,
 ) -> Result<(Message, usize), LayoutFault>
     requires { (place ≤ length payload.now) × (length payload.now ≤ 1500) }
-    ensures gives { Gives (λ x. (x.0, x.1, drop x.1 payload.now)) result (tail_at kind (length payload.now + 1) first circuits place (drop place payload.now)) }
+    ensures gives { Gives (λ x. (x.0, x.1, drop x.1 payload.now)) result (tail_at kind
+        (length payload.now + 1) first circuits place (drop place payload.now)) }
     ensures within { IfOk result (λ x. x.1 ≤ length payload.now) }
 {
     match kind {
@@ -44,7 +45,11 @@ fn layout_of(
     payload: &[u8],
 ) -> Result<(Message, usize), LayoutFault>
     requires { (0 < length payload.now) × (length payload.now ≤ 1500) }
-    ensures gives { Gives (λ x. (x.0, x.1, drop x.1 payload.now)) result (message_at kind first (drop 1 payload.now)) }
+    ensures gives { Gives (λ x. (
+      x.0,
+      x.1,
+      drop x.1 payload.now,
+    )) result (message_at kind first (drop 1 payload.now)) }
     ensures within { IfOk result (λ x. x.1 ≤ length payload.now) }
 {
     let (circuits, place) = circuits_of(kind, is_master(first), payload, 1)?;
@@ -87,7 +92,8 @@ pub fn read_message(alloc: Global, payload: &[u8]) -> Result<Message, LayoutFaul
     // What is read has the payload as a text.
     ensures found { IfOk result (λ m. PayloadText MessageText m payload.now) }
     // A payload that is a text of a message is read as it, unless memory runs out.
-    ensures only { (m : Message) → PayloadText MessageText m payload.now → Gives (λ r. r) result (Ok m) }
+    ensures only { (m : Message) → PayloadText MessageText m payload.now →
+        Gives (λ r. r) result (Ok m) }
     // Which field is bad.
     ensures exact { Gives (λ m. m) result (message_read payload.now) }
 {

@@ -56,7 +56,11 @@ pub fn circuits_of(
     place: usize,
 ) -> Result<(Circuits, usize), LayoutFault>
     requires { (place ≤ length payload.now) × (length payload.now ≤ 1500) }
-    ensures gives { Gives (λ x. (x.0, x.1, drop x.1 payload.now)) result (circuits_at kind master place (drop place payload.now)) }
+    ensures gives { Gives (λ x. (
+      x.0,
+      x.1,
+      drop x.1 payload.now,
+    )) result (circuits_at kind master place (drop place payload.now)) }
     ensures within { IfOk result (λ x. x.1 ≤ length payload.now) }
 {
     let (slots, to_place) = byte_of(Field::SlotCount, place, payload, place)?;

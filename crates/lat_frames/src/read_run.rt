@@ -20,7 +20,11 @@ fn slots_of(
     place: usize,
 ) -> Result<(Slots, usize), LayoutFault>
     requires { (place ≤ length payload.now) × (length payload.now ≤ 1500) }
-    ensures gives { Gives (λ x. (x.0, x.1, drop x.1 payload.now)) result (slots_at count place (drop place payload.now)) }
+    ensures gives { Gives (λ x. (
+      x.0,
+      x.1,
+      drop x.1 payload.now,
+    )) result (slots_at count place (drop place payload.now)) }
     ensures within { IfOk result (λ x. x.1 ≤ length payload.now) }
 {
     let mut slots = Slots::new(alloc);
@@ -43,7 +47,11 @@ pub fn run_of(
     place: usize,
 ) -> Result<(Message, usize), LayoutFault>
     requires { (place ≤ length payload.now) × (length payload.now ≤ 1500) }
-    ensures gives { Gives (λ x. (x.0, x.1, drop x.1 payload.now)) result (run_at first circuits place (drop place payload.now)) }
+    ensures gives { Gives (λ x. (
+      x.0,
+      x.1,
+      drop x.1 payload.now,
+    )) result (run_at first circuits place (drop place payload.now)) }
     ensures within { IfOk result (λ x. x.1 ≤ length payload.now) }
 {
     let (seq, place) = byte_of(Field::Sequence, place, payload, place)?;
@@ -70,7 +78,11 @@ pub fn wide_of(
     place: usize,
 ) -> Result<(Message, usize), LayoutFault>
     requires { (place ≤ length payload.now) × (length payload.now ≤ 1500) }
-    ensures gives { Gives (λ x. (x.0, x.1, drop x.1 payload.now)) result (wide_at first circuits place (drop place payload.now)) }
+    ensures gives { Gives (λ x. (
+      x.0,
+      x.1,
+      drop x.1 payload.now,
+    )) result (wide_at first circuits place (drop place payload.now)) }
     ensures within { IfOk result (λ x. x.1 ≤ length payload.now) }
 {
     let (seq, place) = number_of(Field::Sequence, payload, place)?;

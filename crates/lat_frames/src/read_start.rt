@@ -95,7 +95,11 @@ fn holding_of(
 #[tactic(auto, unfolding(crate::specs::Reading::limits_at))]
 fn limits_of(master: bool, payload: &[u8], place: usize) -> Result<(Limits, usize), LayoutFault>
     requires { (place ≤ length payload.now) × (length payload.now ≤ 1500) }
-    ensures gives { Gives (λ x. (x.0, x.1, drop x.1 payload.now)) result (limits_at master place (drop place payload.now)) }
+    ensures gives { Gives (λ x. (
+      x.0,
+      x.1,
+      drop x.1 payload.now,
+    )) result (limits_at master place (drop place payload.now)) }
     ensures within { IfOk result (λ x. x.1 ≤ length payload.now) }
 {
     let (size, version_place) = number_of(Field::FrameSize, payload, place)?;
@@ -168,7 +172,11 @@ fn info_of(
     place: usize,
 ) -> Result<(StartInfo, usize), LayoutFault>
     requires { (place ≤ length payload.now) × (length payload.now ≤ 1500) }
-    ensures gives { Gives (λ x. (x.0, x.1, drop x.1 payload.now)) result (info_at (length payload.now + 1) master place (drop place payload.now)) }
+    ensures gives { Gives (λ x. (
+      x.0,
+      x.1,
+      drop x.1 payload.now,
+    )) result (info_at (length payload.now + 1) master place (drop place payload.now)) }
     ensures within { IfOk result (λ x. x.1 ≤ length payload.now) }
 {
     let (limits, place) = limits_of(master, payload, place)?;
@@ -196,7 +204,11 @@ pub fn start_of(
     place: usize,
 ) -> Result<(Message, usize), LayoutFault>
     requires { (place ≤ length payload.now) × (length payload.now ≤ 1500) }
-    ensures gives { Gives (λ x. (x.0, x.1, drop x.1 payload.now)) result (start_at (length payload.now + 1) first circuits place (drop place payload.now)) }
+    ensures gives { Gives (λ x. (
+      x.0,
+      x.1,
+      drop x.1 payload.now,
+    )) result (start_at (length payload.now + 1) first circuits place (drop place payload.now)) }
     ensures within { IfOk result (λ x. x.1 ≤ length payload.now) }
 {
     let (_, place) = byte_of(Field::Sequence, place, payload, place)?;
@@ -222,7 +234,11 @@ pub fn stop_of(
     place: usize,
 ) -> Result<(Message, usize), LayoutFault>
     requires { (place ≤ length payload.now) × (length payload.now ≤ 1500) }
-    ensures gives { Gives (λ x. (x.0, x.1, drop x.1 payload.now)) result (stop_at first circuits place (drop place payload.now)) }
+    ensures gives { Gives (λ x. (
+      x.0,
+      x.1,
+      drop x.1 payload.now,
+    )) result (stop_at first circuits place (drop place payload.now)) }
     ensures within { IfOk result (λ x. x.1 ≤ length payload.now) }
 {
     let (_, place) = byte_of(Field::Sequence, place, payload, place)?;

@@ -123,7 +123,8 @@ impl Generator {
     pub fn turn(&mut self, alloc: Global, service: &Name, frames: u64) -> Result<WorldEvent, Memory>
         requires service { IsName service.now }
         requires early { self.old.moment < 10 ^ 14 }
-        ensures value { IfOk result (λ event. (event, self.new) ≡ turn service.now frames self.old) }
+        ensures value { IfOk result (λ event.
+            (event, self.new) ≡ turn service.now frames self.old) }
         ensures is { IfOk result (λ event. frames ≤ 10 ^ 9 → (to : Addr) → IsEvent to event) }
         ensures moment { self.new.moment ≤ self.old.moment + 80 }
     {

@@ -56,7 +56,8 @@ fn line_onto(
     writes: bool,
     event: &WorldEvent,
 ) -> Result<(), AllocError>
-    ensures { OnOk result (string_bytes text.new ≡ string_bytes text.old ++ written writes (event_text event.now)) }
+    ensures { OnOk result (string_bytes text.new
+        ≡ string_bytes text.old ++ written writes (event_text event.now)) }
 {
     if writes {
         event_onto(alloc, text, event)
@@ -71,7 +72,8 @@ impl<H: RatingRule> Growth<H> {
         requires fact { H.fact rule }
         requires rates { RatesWhatIsLeft (H.may rule) }
         ensures shows { IfOk result (λ growth. Shows growth (opened seed)) }
-        ensures start { IfOk result (λ growth. (growth.events ≡ 0) × (growth.generator.moment ≡ 0) × (growth.writes ≡ writes)) }
+        ensures start { IfOk result (λ growth.
+            (growth.events ≡ 0) × (growth.generator.moment ≡ 0) × (growth.writes ≡ writes)) }
     {
         let made = setup(alloc)?;
         let text = front(alloc, writes)?;
@@ -90,7 +92,8 @@ impl<H: RatingRule> Growth<H> {
     pub(crate) fn told(&mut self, alloc: Global, event: &WorldEvent) -> Result<(), Memory>
         requires playable { IsPlayable event.now }
         requires few { self.old.events < 2 ^ 63 }
-        ensures shows { OnOk result ((g : Grown) → Shows self.old g → Shows self.new (told event.now g)) }
+        ensures shows { OnOk result ((g : Grown) → Shows self.old g →
+            Shows self.new (told event.now g)) }
         ensures events { OnOk result (self.new.events ≤ self.old.events + 1) }
         ensures moment { OnOk result (self.new.generator.moment ≡ self.old.generator.moment) }
         ensures writes { self.new.writes ≡ self.old.writes }

@@ -29,7 +29,8 @@ fn begun<H: RatingRule>(
     requires fact { H.fact rule }
     requires rates { RatesWhatIsLeft (H.may rule) }
     ensures shows { IfOk result (λ growth. Shows growth (begun seed)) }
-    ensures start { IfOk result (λ growth. (growth.events ≤ 2) × (growth.generator.moment ≡ 0) × (growth.writes ≡ writes)) }
+    ensures start { IfOk result (λ growth.
+        (growth.events ≤ 2) × (growth.generator.moment ≡ 0) × (growth.writes ≡ writes)) }
 {
     let mut growth = Growth::make(alloc, seed, rule, writes)?;
     let announce = WorldEvent::Local {

@@ -39,22 +39,36 @@ impl<C: Core, T: Tx, E: Ledger, B: Ledger, F: Ledger> Cell<C, T, E, B, F> {
         share: &mut LineShare<E, B, F>,
     ) -> Result<Receipt, CellFault>
         requires { share.old.seat ≡ seat_of event }
-        ensures history { IfOk result (λ r. self.new.history ≡ self.old.history ++ past event r.answer ∷ []) }
+        ensures history { IfOk result (λ r.
+            self.new.history ≡ self.old.history ++ past event r.answer ∷ []) }
         ensures place { IfOk result (λ r. r.place ≡ length self.old.history) }
-        ensures answer { IfOk result (λ r. r.answer ≡ C.answer (run_of C.next (C.opening self.old.core) self.old.history) event) }
+        ensures answer { IfOk result (λ r.
+            r.answer ≡ C.answer (run_of C.next (C.opening self.old.core) self.old.history) event) }
         ensures opening { C.opening self.new.core ≡ C.opening self.old.core }
         ensures before { SameBefore (T.tried self.old.tx) self.old.sent (T.tried self.new.tx) self.new.sent }
-        ensures share { IfOk result (λ r. share.new ≡ record share.old { events = share.old.events + 1; bytes = share.old.bytes + put_of r.answer }) }
+        ensures share { IfOk result (λ r.
+            share.new ≡ record share.old {
+              events = share.old.events + 1;
+              bytes = share.old.bytes + put_of r.answer;
+            }) }
         ensures put { IfOk result (λ r. put_of r.answer ≤ put_by event) }
         ensures stopping { self.new.stopping ≡ self.old.stopping }
-        ensures limit { (at : FullAt) → result ≡ Err (CellFault.Full at) → IsFullAt self.old.history event at }
-        ensures room { MayAdd self.old.history event → (at : FullAt) → result ≢ Err (CellFault.Full at) }
-        ensures no_room { ((at : FullAt) → result ≢ Err (CellFault.Full at)) → MayAdd self.old.history event }
-        ensures full { (at : FullAt) → result ≡ Err (CellFault.Full at) → (share.new ≡ record share.old { full = true }) × (0 < self.new.full_seats) }
-        ensures first { (at : FullAt) → result ≡ Err (CellFault.Full at) → IsRefused self.old share.old self.new at }
-        ensures room_left { OnOk result ((self.new.full ≡ self.old.full) × (self.new.full_seats ≡ self.old.full_seats)) }
-        ensures memory { result ≡ Err CellFault.Memory → (share.new ≡ share.old) × (self.new ≡ self.old) }
-        ensures err { OnErr result ((self.new.core ≡ self.old.core) × (self.new.history ≡ self.old.history)) }
+        ensures limit { (at : FullAt) → result ≡ Err (CellFault.Full at) →
+            IsFullAt self.old.history event at }
+        ensures room { MayAdd self.old.history event → (at : FullAt) →
+            result ≢ Err (CellFault.Full at) }
+        ensures no_room { ((at : FullAt) → result ≢ Err (CellFault.Full at)) →
+            MayAdd self.old.history event }
+        ensures full { (at : FullAt) → result ≡ Err (CellFault.Full at) →
+            (share.new ≡ record share.old { full = true }) × (0 < self.new.full_seats) }
+        ensures first { (at : FullAt) → result ≡ Err (CellFault.Full at) →
+            IsRefused self.old share.old self.new at }
+        ensures room_left { OnOk result ((self.new.full ≡ self.old.full)
+            × (self.new.full_seats ≡ self.old.full_seats)) }
+        ensures memory { result ≡ Err CellFault.Memory →
+            (share.new ≡ share.old) × (self.new ≡ self.old) }
+        ensures err { OnErr result ((self.new.core ≡ self.old.core)
+            × (self.new.history ≡ self.old.history)) }
     {
         let more = bytes(&event);
         let place = self.history.len();

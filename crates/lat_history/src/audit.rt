@@ -96,11 +96,15 @@ impl<C: Core, T: Tx, E: Ledger, B: Ledger, F: Ledger> Cell<C, T, E, B, F> {
     /// Whether each seat did in the history just what its share says: the events, and the bytes put, of each seat from 0 to 65
     /// are those of the entry with this seat, 0 where there is none. Else the first pair that differs, events before bytes.
     pub fn audit(&self, shares: &[LineShare<E, B, F>]) -> Result<(), SeatFault>
-        ensures fault { (f : SeatFault) → result ≡ Err f → audit_of self.now.history shares.now ≡ Some f }
+        ensures fault { (f : SeatFault) → result ≡ Err f →
+            audit_of self.now.history shares.now ≡ Some f }
         ensures ok { OnOk result (audit_of self.now.history shares.now ≡ None) }
-        ensures agrees { OnOk result ((seat : ℕ) → seat < 66 → SeatAgrees self.now.history shares.now seat) }
-        ensures only { ((seat : ℕ) → seat < 66 → SeatAgrees self.now.history shares.now seat) → IsOk result }
-        ensures first { (f : SeatFault) → result ≡ Err f → IsFirstToDiffer self.now.history shares.now f }
+        ensures agrees { OnOk result ((seat : ℕ) → seat < 66 →
+            SeatAgrees self.now.history shares.now seat) }
+        ensures only { ((seat : ℕ) → seat < 66 → SeatAgrees self.now.history shares.now seat) →
+            IsOk result }
+        ensures first { (f : SeatFault) → result ≡ Err f →
+            IsFirstToDiffer self.now.history shares.now f }
     {
         match audited(self.history(), shares) {
             Some(fault) => Err(fault),

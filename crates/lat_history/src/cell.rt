@@ -101,11 +101,15 @@ impl<C: Core, T: Tx, E: Ledger, B: Ledger, F: Ledger> Cell<C, T, E, B, F> {
         requires stands { C.stands core (C.opening core) }
         requires valid { C.valid core }
         requires lines { (1 ≤ lines) × (lines ≤ 64) }
-        requires names { (blanks.events.name ≡ E.name) × (blanks.bytes.name ≡ B.name) × (blanks.full.name ≡ F.name) }
-        requires parts { (blanks.events.parts ≡ E.parts) × (blanks.bytes.parts ≡ B.parts) × (blanks.full.parts ≡ F.parts) }
+        requires names { (blanks.events.name ≡ E.name) × (blanks.bytes.name ≡ B.name)
+            × (blanks.full.name ≡ F.name) }
+        requires parts { (blanks.events.parts ≡ E.parts) × (blanks.bytes.parts ≡ B.parts)
+            × (blanks.full.parts ≡ F.parts) }
         requires many { (E.parts ≡ 66) × (B.parts ≡ 66) × (F.parts ≡ 66) }
         ensures core { IfOk result (λ r. (r.0.core ≡ core) × (r.0.tx ≡ tx) × (r.0.sent ≡ 0)) }
-        ensures empty { IfOk result (λ r. (r.0.history ≡ []) × (r.0.stopping ≡ false) × (r.0.full ≡ None) × (r.0.full_seats ≡ 0)) }
+        ensures empty { IfOk result (λ r.
+            (r.0.history ≡ []) × (r.0.stopping ≡ false) × (r.0.full ≡ None)
+            × (r.0.full_seats ≡ 0)) }
         ensures shares { IfOk result (λ r. r.1 ≡ all_seats lines) }
     {
         let (books, shares) = opened::<E, B, F>(alloc, lines, blanks)?;
@@ -181,16 +185,20 @@ impl<C: Core, T: Tx, E: Ledger, B: Ledger, F: Ledger> Cell<C, T, E, B, F> {
 
     /// How many sessions of the core have become free.
     pub fn finished(&self) -> u32
-        ensures { result ≡ C.finished_of (run_of C.next (C.opening self.now.core) self.now.history) }
+        ensures { result ≡ C.finished_of (run_of C.next
+            (C.opening self.now.core) self.now.history) }
     {
         self.core.finished()
     }
 
     /// What it shows of a line.
     pub fn look(&self, line: u8) -> Seen
-        ensures state { result.state ≡ C.line_of (run_of C.next (C.opening self.now.core) self.now.history) line }
-        ensures waiting { result.waiting ≡ C.waiting_of (run_of C.next (C.opening self.now.core) self.now.history) line }
-        ensures moment { result.moment ≡ C.moment_of (run_of C.next (C.opening self.now.core) self.now.history) }
+        ensures state { result.state ≡ C.line_of (run_of C.next
+            (C.opening self.now.core) self.now.history) line }
+        ensures waiting { result.waiting
+            ≡ C.waiting_of (run_of C.next (C.opening self.now.core) self.now.history) line }
+        ensures moment { result.moment
+            ≡ C.moment_of (run_of C.next (C.opening self.now.core) self.now.history) }
         ensures stopping { result.stopping ≡ self.now.stopping }
     {
         Seen {

@@ -21,7 +21,8 @@ impl<C: Core, T: Tx, E: Ledger, B: Ledger, F: Ledger> Cell<C, T, E, B, F> {
         ensures history { self.new.history ≡ self.old.history }
         ensures events { length self.new.history ≡ sum_by (λ s. s.events) shares.items }
         ensures bytes { bytes_put self.new.history ≡ sum_by (λ s. s.bytes) shares.items }
-        ensures full { sum_by (λ s. s.parts) shares.items ≡ F.parts → self.new.full_seats ≡ sum_by full_in shares.items }
+        ensures full { sum_by (λ s. s.parts) shares.items ≡ F.parts →
+            self.new.full_seats ≡ sum_by full_in shares.items }
     {
         let mut shares = shares;
         let (mut events, mut bytes, mut full) = shares.take_last().into_parts();

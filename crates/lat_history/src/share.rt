@@ -26,7 +26,13 @@ impl<E: Ledger, B: Ledger, F: Ledger> Model for LineShare<E, B, F> {
 
     ghost Value = { SeatView };
 
-    ghost view = { λ a. record { seat = a.seat; events = a.events; bytes = a.bytes; full = a.full; parts = a.in_events.parts } };
+    ghost view = { λ a. record {
+      seat = a.seat;
+      events = a.events;
+      bytes = a.bytes;
+      full = a.full;
+      parts = a.in_events.parts;
+    } };
 
     ghost invariant = { λ a. (a.in_events.amount ≡ a.events)
         × (0 < a.in_events.parts)
@@ -42,7 +48,13 @@ impl<E: Ledger, B: Ledger, F: Ledger> LineShare<E, B, F> {
         requires events { (events.amount ≡ 0) × (0 < events.parts) }
         requires bytes { (bytes.amount ≡ 0) × (bytes.parts ≡ events.parts) }
         requires full { (full.amount ≡ 0) × (full.parts ≡ events.parts) }
-        ensures { result ≡ record { seat = seat; events = 0; bytes = 0; full = false; parts = events.parts } }
+        ensures { result ≡ record {
+          seat = seat;
+          events = 0;
+          bytes = 0;
+          full = false;
+          parts = events.parts;
+        } }
     {
         LineShare {
             seat,
@@ -101,8 +113,12 @@ impl<E: Ledger, B: Ledger, F: Ledger> LineShare<E, B, F> {
     // One more event, by which so many bytes were put.
     pub(crate) fn count(&mut self, events: &mut Book<E>, bytes: &mut Book<B>, put: u16)
         requires { (events.old.total < 2000000) × (bytes.old.total < 2000000 * 65536) }
-        ensures counts { self.new ≡ record self.old { events = self.old.events + 1; bytes = self.old.bytes + put } }
-        ensures books { (events.new.total ≡ events.old.total + 1) × (bytes.new.total ≡ bytes.old.total + put) }
+        ensures counts { self.new ≡ record self.old {
+          events = self.old.events + 1;
+          bytes = self.old.bytes + put;
+        } }
+        ensures books { (events.new.total ≡ events.old.total + 1)
+            × (bytes.new.total ≡ bytes.old.total + put) }
     {
         let Self {
             events: mine,

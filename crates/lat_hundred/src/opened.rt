@@ -52,8 +52,10 @@ pub fn played<E: Ledger, B: Ledger, F: Ledger>(
     alloc: Global,
     blanks: Blanks,
 ) -> Result<String, Wrong>
-    requires names { (blanks.events.name ≡ E.name) × (blanks.bytes.name ≡ B.name) × (blanks.full.name ≡ F.name) }
-    requires parts { (blanks.events.parts ≡ E.parts) × (blanks.bytes.parts ≡ B.parts) × (blanks.full.parts ≡ F.parts) }
+    requires names { (blanks.events.name ≡ E.name) × (blanks.bytes.name ≡ B.name)
+        × (blanks.full.name ≡ F.name) }
+    requires parts { (blanks.events.parts ≡ E.parts) × (blanks.bytes.parts ≡ B.parts)
+        × (blanks.full.parts ≡ F.parts) }
     requires many { (E.parts ≡ 66) × (B.parts ≡ 66) × (F.parts ≡ 66) }
 {
     let core = ServerCore::make(alloc, &config(alloc)?)?;

@@ -40,7 +40,14 @@ impl Model for Ledger {
 
     ghost Value = { Kept };
 
-    ghost view = { λ a. record { book = record { log = a.posts.log; server = a.server; node = a.node }; reserved = a.posts.reserved } };
+    ghost view = { λ a. record {
+      book = record {
+        log = a.posts.log;
+        server = a.server;
+        node = a.node;
+      };
+      reserved = a.posts.reserved;
+    } };
 }
 
 // The number of a frame of this mark behind so many messages of its circuit.
@@ -113,7 +120,8 @@ impl Ledger {
     /// Nothing was sent, and nothing is counted. Takes the memory of all tallies; `Memory` where none is found.
     pub fn make(alloc: Global) -> Result<Ledger, Memory>
         ensures book { IfOk result (λ k. (u : Setups) → IsBook u k.book [] [] (λ b. no_counts)) }
-        ensures tallies { IfOk result (λ k. (b : Bool) (x : ℕ) → tally_at (tallies_of k.book b) x ≡ nothing) }
+        ensures tallies { IfOk result (λ k.
+            (b : Bool) (x : ℕ) → tally_at (tallies_of k.book b) x ≡ nothing) }
     {
         Ok(Ledger {
             posts: Posts::make(alloc),
@@ -137,7 +145,8 @@ impl Ledger {
         ensures side { (x : ℕ) →
             tally_at (tallies_of self.new.book server) x
             ≡ cond (nat_eq x circuit) tally (tally_at (tallies_of self.old.book server) x) }
-        ensures other { tallies_of self.new.book (not server) ≡ tallies_of self.old.book (not server) }
+        ensures other { tallies_of self.new.book (not server)
+            ≡ tallies_of self.old.book (not server) }
         ensures log { self.new.book.log ≡ self.old.book.log }
         ensures reserved { self.new.reserved ≡ self.old.reserved }
     {
@@ -156,7 +165,8 @@ impl Ledger {
             ≡ cond (nat_eq x circuit)
             (took_one (tally_at (tallies_of self.old.book server) circuit))
             (tally_at (tallies_of self.old.book server) x) }
-        ensures other { tallies_of self.new.book (not server) ≡ tallies_of self.old.book (not server) }
+        ensures other { tallies_of self.new.book (not server)
+            ≡ tallies_of self.old.book (not server) }
         ensures log { self.new.book.log ≡ self.old.book.log }
         ensures reserved { self.new.reserved ≡ self.old.reserved }
     {
@@ -182,7 +192,8 @@ impl Ledger {
         requires reserved { length frames.now ≤ self.old.reserved }
         requires few { length self.old.book.log.posts + length frames.now < 2 ^ 32 }
         requires formed { (x : ℕ) → (tally_at (tallies_of self.old.book by_server) x).formed ≤ length self.old.book.log.posts }
-        ensures book { (u : Setups) (sent : List Posted) (done : List ℕ) (counts : Bool → Counts) (fs : List machines.OutFrame) →
+        ensures book { (u : Setups) (sent : List Posted) (done : List ℕ) (counts : Bool → Counts)
+            (fs : List machines.OutFrame) →
             own_of u (not by_server) ≡ address other.now.0 →
             map frame_view frames.now ≡ map expected fs →
             Each IsReadable fs →
@@ -190,13 +201,16 @@ impl Ledger {
             IsBook u self.old.book sent done counts →
             IsBook u self.new.book (sent ++ post_all by_server fs) done
             (with_side by_server (behind_all fs (counts by_server)) counts) }
-        ensures count { length self.new.book.log.posts ≡ length self.old.book.log.posts + length frames.now }
+        ensures count { length self.new.book.log.posts
+            ≡ length self.old.book.log.posts + length frames.now }
         ensures formed { (x : ℕ) → (tally_at (tallies_of self.new.book by_server) x).formed ≤ length self.new.book.log.posts }
         ensures taken { (x : ℕ) →
             (tally_at (tallies_of self.new.book by_server) x).taken
             ≡ (tally_at (tallies_of self.old.book by_server) x).taken }
-        ensures other { tallies_of self.new.book (not by_server) ≡ tallies_of self.old.book (not by_server) }
-        ensures came { (n : ℕ) → CameAtMost n self.old.book.log.ways → CameAtMost n self.new.book.log.ways }
+        ensures other { tallies_of self.new.book (not by_server)
+            ≡ tallies_of self.old.book (not by_server) }
+        ensures came { (n : ℕ) → CameAtMost n self.old.book.log.ways →
+            CameAtMost n self.new.book.log.ways }
     {
         if let Some((first, rest)) = frames.split_first() {
             self.enter(by_server, other, first);
@@ -208,11 +222,13 @@ impl Ledger {
         requires reserved { 0 < self.old.reserved }
         requires few { length self.old.book.log.posts < 2 ^ 32 }
         requires formed { (x : ℕ) → (tally_at (tallies_of self.old.book by_server) x).formed ≤ length self.old.book.log.posts }
-        ensures book { (u : Setups) (sent : List Posted) (done : List ℕ) (counts : Bool → Counts) (f : machines.OutFrame) →
+        ensures book { (u : Setups) (sent : List Posted) (done : List ℕ) (counts : Bool → Counts)
+            (f : machines.OutFrame) →
             own_of u (not by_server) ≡ address other.now.0 →
             frame_view frame.now ≡ expected f →
             IsReadable f →
-            TalliedBy f.mark ((counts by_server).formed f.circuit) ((counts by_server).taken f.circuit) f →
+            TalliedBy f.mark ((counts by_server).formed f.circuit)
+            ((counts by_server).taken f.circuit) f →
             IsBook u self.old.book sent done counts →
             IsBook u self.new.book (sent ++ record { by_server = by_server; frame = f } ∷ []) done
             (with_side by_server (behind f (counts by_server)) counts) }
@@ -221,8 +237,10 @@ impl Ledger {
         ensures taken { (x : ℕ) →
             (tally_at (tallies_of self.new.book by_server) x).taken
             ≡ (tally_at (tallies_of self.old.book by_server) x).taken }
-        ensures other { tallies_of self.new.book (not by_server) ≡ tallies_of self.old.book (not by_server) }
-        ensures came { (n : ℕ) → CameAtMost n self.old.book.log.ways → CameAtMost n self.new.book.log.ways }
+        ensures other { tallies_of self.new.book (not by_server)
+            ≡ tallies_of self.old.book (not by_server) }
+        ensures came { (n : ℕ) → CameAtMost n self.old.book.log.ways →
+            CameAtMost n self.new.book.log.ways }
         ensures reserved { self.old.reserved ≡ self.new.reserved + 1 }
     {
         let tally = self.tally(by_server, frame.circuit);

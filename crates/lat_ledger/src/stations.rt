@@ -8,7 +8,8 @@ use lat_payload::is_same;
 
 /// Whether a frame that is sent to `to` is for the end of the address `own`: it was sent to it or to everyone.
 pub fn is_for(to: &Addr, own: &Addr) -> bool
-    ensures { result ≡ (nat_eq (address to.now.0) (address own.now.0) || nat_eq (address to.now.0) everyone) }
+    ensures { result ≡ (nat_eq (address to.now.0) (address own.now.0)
+        || nat_eq (address to.now.0) everyone) }
 {
     is_same(&to.0, &own.0) || is_same(&to.0, &EVERYONE.0)
 }

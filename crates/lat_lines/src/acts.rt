@@ -40,14 +40,17 @@ impl Lines {
         requires ok { IsWritable m.now }
         requires clear { IsClear self.old.circuits }
         requires room { length out.old + 16 ≤ 256 }
-        ensures did { Simulates (λ c. (heard_core (side_of self.old) (address from.0) (message_shown m.now) c).doing)
+        ensures did { Simulates (λ c.
+            (heard_core (side_of self.old) (address from.0) (message_shown m.now) c).doing)
             self.old self.new out.old out.new }
         ensures answer { (c : Core) →
             Stands self.old c →
-            hearing_shown result ≡ (heard_core (side_of self.old) (address from.0) (message_shown m.now) c).answer }
+            hearing_shown result
+            ≡ (heard_core (side_of self.old) (address from.0) (message_shown m.now) c).answer }
         ensures same { SameLines self.old self.new }
         ensures moment { self.new.circuits.moment ≡ self.old.circuits.moment }
-        ensures held { (x : ℕ) → has_id x self.old.circuits ≡ true → has_id x self.new.circuits ≡ true }
+        ensures held { (x : ℕ) → has_id x self.old.circuits ≡ true →
+            has_id x self.new.circuits ≡ true }
         ensures most { length out.new ≤ length out.old + 1 }
     {
         let before = out.len();
@@ -68,7 +71,8 @@ impl Lines {
 
 // Whether a message left each session as its line knows it: no slot was heard or formed, and no circuit ended.
 fn is_quiet(hearing: &Hearing, before: usize, out: &OutBox) -> bool
-    ensures { result ≡ (nat_eq (length out.now) before && takes_nothing (hearing_shown hearing.now)) }
+    ensures { result ≡ (nat_eq (length out.now) before
+        && takes_nothing (hearing_shown hearing.now)) }
 {
     out.len() == before && takes_nothing(*hearing)
 }

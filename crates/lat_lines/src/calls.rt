@@ -25,7 +25,8 @@ impl Lines {
     /// Does a call on the line's session: `Put` with how many bytes were taken, the first ones; `Done` of the others, but for a
     /// setting that is `Full`. See `SessionCall`.
     pub fn call(&mut self, line: u8, call: &SessionCall) -> Answer
-        ensures says { SimulatesCall (λ c. on_line self.old.lines c line (λ s. call_on (side_of self.old) c s call.now))
+        ensures says { SimulatesCall (λ c.
+            on_line self.old.lines c line (λ s. call_on (side_of self.old) c s call.now))
             self.old self.new result }
         ensures fits { PutFits result (event_of line call.now) }
         ensures took { TookFits (ready self.old) result (event_of line call.now) }
@@ -50,7 +51,9 @@ impl Lines {
     /// The first items that the line's session has heard, at most `n`: `Took`. Takes memory for them first; after `Memory`
     /// nothing has changed.
     pub fn take(&mut self, alloc: Global, line: u8, n: u16) -> Result<Answer, Memory>
-        ensures says { IfOk result (λ a. SimulatesCall (λ c. on_line self.old.lines c line (λ s. take_on (side_of self.old) c s n))
+        ensures says { IfOk result (λ a.
+            SimulatesCall (λ c.
+            on_line self.old.lines c line (λ s. take_on (side_of self.old) c s n))
             self.old self.new a) }
         ensures fits { IfOk result (λ a. PutFits a (events.Take line n)) }
         ensures took { IfOk result (λ a. TookFits (ready self.old) a (events.Take line n)) }

@@ -88,7 +88,8 @@ impl Lines {
 
     /// The state of the line's session: `Free` where it has none.
     pub fn state(&self, line: u8) -> SessionState
-        ensures { (c : Core) → Stands self.now c → result ≡ state_shown (line_state (side_of self.now) c line) }
+        ensures { (c : Core) → Stands self.now c →
+            result ≡ state_shown (line_state (side_of self.now) c line) }
     {
         match seat_of(self.seats.as_slice(), line) {
             Some(seat) => self
@@ -126,7 +127,8 @@ impl Lines {
     pub fn free_line(&self) -> Option<u8>
         ensures model { (c : Core) →
             Stands self.now c →
-            id_or_zero result ≡ least (λ line. not (has_session c line)) (upwards 0 self.now.lines) }
+            id_or_zero result
+            ≡ least (λ line. not (has_session c line)) (upwards 0 self.now.lines) }
         ensures line { IfSome result (λ line. IsLine self.now.lines line) }
     {
         (1..self.count + 1).find(|line| !self.has_session(*line))
@@ -134,7 +136,8 @@ impl Lines {
 
     /// Whether a RUN from a station with these ids names a living circuit whose reply was heard.
     pub fn names(&self, from: Addr, to: u16, source: u16) -> bool
-        ensures { (c : Core) → Stands self.now c → result ≡ names c.circuits (address from.0) to source }
+        ensures { (c : Core) → Stands self.now c →
+            result ≡ names c.circuits (address from.0) to source }
     {
         self.circuits.names(from, to, source)
     }
@@ -148,7 +151,8 @@ impl Lines {
 
     /// Whether a circuit of this id lives.
     pub fn lives(&self, circuit: u16) -> bool
-        ensures { (c : Core) → Stands self.now c → result ≡ lives (c.circuits.circuit_at circuit).end }
+        ensures { (c : Core) → Stands self.now c →
+            result ≡ lives (c.circuits.circuit_at circuit).end }
     {
         self.circuits.lives(circuit)
     }
@@ -158,7 +162,8 @@ impl Lines {
         ensures { (c : Core) →
             Stands self.now c →
             self.now.circuits.server ≡ false →
-            result ≡ cond (lives (c.circuits.circuit_at circuit).end && waits (session_at c circuit id))
+            result ≡ cond (lives (c.circuits.circuit_at circuit).end
+            && waits (session_at c circuit id))
             (Some (asked_at (sessions_at c circuit) id))
             None }
     {

@@ -57,7 +57,8 @@ impl Model for Lines {
 
     ghost view = { shown };
 
-    ghost invariant = { λ a. Holds (shown a) × (a.count ≤ vec_capacity a.seats) × (a.count ≤ vec_capacity a.freed) };
+    ghost invariant = { λ a. Holds (shown a) × (a.count ≤ vec_capacity a.seats)
+        × (a.count ≤ vec_capacity a.freed) };
 }
 
 fn no_last(alloc: Global, count: u8) -> Result<Vec<Option<LineSession>>, Memory>
@@ -108,7 +109,8 @@ impl Lines {
         ensures state { (c : Core) → Stands self.old c → Stands self.new (at_moment now c) }
         ensures same { SameLines self.old self.new }
         ensures clear { IsClear self.old.circuits → IsClear self.new.circuits }
-        ensures later { (now ≤ self.new.circuits.moment) × (self.old.circuits.moment ≤ self.new.circuits.moment) }
+        ensures later { (now ≤ self.new.circuits.moment)
+            × (self.old.circuits.moment ≤ self.new.circuits.moment) }
         ensures seats { self.new.seats ≡ self.old.seats }
         ensures freed { self.new.freed ≡ self.old.freed }
     {

@@ -80,8 +80,11 @@ impl Lines {
             server_side config ≡ side_of self.old →
             Stands self.old c →
             has_session c line ≡ false →
-            OnOk result (Stands self.new (opens config line (address peer.0) node.now service.now (some_key key) (request_of key) c).core
-            × Emits (opens config line (address peer.0) node.now service.now (some_key key) (request_of key) c).frames out.old out.new) }
+            OnOk result (Stands self.new
+            (opens config line (address peer.0) node.now service.now (some_key key)
+            (request_of key) c).core
+            × Emits (opens config line (address peer.0) node.now service.now (some_key key)
+            (request_of key) c).frames out.old out.new) }
         ensures answer { (c : Core) → Stands self.old c → result ≡ opening c (address peer.0) }
         ensures err { OnErr result ((self.new ≡ self.old) × (out.new ≡ out.old)) }
         ensures same { SameLines self.old self.new }
@@ -113,7 +116,8 @@ impl Lines {
             Stands self.new (accepted_core (side_of self.old) line circuit id c) }
         ensures freed { (c : Core) →
             Stands self.old c →
-            map key_in self.new.freed ≡ freed_between c (accepted_core (side_of self.old) line circuit id c) }
+            map key_in self.new.freed
+            ≡ freed_between c (accepted_core (side_of self.old) line circuit id c) }
         ensures same { SameLines self.old self.new }
     {
         self.circuits.answer(circuit, id);
@@ -129,7 +133,8 @@ impl Lines {
             Stands self.new (calling (side_of self.old) circuit (Refuse id reason) c) }
         ensures freed { (c : Core) →
             Stands self.old c →
-            map key_in self.new.freed ≡ freed_between c (calling (side_of self.old) circuit (Refuse id reason) c) }
+            map key_in self.new.freed
+            ≡ freed_between c (calling (side_of self.old) circuit (Refuse id reason) c) }
         ensures same { SameLines self.old self.new }
     {
         self.circuits.reject(circuit, id, reason);

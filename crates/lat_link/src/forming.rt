@@ -88,7 +88,8 @@ impl Link {
         requires empty { payload.old ≡ [] }
         ensures { (l : model.Link (List Slot)) →
             Stands self.now l →
-            slice_get (map (frame_payload self.now false) (model.again_frames l)) place ≡ Some payload.new }
+            slice_get (map (frame_payload self.now false) (model.again_frames l)) place
+            ≡ Some payload.new }
     {
         let Some(text) = self.texts.get(place) else {
             unreachable!()

@@ -54,7 +54,8 @@ impl Link {
         ensures state { (l : model.Link (List Slot)) (m : List Slot) →
             Stands self.old l →
             Stands self.new (model.take_message l m) }
-        ensures same { (self.new.ids ≡ self.old.ids) × (self.new.sending ≡ self.old.sending) × (self.new.texts ≡ self.old.texts) }
+        ensures same { (self.new.ids ≡ self.old.ids) × (self.new.sending ≡ self.old.sending)
+            × (self.new.texts ≡ self.old.texts) }
     {
         let number = behind(self.span(), self.receiving.ack());
         if !self.receiving.offer(number) {

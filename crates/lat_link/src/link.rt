@@ -48,10 +48,20 @@ impl Model for Link {
 
     ghost Value = { Kept };
 
-    ghost view = { λ a. record { ids = a.ids; sending = a.sending; receiving = a.receiving; texts = a.texts.items } };
+    ghost view = { λ a. record {
+      ids = a.ids;
+      sending = a.sending;
+      receiving = a.receiving;
+      texts = a.texts.items;
+    } };
 
     ghost invariant = { λ a.
-        Holds a.window a.span (record { ids = a.ids; sending = a.sending; receiving = a.receiving; texts = a.texts.items })
+        Holds a.window a.span (record {
+          ids = a.ids;
+          sending = a.sending;
+          receiving = a.receiving;
+          texts = a.texts.items;
+        })
         × (a.texts.capacity ≡ 8) };
 }
 
@@ -59,7 +69,8 @@ impl Link {
     /// A link on which nothing was formed or taken, with no ids, a window of 1 and numbers of one byte. It takes the memory of
     /// eight payloads; `Memory` where none is found.
     pub fn make(alloc: Global) -> Result<Link, Memory>
-        ensures value { IfOk result (λ k. k ≡ fresh_kept (record { master = false; to = 0; from = 0 }) 1 spans.Byte) }
+        ensures value { IfOk result (λ k.
+            k ≡ fresh_kept (record { master = false; to = 0; from = 0 }) 1 spans.Byte) }
         ensures state { IfOk result (λ k. Stands k model.fresh) }
     {
         Ok(Link {
@@ -115,7 +126,8 @@ impl Link {
     /// Whether fewer messages than the window are unacknowledged, so that one more may be formed.
     pub fn is_open(&self) -> bool
         ensures value { result ≡ nat_lt self.now.sending.unacknowledged self.now.sending.window }
-        ensures state { (l : model.Link (List Slot)) → Stands self.now l → result ≡ model.window_open self.now.sending.window l }
+        ensures state { (l : model.Link (List Slot)) → Stands self.now l →
+            result ≡ model.window_open self.now.sending.window l }
     {
         self.sending.room()
     }
@@ -123,7 +135,8 @@ impl Link {
     /// How many messages are unacknowledged.
     pub fn unacknowledged(&self) -> u8
         ensures value { result ≡ self.now.sending.unacknowledged }
-        ensures state { (l : model.Link (List Slot)) → Stands self.now l → result ≡ length (drop l.known l.sent) }
+        ensures state { (l : model.Link (List Slot)) → Stands self.now l →
+            result ≡ length (drop l.known l.sent) }
         ensures most { result ≤ 8 }
     {
         self.sending.again()

@@ -111,7 +111,8 @@ pub fn node_core<H: RatingRule>(
     requires fact { H.fact rule }
     ensures made { IfOk result (λ k. nodes.IsMade (nodes.opening k)) }
     ensures stands { IfOk result (λ k. nodes.IsMachine k (nodes.opening k)) }
-    ensures config { IfOk result (λ k. node.config_of k ≡ node_config config.now (config.now.lines.service ∷ [])) }
+    ensures config { IfOk result (λ k.
+        node.config_of k ≡ node_config config.now (config.now.lines.service ∷ [])) }
     ensures rule { IfOk result (λ k. k.rule ≡ rule) }
     ensures rest { IfOk result (λ k. node.AtRest k × H.fact k.rule) }
 {
@@ -132,9 +133,11 @@ pub fn tariff_core<H: RatingRule, P: SteadyRule>(
     requires rules { AreKnown P.fact tariff }
     ensures made { IfOk result (λ k. tariffs.IsMade (tariffs.opening k)) }
     ensures stands { IfOk result (λ k. tariffs.IsMachine k (tariffs.opening k)) }
-    ensures config { IfOk result (λ k. node.config_of k.node ≡ node_config config.now (names tariff)) }
+    ensures config { IfOk result (λ k.
+        node.config_of k.node ≡ node_config config.now (names tariff)) }
     ensures rules { IfOk result (λ k. (k.node.rule ≡ rule) × (k.rules ≡ tariff)) }
-    ensures valid { IfOk result (λ k. node.AtRest k.node × H.fact k.node.rule × AreKnown P.fact k.rules) }
+    ensures valid { IfOk result (λ k.
+        node.AtRest k.node × H.fact k.node.rule × AreKnown P.fact k.rules) }
 {
     let services = tariff.names(alloc)?;
     let config = node_config(alloc, config, services)?;

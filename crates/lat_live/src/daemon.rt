@@ -67,8 +67,10 @@ pub fn serve<
 ) -> Served<H, P, O::T, O::L, E, B, F>
     requires fact { H.fact rule }
     requires rules { AreKnown P.fact tariff }
-    requires names { (blanks.events.name ≡ E.name) × (blanks.bytes.name ≡ B.name) × (blanks.full.name ≡ F.name) }
-    requires parts { (blanks.events.parts ≡ E.parts) × (blanks.bytes.parts ≡ B.parts) × (blanks.full.parts ≡ F.parts) }
+    requires names { (blanks.events.name ≡ E.name) × (blanks.bytes.name ≡ B.name)
+        × (blanks.full.name ≡ F.name) }
+    requires parts { (blanks.events.parts ≡ E.parts) × (blanks.bytes.parts ≡ B.parts)
+        × (blanks.full.parts ≡ F.parts) }
     requires many { (E.parts ≡ 66) × (B.parts ≡ 66) × (F.parts ≡ 66) }
     ensures wrong { result.status ≡ 1 → AreWrong (map string_bytes words.now) }
     ensures refused { AreWrong (map string_bytes words.now) → IsRefusal result.status }
@@ -80,9 +82,11 @@ pub fn serve<
     ensures silent { result.status ≡ 4 → S.written out.new ≡ S.written out.old }
     ensures memory { result.status ≡ 9 → S.written out.new ≡ S.written out.old }
     ensures right { AreRight (map string_bytes words.now) →
-        IsOwn result.status ⊎ (RoseIn O.faults opener.old opener.new ⊎ RoseIn S.faults out.old out.new) }
+        IsOwn result.status
+        ⊎ (RoseIn O.faults opener.old opener.new ⊎ RoseIn S.faults out.old out.new) }
     ensures not { result.ran ≡ ran.Not → IsNotRun (map string_bytes words.now) result.status }
-    ensures empty { result.ran ≡ ran.Not → (result.shares ≡ []) × (result.ends ≡ []) × (result.lines ≡ []) }
+    ensures empty { result.ran ≡ ran.Not →
+        (result.shares ≡ []) × (result.ends ≡ []) × (result.lines ≡ []) }
     ensures role { IsRoleOf (map string_bytes words.now) result.ran }
     ensures ended { HasPrinted S.written S.faults out.old out.new result }
     ensures back { BackOf O.L.faults (map string_bytes words.now) result }

@@ -59,7 +59,8 @@ pub fn open_lines<O: Opener>(
     requires { first + count ≤ 65536 }
     ensures count { IfOk result (λ lines. vec_len lines ≡ count) }
     ensures later { O.faults opener.old ≤ O.faults opener.new }
-    ensures fault { result ≡ Err OpenFault.Failed → Rose (O.faults opener.old) (O.faults opener.new) }
+    ensures fault { result ≡ Err OpenFault.Failed →
+        Rose (O.faults opener.old) (O.faults opener.new) }
 {
     let mut lines = Vec::with_capacity(alloc, count as usize)?;
     for k in 0..count {

@@ -23,7 +23,8 @@ use std::thread::Threads;
 // What a daemon of these words is to do. A server and a switch connect each line, and end when all lines have
 // ended. A node's lines wait for sessions; it announces its services, and ends after so many sessions.
 fn plan_of<'a>(config: &'a Config) -> Plan<'a>
-    ensures { (result.lines ≡ config.entry.now.lines.count) × (result.line_port ≡ config.entry.now.lines.port) }
+    ensures { (result.lines ≡ config.entry.now.lines.count)
+        × (result.line_port ≡ config.entry.now.lines.port) }
 {
     let (service, announce, sessions) = match config.role {
         Role::Server | Role::Switch => (Some(config.lines.service), None, None),
@@ -68,8 +69,10 @@ pub fn serve_in_role<
     requires within { Within config.now.role config.now.lines }
     requires fact { H.fact rule }
     requires rules { AreKnown P.fact tariff }
-    requires names { (blanks.events.name ≡ E.name) × (blanks.bytes.name ≡ B.name) × (blanks.full.name ≡ F.name) }
-    requires parts { (blanks.events.parts ≡ E.parts) × (blanks.bytes.parts ≡ B.parts) × (blanks.full.parts ≡ F.parts) }
+    requires names { (blanks.events.name ≡ E.name) × (blanks.bytes.name ≡ B.name)
+        × (blanks.full.name ≡ F.name) }
+    requires parts { (blanks.events.parts ≡ E.parts) × (blanks.bytes.parts ≡ B.parts)
+        × (blanks.full.parts ≡ F.parts) }
     requires many { (E.parts ≡ 66) × (B.parts ≡ 66) × (F.parts ≡ 66) }
     ensures role { IfSome (role_of result.ran) (λ role. role ≡ config.now.role) }
     ensures ended { HasPrinted S.written S.faults out.old out.new result }
@@ -80,7 +83,8 @@ pub fn serve_in_role<
     ensures none { result.ran ≡ ran.Not → (result.status ≡ 4) ⊎ (result.status ≡ 9) }
     ensures silent { result.status ≡ 4 → S.written out.new ≡ S.written out.old }
     ensures memory { result.status ≡ 9 → S.written out.new ≡ S.written out.old }
-    ensures empty { result.ran ≡ ran.Not → (result.shares ≡ []) × (result.ends ≡ []) × (result.lines ≡ []) }
+    ensures empty { result.ran ≡ ran.Not →
+        (result.shares ≡ []) × (result.ends ≡ []) × (result.lines ≡ []) }
 {
     let plan = plan_of(config);
     match config.role {

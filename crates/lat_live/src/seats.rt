@@ -93,10 +93,12 @@ impl<L: LineEnd, E: Ledger, B: Ledger, F: Ledger> Given<L, E, B, F> {
         requires empty { IsNothing self }
         requires room { vec_len seated.lines + 2 ≤ vec_capacity self.shares }
         requires lines { HasRoom (vec_len seated.lines) self }
-        ensures shares { result.shares.items ≡ seated.wire ∷ map share_of seated.lines.items ++ seated.clock ∷ [] }
+        ensures shares { result.shares.items
+            ≡ seated.wire ∷ map share_of seated.lines.items ++ seated.clock ∷ [] }
         ensures ends { result.ends.items ≡ map done_of seated.lines.items }
         ensures lines { result.lines.items ≡ map line_of seated.lines.items }
-        ensures count { (vec_len result.ends ≡ vec_len seated.lines) × (vec_len result.lines ≡ vec_len seated.lines) }
+        ensures count { (vec_len result.ends ≡ vec_len seated.lines)
+            × (vec_len result.lines ≡ vec_len seated.lines) }
     {
         let Given {
             mut shares,

@@ -67,12 +67,16 @@ fn opened<O: Opener, C: Core, E: Ledger, B: Ledger, F: Ledger>(
     requires made { IfOk core (λ c. C.made (C.opening c)) }
     requires stands { IfOk core (λ c. C.stands c (C.opening c)) }
     requires valid { IfOk core C.valid }
-    requires lines { (1 ≤ plan.now.lines) × (plan.now.lines ≤ 64) × (plan.now.line_port + plan.now.lines ≤ 65536) }
-    requires names { (blanks.events.name ≡ E.name) × (blanks.bytes.name ≡ B.name) × (blanks.full.name ≡ F.name) }
-    requires parts { (blanks.events.parts ≡ E.parts) × (blanks.bytes.parts ≡ B.parts) × (blanks.full.parts ≡ F.parts) }
+    requires lines { (1 ≤ plan.now.lines) × (plan.now.lines ≤ 64)
+        × (plan.now.line_port + plan.now.lines ≤ 65536) }
+    requires names { (blanks.events.name ≡ E.name) × (blanks.bytes.name ≡ B.name)
+        × (blanks.full.name ≡ F.name) }
+    requires parts { (blanks.events.parts ≡ E.parts) × (blanks.bytes.parts ≡ B.parts)
+        × (blanks.full.parts ≡ F.parts) }
     requires many { (E.parts ≡ 66) × (B.parts ≡ 66) × (F.parts ≡ 66) }
     ensures fresh { IfOk result (λ s. AreFresh plan.now.lines s.seated s.given) }
-    ensures fault { result ≡ Err OpenFault.Failed → Rose (O.faults opener.old) (O.faults opener.new) }
+    ensures fault { result ≡ Err OpenFault.Failed →
+        Rose (O.faults opener.old) (O.faults opener.new) }
 {
     let core = core?;
     let (tx, rx) = opener.open_carrier(plan.own, plan.port, plan.peers)?;
@@ -204,9 +208,12 @@ pub fn serve_core<
     requires made { IfOk core (λ c. C.made (C.opening c)) }
     requires stands { IfOk core (λ c. C.stands c (C.opening c)) }
     requires valid { IfOk core C.valid }
-    requires lines { (1 ≤ plan.now.lines) × (plan.now.lines ≤ 64) × (plan.now.line_port + plan.now.lines ≤ 65536) }
-    requires names { (blanks.events.name ≡ E.name) × (blanks.bytes.name ≡ B.name) × (blanks.full.name ≡ F.name) }
-    requires parts { (blanks.events.parts ≡ E.parts) × (blanks.bytes.parts ≡ B.parts) × (blanks.full.parts ≡ F.parts) }
+    requires lines { (1 ≤ plan.now.lines) × (plan.now.lines ≤ 64)
+        × (plan.now.line_port + plan.now.lines ≤ 65536) }
+    requires names { (blanks.events.name ≡ E.name) × (blanks.bytes.name ≡ B.name)
+        × (blanks.full.name ≡ F.name) }
+    requires parts { (blanks.events.parts ≡ E.parts) × (blanks.bytes.parts ≡ B.parts)
+        × (blanks.full.parts ≡ F.parts) }
     requires many { (E.parts ≡ 66) × (B.parts ≡ 66) × (F.parts ≡ 66) }
     ensures ended { CoreHasPrinted S.written S.faults out.old out.new result }
     ensures back { CoreIsBack O.L.faults plan.now.lines result }

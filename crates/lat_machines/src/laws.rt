@@ -26,54 +26,63 @@ pub fn machines_are_safe()
 /// Every run of the two machines is a run of the world of circuits: some list of its events gives the tables of circuits of
 /// both, and the frames that they sent, in order. So each law of that world holds here.
 pub fn runs_are_circuit_runs()
-    ensures { (u : Setups) (moves : List Move) → Fit u → IsCircuits u (run u moves (open_machines u)) }
+    ensures { (u : Setups) (moves : List Move) → Fit u →
+        IsCircuits u (run u moves (open_machines u)) }
 {}
 
 /// On each circuit of both ends whose reply was heard the whole invariant of two ends holds: numbers agree, streams are in
 /// order both ways, sessions are matched by their generations, no credit is lost, doubled or spent before it came, and an id
 /// is used again only when the session before is over.
 pub fn both_ends_agree()
-    ensures { (u : Setups) (moves : List Move) → Fit u → EndsAgree u (run u moves (open_machines u)) }
+    ensures { (u : Setups) (moves : List Move) → Fit u →
+        EndsAgree u (run u moves (open_machines u)) }
 {}
 
 /// Each such circuit of the node has the server's address and runs, and both ends of it are wide exactly where both
 /// configurations are.
 pub fn shared_circuits_match()
-    ensures { (u : Setups) (moves : List Move) → Fit u → SharedMatch u (run u moves (open_machines u)) }
+    ensures { (u : Setups) (moves : List Move) → Fit u →
+        SharedMatch u (run u moves (open_machines u)) }
 {}
 
 /// On such a circuit a generation is the place of its ask: among all messages that the server's end formed, the first ask has
 /// the generation 1, and each later one the next.
 pub fn generations_are_places()
-    ensures { (u : Setups) (moves : List Move) → Fit u → GenerationsArePlaces u (run u moves (open_machines u)) }
+    ensures { (u : Setups) (moves : List Move) → Fit u →
+        GenerationsArePlaces u (run u moves (open_machines u)) }
 {}
 
 /// Of each session on such a circuit, both ways: what one end took is a prefix of what it heard, that of what the other end
 /// framed, and that of what was put there.
 pub fn streams_are_in_order()
-    ensures { (u : Setups) (moves : List Move) → Fit u → StreamsInOrder u (run u moves (open_machines u)) }
+    ensures { (u : Setups) (moves : List Move) → Fit u →
+        StreamsInOrder u (run u moves (open_machines u)) }
 {}
 
 /// Each credited slot on such a circuit had its credit: up to and with each message, a session has spent no more credits than
 /// stood in the messages that its end had taken when it formed this message.
 pub fn slots_are_credited()
-    ensures { (u : Setups) (moves : List Move) → Fit u → SlotsCredited u (run u moves (open_machines u)) }
+    ensures { (u : Setups) (moves : List Move) → Fit u →
+        SlotsCredited u (run u moves (open_machines u)) }
 {}
 
 /// Each RUN that one end sent the other is true to the circuit that sent it: its number and acknowledgement are reached; a
 /// new or a repeated one bears the slots of the message of its number, which has some, and a bare one bears none.
 pub fn frames_are_true()
-    ensures { (u : Setups) (moves : List Move) → Fit u → FramesAreTrue u (run u moves (open_machines u)) }
+    ensures { (u : Setups) (moves : List Move) → Fit u →
+        FramesAreTrue u (run u moves (open_machines u)) }
 {}
 
 /// No frame that one end sent breaks a circuit of the other, at any moment and any number of times.
 pub fn no_frame_breaks()
-    ensures { (u : Setups) (moves : List Move) → Fit u → NeverBreaks u (run u moves (open_machines u)) }
+    ensures { (u : Setups) (moves : List Move) → Fit u →
+        NeverBreaks u (run u moves (open_machines u)) }
 {}
 
 /// A young frame, less than half a range behind in both numbers, is heard by its number fields as by its numbers.
 pub fn young_frames_are_heard_by_bytes()
-    ensures { (u : Setups) (moves : List Move) → Fit u → HeardByBytes u (run u moves (open_machines u)) }
+    ensures { (u : Setups) (moves : List Move) → Fit u →
+        HeardByBytes u (run u moves (open_machines u)) }
 {}
 
 /// Both ends of a circuit have one span: each running circuit of one end to the other's address is wide exactly where both
@@ -98,7 +107,8 @@ pub fn histories_are_a_world()
 /// Whatever a server hears, and from whom: each of its grants went to the first that waited for the service just then. So
 /// no request is granted twice, and none after its cancel.
 pub fn queue_is_legal()
-    ensures { (config : ServerConfig) (events : List Event) → LegalQueue (server_run config events (open_server config)).queue }
+    ensures { (config : ServerConfig) (events : List Event) →
+        LegalQueue (server_run config events (open_server config)).queue }
 {}
 
 /// Whatever a server hears, and from whom: after each event no line could grant a request.

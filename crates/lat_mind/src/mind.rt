@@ -105,7 +105,15 @@ fn is_now(cut: Option<u64>, now: u64) -> bool
 impl LineMind {
     /// A mind that was told nothing. One that `calls` connects its line; another waits until a session is there.
     pub fn make(calls: bool) -> LineMind
-        ensures { result ≡ record { calls = calls; connected = false; ended = false; closed = false; tried = None; cut = None; left = 0 } }
+        ensures { result ≡ record {
+          calls = calls;
+          connected = false;
+          ended = false;
+          closed = false;
+          tried = None;
+          cut = None;
+          left = 0;
+        } }
     {
         LineMind {
             calls,

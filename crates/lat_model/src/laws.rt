@@ -46,7 +46,8 @@ pub fn near_by_distance()
 /// end took is the first so many of the messages that the other formed, at most eight are unacknowledged, and no frame
 /// acknowledges what was not taken.
 pub fn two_ends_agree()
-    ensures { (moves : List (Move (List TaggedSlot))) → NetOk (List TaggedSlot) (run_net moves start_net) }
+    ensures { (moves : List (Move (List TaggedSlot))) →
+        NetOk (List TaggedSlot) (run_net moves start_net) }
 {}
 
 /// In every such run a young frame, less than half a range behind in both numbers, is heard by its number fields as by its
@@ -122,7 +123,8 @@ pub fn circuits_are_joined()
         WorldRun w →
         (w.server.circuit_at p).address ≡ w.node.own →
         (w.server.circuit_at p).end.running ≡ true →
-        Joint w (w.server.circuit_at p).end.peer × ((w.node.circuit_at (w.server.circuit_at p).end.peer).end.peer ≡ p) }
+        Joint w (w.server.circuit_at p).end.peer
+        × ((w.node.circuit_at (w.server.circuit_at p).end.peer).end.peer ≡ p) }
     ensures idle { (w : World) (q : ℕ) →
         WorldRun w →
         (w.node.circuit_at q).address ≡ w.server.own →
@@ -140,7 +142,8 @@ pub fn windows_hold()
     ensures within { (w : World) (b : Bool) (x : ℕ) →
         WorldRun w →
         length (the_half w b x).link.sent ≤ (the_half w b x).link.known + ((table w b).circuit_at x).end.window }
-    ensures most { (w : World) (b : Bool) (x : ℕ) → WorldRun w → ((table w b).circuit_at x).end.window ≤ 8 }
+    ensures most { (w : World) (b : Bool) (x : ℕ) → WorldRun w →
+        ((table w b).circuit_at x).end.window ≤ 8 }
 {}
 
 /// Each circuit of a server and a node whose reply was heard keeps the whole invariant of two ends, whatever frames come,
@@ -166,7 +169,8 @@ pub fn world_uses_ids_again()
     ensures { (w : World) (q : ℕ) →
         WorldRun w →
         Joint w q →
-        IdsUsedAgain (the_half w true (w.node.circuit_at q).end.peer) × IdsUsedAgain (the_half w false q) }
+        IdsUsedAgain (the_half w true (w.node.circuit_at q).end.peer)
+        × IdsUsedAgain (the_half w false q) }
 {}
 
 /// A RUN of one end that names a circuit of the other is a true frame of the circuit that sent it.
@@ -184,7 +188,8 @@ pub fn world_never_breaks()
         WorldRun w →
         slice_get w.frames i ≡ Some p →
         Comes w p ask f →
-        (run_end now ask f ((table w (not p.by_server)).circuit_at p.destination).end).answer ≢ RunBroke }
+        (run_end now ask f ((table w
+        (not p.by_server)).circuit_at p.destination).end).answer ≢ RunBroke }
 {}
 
 /// A RUN of one end that names a circuit of the other and is young is heard there by its number fields as by its numbers.
@@ -206,15 +211,18 @@ pub fn both_ends_have_one_span()
         TellSpans wide_server wide_node (open_world r.server r.node r.setup r.other) r.events →
         Joint w q →
         ((w.node.circuit_at q).end.wide ≡ (wide_server && wide_node))
-        × ((w.server.circuit_at (w.node.circuit_at q).end.peer).end.wide ≡ (wide_server && wide_node)) }
+        × ((w.server.circuit_at (w.node.circuit_at q).end.peer).end.wide
+        ≡ (wide_server && wide_node)) }
 {}
 
 /// What one end knows of its sessions (`EndOk`) it keeps beside any peer: a new end has it, and it stays at a lower agreed
 /// number (`agrees`), at each local call (`calls`), at each slot that isn't bad, whatever the peer sends (`hears`; a start
 /// has a source, as its layout says), at each turn of packing (`turns`) and so with each message formed (`packs`).
 pub fn end_stays_good()
-    ensures begins { (master : Bool) (sessions ceiling : ℕ) → EndOk (no_sessions master sessions ceiling) }
-    ensures agrees { (e : Sessions) (n : ℕ) → EndOk e → EndOk (record e { agreed = min n e.agreed }) }
+    ensures begins { (master : Bool) (sessions ceiling : ℕ) →
+        EndOk (no_sessions master sessions ceiling) }
+    ensures agrees { (e : Sessions) (n : ℕ) → EndOk e →
+        EndOk (record e { agreed = min n e.agreed }) }
     ensures calls { (e : Sessions) (c : Call) → EndOk e → EndOk (call e c) }
     ensures hears { (e f : Sessions) (x : Slot) →
         EndOk e →
@@ -236,13 +244,16 @@ pub fn sessions_stand_apart()
         free (e.session k) ≡ false →
         (e.session j).id ≡ (e.session k).id →
         j ≡ k }
-    ensures found { (e : Sessions) (k : ℕ) → EndOk e → free (e.session k) ≡ false → e.at_id (e.session k).id ≡ k }
+    ensures found { (e : Sessions) (k : ℕ) → EndOk e → free (e.session k) ≡ false →
+        e.at_id (e.session k).id ≡ k }
     ensures least { (e : Sessions) →
         EndOk e →
         held e < e.agreed →
         (free (named e (least_free e)) ≡ true) × (least_free e ≢ 0) × (least_free e ≤ e.agreed) }
-    ensures given { (e : Sessions) (k : ℕ) → EndOk e → costs (e.session k).came ≤ credits (e.session k).out }
-    ensures used { (e : Sessions) (k : ℕ) → EndOk e → costs (e.session k).out ≤ credits (e.session k).came }
+    ensures given { (e : Sessions) (k : ℕ) → EndOk e →
+        costs (e.session k).came ≤ credits (e.session k).out }
+    ensures used { (e : Sessions) (k : ℕ) → EndOk e →
+        costs (e.session k).out ≤ credits (e.session k).came }
     ensures ceiling { (e : Sessions) (k : ℕ) →
         EndOk e →
         credits (e.session k).out + held_slots (e.session k) ≤ e.ceiling + costs (e.session k).came }
@@ -251,23 +262,28 @@ pub fn sessions_stand_apart()
 /// An end whose agreed number is at most `n` uses the ids from 1 to `n` alone (`IdsWithin`): a new end has used none, and it
 /// stays so at each local call, each slot heard and each turn of packing. So every other id is free (`past`).
 pub fn ids_stay_low()
-    ensures begins { (n sessions ceiling : ℕ) (master : Bool) → IdsWithin n (no_sessions master sessions ceiling) }
-    ensures calls { (n : ℕ) (e : Sessions) (c : Call) → EndOk e → e.agreed ≤ n → IdsWithin n e → IdsWithin n (call e c) }
+    ensures begins { (n sessions ceiling : ℕ) (master : Bool) →
+        IdsWithin n (no_sessions master sessions ceiling) }
+    ensures calls { (n : ℕ) (e : Sessions) (c : Call) → EndOk e → e.agreed ≤ n → IdsWithin n e →
+        IdsWithin n (call e c) }
     ensures hears { (n : ℕ) (e f : Sessions) (x : Slot) →
         EndOk e →
         e.agreed ≤ n →
         IdsWithin n e →
         hear_slot e x ≡ Some f →
         IdsWithin n f }
-    ensures turns { (n : ℕ) (p : Packing) (k : ℕ) → IdsWithin n p.after → IdsWithin n (turn p k).after }
-    ensures past { (n : ℕ) (e : Sessions) (i : ℕ) → EndOk e → IdsWithin n e → n < i → free (named e i) ≡ true }
+    ensures turns { (n : ℕ) (p : Packing) (k : ℕ) → IdsWithin n p.after →
+        IdsWithin n (turn p k).after }
+    ensures past { (n : ℕ) (e : Sessions) (i : ℕ) → EndOk e → IdsWithin n e → n < i →
+        free (named e i) ≡ true }
 {}
 
 /// At most 255 rejects of a slave wait: each is for another source of a peer's start (`PeersApart`), which a new end has, and
 /// which stays at each local call, each slot heard and each turn of packing.
 pub fn waiting_rejects_fit()
     ensures begins { (sessions ceiling : ℕ) → PeersApart (no_sessions false sessions ceiling) }
-    ensures calls { (e : Sessions) (c : Call) → e.master ≡ false → EndOk e → PeersApart e → PeersApart (call e c) }
+    ensures calls { (e : Sessions) (c : Call) → e.master ≡ false → EndOk e → PeersApart e →
+        PeersApart (call e c) }
     ensures hears { (e f : Sessions) (x : Slot) →
         e.master ≡ false →
         EndOk e →
@@ -276,7 +292,8 @@ pub fn waiting_rejects_fit()
         hear_slot e x ≡ Some f →
         PeersApart f }
     ensures turns { (p : Packing) (k : ℕ) → PeersApart p.after → PeersApart (turn p k).after }
-    ensures fit { (e : Sessions) → e.master ≡ false → EndOk e → PeersApart e → length (waiting_rejects e) ≤ 255 }
+    ensures fit { (e : Sessions) → e.master ≡ false → EndOk e → PeersApart e →
+        length (waiting_rejects e) ≤ 255 }
 {}
 
 /// The heard items of a session that wait to be taken are at most 15 slots of 255 items (`fit`). That no slot heard has more
@@ -289,7 +306,8 @@ pub fn heard_items_fit()
         Small s.came →
         s.closed ≡ false →
         length (items s.came) - s.taken ≤ 3825 }
-    ensures begins { (master : Bool) (sessions ceiling : ℕ) → AllSmall (no_sessions master sessions ceiling) }
+    ensures begins { (master : Bool) (sessions ceiling : ℕ) →
+        AllSmall (no_sessions master sessions ceiling) }
     ensures calls { (e : Sessions) (c : Call) → AllSmall e → AllSmall (call e c) }
     ensures hears { (e f : Sessions) (x : Slot) →
         AllSmall e →

@@ -29,7 +29,8 @@ impl<H: RatingRule> NodeCore<H> {
         ensures answer { IfOk result (λ a. a ≡ answers.Done) }
         ensures frames { (s : machine.Node) →
             Stands self.now s →
-            OnOk result (Rated H.may self.now s (announces (config_of self.now) s) (length self.now.services) out.old out.new) }
+            OnOk result (Rated H.may self.now s (announces (config_of self.now) s)
+            (length self.now.services) out.old out.new) }
         ensures most { length out.new ≤ length out.old + 1 }
         ensures err { OnErr result (out.new ≡ out.old) }
     {
@@ -136,8 +137,10 @@ impl<H: RatingRule> NodeCore<H> {
     fn rated(&self, alloc: Global, used: u16) -> Result<Services, Memory>
         requires fact { H.fact self.now.rule }
         requires within { used ≤ self.now.lines.lines }
-        ensures names { IfOk result (λ ss. map service_shown ss ≡ machine.rated self.now.services (ratings ss)) }
-        ensures ratings { IfOk result (λ ss. Each (H.may self.now.rule used self.now.lines.lines) (ratings ss)) }
+        ensures names { IfOk result (λ ss.
+            map service_shown ss ≡ machine.rated self.now.services (ratings ss)) }
+        ensures ratings { IfOk result (λ ss.
+            Each (H.may self.now.rule used self.now.lines.lines) (ratings ss)) }
     {
         let mut services = Services::new(alloc);
         for name in self.services.as_slice() {
@@ -150,7 +153,8 @@ impl<H: RatingRule> NodeCore<H> {
     fn service(&self, alloc: Global, name: &Name, used: u16) -> Result<Service, Memory>
         requires fact { H.fact self.now.rule }
         requires within { used ≤ self.now.lines.lines }
-        ensures shown { IfOk result (λ s. service_shown s ≡ record { rating = s.rating; name = name.now; description = [] }) }
+        ensures shown { IfOk result (λ s.
+            service_shown s ≡ record { rating = s.rating; name = name.now; description = [] }) }
         ensures rating { IfOk result (λ s. H.may self.now.rule used self.now.lines.lines s.rating) }
     {
         Ok(Service {

@@ -101,7 +101,8 @@ impl<H: RatingRule> NodeCore<H> {
     fn verdict(&self, asked: &Asked) -> Result<u8, RejectReason>
         ensures verdict { (s : machine.Node) →
             Stands self.now s →
-            verdict_shown result ≡ machine.verdict (config_of self.now) s asked.now.service asked.now.request }
+            verdict_shown result
+            ≡ machine.verdict (config_of self.now) s asked.now.service asked.now.request }
         ensures line { IfOk result (IsLine self.now.lines.lines) }
     {
         match asked.request {

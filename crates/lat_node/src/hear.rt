@@ -60,7 +60,8 @@ impl<H: RatingRule> NodeCore<H> {
     fn misread(&mut self, fault: LayoutFault, now: u64) -> Result<Answer, Memory>
         ensures steps { (reading : Reading) (from : ℕ) (frames : List OutFrame) →
             reads.Answers (Err fault) reading →
-            IfOk result (λ a. SimulatesRated H.may (Hears from reading None now) self.old self.new a frames frames) }
+            IfOk result (λ a.
+            SimulatesRated H.may (Hears from reading None now) self.old self.new a frames frames) }
         ensures same { SameConfig self.old self.new }
         ensures plain { IfOk result IsPlain }
         ensures err { OnErr result (self.new ≡ self.old) }
@@ -76,7 +77,8 @@ impl<H: RatingRule> NodeCore<H> {
 
     // Its moment goes on.
     fn pass(&mut self, now: u64)
-        ensures state { (s : Node) → Stands self.old s → Stands self.new (with_core s (at_moment now s.core)) }
+        ensures state { (s : Node) → Stands self.old s →
+            Stands self.new (with_core s (at_moment now s.core)) }
         ensures same { SameConfig self.old self.new }
         ensures rest { AtRest self.old → AtRest self.new }
     {
@@ -119,7 +121,8 @@ impl<H: RatingRule> NodeCore<H> {
         requires ok { IsWritable message.now }
         requires room { length out.old + 16 ≤ 256 }
         ensures does { Simulates
-            (λ config s. hears_message config (with_core s (at_moment now s.core)) (address from.0) (message_shown message.now) None)
+            (λ config s. hears_message config (with_core s (at_moment now s.core)) (address from.0)
+            (message_shown message.now) None)
             self.old self.new result out.old out.new }
         ensures same { SameConfig self.old self.new }
         ensures plain { IsPlain result }
@@ -143,7 +146,8 @@ impl<H: RatingRule> NodeCore<H> {
 
     // The living circuit that a RUN names.
     fn named(&self, from: Addr, message: &Message) -> Option<u16>
-        ensures { (s : Node) → Stands self.now s → result ≡ named_by s.core.circuits (address from.0) (message_shown message.now) }
+        ensures { (s : Node) → Stands self.now s →
+            result ≡ named_by s.core.circuits (address from.0) (message_shown message.now) }
     {
         match message {
             Message::Run { head, .. } if self.lines.names(from, head.to, head.from) => {
@@ -169,7 +173,8 @@ impl<H: RatingRule> NodeCore<H> {
         requires room { length out.old + 16 ≤ 256 }
         requires apart { nat_eq (address from.0) everyone ≡ false }
         ensures steps { IfOk result (λ a.
-            SimulatesRated H.may (Hears (address from.0) (Whole (OfNotice (notice_shown notice.now))) None now)
+            SimulatesRated H.may (Hears (address from.0)
+            (Whole (OfNotice (notice_shown notice.now))) None now)
             self.old self.new a out.old out.new) }
         ensures same { SameConfig self.old self.new }
         ensures plain { IfOk result IsPlain }
@@ -194,12 +199,15 @@ impl<H: RatingRule> NodeCore<H> {
         ensures answer { (s : Node) →
             Stands self.now s →
             IfOk result (λ a.
-            answer_shown a ≡ (hears_notice (config_of self.now) [] s (address from.0) (notice_shown notice.now)).answer) }
+            answer_shown a
+            ≡ (hears_notice (config_of self.now) [] s (address from.0)
+            (notice_shown notice.now)).answer) }
         ensures frames { (s : Node) →
             Stands self.now s →
             OnOk result
             (Rated H.may self.now s
-            (λ rates. hears_notice (config_of self.now) rates s (address from.0) (notice_shown notice.now))
+            (λ rates. hears_notice (config_of self.now) rates s (address from.0)
+            (notice_shown notice.now))
             (notice_ratings (config_of self.now) (notice_shown notice.now))
             out.old out.new) }
         ensures plain { IfOk result IsPlain }

@@ -88,7 +88,8 @@ impl<H: RatingRule> NodeCore<H> {
         requires config { IsConfig config.now }
         requires fact { H.fact rule }
         ensures stands { IfOk result (λ k. IsMachine k (opening k)) }
-        ensures config { IfOk result (λ k. (config_of k ≡ config_shown config.now) × (k.rule ≡ rule)) }
+        ensures config { IfOk result (λ k.
+            (config_of k ≡ config_shown config.now) × (k.rule ≡ rule)) }
         ensures rest { IfOk result (λ k. AtRest k × H.fact k.rule) }
     {
         Ok(NodeCore {
@@ -120,7 +121,8 @@ impl<H: RatingRule> NodeCore<H> {
     /// The last two sessions of a line, which must exist. It takes no memory.
     pub fn book(&self, line: u8) -> LineBook
         requires { IsLine self.now.lines.lines line }
-        ensures { (s : Node) → Stands self.now s → book_shown result ≡ book_info (book s.core line) }
+        ensures { (s : Node) → Stands self.now s →
+            book_shown result ≡ book_info (book s.core line) }
     {
         self.lines.book(line)
     }
@@ -134,7 +136,8 @@ impl<H: RatingRule> NodeCore<H> {
 
     /// Whether a RUN from this address, with this destination and this source, names a living circuit.
     pub fn names(&self, from: Addr, to: u16, source: u16) -> bool
-        ensures { (s : Node) → Stands self.now s → result ≡ names s.core.circuits (address from.0) to source }
+        ensures { (s : Node) → Stands self.now s →
+            result ≡ names s.core.circuits (address from.0) to source }
     {
         self.lines.names(from, to, source)
     }

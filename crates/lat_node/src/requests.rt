@@ -74,10 +74,12 @@ impl<H: RatingRule> NodeCore<H> {
         requires room { length out.old < 256 }
         ensures same { (s : Node) (r : Requested) →
             request_shown (id, request.now) ≡ request_in s r →
-            (requests_again (config_of self.now) s (address to.0) id service.now (Some r)).state ≡ s }
+            (requests_again (config_of self.now) s (address to.0) id service.now (Some r)).state
+            ≡ s }
         ensures answer { (s : Node) (r : Requested) →
             request_shown (id, request.now) ≡ request_in s r →
-            answer_shown result ≡ (requests_again (config_of self.now) s (address to.0) id service.now (Some r)).answer }
+            answer_shown result
+            ≡ (requests_again (config_of self.now) s (address to.0) id service.now (Some r)).answer }
         ensures frames { (s : Node) (r : Requested) →
             request_shown (id, request.now) ≡ request_in s r →
             Emits (requests_again (config_of self.now) s (address to.0) id service.now (Some r)).frames out.old out.new }
@@ -94,7 +96,8 @@ impl<H: RatingRule> NodeCore<H> {
     /// Withdraws the request of this id.
     pub(crate) fn withdraw(&self, id: u16, out: &mut OutBox) -> Answer
         requires room { length out.old + 16 ≤ 256 }
-        ensures does { Simulates (λ config s. withdraws config s (request_of id s)) self.now self.now result out.old out.new }
+        ensures does { Simulates (λ config s.
+            withdraws config s (request_of id s)) self.now self.now result out.old out.new }
         ensures plain { IsPlain result }
         ensures most { length out.new ≤ length out.old + 1 }
     {
@@ -110,7 +113,8 @@ impl<H: RatingRule> NodeCore<H> {
     // Sends a command.
     fn command(&self, to: Addr, id: u16, action: Action, service: &Name, out: &mut OutBox)
         requires room { length out.old < 256 }
-        ensures frames { Emits (command_frame (config_of self.now) (address to.0) id (action_shown action) service.now ∷ []) out.old out.new }
+        ensures frames { Emits (command_frame (config_of self.now)
+            (address to.0) id (action_shown action) service.now ∷ []) out.old out.new }
         ensures most { length out.new ≡ length out.old + 1 }
     {
         out.push(command_frame(
@@ -125,7 +129,9 @@ impl<H: RatingRule> NodeCore<H> {
 
     /// Whether a request with this service was made under this id, and no start was accepted for it.
     pub(crate) fn is_requested(&self, id: u16, service: &Name) -> bool
-        ensures { (s : Node) → Stands self.now s → result ≡ (was_requested service.now (request_of id s) && not (list_any (nat_eq id) s.accepted)) }
+        ensures { (s : Node) → Stands self.now s →
+            result ≡ (was_requested service.now (request_of id s)
+            && not (list_any (nat_eq id) s.accepted)) }
     {
         match self.requests.get(&id) {
             Some(request) => request.service.same(service) && !request.accepted,
@@ -135,7 +141,8 @@ impl<H: RatingRule> NodeCore<H> {
 
     /// Notes that a start was accepted for the request of this id, which was made.
     pub(crate) fn note_accepted(&mut self, id: u16)
-        ensures state { (s : Node) → Stands self.old s → was_made s id ≡ true → Stands self.new (record s { accepted = s.accepted ++ id ∷ [] }) }
+        ensures state { (s : Node) → Stands self.old s → was_made s id ≡ true →
+            Stands self.new (record s { accepted = s.accepted ++ id ∷ [] }) }
         ensures same { SameConfig self.old self.new }
         ensures lines { self.new.lines ≡ self.old.lines }
         ensures turned_away { self.new.turned_away ≡ self.old.turned_away }
@@ -149,7 +156,8 @@ impl<H: RatingRule> NodeCore<H> {
 impl Request {
     // Whether it was made to this server, for this service.
     fn is_for(&self, to: Addr, service: &Name) -> bool
-        ensures { result ≡ (nat_eq (address self.now.to.0) (address to.0) && same self.now.service service.now) }
+        ensures { result ≡ (nat_eq (address self.now.to.0) (address to.0)
+            && same self.now.service service.now) }
     {
         is_same(&self.to.0, &to.0) && self.service.same(service)
     }
@@ -163,7 +171,9 @@ fn insert(
     service: &Name,
 ) -> Result<(), Memory>
     requires new { lookup (nat_eq id) requests.old.entries ≡ None }
-    ensures ok { OnOk result (requests.new.entries ≡ requests.old.entries ++ (id, record { to = to; service = service.now; accepted = false }) ∷ []) }
+    ensures ok { OnOk result (requests.new.entries
+        ≡ requests.old.entries
+        ++ (id, record { to = to; service = service.now; accepted = false }) ∷ []) }
     ensures err { OnErr result (requests.new.entries ≡ requests.old.entries) }
 {
     let request = Request {
@@ -178,7 +188,8 @@ fn insert(
 // A start was accepted for the request of this id. The id is there, so that this needs no memory.
 fn accept(requests: &mut IndexMap<u16, Request>, id: u16, request: Request)
     requires there { lookup (nat_eq id) requests.old.entries ≡ Some request }
-    ensures accepted { requests.new.entries ≡ insert_entry nat_eq requests.old.entries id (record request { accepted = true }) }
+    ensures accepted { requests.new.entries
+        ≡ insert_entry nat_eq requests.old.entries id (record request { accepted = true }) }
     ensures apart { IsUnique nat_eq requests.new }
 {
     let accepted = Request {

@@ -81,7 +81,8 @@ impl<H: RatingRule> NodeCore<H> {
         ensures rest { AtRest self.new }
         ensures fact { H.fact self.new.rule }
         ensures opening { opening self.new ≡ opening self.old }
-        ensures state { (m : Machine H) → IsMachine self.old m → IsMachine self.new (next m event.now) }
+        ensures state { (m : Machine H) → IsMachine self.old m →
+            IsMachine self.new (next m event.now) }
         ensures answer { (m : Machine H) → IsMachine self.old m → result ≡ answered m event.now }
         ensures frames { (m : Machine H) → IsMachine self.old m → Frames H.may m event.now out.new }
         ensures put { PutFits result event.now }
@@ -97,7 +98,8 @@ impl<H: RatingRule> NodeCore<H> {
         requires rest { AtRest self.old }
         requires fact { H.fact self.old.rule }
         requires room { length out.old + 128 ≤ 256 }
-        ensures steps { IfOk result (λ a. SimulatesRated H.may (event_shown event.now) self.old self.new a out.old out.new) }
+        ensures steps { IfOk result (λ a.
+            SimulatesRated H.may (event_shown event.now) self.old self.new a out.old out.new) }
         ensures same { SameConfig self.old self.new }
         ensures put { IfOk result (λ a. PutFits a event.now) }
         ensures took { IfOk result (λ a. TookFits (lines.ready self.old.lines) a event.now) }
@@ -127,7 +129,8 @@ impl<H: RatingRule> NodeCore<H> {
     fn act(&mut self, event: &Event, out: &mut OutBox) -> Answer
         requires act { IsAct event.now }
         requires room { length out.old + 128 ≤ 256 }
-        ensures does { Simulates (λ config s. node_step config [] s (event_shown event.now)) self.old self.new result out.old out.new }
+        ensures does { Simulates (λ config s.
+            node_step config [] s (event_shown event.now)) self.old self.new result out.old out.new }
         ensures same { SameConfig self.old self.new }
         ensures put { PutFits result event.now }
         ensures took { TookFits (lines.ready self.old.lines) result event.now }
@@ -145,7 +148,8 @@ impl<H: RatingRule> NodeCore<H> {
     // Time has come to a moment: circuits do what is due.
     fn time(&mut self, now: u64, out: &mut OutBox) -> Answer
         requires room { length out.old + 128 ≤ 256 }
-        ensures does { Simulates (λ config s. node_step config [] s (Time now)) self.old self.new result out.old out.new }
+        ensures does { Simulates (λ config s.
+            node_step config [] s (Time now)) self.old self.new result out.old out.new }
         ensures same { SameConfig self.old self.new }
         ensures done { result ≡ answers.Done }
     {

@@ -20,7 +20,11 @@ pub const MASK_BYTES: usize = 32;
 #[tactic(auto, unfolding(crate::specs::Fields::byte_for))]
 pub fn version_of(bytes: &[u8], place: usize) -> Result<(u8, usize), LayoutFault>
     requires { (place ≤ length bytes.now) × (length bytes.now ≤ 1500) }
-    ensures gives { Gives (λ x. (x.0, x.1, drop x.1 bytes.now)) result (byte_for is_version fields.Version place (drop place bytes.now)) }
+    ensures gives { Gives (λ x. (
+      x.0,
+      x.1,
+      drop x.1 bytes.now,
+    )) result (byte_for is_version fields.Version place (drop place bytes.now)) }
     ensures within { IfOk result (λ x. x.1 ≤ length bytes.now) }
 {
     let (version, behind) = byte_of(Field::Version, place, bytes, place)?;
@@ -32,7 +36,11 @@ pub fn version_of(bytes: &[u8], place: usize) -> Result<(u8, usize), LayoutFault
 #[tactic(auto, unfolding(crate::specs::Fields::byte_for))]
 pub fn timer_of(bytes: &[u8], place: usize) -> Result<(u8, usize), LayoutFault>
     requires { (place ≤ length bytes.now) × (length bytes.now ≤ 1500) }
-    ensures gives { Gives (λ x. (x.0, x.1, drop x.1 bytes.now)) result (byte_for is_timer fields.Timer place (drop place bytes.now)) }
+    ensures gives { Gives (λ x. (
+      x.0,
+      x.1,
+      drop x.1 bytes.now,
+    )) result (byte_for is_timer fields.Timer place (drop place bytes.now)) }
     ensures within { IfOk result (λ x. x.1 ≤ length bytes.now) }
 {
     let (seconds, behind) = byte_of(Field::Timer, place, bytes, place)?;
@@ -44,7 +52,8 @@ pub fn timer_of(bytes: &[u8], place: usize) -> Result<(u8, usize), LayoutFault>
 #[tactic(auto, unfolding(crate::specs::Fields::groups_at))]
 pub fn groups_of(bytes: &[u8], place: usize) -> Result<(&[u8], usize), LayoutFault>
     requires { (place ≤ length bytes.now) × (length bytes.now ≤ 1500) }
-    ensures gives { Gives (λ x. (x.0.now, x.1, drop x.1 bytes.now)) result (groups_at place (drop place bytes.now)) }
+    ensures gives { Gives (λ x. (x.0.now, x.1, drop x.1 bytes.now)) result (groups_at place
+        (drop place bytes.now)) }
     ensures within { IfOk result (λ x. x.1 ≤ length bytes.now) }
 {
     let (mask, behind) = counted_of(Field::Groups, place, bytes, place)?;
@@ -66,7 +75,8 @@ fn action(number: u8) -> Action
 #[tactic(auto, unfolding(crate::specs::Fields::byte_for, crate::specs::Fields::action_at))]
 pub fn action_of(bytes: &[u8], place: usize) -> Result<(Action, usize), LayoutFault>
     requires { (place ≤ length bytes.now) × (length bytes.now ≤ 1500) }
-    ensures gives { Gives (λ x. (x.0, x.1, drop x.1 bytes.now)) result (action_at place (drop place bytes.now)) }
+    ensures gives { Gives (λ x. (x.0, x.1, drop x.1 bytes.now)) result (action_at place
+        (drop place bytes.now)) }
     ensures within { IfOk result (λ x. x.1 ≤ length bytes.now) }
 {
     let (number, behind) = byte_of(Field::Action, place, bytes, place)?;
@@ -100,7 +110,8 @@ fn place_fits(number: u8, place: u16) -> bool
 #[tactic(auto, unfolding(crate::specs::Fields::byte_for, crate::specs::Fields::outcome_at))]
 pub fn outcome_of(bytes: &[u8], place: usize) -> Result<(Outcome, usize), LayoutFault>
     requires { (place ≤ length bytes.now) × (length bytes.now ≤ 1500) }
-    ensures gives { Gives (λ x. (x.0, x.1, drop x.1 bytes.now)) result (outcome_at place (drop place bytes.now)) }
+    ensures gives { Gives (λ x. (x.0, x.1, drop x.1 bytes.now)) result (outcome_at place
+        (drop place bytes.now)) }
     ensures within { IfOk result (λ x. x.1 ≤ length bytes.now) }
 {
     let (number, queue_at) = byte_of(Field::Outcome, place, bytes, place)?;

@@ -71,7 +71,11 @@ fn announced_of(
 #[tactic(auto, unfolding(crate::specs::Reading::announcement_at))]
 fn announcement_of(alloc: Global, bytes: &[u8]) -> Result<(Notice, usize), LayoutFault>
     requires { (1 ≤ length bytes.now) × (length bytes.now ≤ 1500) }
-    ensures gives { Gives (λ x. (x.0, x.1, drop x.1 bytes.now)) result (announcement_at (drop 1 bytes.now)) }
+    ensures gives { Gives (λ x. (
+      x.0,
+      x.1,
+      drop x.1 bytes.now,
+    )) result (announcement_at (drop 1 bytes.now)) }
     ensures within { IfOk result (λ x. x.1 ≤ length bytes.now) }
 {
     let (timer, at) = timer_of(bytes, 1)?;
@@ -110,7 +114,11 @@ fn commanded_of(
 #[tactic(auto, unfolding(crate::specs::Reading::command_at))]
 fn command_of(bytes: &[u8]) -> Result<(Notice, usize), LayoutFault>
     requires { (1 ≤ length bytes.now) × (length bytes.now ≤ 1500) }
-    ensures gives { Gives (λ x. (x.0, x.1, drop x.1 bytes.now)) result (command_at (drop 1 bytes.now)) }
+    ensures gives { Gives (λ x. (
+      x.0,
+      x.1,
+      drop x.1 bytes.now,
+    )) result (command_at (drop 1 bytes.now)) }
     ensures within { IfOk result (λ x. x.1 ≤ length bytes.now) }
 {
     let (_, at) = version_of(bytes, 1)?;
@@ -146,7 +154,11 @@ fn told_of(
 #[tactic(auto, unfolding(crate::specs::Reading::status_at))]
 fn status_of(bytes: &[u8]) -> Result<(Notice, usize), LayoutFault>
     requires { (1 ≤ length bytes.now) × (length bytes.now ≤ 1500) }
-    ensures gives { Gives (λ x. (x.0, x.1, drop x.1 bytes.now)) result (status_at (drop 1 bytes.now)) }
+    ensures gives { Gives (λ x. (
+      x.0,
+      x.1,
+      drop x.1 bytes.now,
+    )) result (status_at (drop 1 bytes.now)) }
     ensures within { IfOk result (λ x. x.1 ≤ length bytes.now) }
 {
     let (_, at) = version_of(bytes, 1)?;
@@ -158,7 +170,11 @@ fn status_of(bytes: &[u8]) -> Result<(Notice, usize), LayoutFault>
 #[tactic(auto, unfolding(crate::specs::Reading::solicit_at))]
 fn solicit_of(bytes: &[u8]) -> Result<(Notice, usize), LayoutFault>
     requires { (1 ≤ length bytes.now) × (length bytes.now ≤ 1500) }
-    ensures gives { Gives (λ x. (x.0, x.1, drop x.1 bytes.now)) result (solicit_at (drop 1 bytes.now)) }
+    ensures gives { Gives (λ x. (
+      x.0,
+      x.1,
+      drop x.1 bytes.now,
+    )) result (solicit_at (drop 1 bytes.now)) }
     ensures within { IfOk result (λ x. x.1 ≤ length bytes.now) }
 {
     let (_, at) = version_of(bytes, 1)?;
@@ -197,7 +213,11 @@ fn rated_of(
 #[tactic(auto, unfolding(crate::specs::Reading::response_at))]
 fn response_of(bytes: &[u8]) -> Result<(Notice, usize), LayoutFault>
     requires { (1 ≤ length bytes.now) × (length bytes.now ≤ 1500) }
-    ensures gives { Gives (λ x. (x.0, x.1, drop x.1 bytes.now)) result (response_at (drop 1 bytes.now)) }
+    ensures gives { Gives (λ x. (
+      x.0,
+      x.1,
+      drop x.1 bytes.now,
+    )) result (response_at (drop 1 bytes.now)) }
     ensures within { IfOk result (λ x. x.1 ≤ length bytes.now) }
 {
     let (_, at) = version_of(bytes, 1)?;
@@ -210,7 +230,8 @@ fn response_of(bytes: &[u8]) -> Result<(Notice, usize), LayoutFault>
 // The fields of the notice of this type, and the place behind them.
 fn fields_of(alloc: Global, kind: NoticeKind, bytes: &[u8]) -> Result<(Notice, usize), LayoutFault>
     requires { (1 ≤ length bytes.now) × (length bytes.now ≤ 1500) }
-    ensures gives { Gives (λ x. (x.0, x.1, drop x.1 bytes.now)) result (fields_at kind (drop 1 bytes.now)) }
+    ensures gives { Gives (λ x. (x.0, x.1, drop x.1 bytes.now)) result (fields_at kind
+        (drop 1 bytes.now)) }
     ensures within { IfOk result (λ x. x.1 ≤ length bytes.now) }
 {
     match kind {
@@ -259,7 +280,8 @@ pub fn read_notice(alloc: Global, payload: &[u8]) -> Result<Notice, FrameFault>
     // What is read stands there.
     ensures found { IfOk result (λ n. PayloadText NoticeText n payload.now) }
     // What stands there is read, unless memory runs out.
-    ensures only { (n : Notice) → PayloadText NoticeText n payload.now → Gives (λ x. x) result (Ok n) }
+    ensures only { (n : Notice) → PayloadText NoticeText n payload.now →
+        Gives (λ x. x) result (Ok n) }
     // Which field is refused.
     ensures exact { Gives (λ x. x) result (notice_read payload.now) }
 {

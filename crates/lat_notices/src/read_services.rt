@@ -12,7 +12,8 @@ use std::alloc::Global;
 #[tactic(auto, unfolding(crate::specs::ServicesReading::service_at))]
 fn service_of(alloc: Global, bytes: &[u8], place: usize) -> Result<(Service, usize), LayoutFault>
     requires { (place ≤ length bytes.now) × (length bytes.now ≤ 1500) }
-    ensures gives { Gives (λ x. (x.0, x.1, drop x.1 bytes.now)) result (service_at place (drop place bytes.now)) }
+    ensures gives { Gives (λ x. (x.0, x.1, drop x.1 bytes.now)) result (service_at place
+        (drop place bytes.now)) }
     ensures within { IfOk result (λ x. x.1 ≤ length bytes.now) }
 {
     let (rating, at) = byte_of(Field::Rating, place, bytes, place)?;
@@ -36,7 +37,11 @@ pub fn services_of(
     place: usize,
 ) -> Result<(Services, usize), LayoutFault>
     requires { (place ≤ length bytes.now) × (length bytes.now ≤ 1500) }
-    ensures gives { Gives (λ x. (x.0, x.1, drop x.1 bytes.now)) result (services_at count place (drop place bytes.now)) }
+    ensures gives { Gives (λ x. (
+      x.0,
+      x.1,
+      drop x.1 bytes.now,
+    )) result (services_at count place (drop place bytes.now)) }
     ensures within { IfOk result (λ x. x.1 ≤ length bytes.now) }
 {
     let mut services = Services::new(alloc);

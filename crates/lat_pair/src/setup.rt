@@ -155,7 +155,8 @@ impl Setup {
     // Whether the server has this line, and nothing is offered there.
     fn may_offer(&self, line: u8) -> bool
         ensures line { result ≡ true → IsLine self.now.server.lines line }
-        ensures free { result ≡ true → list_any (λ (o : Offer). nat_eq o.line line) self.now.server.offers ≡ false }
+        ensures free { result ≡ true →
+            list_any (λ (o : Offer). nat_eq o.line line) self.now.server.offers ≡ false }
     {
         1 <= line && line <= self.server.lines && !is_offered(line, self.server.offers.as_slice())
     }

@@ -20,7 +20,12 @@ use lat_notices::{Action, Command, Notice, Outcome, Response, Solicit, Status, w
 pub fn notice_frame(to: Addr, notice: &Notice) -> OutFrame
     requires ok { CanBeWritten notice.now }
     ensures frame { result ≡
-        record { to = to; payload = padded (notice_text notice.now); circuit = 0; mark = marks.Plain } }
+        record {
+          to = to;
+          payload = padded (notice_text notice.now);
+          circuit = 0;
+          mark = marks.Plain;
+        } }
     ensures goes { GoesOutAs result (plain (address to.0) 0 (OfNotice (notice_shown notice.now))) }
 {
     let mut payload = Payload::empty();
@@ -45,7 +50,12 @@ pub fn status_frame(
 ) -> OutFrame
     requires { IsSendable outcome }
     ensures { GoesOutAs result (plain (address to.0) 0 (OfNotice (StatusNotice
-        (record { incarnation = incarnation; request = request; outcome = outcome_shown outcome; node = node.now })))) }
+        (record {
+          incarnation = incarnation;
+          request = request;
+          outcome = outcome_shown outcome;
+          node = node.now;
+        })))) }
 {
     let status = Status {
         incarnation,
@@ -109,7 +119,13 @@ pub fn response_frame(
 ) -> OutFrame
     requires { 0 < timer }
     ensures { GoesOutAs result (plain (address to.0) 0 (OfNotice (ResponseNotice
-        (record { id = id; node = node.now; service = service.now; rating = rating; timer = timer })))) }
+        (record {
+          id = id;
+          node = node.now;
+          service = service.now;
+          rating = rating;
+          timer = timer;
+        })))) }
 {
     let response = Response {
         id,

@@ -58,7 +58,11 @@ impl Model for Posts {
     ghost Value = { Kept };
 
     ghost view = { λ a. record {
-      log = record { posts = map post_of a.frames.items; marks = map mark_of a.frames.items; ways = a.ways };
+      log = record {
+        posts = map post_of a.frames.items;
+        marks = map mark_of a.frames.items;
+        ways = a.ways;
+      };
       reserved = vec_capacity a.frames - vec_len a.frames;
     } };
 
@@ -215,7 +219,8 @@ impl Posts {
 
     /// The frame of this index; `None` exactly past the last.
     pub fn get(&self, index: u64) -> Option<&Sent>
-        ensures { MatchOption result (length self.now.log.posts ≤ index) (λ s. IsAt self.now.log index s.now) }
+        ensures { MatchOption result (length self.now.log.posts ≤ index) (λ s.
+            IsAt self.now.log index s.now) }
     {
         self.frames.get(index as usize)
     }
@@ -256,7 +261,8 @@ impl Posts {
         ensures log { (u : Setups) (posts : List Posted) (delivered : List ℕ) →
             IsLog u self.old.log posts delivered →
             IsLog u self.new.log posts (delivered ++ index ∷ []) }
-        ensures came { (n : ℕ) → CameAtMost n self.old.log.ways → CameAtMost (n + 1) self.new.log.ways }
+        ensures came { (n : ℕ) → CameAtMost n self.old.log.ways →
+            CameAtMost (n + 1) self.new.log.ways }
     {
         let before = mark_at(&mut self.frames, index);
         self.ways = come_behind(self.ways, before);

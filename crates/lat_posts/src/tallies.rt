@@ -73,7 +73,8 @@ impl Tallies {
 
     /// Counts this of the circuit of this id.
     pub fn set(&mut self, circuit: u16, tally: Tally)
-        ensures { (x : ℕ) → tally_at self.new x ≡ cond (nat_eq x circuit) tally (tally_at self.old x) }
+        ensures { (x : ℕ) → tally_at self.new x
+            ≡ cond (nat_eq x circuit) tally (tally_at self.old x) }
     {
         self.table[circuit as usize] = tally;
     }

@@ -49,9 +49,17 @@ impl Model for Queue {
 
     ghost Value = { Table };
 
-    ghost view = { λ a. record { offered = a.offered; entries = a.entries.entries; granted = a.granted } };
+    ghost view = { λ a. record {
+      offered = a.offered;
+      entries = a.entries.entries;
+      granted = a.granted;
+    } };
 
-    ghost invariant = { λ a. Holds (record { offered = a.offered; entries = a.entries.entries; granted = a.granted }) a.lines.items };
+    ghost invariant = { λ a. Holds (record {
+      offered = a.offered;
+      entries = a.entries.entries;
+      granted = a.granted;
+    }) a.lines.items };
 }
 
 // So many empty lines.
@@ -112,10 +120,14 @@ impl Queue {
         from: Addr,
         service: &Name,
     ) -> Result<Kept, Memory>
-        ensures answer { (h : List QueueEvent) → Stands self.old h → IfOk result (λ a. kept_in a ≡ ask_answer self.old.offered (key_in key.now) service.now h) }
+        ensures answer { (h : List QueueEvent) → Stands self.old h →
+            IfOk result (λ a.
+            kept_in a ≡ ask_answer self.old.offered (key_in key.now) service.now h) }
         ensures stands { (h : List QueueEvent) →
             Stands self.old h →
-            IfOk result (λ a. Stands self.new (h ++ Asks (key_in key.now) (address_in from) service.now (kept_in a) ∷ [])) }
+            IfOk result (λ a.
+            Stands self.new (h
+            ++ Asks (key_in key.now) (address_in from) service.now (kept_in a) ∷ [])) }
         ensures place { IfOk result HasPlace }
         ensures offered { self.new.offered ≡ self.old.offered }
         ensures err { OnErr result (self.new ≡ self.old) }
@@ -132,8 +144,10 @@ impl Queue {
     /// A node withdraws a request: `Waiting` becomes `Cancelled`, and no other record changes. It tells the record, or
     /// None where there is none.
     pub fn cancel(&mut self, key: &Key) -> Option<Kept>
-        ensures answer { (h : List QueueEvent) → Stands self.old h → some_kept result ≡ kept_of (key_in key.now) (h ++ Cancels (key_in key.now) ∷ []) }
-        ensures stands { (h : List QueueEvent) → Stands self.old h → Stands self.new (h ++ Cancels (key_in key.now) ∷ []) }
+        ensures answer { (h : List QueueEvent) → Stands self.old h →
+            some_kept result ≡ kept_of (key_in key.now) (h ++ Cancels (key_in key.now) ∷ []) }
+        ensures stands { (h : List QueueEvent) → Stands self.old h →
+            Stands self.new (h ++ Cancels (key_in key.now) ∷ []) }
         ensures place { IfSome result HasPlace }
         ensures offered { self.new.offered ≡ self.old.offered }
     {
@@ -144,7 +158,8 @@ impl Queue {
     /// The key of the first that waits for the service, and the address that its first command came from. None where
     /// nobody waits for it.
     pub fn first(&self, service: &Name) -> Option<(Key, Addr)>
-        ensures { (h : List QueueEvent) → Stands self.now h → some_first result ≡ some_request (next_request service.now h) }
+        ensures { (h : List QueueEvent) → Stands self.now h →
+            some_first result ≡ some_request (next_request service.now h) }
     {
         self.first_waiter(service)
     }
@@ -152,8 +167,10 @@ impl Queue {
     /// Grants the first that waits for the service, and tells its key. None where nobody waits for it, and then nothing
     /// has changed.
     pub fn grant(&mut self, service: &Name) -> Option<Key>
-        ensures answer { (h : List QueueEvent) → Stands self.old h → some_key result ≡ request_key (next_request service.now h) }
-        ensures stands { (h : List QueueEvent) → Stands self.old h → IfSome result (λ k. Stands self.new (h ++ Grants (key_in k) service.now ∷ [])) }
+        ensures answer { (h : List QueueEvent) → Stands self.old h →
+            some_key result ≡ request_key (next_request service.now h) }
+        ensures stands { (h : List QueueEvent) → Stands self.old h →
+            IfSome result (λ k. Stands self.new (h ++ Grants (key_in k) service.now ∷ [])) }
         ensures offered { self.new.offered ≡ self.old.offered }
         ensures none { IfNone result (self.new ≡ self.old) }
     {
@@ -165,7 +182,8 @@ impl Queue {
     /// The session of a granted request is over: its record becomes `Done`. Where the record isn't `Granted`, nothing
     /// changes and no event is counted.
     pub fn finish(&mut self, key: &Key)
-        ensures stands { (h : List QueueEvent) → Stands self.old h → Stands self.new (finish_history (key_in key.now) h) }
+        ensures stands { (h : List QueueEvent) → Stands self.old h →
+            Stands self.new (finish_history (key_in key.now) h) }
         ensures offered { self.new.offered ≡ self.old.offered }
     {
         self.end(key);
@@ -173,7 +191,8 @@ impl Queue {
 
     /// The record at this place of the order of first commands, counted from 0. None past the last.
     pub fn record_at(&self, place: usize) -> Option<Record>
-        ensures value { (h : List QueueEvent) → Stands self.now h → some_record result ≡ record_at place h }
+        ensures value { (h : List QueueEvent) → Stands self.now h →
+            some_record result ≡ record_at place h }
         ensures within { IsSome result ↔ (place < length self.now.entries) }
     {
         self.shown(place)
@@ -183,7 +202,8 @@ impl Queue {
     fn admit(&mut self, key: &Key, from: Addr, service: &Name) -> Result<Kept, Memory>
         requires new { lookup (one_key key.now) self.old.entries ≡ None }
         requires few { length self.old.entries < 65536 }
-        ensures answer { IfOk result (λ a. a ≡ new_info self.old (new_standing self.old service.now)) }
+        ensures answer { IfOk result (λ a.
+            a ≡ new_info self.old (new_standing self.old service.now)) }
         ensures place { IfOk result HasPlace }
         ensures ok { OnOk result (self.new ≡ added self.old key.now (record {
           from = from;

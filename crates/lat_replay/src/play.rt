@@ -25,7 +25,8 @@ impl<H: RatingRule> World<H> {
     /// left it.
     pub fn play(&mut self, alloc: Global, events: &[WorldEvent]) -> Result<(), Stopped>
         requires { Each IsPlayable events.now }
-        ensures plays { (s : State) → StandsAt self.old s → PlaysAs (setups_of self.old) s events.now result self.new }
+        ensures plays { (s : State) → StandsAt self.old s →
+            PlaysAs (setups_of self.old) s events.now result self.new }
         ensures setups { setups_of self.new ≡ setups_of self.old }
     {
         for (index, event) in events.iter().enumerate() {

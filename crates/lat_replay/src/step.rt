@@ -29,8 +29,10 @@ impl<H: RatingRule> World<H> {
         ensures stands { OnOk result ((w : Machines) →
             Stands self.old w →
             Stands self.new (happens (setups_of self.old) w (move_of (setups_of self.old) w (moment_of self.old) event.now))) }
-        ensures refused { (w : Machines) → Stands self.old w → RefusedAs result (refusal_of (setups_of self.old) w (moment_of self.old) event.now) }
-        ensures moment { OnOk result (moment_of self.new ≡ moment_behind (moment_of self.old) event.now) }
+        ensures refused { (w : Machines) → Stands self.old w →
+            RefusedAs result (refusal_of (setups_of self.old) w (moment_of self.old) event.now) }
+        ensures moment { OnOk result (moment_of self.new
+            ≡ moment_behind (moment_of self.old) event.now) }
         ensures setups { setups_of self.new ≡ setups_of self.old }
         ensures err { OnErr result (self.new.wire ≡ self.old.wire) }
         ensures err_stands { OnErr result ((w : Machines) → Stands self.old w → Stands self.new w) }
@@ -51,9 +53,12 @@ impl<H: RatingRule> World<H> {
         requires { IsLocal (event_shown event.now) }
         ensures stands { OnOk result ((w : Machines) →
             Stands self.old w →
-            Stands self.new (happens (setups_of self.old) w (Does server (event_shown event.now) (rates (setups_of self.old) w)))) }
-        ensures refused { (w : Machines) → Stands self.old w → RefusedAs result (local_refusal w (moment_of self.old) (event_shown event.now)) }
-        ensures moment { OnOk result (moment_of self.new ≡ moment_after (moment_of self.old) (event_shown event.now)) }
+            Stands self.new (happens (setups_of self.old) w (Does server (event_shown event.now)
+            (rates (setups_of self.old) w)))) }
+        ensures refused { (w : Machines) → Stands self.old w →
+            RefusedAs result (local_refusal w (moment_of self.old) (event_shown event.now)) }
+        ensures moment { OnOk result (moment_of self.new
+            ≡ moment_after (moment_of self.old) (event_shown event.now)) }
         ensures setups { setups_of self.new ≡ setups_of self.old }
         ensures err { OnErr result (self.new.wire ≡ self.old.wire) }
         ensures err_stands { OnErr result ((w : Machines) → Stands self.old w → Stands self.new w) }
@@ -71,8 +76,10 @@ impl<H: RatingRule> World<H> {
     fn deliver(&mut self, alloc: Global, index: u64) -> Result<(), EventFault>
         ensures stands { OnOk result ((w : Machines) →
             Stands self.old w →
-            Stands self.new (happens (setups_of self.old) w (HearsFrame index (moment_of self.old) (rates (setups_of self.old) w)))) }
-        ensures refused { (w : Machines) → Stands self.old w → RefusedAs result (deliver_refusal (setups_of self.old) w index) }
+            Stands self.new (happens (setups_of self.old) w (HearsFrame index (moment_of self.old)
+            (rates (setups_of self.old) w)))) }
+        ensures refused { (w : Machines) → Stands self.old w →
+            RefusedAs result (deliver_refusal (setups_of self.old) w index) }
         ensures moment { OnOk result (moment_of self.new ≡ moment_of self.old) }
         ensures setups { setups_of self.new ≡ setups_of self.old }
         ensures err { OnErr result (self.new.wire ≡ self.old.wire) }
@@ -92,7 +99,8 @@ impl<H: RatingRule> World<H> {
     // The end that hears a frame where it is delivered: the one that didn't send it. Where there is no such frame, it is
     // refused whichever is named.
     fn hearer(&self, index: u64) -> bool
-        ensures { (w : Machines) (p : Posted) → Stands self.now w → slice_get w.posts index ≡ Some p → result ≡ not p.by_server }
+        ensures { (w : Machines) (p : Posted) → Stands self.now w →
+            slice_get w.posts index ≡ Some p → result ≡ not p.by_server }
     {
         match self.wire.frame(index) {
             Some((by_server, _)) => !by_server,
@@ -111,8 +119,10 @@ impl<H: RatingRule> World<H> {
         ensures stands { OnOk result ((w : Machines) →
             Stands self.old w →
             Stands self.new (happens (setups_of self.old) w
-            (HearsForeign server (address from.0) (reading_of payload.now) (moment_of self.old) (rates (setups_of self.old) w)))) }
-        ensures refused { (w : Machines) → Stands self.old w → RefusedAs result (inject_refusal (setups_of self.old) w (address from.0)) }
+            (HearsForeign server (address from.0) (reading_of payload.now) (moment_of self.old)
+            (rates (setups_of self.old) w)))) }
+        ensures refused { (w : Machines) → Stands self.old w →
+            RefusedAs result (inject_refusal (setups_of self.old) w (address from.0)) }
         ensures moment { OnOk result (moment_of self.new ≡ moment_of self.old) }
         ensures setups { setups_of self.new ≡ setups_of self.old }
         ensures err { OnErr result (self.new.wire ≡ self.old.wire) }

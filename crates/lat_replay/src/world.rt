@@ -58,7 +58,10 @@ impl<H: RatingRule> Model for World<H> {
 
     ghost view = { λ a. record { wire = a.wire; roster = a.roster } };
 
-    ghost invariant = { λ a. Holds (record { wire = a.wire; roster = a.roster }) a.server_lines a.node_lines };
+    ghost invariant = { λ a. Holds (record {
+      wire = a.wire;
+      roster = a.roster;
+    }) a.server_lines a.node_lines };
 }
 
 impl<H: RatingRule> World<H> {
@@ -129,7 +132,8 @@ impl<H: RatingRule> World<H> {
     pub fn frame(&self, index: u64) -> Option<(bool, &OutFrame)>
         ensures { (w : Machines) →
             Stands self.now w →
-            MatchOption result (slice_get w.posts index ≡ None) (λ shown. ShowsPost w.posts index shown.0 shown.1.now) }
+            MatchOption result (slice_get w.posts index ≡ None) (λ shown.
+            ShowsPost w.posts index shown.0 shown.1.now) }
     {
         self.wire.frame(index)
     }
@@ -144,7 +148,8 @@ impl<H: RatingRule> World<H> {
     /// Whether nothing was lost between the two ends so far: in each direction the frames that were delivered at least once
     /// are the first of those sent, and they came in this order.
     pub fn lossless(&self) -> bool
-        ensures { (w : Machines) → Stands self.now w → IsTrue result ↔ Lossless (setups_of self.now) w }
+        ensures { (w : Machines) → Stands self.now w →
+            IsTrue result ↔ Lossless (setups_of self.now) w }
     {
         self.wire.lossless()
     }
@@ -165,7 +170,8 @@ impl<H: RatingRule> World<H> {
 
     /// Whether a line of the server or of the node exists and has a session.
     pub fn has_session(&self, server: bool, line: u8) -> bool
-        ensures { (w : Machines) → Stands self.now w → result ≡ has_session (core_of w server) line }
+        ensures { (w : Machines) → Stands self.now w →
+            result ≡ has_session (core_of w server) line }
     {
         self.wire.has_session(server, line)
     }
@@ -175,14 +181,16 @@ impl<H: RatingRule> World<H> {
     pub fn report(&self, alloc: Global, out: &mut String) -> Result<(), Memory>
         ensures { OnOk result ((w : Machines) →
             Stands self.now w →
-            string_bytes out.new ≡ string_bytes out.old ++ report_text (report (setups_of self.now) w)) }
+            string_bytes out.new
+            ≡ string_bytes out.old ++ report_text (report (setups_of self.now) w)) }
     {
         report_onto(alloc, &self.wire, &self.roster, out)
     }
 
     /// The frames sent so far, the sessions of the report, and the items put and taken over both directions of all of them.
     pub fn counts(&self) -> Counts
-        ensures { (w : Machines) → Stands self.now w → result ≡ counts_in (report (setups_of self.now) w) }
+        ensures { (w : Machines) → Stands self.now w →
+            result ≡ counts_in (report (setups_of self.now) w) }
     {
         counts_of(&self.wire, &self.roster)
     }

@@ -129,7 +129,9 @@ impl Noted {
 /// Adds the line of a noted event: its number, counted from 1 over all events, and what is noted of its answer.
 /// After want of memory a part of it may stand in the text.
 pub fn noted_onto(text: &mut String, event: u64, noted: Noted) -> Result<(), AllocError>
-    ensures { OnOk result (string_bytes text.new ≡ string_bytes text.old ++ event_text (record { event = event; answer = answer_shown (noted_answer noted) })) }
+    ensures { OnOk result (string_bytes text.new
+        ≡ string_bytes text.old
+        ++ event_text (record { event = event; answer = answer_shown (noted_answer noted) })) }
 {
     match noted {
         Noted::Bad(bad) => {

@@ -67,7 +67,8 @@ pub fn why_onto(text: &mut String, why: Refused) -> Result<(), AllocError>
 /// Adds the line that says why the event of this line is refused.
 /// After want of memory a part of it may stand in the text.
 pub fn refused_onto(text: &mut String, line: u64, refused: Refused) -> Result<(), AllocError>
-    ensures { OnOk result (string_bytes text.new ≡ string_bytes text.old ++ refused_text line refused) }
+    ensures { OnOk result (string_bytes text.new
+        ≡ string_bytes text.old ++ refused_text line refused) }
 {
     write!(text, "line {line} ")?;
     why_onto(text, refused)?;

@@ -63,7 +63,8 @@ pub fn frames_onto(text: &mut String, frames: u64) -> Result<(), AllocError>
 }
 
 fn item_onto(alloc: Global, text: &mut String, item: Item) -> Result<(), AllocError>
-    ensures { OnOk result (string_bytes text.new ≡ string_bytes text.old ++ item_text (item_in item)) }
+    ensures { OnOk result (string_bytes text.new
+        ≡ string_bytes text.old ++ item_text (item_in item)) }
 {
     match item {
         Item::Byte(byte) => byte_onto(alloc, text, byte),
@@ -76,7 +77,8 @@ fn item_onto(alloc: Global, text: &mut String, item: Item) -> Result<(), AllocEr
 }
 
 fn each_onto(alloc: Global, text: &mut String, items: &[Item]) -> Result<(), AllocError>
-    ensures { OnOk result (string_bytes text.new ≡ string_bytes text.old ++ flat_map (λ i. item_text (item_in i)) items.now) }
+    ensures { OnOk result (string_bytes text.new
+        ≡ string_bytes text.old ++ flat_map (λ i. item_text (item_in i)) items.now) }
 {
     for item in items {
         item_onto(alloc, text, *item)?;
@@ -85,7 +87,8 @@ fn each_onto(alloc: Global, text: &mut String, items: &[Item]) -> Result<(), All
 }
 
 fn items_onto(alloc: Global, text: &mut String, items: &[Item]) -> Result<(), AllocError>
-    ensures { OnOk result (string_bytes text.new ≡ string_bytes text.old ++ items_text (items_in items.now)) }
+    ensures { OnOk result (string_bytes text.new
+        ≡ string_bytes text.old ++ items_text (items_in items.now)) }
 {
     if items.is_empty() {
         return text.push_str("-");
@@ -99,7 +102,8 @@ fn flow_onto(
     word: &str,
     flow: &Flow<'_>,
 ) -> Result<(), AllocError>
-    ensures { OnOk result (string_bytes text.new ≡ string_bytes text.old ++ direction_text word.now (direction_in flow.now)) }
+    ensures { OnOk result (string_bytes text.new
+        ≡ string_bytes text.old ++ direction_text word.now (direction_in flow.now)) }
 {
     let (given, used) = (flow.given, flow.used);
     text.push_str(word)?;
@@ -112,7 +116,8 @@ fn flow_onto(
 
 #[tactic(auto, unfolding(crate::specs::ReportText::end_text))]
 fn end_onto(text: &mut String, ended: Option<SessionEnd>) -> Result<(), AllocError>
-    ensures { OnOk result (string_bytes text.new ≡ string_bytes text.old ++ end_text (option_map end_shown ended)) }
+    ensures { OnOk result (string_bytes text.new
+        ≡ string_bytes text.old ++ end_text (option_map end_shown ended)) }
 {
     match ended {
         None => text.push_str(" end open"),
@@ -124,7 +129,8 @@ fn end_onto(text: &mut String, ended: Option<SessionEnd>) -> Result<(), AllocErr
 
 #[tactic(auto, unfolding(crate::specs::ReportText::node_line_text))]
 fn node_line_onto(text: &mut String, node_line: Option<u8>) -> Result<(), AllocError>
-    ensures { OnOk result (string_bytes text.new ≡ string_bytes text.old ++ node_line_text node_line) }
+    ensures { OnOk result (string_bytes text.new
+        ≡ string_bytes text.old ++ node_line_text node_line) }
 {
     match node_line {
         None => text.push_str(" node-line -"),
@@ -134,7 +140,8 @@ fn node_line_onto(text: &mut String, node_line: Option<u8>) -> Result<(), AllocE
 
 #[tactic(auto, unfolding(crate::specs::ReportText::session_head))]
 fn session_head_onto(text: &mut String, number: u64, line: u8) -> Result<(), AllocError>
-    ensures { OnOk result (string_bytes text.new ≡ string_bytes text.old ++ session_head number line) }
+    ensures { OnOk result (string_bytes text.new
+        ≡ string_bytes text.old ++ session_head number line) }
 {
     write!(text, "session {number} server-line {line}")
 }
@@ -146,7 +153,9 @@ fn session_line_onto(
     node_line: Option<u8>,
     ended: Option<SessionEnd>,
 ) -> Result<(), AllocError>
-    ensures { OnOk result (string_bytes text.new ≡ string_bytes text.old ++ session_line number line node_line (option_map end_shown ended)) }
+    ensures { OnOk result (string_bytes text.new
+        ≡ string_bytes text.old
+        ++ session_line number line node_line (option_map end_shown ended)) }
 {
     session_head_onto(text, number, line)?;
     node_line_onto(text, node_line)?;
@@ -162,7 +171,8 @@ pub fn session_onto(
     number: u64,
     row: &SessionRow<'_>,
 ) -> Result<(), AllocError>
-    ensures { OnOk result (string_bytes text.new ≡ string_bytes text.old ++ row_text number (row_in row.now)) }
+    ensures { OnOk result (string_bytes text.new
+        ≡ string_bytes text.old ++ row_text number (row_in row.now)) }
 {
     session_line_onto(text, number, row.line, row.node_line, row.ended)?;
     flow_onto(alloc, text, "up", &row.up)?;
@@ -171,7 +181,8 @@ pub fn session_onto(
 
 #[tactic(auto, unfolding(crate::specs::ReportText::key_text))]
 fn key_onto(alloc: Global, text: &mut String, key: &Key) -> Result<(), AllocError>
-    ensures { OnOk result (string_bytes text.new ≡ string_bytes text.old ++ key_text (key_in key.now)) }
+    ensures { OnOk result (string_bytes text.new
+        ≡ string_bytes text.old ++ key_text (key_in key.now)) }
 {
     let (incarnation, request) = (key.incarnation, key.request);
     name_onto(alloc, text, &key.node)?;
@@ -195,7 +206,8 @@ fn kept_word(kept: Kept) -> &'static str
 
 /// Adds the line of a request. After want of memory a part of it may stand in the text.
 pub fn request_onto(alloc: Global, text: &mut String, request: &Record) -> Result<(), AllocError>
-    ensures { OnOk result (string_bytes text.new ≡ string_bytes text.old ++ request_text (record_in request.now)) }
+    ensures { OnOk result (string_bytes text.new
+        ≡ string_bytes text.old ++ request_text (record_in request.now)) }
 {
     text.push_str("request ")?;
     key_onto(alloc, text, &request.key)?;
@@ -208,7 +220,8 @@ pub fn request_onto(alloc: Global, text: &mut String, request: &Record) -> Resul
 
 /// Adds the line of a grant. After want of memory a part of it may stand in the text.
 pub fn grant_onto(alloc: Global, text: &mut String, key: &Key) -> Result<(), AllocError>
-    ensures { OnOk result (string_bytes text.new ≡ string_bytes text.old ++ grant_text (key_in key.now)) }
+    ensures { OnOk result (string_bytes text.new
+        ≡ string_bytes text.old ++ grant_text (key_in key.now)) }
 {
     text.push_str("grant ")?;
     key_onto(alloc, text, key)?;

@@ -55,7 +55,8 @@ pub(crate) fn hand_over(list: &mut [Row], left: usize, figures: Figures, place: 
     ensures { (rs : List rows.RowAfter) (f : rows.Figures) →
         ShowsRows list.old rs →
         (left ≢ 0 → ShowsFigures figures f) →
-        ShowsRows list.new (change place (λ r. record r { node_line = line }) (change left (λ r. record r { node = f }) rs)) }
+        ShowsRows list.new (change place (λ r.
+        record r { node_line = line }) (change left (λ r. record r { node = f }) rs)) }
 {
     leave_node(list, left, figures);
     join(list, place, line);

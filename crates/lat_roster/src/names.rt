@@ -58,7 +58,8 @@ impl Names {
     /// Notes the place of the last row with these ids, for which there is room.
     pub(crate) fn set(&mut self, circuit: u16, id: u8, place: usize)
         requires { 0 < self.old.reserved }
-        ensures place { (k : ℕ) → place_of self.new k ≡ cond (nat_eq (key_of circuit id) k) place (place_of self.old k) }
+        ensures place { (k : ℕ) → place_of self.new k
+            ≡ cond (nat_eq (key_of circuit id) k) place (place_of self.old k) }
         ensures reserved { self.old.reserved ≤ self.new.reserved + 1 }
     {
         let Ok(_) = self.places.insert(key(circuit, id), place) else {

@@ -89,7 +89,8 @@ impl Roster {
 
     /// The place, from 1 on, of the last row with these ids of the server; 0 where there is none.
     pub fn named(&self, circuit: u16, id: u8) -> usize
-        ensures is { (r : rows.RowsAfter) → Shows self.now r → result ≡ last_row circuit id 0 0 r.rows }
+        ensures is { (r : rows.RowsAfter) → Shows self.now r →
+            result ≡ last_row circuit id 0 0 r.rows }
         ensures within { result ≤ length self.now.rows }
     {
         self.names.get(circuit, id)

@@ -33,7 +33,8 @@ pub fn silent_ends_are_through()
 
 /// A message brings the sessions of its end forward by as many slots as it has.
 pub fn messages_bring_forward()
-    ensures { (room : ℕ) (e : Sessions) → EndOk e → weights e + length (pack room e).slots ≤ weights (pack room e).after }
+    ensures { (room : ℕ) (e : Sessions) → EndOk e →
+        weights e + length (pack room e).slots ≤ weights (pack room e).after }
 {}
 
 /// The sessions of two ends come no further than what was put brings them: for each session of the master six slots, and
@@ -44,7 +45,8 @@ pub fn sessions_have_an_end()
         AllFrugal m →
         AllFrugal s →
         AllNumbered m →
-        weights m + weights s ≤ total (λ k. most_of (m.session k) (of_generation s (m.session k).generation)) m.made }
+        weights m + weights s ≤ total (λ k.
+        most_of (m.session k) (of_generation s (m.session k).generation)) m.made }
 {}
 
 /// In every run of the world of circuits in which the names of services are short, the sessions of each circuit of both ends
@@ -66,18 +68,35 @@ pub fn frames_are_carried()
         u.ceiling ≤ 255 →
         v.ceiling ≤ 255 →
         Orderly (open_world server node u v) [] events →
-        Carried (go_on events (open_world server node u v)) (done_all (open_world server node u v) [] events) }
+        Carried (go_on events (open_world server node u v))
+        (done_all (open_world server node u v) [] events) }
 {}
 
 /// A frame of a run of the server that comes to the node in its turn is young, where both ends live.
 pub fn runs_of_servers_are_young()
-    ensures { (w : World) (done : List ℕ) (i p to d s r : ℕ) (mark : Mark) (ask : Bool) (f : Frame (List Slot)) →
+    ensures { (w : World) (done : List ℕ) (i p to d s r : ℕ) (mark : Mark) (ask : Bool)
+        (f : Frame (List Slot)) →
         WorldOk w →
         Carried w done →
-        slice_get w.frames i ≡ Some (record { by_server = true; circuit = p; to = to; destination = d; source = s; sent = Run mark ask f }) →
+        slice_get w.frames i
+        ≡ Some (record {
+          by_server = true;
+          circuit = p;
+          to = to;
+          destination = d;
+          source = s;
+          sent = Run mark ask f;
+        }) →
         to ≡ w.node.own →
         is_in i done ≡ false →
-        IsNext w done (record { by_server = true; circuit = p; to = to; destination = d; source = s; sent = Run mark ask f }) i →
+        IsNext w done (record {
+          by_server = true;
+          circuit = p;
+          to = to;
+          destination = d;
+          source = s;
+          sent = Run mark ask f;
+        }) i →
         lives (server_end w p) ≡ true →
         lives (node_end w d) ≡ true →
         16 < r →
@@ -86,13 +105,29 @@ pub fn runs_of_servers_are_young()
 
 /// And so is one of the node that comes to the server.
 pub fn runs_of_nodes_are_young()
-    ensures { (w : World) (done : List ℕ) (i q to d s r : ℕ) (mark : Mark) (ask : Bool) (f : Frame (List Slot)) →
+    ensures { (w : World) (done : List ℕ) (i q to d s r : ℕ) (mark : Mark) (ask : Bool)
+        (f : Frame (List Slot)) →
         WorldOk w →
         Carried w done →
-        slice_get w.frames i ≡ Some (record { by_server = false; circuit = q; to = to; destination = d; source = s; sent = Run mark ask f }) →
+        slice_get w.frames i
+        ≡ Some (record {
+          by_server = false;
+          circuit = q;
+          to = to;
+          destination = d;
+          source = s;
+          sent = Run mark ask f;
+        }) →
         to ≡ w.server.own →
         is_in i done ≡ false →
-        IsNext w done (record { by_server = false; circuit = q; to = to; destination = d; source = s; sent = Run mark ask f }) i →
+        IsNext w done (record {
+          by_server = false;
+          circuit = q;
+          to = to;
+          destination = d;
+          source = s;
+          sent = Run mark ask f;
+        }) i →
         (w.server.circuit_at d).address ≡ w.node.own →
         lives (server_end w d) ≡ true →
         (server_end w d).running ≡ true →
@@ -114,7 +149,8 @@ pub fn nothing_in_flight_is_still()
         (server_end w p).running ≡ true →
         flying w done true p ≡ [] →
         flying w done false (server_end w p).peer ≡ [] →
-        (lives (node_end w (server_end w p).peer) ≡ true) × Still (server_end w p) (node_end w (server_end w p).peer) }
+        (lives (node_end w (server_end w p).peer) ≡ true)
+        × Still (server_end w p) (node_end w (server_end w p).peer) }
 {}
 
 /// A round between two ends with nothing in flight brings their sessions forward, or all that was put is through.
@@ -131,7 +167,8 @@ pub fn nothing_is_lost_in_rounds()
     ensures { (u : Setups) (now : ℕ) (w : Machines) (rs : List (List (List ℕ))) →
         Begins u now w →
         Lossless u (rounds u now rs w) ×
-        ((moves : List Move) × (rounds u now rs w ≡ run u moves (open_machines u)) × Each ShortMove moves) }
+        ((moves : List Move) × (rounds u now rs w ≡ run u moves (open_machines u))
+        × Each ShortMove moves) }
 {}
 
 /// Each frame that rounds deliver is young, also one of an end that has ended since.

@@ -21,7 +21,8 @@ pub struct Front {
 
 /// Reads them, and gives the lines behind them. The number of the first that is wrong or missing, where one is.
 pub fn front_of<'a>(at: &Rest<'a>) -> Result<(Front, Rest<'a>), usize>
-    ensures value { result_map_both (λ r. (r.0, place r.1)) (λ number. number) result ≡ front_at (place at.now) }
+    ensures value { result_map_both (λ r. (r.0, place r.1)) (λ number. number) result
+        ≡ front_at (place at.now) }
     ensures fits { IfOk result (λ r. FitsFront r.0) }
 {
     let (line, second) = at.line()?;

@@ -57,7 +57,8 @@ pub fn offers_of(alloc: Global, lines: u8, at: Rest<'_>) -> Result<(Offers, Rest
 
 /// The events, and the lines behind theirs. Requests go to the server at this address.
 pub fn events_of(alloc: Global, to: Addr, at: Rest<'_>) -> Result<(WorldEvents, Rest<'_>), Memory>
-    ensures value { IfOk result (λ r. (r.0, place r.1) ≡ many (λ before. event_of to) (place at.entry)) }
+    ensures value { IfOk result (λ r.
+        (r.0, place r.1) ≡ many (λ before. event_of to) (place at.entry)) }
     ensures events { IfOk result (λ r. Each (IsEvent to) r.0) }
 {
     let mut events = WorldEvents::new(alloc);

@@ -25,7 +25,8 @@ fn numbered_onto(text: &mut String, verb: Verb, number: u64) -> Result<(), Alloc
 
 // A verb, a line and a space.
 fn line_onto(text: &mut String, verb: Verb, line: u8) -> Result<(), AllocError>
-    ensures { OnOk result (string_bytes text.new ≡ string_bytes text.old ++ (numbered verb line ++ codes " ")) }
+    ensures { OnOk result (string_bytes text.new
+        ≡ string_bytes text.old ++ (numbered verb line ++ codes " ")) }
 {
     numbered_onto(text, verb, u64::from(line))?;
     text.push_str(" ")
@@ -76,7 +77,8 @@ fn inject_onto(
     from: Addr,
     payload: &[u8],
 ) -> Result<(), AllocError>
-    ensures { OnOk result (string_bytes text.new ≡ string_bytes text.old ++ inject_text server from payload.now) }
+    ensures { OnOk result (string_bytes text.new
+        ≡ string_bytes text.old ++ inject_text server from payload.now) }
 {
     let end = letter(server);
     write!(text, "inject {end} ")?;
@@ -92,7 +94,8 @@ fn local_onto(
     server: bool,
     event: &Event,
 ) -> Result<(), AllocError>
-    ensures { OnOk result (string_bytes text.new ≡ string_bytes text.old ++ local_text server event.now) }
+    ensures { OnOk result (string_bytes text.new
+        ≡ string_bytes text.old ++ local_text server event.now) }
 {
     text.push_str(letter(server))?;
     text.push_str(" ")?;

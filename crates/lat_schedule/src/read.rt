@@ -161,9 +161,13 @@ impl From<Memory> for Stop {
 
 // The schedule that a text is, whatever the number of its events.
 fn schedule_at(alloc: Global, text: &[u8]) -> Result<Schedule, Stop>
-    ensures value { ReadsAll result (schedule_at (record { number = 1; lines = lines_of text.now })) }
+    ensures value { ReadsAll result (schedule_at (record {
+      number = 1;
+      lines = lines_of text.now;
+    })) }
     ensures setup { IfOk result (λ schedule. IsSetup schedule.setup) }
-    ensures events { IfOk result (λ schedule. Each (IsEvent schedule.setup.server.own) schedule.events) }
+    ensures events { IfOk result (λ schedule.
+        Each (IsEvent schedule.setup.server.own) schedule.events) }
 {
     let (front, at) = match front_of(&Rest::new(text)) {
         Ok(found) => found,
@@ -187,7 +191,8 @@ fn schedule_at(alloc: Global, text: &[u8]) -> Result<Schedule, Stop>
 pub fn read_schedule(alloc: Global, text: &[u8]) -> Result<Schedule, ScheduleFault>
     ensures reads { ReadsSchedule result text.now }
     ensures setup { IfOk result (λ schedule. IsSetup schedule.setup) }
-    ensures events { IfOk result (λ schedule. Each (IsEvent schedule.setup.server.own) schedule.events) }
+    ensures events { IfOk result (λ schedule.
+        Each (IsEvent schedule.setup.server.own) schedule.events) }
     ensures few { IfOk result (λ schedule. length schedule.events ≤ 100000) }
 {
     match schedule_at(alloc, text) {

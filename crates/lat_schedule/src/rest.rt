@@ -27,7 +27,8 @@ impl<'a> Rest<'a> {
 
     /// The next line, and the lines behind it. Its number where there is none that a line feed ends.
     pub fn line(self) -> Result<(&'a [u8], Rest<'a>), usize>
-        ensures value { result_map_both (λ r. (r.0.now, place r.1)) (λ number. number) result ≡ line_at (place self.entry) }
+        ensures value { result_map_both (λ r. (r.0.now, place r.1)) (λ number. number) result
+            ≡ line_at (place self.entry) }
         ensures shorter { IfOk result (λ r. length r.1.text.now < length self.entry.text.now) }
     {
         match first_line(self.text) {

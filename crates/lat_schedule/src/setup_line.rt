@@ -284,7 +284,8 @@ fn is_offered(line: u8, offers: &[Offer]) -> bool
 pub fn offer_of(lines: u8, others: &[Offer], line: &[u8]) -> Option<Offer>
     ensures value { result ≡ offer_of lines others.now line.now }
     ensures line { IfSome result (λ offer. IsLine lines offer.line) }
-    ensures free { IfSome result (λ offer. list_any (λ (o : Offer). nat_eq o.line offer.line) others.now ≡ false) }
+    ensures free { IfSome result (λ offer.
+        list_any (λ (o : Offer). nat_eq o.line offer.line) others.now ≡ false) }
     ensures name { IfSome result (λ offer. IsName offer.service) }
 {
     let text = behind_word("offer", line)?;

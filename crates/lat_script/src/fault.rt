@@ -52,7 +52,8 @@ impl<T: Drop> From<AllocFailed<T>> for ScriptFault {
 
 // Adds that a word of a line, both counted from 1, isn't a number of so much at most.
 fn number_onto(text: &mut String, line: u64, word: u16, most: u64) -> Result<(), AllocError>
-    ensures { OnOk result (string_bytes text.new ≡ string_bytes text.old ++ no_number line word most) }
+    ensures { OnOk result (string_bytes text.new
+        ≡ string_bytes text.old ++ no_number line word most) }
 {
     write!(
         text,
@@ -73,7 +74,8 @@ pub fn refused_onto(
     line: u64,
     done: Result<(), ScriptFault>,
 ) -> Result<(), Memory>
-    ensures { OnOk result (string_bytes text.new ≡ string_bytes text.old ++ refusal_text line done) }
+    ensures { OnOk result (string_bytes text.new
+        ≡ string_bytes text.old ++ refusal_text line done) }
 {
     match done {
         Ok(()) => Ok(()),

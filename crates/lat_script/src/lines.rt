@@ -24,7 +24,8 @@ fn is_remark(line: &str) -> bool
 /// word is `#`.
 pub fn is_command(line: &str, text: &mut String) -> Result<bool, AllocError>
     ensures command { IfOk result (λ command. command ≡ not (is_remark line.now)) }
-    ensures printed { OnOk result (string_bytes text.new ≡ string_bytes text.old ++ printed line.now) }
+    ensures printed { OnOk result (string_bytes text.new
+        ≡ string_bytes text.old ++ printed line.now) }
 {
     if is_remark(line) {
         write!(text, "{line}\n")?;

@@ -19,7 +19,8 @@ fn text_of<P: Fn(Global, &str) -> Result<String, Memory>>(
     input: &[u8],
 ) -> Result<String, Memory>
     requires { P.IsAlwaysCallable played }
-    ensures { IfOk result (λ text. IsPrinted (Prints P.Fn played alloc) input.now (string_bytes text)) }
+    ensures { IfOk result (λ text.
+        IsPrinted (Prints P.Fn played alloc) input.now (string_bytes text)) }
 {
     match str::from_utf8(input) {
         Ok(script) => played(alloc, script),
@@ -31,8 +32,10 @@ fn text_of<P: Fn(Global, &str) -> Result<String, Memory>>(
 fn written<K: Sink>(out: &mut K, status: u8, text: &str) -> u8
     requires { status ≢ 5 }
     ensures fault { result ≡ 5 → Rose (K.faults out.old) (K.faults out.new) }
-    ensures written { result ≢ 5 → (result ≡ status) × Appends (K.written out.old) (K.written out.new) text.now }
-    ensures part { result ≡ 5 → (n : ℕ) × Appends (K.written out.old) (K.written out.new) (take n text.now) }
+    ensures written { result ≢ 5 → (result ≡ status)
+        × Appends (K.written out.old) (K.written out.new) text.now }
+    ensures part { result ≡ 5 → (n : ℕ)
+        × Appends (K.written out.old) (K.written out.new) (take n text.now) }
 {
     match write_all(out, text.as_bytes()) {
         Ok(()) => status,
@@ -59,10 +62,15 @@ pub fn run<S: Source, K: Sink, P: Fn(Global, &str) -> Result<String, Memory>>(
     ensures write { result ≡ 5 → Rose (K.faults out.old) (K.faults out.new) }
     ensures limit { result ≡ 6 → IfSome (S.left src.old) (λ xs. 16777216 < length xs) }
     ensures printed { result ≡ 0 →
-        Wrote (λ text. IfSome (S.left src.old) (λ xs. IsPrinted (Prints P.Fn played alloc) xs text)) (K.written out.old) (K.written out.new) }
+        Wrote (λ text.
+        IfSome (S.left src.old) (λ xs. IsPrinted (Prints P.Fn played alloc) xs text))
+        (K.written out.old) (K.written out.new) }
     ensures part { result ≡ 5 →
-        WrotePart (λ text. IfSome (S.left src.old) (λ xs. IsAnswer (Prints P.Fn played alloc) xs text)) (K.written out.old) (K.written out.new) }
-    ensures told { result ≡ 6 → Appends (K.written out.old) (K.written out.new) (codes "limit bytes\n") }
+        WrotePart (λ text.
+        IfSome (S.left src.old) (λ xs. IsAnswer (Prints P.Fn played alloc) xs text))
+        (K.written out.old) (K.written out.new) }
+    ensures told { result ≡ 6 → Appends (K.written out.old) (K.written out.new)
+        (codes "limit bytes\n") }
     ensures unwritten { IsEarly result → out.new ≡ out.old }
 {
     let input = match read_all(alloc, src, INPUT_BYTES) {

@@ -43,7 +43,8 @@ impl RecvSide {
     pub fn expects(&self, number: u16) -> bool
         requires { number < 2 * half self.now.span }
         ensures field { result ≡ nat_eq number (field self.now.span (suc self.now.last)) }
-        ensures answer { (taken : ℕ) → Takes self.now taken → result ≡ nat_eq (near number taken (half self.now.span)) (suc taken) }
+        ensures answer { (taken : ℕ) → Takes self.now taken →
+            result ≡ nat_eq (near number taken (half self.now.span)) (suc taken) }
     {
         number == self.span.step(self.last, 1)
     }
@@ -53,8 +54,10 @@ impl RecvSide {
     pub fn offer(&mut self, number: u16) -> bool
         requires { number < 2 * half self.old.span }
         ensures field { result ≡ nat_eq number (field self.old.span (suc self.old.last)) }
-        ensures answer { (taken : ℕ) → Takes self.old taken → result ≡ nat_eq (near number taken (half self.old.span)) (suc taken) }
-        ensures after { (taken : ℕ) → Takes self.old taken → Takes self.new (cond result (suc taken) taken) }
+        ensures answer { (taken : ℕ) → Takes self.old taken →
+            result ≡ nat_eq (near number taken (half self.old.span)) (suc taken) }
+        ensures after { (taken : ℕ) → Takes self.old taken →
+            Takes self.new (cond result (suc taken) taken) }
         ensures span { self.new.span ≡ self.old.span }
     {
         let next = self.expects(number);

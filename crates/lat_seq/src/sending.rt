@@ -36,7 +36,12 @@ impl Model for SendSide {
 
     ghost Value = { Sending };
 
-    ghost view = { λ a. record { span = a.span; window = a.window; known = a.known; unacknowledged = a.unacknowledged } };
+    ghost view = { λ a. record {
+      span = a.span;
+      window = a.window;
+      known = a.known;
+      unacknowledged = a.unacknowledged;
+    } };
 
     ghost invariant = { λ a. Holds a.span a.window a.known a.unacknowledged };
 
@@ -47,7 +52,12 @@ impl SendSide {
     /// A side that has formed nothing, with a window of 1 to 8 messages.
     pub fn make(window: u8, span: Span) -> SendSide
         requires { (1 ≤ window) × (window ≤ 8) }
-        ensures value { result ≡ record { span = span; window = window; known = 0; unacknowledged = 0 } }
+        ensures value { result ≡ record {
+          span = span;
+          window = window;
+          known = 0;
+          unacknowledged = 0;
+        } }
         ensures state { Sends result 0 0 }
     {
         SendSide {
@@ -61,7 +71,8 @@ impl SendSide {
     /// Whether fewer messages than the window are unacknowledged, so that one more may be formed.
     pub fn room(&self) -> bool
         ensures value { result ≡ nat_lt self.now.unacknowledged self.now.window }
-        ensures state { (sent known : ℕ) → Sends self.now sent known → result ≡ nat_lt sent (known + self.now.window) }
+        ensures state { (sent known : ℕ) → Sends self.now sent known →
+            result ≡ nat_lt sent (known + self.now.window) }
     {
         self.unacknowledged < self.window
     }
@@ -71,8 +82,10 @@ impl SendSide {
         requires { self.old.unacknowledged < self.old.window }
         ensures value { self.new ≡ record self.old { unacknowledged = suc self.old.unacknowledged } }
         ensures field { result ≡ field self.new.span (self.new.known + self.new.unacknowledged) }
-        ensures number { (sent known : ℕ) → Sends self.old sent known → result ≡ field self.old.span (suc sent) }
-        ensures after { (sent known : ℕ) → Sends self.old sent known → Sends self.new (suc sent) known }
+        ensures number { (sent known : ℕ) → Sends self.old sent known →
+            result ≡ field self.old.span (suc sent) }
+        ensures after { (sent known : ℕ) → Sends self.old sent known →
+            Sends self.new (suc sent) known }
     {
         self.unacknowledged += 1;
         self.newest()
@@ -81,7 +94,8 @@ impl SendSide {
     /// The field of the newest message, 0 before the first.
     pub fn newest(&self) -> u16
         ensures field { result ≡ field self.now.span (self.now.known + self.now.unacknowledged) }
-        ensures state { (sent known : ℕ) → Sends self.now sent known → result ≡ field self.now.span sent }
+        ensures state { (sent known : ℕ) → Sends self.now sent known →
+            result ≡ field self.now.span sent }
     {
         self.span.step(self.known, self.unacknowledged)
     }
@@ -100,8 +114,10 @@ impl SendSide {
         requires { ack < 2 * half self.old.span }
         ensures distance { result ≡ by_distance (half self.old.span) self.old.unacknowledged (ahead ack self.old.known (half self.old.span)) }
         ensures value { self.new ≡ after_ack self.old ack result }
-        ensures answer { (sent known : ℕ) → Sends self.old sent known → result ≡ by_numbers sent known (near ack known (half self.old.span)) }
-        ensures after { (sent known : ℕ) → Sends self.old sent known → Sends self.new sent (known_after known result) }
+        ensures answer { (sent known : ℕ) → Sends self.old sent known →
+            result ≡ by_numbers sent known (near ack known (half self.old.span)) }
+        ensures after { (sent known : ℕ) → Sends self.old sent known →
+            Sends self.new sent (known_after known result) }
     {
         let ahead = self.span.distance(self.known, ack);
         if ahead >= self.span.half() || ahead == 0 {

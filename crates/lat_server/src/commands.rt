@@ -35,7 +35,8 @@ impl ServerCore {
         requires room { length out.old + 16 ≤ 256 }
         ensures does { IfOk result (λ a.
             DoesAt now (λ config s.
-            hears_command config s (address from.0) (command_shown command.now) (action_shown command.now.action))
+            hears_command config s (address from.0) (command_shown command.now)
+            (action_shown command.now.action))
             self.old self.new a out.old out.new) }
         ensures same { SameConfig self.old self.new }
         ensures told { IfOk result IsPlain }
@@ -76,7 +77,8 @@ fn note(
     ensures noted { (q : List QueueEvent) →
         queue.Stands requests.old q →
         IfOk result (λ kept. HasNoted
-        (noted requests.old.offered (address from.0) (command_shown command.now) (action_shown command.now.action) q)
+        (noted requests.old.offered (address from.0) (command_shown command.now)
+        (action_shown command.now.action) q)
         requests.new kept) }
     ensures place { IfOk result (λ kept. IfSome kept HasPlace) }
     ensures offered { requests.new.offered ≡ requests.old.offered }

@@ -34,7 +34,8 @@ impl ServerCore {
     pub(crate) fn connect(&mut self, line: u8, service: &Name, out: &mut OutBox) -> Answer
         requires rest { AtRest self.old }
         requires room { length out.old + 16 ≤ 256 }
-        ensures does { Simulates (λ config s. connect_event config s line service.now) self.old self.new result out.old out.new }
+        ensures does { Simulates (λ config s.
+            connect_event config s line service.now) self.old self.new result out.old out.new }
         ensures same { SameConfig self.old self.new }
         ensures told { IsPlain result }
         ensures most { length out.new ≤ length out.old + 1 }
@@ -74,7 +75,8 @@ impl ServerCore {
     fn solicit(&mut self, service: &Name, out: &mut OutBox) -> Answer
         requires rest { AtRest self.old }
         requires room { length out.old + 16 ≤ 256 }
-        ensures does { Simulates (λ config s. solicits_for config s service.now) self.old self.new result out.old out.new }
+        ensures does { Simulates (λ config s.
+            solicits_for config s service.now) self.old self.new result out.old out.new }
         ensures same { SameConfig self.old self.new }
         ensures told { IsPlain result }
         ensures most { length out.new ≤ length out.old + 1 }

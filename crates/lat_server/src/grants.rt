@@ -38,7 +38,8 @@ fn finish_keys(requests: &mut Queue, keys: &[Key])
 
 // Whether a station is this one.
 fn is_station(station: Option<Addr>, other: Addr) -> bool
-    ensures { result ≡ true → option_map (λ (a : Addr). address a.0) station ≡ Some (address other.0) }
+    ensures { result ≡ true →
+        option_map (λ (a : Addr). address a.0) station ≡ Some (address other.0) }
 {
     match station {
         Some(station) => is_same(&station.0, &other.0),
@@ -89,14 +90,16 @@ impl ServerCore {
 
     // No request has a record.
     fn has_no_record(&self) -> bool
-        ensures { (q : List QueueEvent) → queue.Stands self.now.queue q → result ≡ is_none (record_at 0 q) }
+        ensures { (q : List QueueEvent) → queue.Stands self.now.queue q →
+            result ≡ is_none (record_at 0 q) }
     {
         self.queue.record_at(0).is_none()
     }
 
     // The service that a line offers.
     fn offer_on(&self, line: u8) -> Option<Name>
-        ensures { result ≡ option_map (λ (o : Offer). o.service) (find (λ (o : Offer). nat_eq o.line line) self.now.offers) }
+        ensures { result ≡ option_map (λ (o : Offer). o.service)
+            (find (λ (o : Offer). nat_eq o.line line) self.now.offers) }
     {
         self.offers
             .as_slice()
@@ -111,7 +114,8 @@ impl ServerCore {
         requires shut { IsShut shut self.old }
         requires line { IsLine self.old.lines.lines line }
         requires room { length out.old + 17 ≤ 256 }
-        ensures passes { Passes (λ config p. grant_line config p line) self.old self.new out.old out.new }
+        ensures passes { Passes (λ config p.
+            grant_line config p line) self.old self.new out.old out.new }
         ensures shut { IsShut result self.new }
         ensures rest { AtRest self.new }
         ensures same { SameConfig self.old self.new }
@@ -128,7 +132,8 @@ impl ServerCore {
     // Whether a session to the station can be had, where to this one none can.
     fn can_open(&self, shut: Option<Addr>, from: Addr) -> bool
         requires { IsShut shut self.now }
-        ensures { (c : Core) → lines.Stands self.now.lines c → result ≡ can_open c (address from.0) }
+        ensures { (c : Core) → lines.Stands self.now.lines c →
+            result ≡ can_open c (address from.0) }
     {
         if is_station(shut, from) {
             return false;

@@ -42,7 +42,8 @@ fn answer_heard(hearing: Hearing) -> Answer
 
 // What an announcement is answered.
 fn answer_announced(heard: Result<bool, DirFault>) -> Result<Answer, Memory>
-    ensures shown { UnlessMemory heard (IfOk result (λ a. answer_shown a ≡ announced_answer heard)) }
+    ensures shown { UnlessMemory heard (IfOk result (λ a.
+        answer_shown a ≡ announced_answer heard)) }
     ensures told { IfOk result IsPlain }
     ensures ok { IfOk result (λ a. heard ≢ Err faults.Memory) }
     ensures err { OnErr result (heard ≡ Err faults.Memory) }
@@ -86,7 +87,8 @@ impl ServerCore {
     fn turn_away(&mut self, answer: Answer, now: u64) -> Answer
         requires rest { AtRest self.old }
         ensures does { (frames : List OutFrame) →
-            DoesAt now (λ config s. tells s (answer_shown answer)) self.old self.new result frames frames }
+            DoesAt now (λ config s.
+            tells s (answer_shown answer)) self.old self.new result frames frames }
         ensures same { SameConfig self.old self.new }
         ensures answer { result ≡ answer }
     {
@@ -106,7 +108,8 @@ impl ServerCore {
         requires ok { payload.IsWritable value.now }
         requires room { length out.old + 16 ≤ 256 }
         ensures does { IfOk result (λ a.
-            DoesAt now (λ config s. hears config s (address from.0) (Whole (value_shown value.now)) None)
+            DoesAt now (λ config s.
+            hears config s (address from.0) (Whole (value_shown value.now)) None)
             self.old self.new a out.old out.new) }
         ensures same { SameConfig self.old self.new }
         ensures told { IfOk result IsPlain }
@@ -126,7 +129,8 @@ impl ServerCore {
         requires rest { AtRest self.old }
         requires ok { IsWritable message.now }
         requires room { length out.old + 16 ≤ 256 }
-        ensures does { DoesAt now (λ config s. hears_message config s (address from.0) (message_shown message.now) None)
+        ensures does { DoesAt now (λ config s.
+            hears_message config s (address from.0) (message_shown message.now) None)
             self.old self.new result out.old out.new }
         ensures same { SameConfig self.old self.new }
         ensures told { IsPlain result }
@@ -147,7 +151,8 @@ impl ServerCore {
         requires rest { AtRest self.old }
         requires room { length out.old + 16 ≤ 256 }
         ensures does { IfOk result (λ a.
-            DoesAt now (λ config s. hears_notice config s (address from.0) (notice_shown notice.now))
+            DoesAt now (λ config s.
+            hears_notice config s (address from.0) (notice_shown notice.now))
             self.old self.new a out.old out.new) }
         ensures same { SameConfig self.old self.new }
         ensures told { IfOk result IsPlain }
@@ -172,7 +177,8 @@ impl ServerCore {
     ) -> Result<Answer, Memory>
         requires rest { AtRest self.old }
         ensures does { (frames : List OutFrame) → IfOk result (λ a.
-            DoesAt now (λ config s. hears_announcement config s (address from.0) (announcement_shown announcement.now))
+            DoesAt now (λ config s.
+            hears_announcement config s (address from.0) (announcement_shown announcement.now))
             self.old self.new a frames frames) }
         ensures same { SameConfig self.old self.new }
         ensures told { IfOk result IsPlain }

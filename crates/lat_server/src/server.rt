@@ -127,7 +127,8 @@ impl ServerCore {
     /// The last two sessions of a line, which must exist. It takes no memory.
     pub fn book(&self, line: u8) -> LineBook
         requires { IsLine self.now.lines.lines line }
-        ensures { (s : Server) → Stands self.now s → book_shown result ≡ book_info (book s.core line) }
+        ensures { (s : Server) → Stands self.now s →
+            book_shown result ≡ book_info (book s.core line) }
     {
         self.lines.book(line)
     }
@@ -141,7 +142,8 @@ impl ServerCore {
 
     /// Whether a RUN from this address, with this destination and this source, names a living circuit whose reply was heard.
     pub fn names(&self, from: Addr, to: u16, source: u16) -> bool
-        ensures { (s : Server) → Stands self.now s → result ≡ names s.core.circuits (address from.0) to source }
+        ensures { (s : Server) → Stands self.now s →
+            result ≡ names s.core.circuits (address from.0) to source }
     {
         self.lines.names(from, to, source)
     }

@@ -78,7 +78,8 @@ impl ServerCore {
         requires empty { out.old ≡ [] }
         ensures rest { AtRest self.new }
         ensures opening { opening self.new ≡ opening self.old }
-        ensures state { (m : Machine) → IsMachine self.old m → IsMachine self.new (next m event.now) }
+        ensures state { (m : Machine) → IsMachine self.old m →
+            IsMachine self.new (next m event.now) }
         ensures answer { (m : Machine) → IsMachine self.old m → result ≡ answered m event.now }
         ensures frames { (m : Machine) → IsMachine self.old m → Frames m event.now out.new }
         ensures put { PutFits result event.now }
@@ -94,7 +95,8 @@ impl ServerCore {
         requires rest { AtRest self.old }
         requires empty { out.old ≡ [] }
         ensures does { IfOk result (λ a.
-            Simulates (λ config s. server_event config s (event_shown event.now)) self.old self.new a out.old out.new) }
+            Simulates (λ config s.
+            server_event config s (event_shown event.now)) self.old self.new a out.old out.new) }
         ensures same { SameConfig self.old self.new }
         ensures put { IfOk result (λ a. PutFits a event.now) }
         ensures took { IfOk result (λ a. TookFits (lines.ready self.old.lines) a event.now) }
@@ -115,7 +117,8 @@ impl ServerCore {
         requires rest { AtRest self.old }
         requires local { TakesNoMemory event.now }
         requires empty { out.old ≡ [] }
-        ensures does { Simulates (λ config s. server_event config s (event_shown event.now)) self.old self.new result out.old out.new }
+        ensures does { Simulates (λ config s.
+            server_event config s (event_shown event.now)) self.old self.new result out.old out.new }
         ensures same { SameConfig self.old self.new }
         ensures put { PutFits result event.now }
         ensures took { TookFits (lines.ready self.old.lines) result event.now }
@@ -135,7 +138,8 @@ impl ServerCore {
     fn time(&mut self, now: u64, out: &mut OutBox) -> Answer
         requires rest { AtRest self.old }
         requires empty { out.old ≡ [] }
-        ensures does { Simulates (λ config s. does s answers.Done (passes_time (server_side config) (at_moment now s.core)))
+        ensures does { Simulates (λ config s.
+            does s answers.Done (passes_time (server_side config) (at_moment now s.core)))
             self.old self.new result out.old out.new }
         ensures same { SameConfig self.old self.new }
         ensures most { length out.new ≤ 128 }

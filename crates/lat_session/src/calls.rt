@@ -24,8 +24,10 @@ impl Sessions {
         requires { self.old.master ≡ true }
         ensures answer { (e : States) →
             Stands self.old e →
-            result ≡ (if nat_lt (held e) e.agreed then Ok (least_free e) else Err SessionFault.Full) }
-        ensures state { (e : States) → Stands self.old e → Stands self.new (called e (Connect service.now request)) }
+            result ≡ (if nat_lt (held e) e.agreed then Ok (least_free e)
+            else Err SessionFault.Full) }
+        ensures state { (e : States) → Stands self.old e →
+            Stands self.new (called e (Connect service.now request)) }
         ensures same { SameEnd self.old self.new }
     {
         let at = self.free_place().ok_or(SessionFault::Full)?;
@@ -52,7 +54,8 @@ impl Sessions {
     pub fn reject(&mut self, id: u8, reason: u8)
         requires asked { state_at self.old id ≡ states.Asked }
         requires reason { reason ≤ 15 }
-        ensures state { (e : States) → Stands self.old e → Stands self.new (called e (Refuse id reason)) }
+        ensures state { (e : States) → Stands self.old e →
+            Stands self.new (called e (Refuse id reason)) }
         ensures same { SameEnd self.old self.new }
     {
         let Some(at) = self.place(id) else {
@@ -67,8 +70,10 @@ impl Sessions {
     /// Does a call on the session of an id, and tells how many bytes it took: 0 where it puts none. See `SessionCall` for what
     /// each does and where it is refused.
     pub fn call(&mut self, id: u8, call: &SessionCall) -> Result<usize, SessionFault>
-        ensures answer { (e : States) → Stands self.old e → result ≡ answer_of (named e id) call.now }
-        ensures state { (e : States) → Stands self.old e → Stands self.new (called e (call_of id call.now)) }
+        ensures answer { (e : States) → Stands self.old e →
+            result ≡ answer_of (named e id) call.now }
+        ensures state { (e : States) → Stands self.old e →
+            Stands self.new (called e (call_of id call.now)) }
         ensures same { SameEnd self.old self.new }
         ensures most { IfOk result (λ n. n ≤ bytes_in call.now) }
     {
@@ -87,9 +92,11 @@ impl Sessions {
         ensures items { (e : States) →
             Stands self.old e →
             out.new ≡ (if take_open (named e id)
-            then map item_shown (took e id (length out.old)) ++ drop (take_count (named e id) (length out.old)) out.old
+            then map item_shown (took e id (length out.old))
+            ++ drop (take_count (named e id) (length out.old)) out.old
             else out.old) }
-        ensures state { (e : States) → Stands self.old e → Stands self.new (called e (Take id (length out.old))) }
+        ensures state { (e : States) → Stands self.old e →
+            Stands self.new (called e (Take id (length out.old))) }
         ensures same { SameEnd self.old self.new }
         ensures count { IfOk result (λ n. n ≡ min (length out.old) (waiting_at self.old id)) }
         ensures most { IfOk result (λ n. n ≤ length out.old) }
@@ -108,7 +115,8 @@ fn call_on(session: &mut Stream, call: &SessionCall) -> Result<usize, SessionFau
         result ≡ answer_of s call.now }
     ensures state { (master : Bool) (ceiling : ℕ) (s : Session) →
         Sound master ceiling s → session.old ≡ kept_of master ceiling s →
-        session.new ≡ (if is_taken s call.now then kept_of master ceiling (after s call.now) else session.old) }
+        session.new ≡ (if is_taken s call.now then kept_of master ceiling (after s call.now)
+        else session.old) }
     ensures most { IfOk result (λ n. n ≤ bytes_in call.now) }
 {
     match call {

@@ -45,7 +45,8 @@ impl Sessions {
     /// The state of the present or last session of an id.
     pub fn state(&self, id: u8) -> SessionState
         ensures value { result ≡ state_at self.now id }
-        ensures model { (e : States) → Stands self.now e → result ≡ state_shown (state e.master (named e id)) }
+        ensures model { (e : States) → Stands self.now e →
+            result ≡ state_shown (state e.master (named e id)) }
     {
         self.session(id).map_or(SessionState::Free, Stream::state)
     }
@@ -76,7 +77,8 @@ impl Sessions {
         ensures value { result ≡ waiting_at self.now id }
         ensures model { (e : States) →
             Stands self.now e →
-            result ≡ cond (take_open (named e id)) (length (items (named e id).came) - (named e id).taken) 0 }
+            result ≡ cond (take_open (named e id))
+            (length (items (named e id).came) - (named e id).taken) 0 }
     {
         self.session(id).map_or(0, Stream::waiting)
     }
@@ -126,7 +128,8 @@ impl Sessions {
     pub fn asked_count(&self) -> u8
         ensures model { (e : States) →
             Stands self.now e →
-            result ≡ length (filter (λ id. is_asked (state_shown (state e.master (named e id)))) (upwards 0 64)) }
+            result ≡ length (filter (λ id.
+            is_asked (state_shown (state e.master (named e id)))) (upwards 0 64)) }
         ensures slave { (e : States) →
             Stands self.now e →
             e.master ≡ false →
@@ -141,8 +144,10 @@ impl Sessions {
         ensures id { IfSome result (λ a. a.id ≡ id) }
         ensures model { (e : States) →
             Stands self.now e →
-            result ≡ cond (is_asked (state_shown (state e.master (named e id)))) (Some (asked_at e id)) None }
-        ensures slave { (e : States) → Stands self.now e → e.master ≡ false → is_some result ≡ waits (named e id) }
+            result ≡ cond (is_asked (state_shown (state e.master (named e id))))
+            (Some (asked_at e id)) None }
+        ensures slave { (e : States) → Stands self.now e → e.master ≡ false →
+            is_some result ≡ waits (named e id) }
     {
         let at = self.place(id)?;
         if is_asked(&self.sessions[at]) {
@@ -221,7 +226,8 @@ impl Sessions {
 
     // The place of the least free id, `None` where the agreed number is held.
     pub(crate) fn free_place(&self) -> Option<usize>
-        ensures model { (e : States) → Stands self.now e → result ≡ cond (is_full e) None (Some (least_free e - 1)) }
+        ensures model { (e : States) → Stands self.now e →
+            result ≡ cond (is_full e) None (Some (least_free e - 1)) }
         ensures within { IfSome result (λ i. i < length self.now.sessions) }
     {
         if self.held() >= self.agreed {

@@ -29,7 +29,8 @@ impl Sessions {
     /// circuit breaks. See "Bad slots" in docs/PROTOCOL.md.
     pub fn heard_slot(&mut self, slot: &Slot) -> Result<(), BadSlot>
         requires { IsWritable slot.now }
-        ensures hears { (e : States) → Stands self.old e → Hears self.new result (hear_slot e (slot_heard slot.now)) }
+        ensures hears { (e : States) → Stands self.old e →
+            Hears self.new result (hear_slot e (slot_heard slot.now)) }
         ensures err { OnErr result (self.new ≡ self.old) }
         ensures same { SameEnd self.old self.new }
     {
@@ -80,7 +81,8 @@ impl Sessions {
         requires { (1 ≤ from) × (credits ≤ 15) }
         ensures hears { (e : States) →
             Stands self.old e →
-            Hears self.new result (hear_slot e (sessions.Start to from credits size opening.service opening.request)) }
+            Hears self.new result (hear_slot e
+            (sessions.Start to from credits size opening.service opening.request)) }
         ensures err { OnErr result (self.new ≡ self.old) }
         ensures same { SameEnd self.old self.new }
     {
@@ -166,7 +168,8 @@ impl Sessions {
         requires { (1 ≤ to) × (1 ≤ from) × (credits ≤ 15) }
         ensures hears { (e : States) (service : List ℕ) (request : Option ℕ) →
             Stands self.old e →
-            Hears self.new result (hear_slot e (sessions.Start to from credits size service request)) }
+            Hears self.new result (hear_slot e
+            (sessions.Start to from credits size service request)) }
         ensures err { OnErr result (self.new ≡ self.old) }
         ensures same { SameEnd self.old self.new }
     {
@@ -214,7 +217,8 @@ impl Sessions {
             (i + 1 ≡ id)
             × (i < length self.now.sessions)
             × (is_calling (state_at self.now id) ≡ true)) }
-        ensures model { (e : States) → Stands self.now e → is_some result ≡ (e.master && waits (named e id)) }
+        ensures model { (e : States) → Stands self.now e →
+            is_some result ≡ (e.master && waits (named e id)) }
     {
         let at = self.place(id)?;
         if is_calling(&self.sessions[at]) {
@@ -229,7 +233,8 @@ impl Sessions {
         requires { (1 ≤ from) × (credits ≤ 15) }
         ensures hears { (e : States) →
             Stands self.old e →
-            Hears self.new result (hear_slot e (sessions.Start 0 from credits size opening.service opening.request)) }
+            Hears self.new result (hear_slot e
+            (sessions.Start 0 from credits size opening.service opening.request)) }
         ensures err { OnErr result (self.new ≡ self.old) }
         ensures same { SameEnd self.old self.new }
     {
@@ -252,7 +257,8 @@ impl Sessions {
     fn open_ask(&mut self, from: u8, credits: u8, size: u8, opening: Opening) -> Ask
         requires { credits ≤ 15 }
         ensures opened { (e : States) → Stands self.old e → e.master ≡ false →
-            record self.new { asks = self.new.asks ++ result ∷ [] } ≡ table_of (length self.old.sessions)
+            record self.new { asks = self.new.asks ++ result ∷ [] }
+            ≡ table_of (length self.old.sessions)
             (ask_in e (sessions.Start 0 from credits size opening.service opening.request) opening.service opening.request) }
         ensures asks { self.new.asks ≡ self.old.asks }
         ensures reason { reason_of result ≤ 15 }

@@ -18,7 +18,8 @@ impl Sessions {
             Stands self.old e →
             result ≡ (if put_open (named e id) then Ok (put_count (named e id) (length bytes.now))
             else Err SessionFault.Closed) }
-        ensures state { (e : States) → Stands self.old e → Stands self.new (called e (Put id bytes.now)) }
+        ensures state { (e : States) → Stands self.old e →
+            Stands self.new (called e (Put id bytes.now)) }
         ensures same { SameEnd self.old self.new }
         ensures most { IfOk result (λ n. n ≤ length bytes.now) }
     {
@@ -30,9 +31,11 @@ impl Sessions {
         ensures answer { (e : States) →
             Stands self.old e →
             result ≡ (if put_open (named e id)
-            then (if nat_lt (length (unframed (named e id))) 4096 then Ok tt else Err SessionFault.Full)
+            then (if nat_lt (length (unframed (named e id))) 4096 then Ok tt
+            else Err SessionFault.Full)
             else Err SessionFault.Closed) }
-        ensures state { (e : States) → Stands self.old e → Stands self.new (called e (Set id setting)) }
+        ensures state { (e : States) → Stands self.old e →
+            Stands self.new (called e (Set id setting)) }
         ensures same { SameEnd self.old self.new }
     {
         self.call(id, &SessionCall::Set(setting)).map(|_| ())
@@ -43,7 +46,8 @@ impl Sessions {
         ensures answer { (e : States) →
             Stands self.old e →
             result ≡ (if put_open (named e id) then Ok tt else Err SessionFault.Closed) }
-        ensures state { (e : States) → Stands self.old e → Stands self.new (called e (Attend id flag)) }
+        ensures state { (e : States) → Stands self.old e →
+            Stands self.new (called e (Attend id flag)) }
         ensures same { SameEnd self.old self.new }
     {
         self.call(id, &SessionCall::Attend(flag)).map(|_| ())

@@ -77,8 +77,10 @@ impl Sessions {
             Stands self.old e →
             out.new ≡ out.old ++ slots_text (wire_of (pack room e).slots) }
         ensures count { (e : States) → Stands self.old e → result ≡ length (pack room e).slots }
-        ensures formed { (e : States) → Stands self.old e → Each IsFormed (wire_of (pack room e).slots) }
-        ensures room { (length out.old ≤ length out.new) × (length out.new ≤ length out.old + room) }
+        ensures formed { (e : States) → Stands self.old e →
+            Each IsFormed (wire_of (pack room e).slots) }
+        ensures room { (length out.old ≤ length out.new)
+            × (length out.new ≤ length out.old + room) }
         ensures same { SameEnd self.old self.new }
     {
         let served = self.served;
@@ -97,7 +99,8 @@ impl Sessions {
     // An id behind which none has a session.
     fn last_reached(&self) -> u8
         ensures within { result ≤ length self.now.sessions }
-        ensures free { (e : States) (id : ℕ) → Stands self.now e → result < id → free (named e id) ≡ true }
+        ensures free { (e : States) (id : ℕ) → Stands self.now e → result < id →
+            free (named e id) ≡ true }
     {
         self.sessions.reached().len() as u8
     }
@@ -129,7 +132,8 @@ impl Sessions {
         requires room { length out.old + progress.old.room ≤ 1500 }
         ensures packed { (before : List ℕ) (p : Packing) →
             Packed before self.old progress.old out.old p →
-            Packed before self.new progress.new out.new (turn p (slice_index_or (open_serials p.after) at 0)) }
+            Packed before self.new progress.new out.new (turn p
+            (slice_index_or (open_serials p.after) at 0)) }
         ensures open { (before : List ℕ) (p : Packing) →
             Packed before self.old progress.old out.old p →
             open_serials (turn p (slice_index_or (open_serials p.after) at 0)).after
@@ -162,7 +166,8 @@ impl Sessions {
         ensures packed { (before : List ℕ) (p : Packing) →
             Packed before self.old progress.old out.old p →
             NoRejects p →
-            Packed before self.new progress.new out.new (turn_all (map p.after.at_id (upwards from (to - from))) p) }
+            Packed before self.new progress.new out.new (turn_all (map p.after.at_id
+            (upwards from (to - from))) p) }
         ensures sent { (p : Packing) →
             NoRejects p →
             NoRejects (turn_all (map p.after.at_id (upwards from (to - from))) p) }
@@ -194,7 +199,8 @@ impl Sessions {
 
     fn is_held(&self, id: u8) -> bool
         requires { (1 ≤ id) × (id ≤ length self.now.sessions) }
-        ensures { (d : Kept) → result ≡ is_held (slice_index_or self.now.sessions (id - 1) d).state }
+        ensures { (d : Kept) → result
+            ≡ is_held (slice_index_or self.now.sessions (id - 1) d).state }
     {
         let session = &self.sessions[id as usize - 1];
         !matches!(session.state(), SessionState::Free)
@@ -204,7 +210,8 @@ impl Sessions {
         requires id { (1 ≤ id) × (id ≤ length self.old.sessions) }
         requires room { length out.old + progress.old.room ≤ 1500 }
         requires goes { (not progress.old.ended && nat_lt progress.old.formed 255) ≡ true }
-        requires held { (d : Kept) → is_held (slice_index_or self.old.sessions (id - 1) d).state ≡ true }
+        requires held { (d : Kept) → is_held (slice_index_or self.old.sessions (id - 1) d).state
+            ≡ true }
         ensures packed { (before : List ℕ) (p : Packing) →
             Packed before self.old progress.old out.old p →
             Packed before self.new progress.new out.new (turn p (p.after.at_id id)) }

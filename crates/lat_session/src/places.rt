@@ -34,7 +34,8 @@ impl Model for Places {
 
     ghost view = { λ a. a.all.items };
 
-    ghost invariant = { λ a. (a.reached ≤ length a.all.items) × AllFree (drop a.reached a.all.items) };
+    ghost invariant = { λ a. (a.reached ≤ length a.all.items)
+        × AllFree (drop a.reached a.all.items) };
 }
 
 impl Places {

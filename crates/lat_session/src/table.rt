@@ -103,7 +103,8 @@ impl Sessions {
     /// Both ends have agreed on so many sessions, which is at most what this end had stated.
     pub fn agree(&mut self, agreed: u8)
         requires { (1 ≤ agreed) × (agreed ≤ self.old.agreed) }
-        ensures state { (e : States) → Stands self.old e → Stands self.new (record e { agreed = min agreed e.agreed }) }
+        ensures state { (e : States) → Stands self.old e →
+            Stands self.new (record e { agreed = min agreed e.agreed }) }
         ensures same { SameEnd self.old self.new }
     {
         self.agreed = agreed;

@@ -24,8 +24,10 @@ const ITEMS: u16 = 4_096;
 // One round, up to the first event that is refused. The world stands as the last good event left it.
 pub(crate) fn round<H: RatingRule>(alloc: Global, world: &mut World<H>) -> Result<(), EventFault>
     requires { next_moment (setups_of world.old) (moment_of world.old) < 2 ^ 64 }
-    ensures tells { (s : State) → StandsAt world.old s → TellsAs (setups_of world.old) s (round_events (setups_of world.old) s) result world.new }
-    ensures moment { OnOk result (moment_of world.new ≡ next_moment (setups_of world.old) (moment_of world.old)) }
+    ensures tells { (s : State) → StandsAt world.old s →
+        TellsAs (setups_of world.old) s (round_events (setups_of world.old) s) result world.new }
+    ensures moment { OnOk result (moment_of world.new
+        ≡ next_moment (setups_of world.old) (moment_of world.old)) }
     ensures setups { setups_of world.new ≡ setups_of world.old }
 {
     tell_times(alloc, world)?;
@@ -54,7 +56,8 @@ fn tell<H: RatingRule>(
     event: WorldEvent,
 ) -> Result<(), EventFault>
     requires { IsPlayable event }
-    ensures tells { (s : State) → StandsAt world.old s → TellsAs (setups_of world.old) s (event ∷ []) result world.new }
+    ensures tells { (s : State) → StandsAt world.old s →
+        TellsAs (setups_of world.old) s (event ∷ []) result world.new }
     ensures moment { OnOk result (moment_of world.new ≡ moment_behind (moment_of world.old) event) }
     ensures setups { setups_of world.new ≡ setups_of world.old }
 {
@@ -67,7 +70,8 @@ fn tell_times<H: RatingRule>(alloc: Global, world: &mut World<H>) -> Result<(), 
     ensures tells { (s : State) →
         StandsAt world.old s →
         TellsAs (setups_of world.old) s (time_events (next_moment (setups_of world.old) s.moment)) result world.new }
-    ensures moment { OnOk result (moment_of world.new ≡ next_moment (setups_of world.old) (moment_of world.old)) }
+    ensures moment { OnOk result (moment_of world.new
+        ≡ next_moment (setups_of world.old) (moment_of world.old)) }
     ensures setups { setups_of world.new ≡ setups_of world.old }
 {
     let now = world.moment() + world.timer();
@@ -91,7 +95,8 @@ fn tell_times<H: RatingRule>(alloc: Global, world: &mut World<H>) -> Result<(), 
 
 // Every frame that never came is delivered, the one that was sent first before the others.
 fn deliver_all<H: RatingRule>(alloc: Global, world: &mut World<H>) -> Result<(), EventFault>
-    ensures tells { (s : State) → StandsAt world.old s → TellsAs (setups_of world.old) s (deliver_events (setups_of world.old) 199745 s) result world.new }
+    ensures tells { (s : State) → StandsAt world.old s →
+        TellsAs (setups_of world.old) s (deliver_events (setups_of world.old) 199745 s) result world.new }
     ensures moment { OnOk result (moment_of world.new ≡ moment_of world.old) }
     ensures setups { setups_of world.new ≡ setups_of world.old }
 {
@@ -132,7 +137,8 @@ fn take<H: RatingRule>(
 ) -> Result<(), EventFault>
     ensures tells { (s : State) →
         StandsAt world.old s →
-        TellsAs (setups_of world.old) s (take_events (setups_of world.old) server (line ∷ []) s) result world.new }
+        TellsAs (setups_of world.old) s (take_events (setups_of world.old) server (line
+        ∷ []) s) result world.new }
     ensures moment { OnOk result (moment_of world.new ≡ moment_of world.old) }
     ensures setups { setups_of world.new ≡ setups_of world.old }
 {

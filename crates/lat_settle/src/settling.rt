@@ -29,14 +29,18 @@ pub fn run_rounds<H: RatingRule>(
     rounds: u32,
 ) -> Result<(), Unsettled>
     requires { rounds_moment (setups_of world.old) (moment_of world.old) rounds < 2 ^ 64 }
-    ensures runs { (s : State) → StandsAt world.old s → RunsAs (setups_of world.old) s rounds result world.new }
-    ensures moment { OnOk result (moment_of world.new ≡ rounds_moment (setups_of world.old) (moment_of world.old) rounds) }
+    ensures runs { (s : State) → StandsAt world.old s →
+        RunsAs (setups_of world.old) s rounds result world.new }
+    ensures moment { OnOk result (moment_of world.new
+        ≡ rounds_moment (setups_of world.old) (moment_of world.old) rounds) }
     ensures setups { setups_of world.new ≡ setups_of world.old }
     ensures settles { OnOk result ((s : State) →
         StandsAt world.old s →
         BeginsAt (setups_of world.old) s →
         Settles (setups_of world.old) s rounds world.new) }
-    ensures refused { IfErr result (λ e. (s : State) → StandsAt world.old s → BeginsAt (setups_of world.old) s → IsFullOrMemory e.fault) }
+    ensures refused { IfErr result (λ e.
+        (s : State) → StandsAt world.old s → BeginsAt (setups_of world.old) s →
+        IsFullOrMemory e.fault) }
 {
     for place in 0..rounds {
         if let Err(fault) = round(alloc, world) {
@@ -56,14 +60,18 @@ pub fn settle<H: RatingRule>(
     rounds: u32,
 ) -> Result<(), EventFault>
     requires { rounds_moment (setups_of world.old) (moment_of world.old) rounds < 2 ^ 64 }
-    ensures runs { (s : State) → StandsAt world.old s → SettlesAs (setups_of world.old) s rounds result world.new }
-    ensures moment { OnOk result (moment_of world.new ≡ rounds_moment (setups_of world.old) (moment_of world.old) rounds) }
+    ensures runs { (s : State) → StandsAt world.old s →
+        SettlesAs (setups_of world.old) s rounds result world.new }
+    ensures moment { OnOk result (moment_of world.new
+        ≡ rounds_moment (setups_of world.old) (moment_of world.old) rounds) }
     ensures setups { setups_of world.new ≡ setups_of world.old }
     ensures settles { OnOk result ((s : State) →
         StandsAt world.old s →
         BeginsAt (setups_of world.old) s →
         Settles (setups_of world.old) s rounds world.new) }
-    ensures refused { IfErr result (λ fault. (s : State) → StandsAt world.old s → BeginsAt (setups_of world.old) s → IsFullOrMemory fault) }
+    ensures refused { IfErr result (λ fault.
+        (s : State) → StandsAt world.old s → BeginsAt (setups_of world.old) s →
+        IsFullOrMemory fault) }
 {
     match run_rounds(alloc, world, rounds) {
         Ok(()) => Ok(()),

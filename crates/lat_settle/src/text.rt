@@ -20,7 +20,8 @@ fn flag_text(flag: bool) -> &'static str
 
 // Adds the line that says whether nothing was lost.
 fn lossless_onto(text: &mut String, lossless: bool) -> Result<(), AllocError>
-    ensures { OnOk result (string_bytes text.new ≡ string_bytes text.old ++ lossless_text lossless) }
+    ensures { OnOk result (string_bytes text.new
+        ≡ string_bytes text.old ++ lossless_text lossless) }
 {
     let flag = flag_text(lossless);
     write!(text, "lossless {flag}\n")
@@ -28,7 +29,8 @@ fn lossless_onto(text: &mut String, lossless: bool) -> Result<(), AllocError>
 
 // Adds the line that says why a round was refused.
 fn round_onto(text: &mut String, round: u32, refused: Refused) -> Result<(), AllocError>
-    ensures { OnOk result (string_bytes text.new ≡ string_bytes text.old ++ round_text round refused) }
+    ensures { OnOk result (string_bytes text.new
+        ≡ string_bytes text.old ++ round_text round refused) }
 {
     write!(text, "round {round} ")?;
     why_onto(text, refused)?;
@@ -49,7 +51,8 @@ pub fn settle_onto<H: RatingRule>(
     requires { rounds_moment (setups_of world.old) (moment_of world.old) rounds < 2 ^ 64 }
     ensures prints { IfOk result (λ status. (s : State) →
         StandsAt world.old s →
-        Prints (setups_of world.old) s rounds status (string_bytes text.old) (string_bytes text.new) world.new) }
+        Prints (setups_of world.old) s rounds status (string_bytes text.old)
+        (string_bytes text.new) world.new) }
     ensures setups { setups_of world.new ≡ setups_of world.old }
 {
     let lossless = world.lossless();

@@ -24,7 +24,8 @@ pub fn circuit_onto(
     to: u16,
     from: u16,
 ) -> Result<(), AllocError>
-    ensures { OnOk result (string_bytes text.new ≡ string_bytes text.old ++ circuit_shown word.now master ask to from) }
+    ensures { OnOk result (string_bytes text.new
+        ≡ string_bytes text.old ++ circuit_shown word.now master ask to from) }
 {
     let (master, ask) = (flag_text(master), flag_text(ask));
     write!(text, "{word} master {master} ask {ask} to {to} from {from}")
@@ -32,14 +33,16 @@ pub fn circuit_onto(
 
 #[tactic(auto, unfolding(crate::specs::MessageShown::numbers_shown))]
 fn numbers_onto(text: &mut String, seq: u16, ack: u16, slots: usize) -> Result<(), AllocError>
-    ensures { OnOk result (string_bytes text.new ≡ string_bytes text.old ++ numbers_shown seq ack slots) }
+    ensures { OnOk result (string_bytes text.new
+        ≡ string_bytes text.old ++ numbers_shown seq ack slots) }
 {
     write!(text, " seq {seq} ack {ack} slots {slots}")
 }
 
 #[tactic(auto, unfolding(crate::specs::MessageShown::run_shown))]
 fn run_onto(text: &mut String, head: &Head, slots: usize) -> Result<(), AllocError>
-    ensures { OnOk result (string_bytes text.new ≡ string_bytes text.old ++ run_shown head.now slots) }
+    ensures { OnOk result (string_bytes text.new
+        ≡ string_bytes text.old ++ run_shown head.now slots) }
 {
     circuit_onto(text, "run", head.master, head.ask, head.to, head.from)?;
     numbers_onto(text, head.seq as u16, head.ack as u16, slots)?;
@@ -48,7 +51,8 @@ fn run_onto(text: &mut String, head: &Head, slots: usize) -> Result<(), AllocErr
 
 #[tactic(auto, unfolding(crate::specs::MessageShown::wide_run_shown))]
 fn wide_run_onto(text: &mut String, head: &WideHead, slots: usize) -> Result<(), AllocError>
-    ensures { OnOk result (string_bytes text.new ≡ string_bytes text.old ++ wide_run_shown head.now slots) }
+    ensures { OnOk result (string_bytes text.new
+        ≡ string_bytes text.old ++ wide_run_shown head.now slots) }
 {
     circuit_onto(text, "wide-run", head.master, head.ask, head.to, head.from)?;
     numbers_onto(text, head.seq, head.ack, slots)?;
@@ -62,14 +66,16 @@ fn reason_onto(
     reason: u8,
     bytes: &Bytes,
 ) -> Result<(), AllocError>
-    ensures { OnOk result (string_bytes text.new ≡ string_bytes text.old ++ reason_shown reason bytes.now) }
+    ensures { OnOk result (string_bytes text.new
+        ≡ string_bytes text.old ++ reason_shown reason bytes.now) }
 {
     write!(text, " reason {reason} text ")?;
     hex_onto(alloc, text, bytes.as_slice())
 }
 
 fn slots_onto(alloc: Global, text: &mut String, slots: &[Slot]) -> Result<(), AllocError>
-    ensures { OnOk result (string_bytes text.new ≡ string_bytes text.old ++ flat_map slot_shown slots.now) }
+    ensures { OnOk result (string_bytes text.new
+        ≡ string_bytes text.old ++ flat_map slot_shown slots.now) }
 {
     for slot in slots {
         slot_onto(alloc, text, slot)?;
@@ -80,7 +86,8 @@ fn slots_onto(alloc: Global, text: &mut String, slots: &[Slot]) -> Result<(), Al
 /// Adds the line of a message to a text, and the lines of the slots that it carries. `docs/FORMATS.md`, part Printed
 /// texts, has the lines.
 pub fn message_onto(alloc: Global, text: &mut String, message: &Message) -> Result<(), AllocError>
-    ensures { OnOk result (string_bytes text.new ≡ string_bytes text.old ++ message_shown message.now) }
+    ensures { OnOk result (string_bytes text.new
+        ≡ string_bytes text.old ++ message_shown message.now) }
 {
     match message {
         Message::Run { head, slots } => {

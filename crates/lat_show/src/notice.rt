@@ -10,7 +10,8 @@ use lat_text::{hex_onto, name_onto};
 use std::alloc::{AllocError, Global};
 
 fn description_onto(alloc: Global, text: &mut String, description: &[u8]) -> Result<(), AllocError>
-    ensures { OnOk result (string_bytes text.new ≡ string_bytes text.old ++ description_shown description.now) }
+    ensures { OnOk result (string_bytes text.new
+        ≡ string_bytes text.old ++ description_shown description.now) }
 {
     text.push_str(" description ")?;
     hex_onto(alloc, text, description)
@@ -23,7 +24,8 @@ fn rated_onto(
     rating: u8,
     description: &Bytes,
 ) -> Result<(), AllocError>
-    ensures { OnOk result (string_bytes text.new ≡ string_bytes text.old ++ rated_shown rating description.now) }
+    ensures { OnOk result (string_bytes text.new
+        ≡ string_bytes text.old ++ rated_shown rating description.now) }
 {
     write!(text, " rating {rating}")?;
     description_onto(alloc, text, description.as_slice())
@@ -31,7 +33,8 @@ fn rated_onto(
 
 #[tactic(auto, unfolding(crate::specs::NoticeShown::service_shown))]
 fn service_onto(alloc: Global, text: &mut String, service: &Service) -> Result<(), AllocError>
-    ensures { OnOk result (string_bytes text.new ≡ string_bytes text.old ++ service_shown service.now) }
+    ensures { OnOk result (string_bytes text.new
+        ≡ string_bytes text.old ++ service_shown service.now) }
 {
     text.push_str("service ")?;
     name_onto(alloc, text, &service.name)?;
@@ -40,7 +43,8 @@ fn service_onto(alloc: Global, text: &mut String, service: &Service) -> Result<(
 }
 
 fn services_onto(alloc: Global, text: &mut String, services: &[Service]) -> Result<(), AllocError>
-    ensures { OnOk result (string_bytes text.new ≡ string_bytes text.old ++ flat_map service_shown services.now) }
+    ensures { OnOk result (string_bytes text.new
+        ≡ string_bytes text.old ++ flat_map service_shown services.now) }
 {
     for service in services {
         service_onto(alloc, text, service)?;
@@ -56,7 +60,8 @@ fn request_onto(
     incarnation: u16,
     request: u16,
 ) -> Result<(), AllocError>
-    ensures { OnOk result (string_bytes text.new ≡ string_bytes text.old ++ request_shown word.now incarnation request) }
+    ensures { OnOk result (string_bytes text.new
+        ≡ string_bytes text.old ++ request_shown word.now incarnation request) }
 {
     write!(
         text,
@@ -71,7 +76,8 @@ fn offer_onto(
     node: &Name,
     service: &Name,
 ) -> Result<(), AllocError>
-    ensures { OnOk result (string_bytes text.new ≡ string_bytes text.old ++ offer_shown node.now service.now) }
+    ensures { OnOk result (string_bytes text.new
+        ≡ string_bytes text.old ++ offer_shown node.now service.now) }
 {
     text.push_str(" node ")?;
     name_onto(alloc, text, node)?;
@@ -81,7 +87,8 @@ fn offer_onto(
 
 #[tactic(auto, unfolding(crate::specs::NoticeShown::announcer_shown))]
 fn announcer_onto(text: &mut String, announcement: &Announcement) -> Result<(), AllocError>
-    ensures { OnOk result (string_bytes text.new ≡ string_bytes text.old ++ announcer_shown announcement.now) }
+    ensures { OnOk result (string_bytes text.new
+        ≡ string_bytes text.old ++ announcer_shown announcement.now) }
 {
     let (timer, incarnation) = (announcement.timer, announcement.incarnation);
     write!(
@@ -92,7 +99,8 @@ fn announcer_onto(text: &mut String, announcement: &Announcement) -> Result<(), 
 
 #[tactic(auto, unfolding(crate::specs::NoticeShown::groups_shown))]
 fn groups_onto(alloc: Global, text: &mut String, groups: &Bytes) -> Result<(), AllocError>
-    ensures { OnOk result (string_bytes text.new ≡ string_bytes text.old ++ groups_shown groups.now) }
+    ensures { OnOk result (string_bytes text.new
+        ≡ string_bytes text.old ++ groups_shown groups.now) }
 {
     text.push_str(" groups ")?;
     hex_onto(alloc, text, groups.as_slice())
@@ -105,7 +113,8 @@ fn node_onto(
     node: &Name,
     description: &Bytes,
 ) -> Result<(), AllocError>
-    ensures { OnOk result (string_bytes text.new ≡ string_bytes text.old ++ node_shown node.now description.now) }
+    ensures { OnOk result (string_bytes text.new
+        ≡ string_bytes text.old ++ node_shown node.now description.now) }
 {
     text.push_str(" node ")?;
     name_onto(alloc, text, node)?;
@@ -118,7 +127,8 @@ fn announcement_onto(
     text: &mut String,
     announcement: &Announcement,
 ) -> Result<(), AllocError>
-    ensures { OnOk result (string_bytes text.new ≡ string_bytes text.old ++ announcement_shown announcement.now) }
+    ensures { OnOk result (string_bytes text.new
+        ≡ string_bytes text.old ++ announcement_shown announcement.now) }
 {
     let services = announcement.services.as_slice();
     let count = services.len();
@@ -131,7 +141,8 @@ fn announcement_onto(
 
 #[tactic(auto, unfolding(crate::specs::NoticeShown::command_shown))]
 fn command_onto(alloc: Global, text: &mut String, command: &Command) -> Result<(), AllocError>
-    ensures { OnOk result (string_bytes text.new ≡ string_bytes text.old ++ command_shown command.now) }
+    ensures { OnOk result (string_bytes text.new
+        ≡ string_bytes text.old ++ command_shown command.now) }
 {
     let action = command.action.number();
     request_onto(text, "command", command.incarnation, command.request)?;
@@ -142,14 +153,16 @@ fn command_onto(alloc: Global, text: &mut String, command: &Command) -> Result<(
 
 #[tactic(auto, unfolding(crate::specs::NoticeShown::outcome_shown))]
 fn outcome_onto(text: &mut String, outcome: u8, place: u16) -> Result<(), AllocError>
-    ensures { OnOk result (string_bytes text.new ≡ string_bytes text.old ++ outcome_shown outcome place) }
+    ensures { OnOk result (string_bytes text.new
+        ≡ string_bytes text.old ++ outcome_shown outcome place) }
 {
     write!(text, " outcome {outcome} place {place}")
 }
 
 #[tactic(auto, unfolding(crate::specs::NoticeShown::status_shown))]
 fn status_onto(alloc: Global, text: &mut String, status: &Status) -> Result<(), AllocError>
-    ensures { OnOk result (string_bytes text.new ≡ string_bytes text.old ++ status_shown status.now) }
+    ensures { OnOk result (string_bytes text.new
+        ≡ string_bytes text.old ++ status_shown status.now) }
 {
     request_onto(text, "status", status.incarnation, status.request)?;
     outcome_onto(text, status.outcome.number(), status.outcome.place())?;
@@ -161,14 +174,16 @@ fn status_onto(alloc: Global, text: &mut String, status: &Status) -> Result<(), 
 // Adds the first word of the line of a solicit or a response, and the question that it is about.
 #[tactic(auto, unfolding(crate::specs::NoticeShown::question_shown))]
 fn question_onto(text: &mut String, word: &str, id: u16) -> Result<(), AllocError>
-    ensures { OnOk result (string_bytes text.new ≡ string_bytes text.old ++ question_shown word.now id) }
+    ensures { OnOk result (string_bytes text.new
+        ≡ string_bytes text.old ++ question_shown word.now id) }
 {
     write!(text, "{word} version 5 id {id}")
 }
 
 #[tactic(auto, unfolding(crate::specs::NoticeShown::solicit_shown))]
 fn solicit_onto(alloc: Global, text: &mut String, solicit: &Solicit) -> Result<(), AllocError>
-    ensures { OnOk result (string_bytes text.new ≡ string_bytes text.old ++ solicit_shown solicit.now) }
+    ensures { OnOk result (string_bytes text.new
+        ≡ string_bytes text.old ++ solicit_shown solicit.now) }
 {
     question_onto(text, "solicit", solicit.id)?;
     offer_onto(alloc, text, &solicit.asker, &solicit.service)?;
@@ -177,7 +192,8 @@ fn solicit_onto(alloc: Global, text: &mut String, solicit: &Solicit) -> Result<(
 
 #[tactic(auto, unfolding(crate::specs::NoticeShown::response_shown))]
 fn response_onto(alloc: Global, text: &mut String, response: &Response) -> Result<(), AllocError>
-    ensures { OnOk result (string_bytes text.new ≡ string_bytes text.old ++ response_shown response.now) }
+    ensures { OnOk result (string_bytes text.new
+        ≡ string_bytes text.old ++ response_shown response.now) }
 {
     let (rating, timer) = (response.rating, response.timer);
     question_onto(text, "response", response.id)?;
@@ -188,7 +204,8 @@ fn response_onto(alloc: Global, text: &mut String, response: &Response) -> Resul
 /// Adds the line of a notice to a text, and behind that of an announcement the lines of its services.
 /// `docs/FORMATS.md`, part Printed texts, has the lines.
 pub fn notice_onto(alloc: Global, text: &mut String, notice: &Notice) -> Result<(), AllocError>
-    ensures { OnOk result (string_bytes text.new ≡ string_bytes text.old ++ notice_shown notice.now) }
+    ensures { OnOk result (string_bytes text.new
+        ≡ string_bytes text.old ++ notice_shown notice.now) }
 {
     match notice {
         Notice::Announcement(announcement) => announcement_onto(alloc, text, announcement),

@@ -17,14 +17,16 @@ fn param_onto(alloc: Global, text: &mut String, param: &Param) -> Result<(), All
 }
 
 fn further_param_onto(alloc: Global, text: &mut String, param: &Param) -> Result<(), AllocError>
-    ensures { OnOk result (string_bytes text.new ≡ string_bytes text.old ++ further_param_shown param.now) }
+    ensures { OnOk result (string_bytes text.new
+        ≡ string_bytes text.old ++ further_param_shown param.now) }
 {
     text.push_str(",")?;
     param_onto(alloc, text, param)
 }
 
 fn further_params_onto(alloc: Global, text: &mut String, params: &[Param]) -> Result<(), AllocError>
-    ensures { OnOk result (string_bytes text.new ≡ string_bytes text.old ++ flat_map further_param_shown params.now) }
+    ensures { OnOk result (string_bytes text.new
+        ≡ string_bytes text.old ++ flat_map further_param_shown params.now) }
 {
     for param in params {
         further_param_onto(alloc, text, param)?;
@@ -34,7 +36,8 @@ fn further_params_onto(alloc: Global, text: &mut String, params: &[Param]) -> Re
 
 /// Adds parameters to a text: each as its code and its bytes, with commas between them, or `-` for none.
 pub fn params_onto(alloc: Global, text: &mut String, params: &Params) -> Result<(), AllocError>
-    ensures { OnOk result (string_bytes text.new ≡ string_bytes text.old ++ params_shown params.now) }
+    ensures { OnOk result (string_bytes text.new
+        ≡ string_bytes text.old ++ params_shown params.now) }
 {
     match params.as_slice() {
         [] => text.push_str("-"),

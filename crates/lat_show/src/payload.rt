@@ -31,7 +31,8 @@ fn value_onto(alloc: Global, text: &mut String, value: &Value) -> Result<(), All
 /// the line that names its first bad field, as `read_value` of `lat_value` reads it. Takes memory for what is read.
 #[tactic(auto, unfolding(crate::specs::PayloadShown::payload_shown))]
 pub fn payload_onto(alloc: Global, text: &mut String, payload: &[u8]) -> Result<(), Memory>
-    ensures { OnOk result (string_bytes text.new ≡ string_bytes text.old ++ payload_shown payload.now) }
+    ensures { OnOk result (string_bytes text.new
+        ≡ string_bytes text.old ++ payload_shown payload.now) }
 {
     match read_value(alloc, payload) {
         Ok(value) => Ok(value_onto(alloc, text, &value)?),

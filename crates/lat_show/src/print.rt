@@ -16,7 +16,8 @@ const MOST_DIGITS: usize = 8192;
 // The payload that a line writes, if it is a right one.
 #[tactic(auto, unfolding(crate::specs::ShowOf::payload_of))]
 fn payload_of(alloc: Global, line: &[u8]) -> Result<Option<Vec<u8>>, Memory>
-    ensures { IfOk result (λ found. option_map (λ payload. payload.items) found ≡ payload_of line.now) }
+    ensures { IfOk result (λ found.
+        option_map (λ payload. payload.items) found ≡ payload_of line.now) }
 {
     if line.len() > MOST_DIGITS {
         return Ok(None);

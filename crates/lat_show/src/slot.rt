@@ -13,14 +13,16 @@ use std::alloc::{AllocError, Global};
 // Adds the first word of a slot's line, and the ids that every slot has.
 #[tactic(auto, unfolding(crate::specs::SlotShown::ends_shown))]
 fn ends_onto(text: &mut String, word: &str, to: u8, from: u8) -> Result<(), AllocError>
-    ensures { OnOk result (string_bytes text.new ≡ string_bytes text.old ++ ends_shown word.now to from) }
+    ensures { OnOk result (string_bytes text.new
+        ≡ string_bytes text.old ++ ends_shown word.now to from) }
 {
     write!(text, "{word} to {to} from {from}")
 }
 
 #[tactic(auto, unfolding(crate::specs::SlotShown::sizes_shown))]
 fn sizes_onto(text: &mut String, credits: u8, attention: u8, size: u8) -> Result<(), AllocError>
-    ensures { OnOk result (string_bytes text.new ≡ string_bytes text.old ++ sizes_shown credits attention size) }
+    ensures { OnOk result (string_bytes text.new
+        ≡ string_bytes text.old ++ sizes_shown credits attention size) }
 {
     write!(text, " credits {credits} attention {attention} size {size}")
 }
@@ -33,7 +35,8 @@ fn asked_onto(
     subject: &Bytes,
     params: &Params,
 ) -> Result<(), AllocError>
-    ensures { OnOk result (string_bytes text.new ≡ string_bytes text.old ++ asked_shown service.now subject.now params.now) }
+    ensures { OnOk result (string_bytes text.new
+        ≡ string_bytes text.old ++ asked_shown service.now subject.now params.now) }
 {
     text.push_str(" service ")?;
     name_onto(alloc, text, service)?;
@@ -45,7 +48,8 @@ fn asked_onto(
 
 #[tactic(auto, unfolding(crate::specs::SlotShown::setting_shown))]
 fn setting_onto(alloc: Global, text: &mut String, flag: u8, chars: &[u8]) -> Result<(), AllocError>
-    ensures { OnOk result (string_bytes text.new ≡ string_bytes text.old ++ setting_shown flag chars.now) }
+    ensures { OnOk result (string_bytes text.new
+        ≡ string_bytes text.old ++ setting_shown flag chars.now) }
 {
     text.push_str(" flag ")?;
     byte_onto(alloc, text, flag)?;

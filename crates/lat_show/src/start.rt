@@ -25,7 +25,8 @@ fn terms_onto(text: &mut String, info: &StartInfo) -> Result<(), AllocError>
 
 #[tactic(auto, unfolding(crate::specs::MessageShown::product_shown))]
 fn product_onto(text: &mut String, info: &StartInfo) -> Result<(), AllocError>
-    ensures { OnOk result (string_bytes text.new ≡ string_bytes text.old ++ product_shown info.now) }
+    ensures { OnOk result (string_bytes text.new
+        ≡ string_bytes text.old ++ product_shown info.now) }
 {
     let (facility, product, version) = (info.facility, info.product, info.product_version);
     write!(text, " facility {facility} product {product} {version}")
@@ -33,7 +34,8 @@ fn product_onto(text: &mut String, info: &StartInfo) -> Result<(), AllocError>
 
 #[tactic(auto, unfolding(crate::specs::MessageShown::names_shown))]
 fn names_onto(alloc: Global, text: &mut String, slave: &Name, name: &Name) -> Result<(), AllocError>
-    ensures { OnOk result (string_bytes text.new ≡ string_bytes text.old ++ names_shown slave.now name.now) }
+    ensures { OnOk result (string_bytes text.new
+        ≡ string_bytes text.old ++ names_shown slave.now name.now) }
 {
     text.push_str(" slave ")?;
     name_onto(alloc, text, slave)?;
@@ -48,7 +50,8 @@ fn location_onto(
     location: &Bytes,
     params: &Params,
 ) -> Result<(), AllocError>
-    ensures { OnOk result (string_bytes text.new ≡ string_bytes text.old ++ location_shown location.now params.now) }
+    ensures { OnOk result (string_bytes text.new
+        ≡ string_bytes text.old ++ location_shown location.now params.now) }
 {
     text.push_str(" location ")?;
     hex_onto(alloc, text, location.as_slice())?;
@@ -77,7 +80,8 @@ pub fn start_onto(
     from: u16,
     info: &StartInfo,
 ) -> Result<(), AllocError>
-    ensures { OnOk result (string_bytes text.new ≡ string_bytes text.old ++ start_shown master ask to from info.now) }
+    ensures { OnOk result (string_bytes text.new
+        ≡ string_bytes text.old ++ start_shown master ask to from info.now) }
 {
     circuit_onto(text, "circuit-start", master, ask, to, from)?;
     info_onto(alloc, text, info)?;

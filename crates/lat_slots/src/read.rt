@@ -124,7 +124,8 @@ fn start_of(alloc: Global, head: SlotHead, bytes: &[u8], place: usize) -> Result
 // The setting whose body is these five bytes.
 fn setting_of(head: SlotHead, body: &[u8]) -> Slot
     requires { length body.now ≡ 5 }
-    ensures { result ≡ slots.DataB head.to head.from head.low (slice_index body.now 0) (drop 1 body.now) }
+    ensures { result ≡ slots.DataB head.to head.from head.low (slice_index body.now 0)
+        (drop 1 body.now) }
 {
     let mut chars = [0; 4];
     chars.copy_from_slice(&body[1..]);
@@ -188,7 +189,8 @@ fn behind_head(
 ) -> Result<Slot, LayoutFault>
     requires room { (at + 4 + head.count ≤ length payload.now) × (length payload.now ≤ 1500) }
     requires count { IsTrue (count_fits head.kind head.count) }
-    ensures { Gives (λ s. s) result (body_at (at + 4 + head.count + 1) head (at + 4) (take head.count (drop 4 (drop at payload.now)))) }
+    ensures { Gives (λ s. s) result (body_at (at + 4 + head.count + 1) head (at + 4)
+        (take head.count (drop 4 (drop at payload.now)))) }
 {
     let bytes = &payload[..at + 4 + head.count as usize];
     body_of(alloc, head, bytes, at + 4)
@@ -198,7 +200,8 @@ fn behind_head(
 #[tactic(auto, unfolding(crate::specs::Reading::slot_at))]
 fn slot_of(alloc: Global, payload: &[u8], at: usize) -> Result<(Slot, usize), LayoutFault>
     requires { (at ≤ length payload.now) × (length payload.now ≤ 1500) }
-    ensures gives { Gives (λ x. (x.0, x.1, drop x.1 payload.now)) result (slot_at at (drop at payload.now)) }
+    ensures gives { Gives (λ x. (x.0, x.1, drop x.1 payload.now)) result (slot_at at
+        (drop at payload.now)) }
     ensures within { IfOk result (λ x. x.1 ≤ length payload.now) }
 {
     let head = head_of(payload, at)?;
@@ -216,9 +219,11 @@ pub fn read_slot(alloc: Global, payload: &[u8], at: usize) -> Result<(Slot, usiz
     // What is read stands there.
     ensures found { IfOk result (λ x. StandsAt at (drop at payload.now) x.0 x.1) }
     // What stands there is read, unless memory runs out.
-    ensures only { (s : Slot) (next : ℕ) → StandsAt at (drop at payload.now) s next → Gives (λ x. x) result (Ok (s, next)) }
+    ensures only { (s : Slot) (next : ℕ) → StandsAt at (drop at payload.now) s next →
+        Gives (λ x. x) result (Ok (s, next)) }
     // Which field is bad.
-    ensures exact { Gives (λ x. (x.0, x.1, drop x.1 payload.now)) result (slot_at at (drop at payload.now)) }
+    ensures exact { Gives (λ x. (x.0, x.1, drop x.1 payload.now)) result (slot_at at
+        (drop at payload.now)) }
     ensures within { IfOk result (λ x. x.1 ≤ length payload.now) }
 {
     slot_of(alloc, payload, at)

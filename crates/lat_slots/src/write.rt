@@ -91,7 +91,8 @@ fn start_len(service: &Name, subject: &[u8], params: &Params) -> usize
 // Whether the fields of a start meet their conditions, and its body has at most 255 bytes.
 fn start_ok(from: u8, size: u8, service: &Name, subject: &[u8], params: &Params) -> bool
     ensures { IsTrue result ↔ (
-        (0 < from) × (0 < size) × IsName service.now × (length subject.now < 256) × AllByRecursion IsEntry params.now
+        (0 < from) × (0 < size) × IsName service.now × (length subject.now < 256)
+        × AllByRecursion IsEntry params.now
         × (5 + length service.now + length subject.now + length (params_text params.now) < 256)) }
 {
     let len = start_len(service, subject, params);

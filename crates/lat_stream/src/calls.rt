@@ -29,7 +29,8 @@ impl Stream {
     /// Answers an ask: both ends have the session now.
     pub fn answer(&mut self)
         requires { self.old.state ≡ kept_states.Asked }
-        ensures { (ceiling : ℕ) (s : Session) → Sound false ceiling s → self.old ≡ kept_of false ceiling s →
+        ensures { (ceiling : ℕ) (s : Session) → Sound false ceiling s →
+            self.old ≡ kept_of false ceiling s →
             self.new ≡ kept_of false ceiling (record s { accepted = true }) }
     {
         self.run();
@@ -49,7 +50,8 @@ impl Stream {
     /// Rejects an ask: the session is free.
     pub fn refuse(&mut self, reason: u8)
         requires { self.old.state ≡ kept_states.Asked }
-        ensures { (ceiling : ℕ) (s : Session) → Sound false ceiling s → self.old ≡ kept_of false ceiling s →
+        ensures { (ceiling : ℕ) (s : Session) → Sound false ceiling s →
+            self.old ≡ kept_of false ceiling s →
             self.new ≡ kept_of false ceiling (record s { refused = true; reason = reason }) }
     {
         self.turn_away(reason);
@@ -74,7 +76,8 @@ impl Stream {
         ensures state { (master : Bool) (ceiling : ℕ) (s : Session) →
             Sound master ceiling s → self.old ≡ kept_of master ceiling s →
             self.new ≡ (if put_open s
-            then kept_of master ceiling (put_items s (map Byte (take (put_count s (length bytes.now)) bytes.now)))
+            then kept_of master ceiling (put_items s
+            (map Byte (take (put_count s (length bytes.now)) bytes.now)))
             else self.old) }
         ensures most { IfOk result (λ n. n ≤ length bytes.now) }
     {
@@ -86,7 +89,10 @@ impl Stream {
 
     fn add_bytes(&mut self, bytes: &[u8]) -> usize
         ensures count { result ≡ min (length bytes.now) (4096 - length self.old.unframed) }
-        ensures value { self.new ≡ record self.old { unframed = self.old.unframed ++ map kept_items.Byte (take result bytes.now) } }
+        ensures value { self.new ≡ record self.old {
+          unframed = self.old.unframed
+              ++ map kept_items.Byte (take result bytes.now);
+        } }
     {
         push_bytes(&mut self.unframed, bytes)
     }
@@ -95,7 +101,8 @@ impl Stream {
     pub fn set(&mut self, setting: [u8; 5]) -> Result<(), SessionFault>
         ensures answer { (master : Bool) (ceiling : ℕ) (s : Session) →
             Sound master ceiling s → self.old ≡ kept_of master ceiling s →
-            result ≡ (if put_open s then (if nat_lt (length (unframed s)) 4096 then Ok tt else Err Full)
+            result ≡ (if put_open s
+            then (if nat_lt (length (unframed s)) 4096 then Ok tt else Err Full)
             else Err Closed) }
         ensures state { (master : Bool) (ceiling : ℕ) (s : Session) →
             Sound master ceiling s → self.old ≡ kept_of master ceiling s →
@@ -120,7 +127,10 @@ impl Stream {
 
     fn add_setting(&mut self, setting: [u8; 5])
         requires { length self.old.unframed < 4096 }
-        ensures { self.new ≡ record self.old { unframed = self.old.unframed ++ kept_items.Set setting ∷ [] } }
+        ensures { self.new ≡ record self.old {
+          unframed = self.old.unframed
+              ++ kept_items.Set setting ∷ [];
+        } }
     {
         self.unframed.push_back(Item::Set(setting));
     }
@@ -130,7 +140,8 @@ impl Stream {
         ensures answer { (master : Bool) (ceiling : ℕ) (s : Session) →
             Sound master ceiling s → self.old ≡ kept_of master ceiling s →
             result ≡ (if put_open s then Ok tt else Err Closed) }
-        ensures state { (master : Bool) (ceiling : ℕ) (s : Session) → self.old ≡ kept_of master ceiling s →
+        ensures state { (master : Bool) (ceiling : ℕ) (s : Session) →
+            self.old ≡ kept_of master ceiling s →
             OnOk result (self.new ≡ kept_of master ceiling (record s { attention = Some flag })) }
         ensures err { OnErr result (self.new ≡ self.old) }
     {
@@ -155,9 +166,11 @@ impl Stream {
         ensures items { (master : Bool) (ceiling : ℕ) (s : Session) →
             Sound master ceiling s → self.old ≡ kept_of master ceiling s →
             out.new ≡ (if take_open s
-            then map item_shown (take (take_count s (length out.old)) (drop s.taken (items s.came))) ++ drop (take_count s (length out.old)) out.old
+            then map item_shown (take (take_count s (length out.old)) (drop s.taken (items s.came)))
+            ++ drop (take_count s (length out.old)) out.old
             else out.old) }
-        ensures count { IfOk result (λ n. n ≡ min (length out.old) (cond (can_take self.old) (length self.old.heard) 0)) }
+        ensures count { IfOk result (λ n.
+            n ≡ min (length out.old) (cond (can_take self.old) (length self.old.heard) 0)) }
         ensures most { IfOk result (λ n. n ≤ length out.old) }
         ensures places { length out.new ≡ length out.old }
     {

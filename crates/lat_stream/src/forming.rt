@@ -58,17 +58,22 @@ impl Stream {
     /// end's id of the session. A waiting reject is formed elsewhere. See "Packing" in docs/PROTOCOL.md.
     pub fn form(&mut self, master: bool, id: u8, room: u16, out: &mut Payload) -> Formed
         requires { length out.old + room ≤ 1500 }
-        ensures does { (ceiling : ℕ) (s : Session) → Sound master ceiling s → self.old ≡ kept_of master ceiling s →
+        ensures does { (ceiling : ℕ) (s : Session) → Sound master ceiling s →
+            self.old ≡ kept_of master ceiling s →
             s.id ≡ id → reject_due s ≡ false →
             Does master ceiling s (offers.offer master ceiling room s) self.old self.new out.old out.new result }
         ensures len { (ceiling : ℕ) (s : Session) (x : sessions.Slot) →
             Sound master ceiling s → self.old ≡ kept_of master ceiling s →
-            s.id ≡ id → reject_due s ≡ false → offers.offer master ceiling room s ≡ offers.Offers x →
+            s.id ≡ id → reject_due s ≡ false →
+            offers.offer master ceiling room s ≡ offers.Offers x →
             length out.new ≡ length out.old + sessions.slot_len x }
         ensures formed { (ceiling : ℕ) (s : Session) (x : sessions.Slot) →
-            Sound master ceiling s → (sessions.starts s.came ≡ true → peer s ≢ 0) → self.old ≡ kept_of master ceiling s →
-            reject_due s ≡ false → offers.offer master ceiling room s ≡ offers.Offers x → IsFormed x }
-        ensures room { (length out.old ≤ length out.new) × (length out.new ≤ length out.old + room) }
+            Sound master ceiling s → (sessions.starts s.came ≡ true → peer s ≢ 0) →
+            self.old ≡ kept_of master ceiling s →
+            reject_due s ≡ false → offers.offer master ceiling room s ≡ offers.Offers x →
+            IsFormed x }
+        ensures room { (length out.old ≤ length out.new)
+            × (length out.new ≤ length out.old + room) }
     {
         self.form_turn(master, id, room, out)
     }
@@ -79,9 +84,11 @@ impl Stream {
             (offer_at master id room self.old (turn_of self.old))
             (kept_after room self.old (turn_of self.old))
             self.old self.new out.old out.new result }
-        ensures room { (length out.old ≤ length out.new) × (length out.new ≤ length out.old + room) }
+        ensures room { (length out.old ≤ length out.new)
+            × (length out.new ≤ length out.old + room) }
         ensures whole { (t : List ℕ) → turn_of self.old ≡ turns.Setting t → length t ≡ 5 }
-        ensures named { (opening : Opening) → turn_of self.old ≡ turns.Start opening → IsName opening.service }
+        ensures named { (opening : Opening) → turn_of self.old ≡ turns.Start opening →
+            IsName opening.service }
         ensures most { self.old.credits.ceiling ≤ 15 }
     {
         match self.turn() {
@@ -99,7 +106,8 @@ impl Stream {
     fn turn(&self) -> Turn
         ensures value { result ≡ turn_of self.now }
         ensures most { self.now.credits.ceiling ≤ 15 }
-        ensures start { (opening : Opening) → result ≡ turns.Start opening → self.now.state ≢ states.Asked }
+        ensures start { (opening : Opening) → result ≡ turns.Start opening →
+            self.now.state ≢ states.Asked }
         ensures unused { spends result ≡ true → 0 < self.now.credits.unused }
     {
         match (self.state, self.start) {
@@ -126,7 +134,8 @@ impl Stream {
     }
 
     fn stop_is_due(&self) -> bool
-        ensures { result ≡ (self.now.stop_heard || (self.now.closed && is_empty self.now.unframed)) }
+        ensures { result ≡ (self.now.stop_heard
+            || (self.now.closed && is_empty self.now.unframed)) }
     {
         self.stop_heard || self.closed && self.unframed.is_empty()
     }
@@ -170,7 +179,8 @@ impl Stream {
             (record (gave self.old) { start = None })
             self.old self.new out.old out.new result }
         ensures named { IsName opening.now.service }
-        ensures room { (length out.old ≤ length out.new) × (length out.new ≤ length out.old + room) }
+        ensures room { (length out.old ≤ length out.new)
+            × (length out.new ≤ length out.old + room) }
     {
         let to = if master { 0 } else { self.peer };
         let request = if master { opening.request } else { None };
@@ -189,7 +199,8 @@ impl Stream {
             (offers.fit room (sessions.Attention self.old.peer id flag))
             (record self.old { attention = None })
             self.old self.new out.old out.new result }
-        ensures room { (length out.old ≤ length out.new) × (length out.new ≤ length out.old + room) }
+        ensures room { (length out.old ≤ length out.new)
+            × (length out.new ≤ length out.old + room) }
     {
         if room < 6 {
             return Formed::Unfit;
@@ -217,7 +228,8 @@ impl Stream {
             (offers.fit room (sessions.Stop self.old.peer id 1))
             (stopped self.old)
             self.old self.new out.old out.new result }
-        ensures room { (length out.old ≤ length out.new) × (length out.new ≤ length out.old + room) }
+        ensures room { (length out.old ≤ length out.new)
+            × (length out.new ≤ length out.old + room) }
     {
         if room < 4 {
             return Formed::Unfit;
@@ -249,7 +261,8 @@ impl Stream {
             (offers.fit room (sessions.DataB self.old.peer id (due self.old) setting.now))
             (framed 1 (gave self.old))
             self.old self.new out.old out.new result }
-        ensures room { (length out.old ≤ length out.new) × (length out.new ≤ length out.old + room) }
+        ensures room { (length out.old ≤ length out.new)
+            × (length out.new ≤ length out.old + room) }
     {
         if room < 10 {
             return Formed::Unfit;
@@ -270,7 +283,8 @@ impl Stream {
             (bytes_offer id self.old (next_bytes room self.old))
             (framed (length (next_bytes room self.old)) (gave self.old))
             self.old self.new out.old out.new result }
-        ensures room { (length out.old ≤ length out.new) × (length out.new ≤ length out.old + room) }
+        ensures room { (length out.old ≤ length out.new)
+            × (length out.new ≤ length out.old + room) }
     {
         let count = leading_count(&self.unframed, most_bytes(self.size, room));
         if count == 0 {
@@ -287,8 +301,10 @@ impl Stream {
     // Forms credits alone, where one is due.
     fn form_credits(&mut self, id: u8, room: u16, out: &mut Payload) -> Formed
         requires { length out.old + room ≤ 1500 }
-        ensures meets { Meets (credits_offer id room self.old) (gave self.old) self.old self.new out.old out.new result }
-        ensures room { (length out.old ≤ length out.new) × (length out.new ≤ length out.old + room) }
+        ensures meets { Meets (credits_offer id room self.old)
+            (gave self.old) self.old self.new out.old out.new result }
+        ensures room { (length out.old ≤ length out.new)
+            × (length out.new ≤ length out.old + room) }
     {
         if self.credits.due() == 0 {
             return Formed::Nothing;

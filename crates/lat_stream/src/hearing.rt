@@ -39,11 +39,15 @@ impl Stream {
     /// no credit was granted to it before.
     pub fn hear_start(&mut self, from: u8, credits: u8, size: u8) -> Result<(), BadSlot>
         requires { (self.old.state ≡ kept_states.Calling) × (credits ≤ 15) }
-        ensures answer { (ceiling : ℕ) (s : Session) → Sound true ceiling s → self.old ≡ kept_of true ceiling s →
+        ensures answer { (ceiling : ℕ) (s : Session) → Sound true ceiling s →
+            self.old ≡ kept_of true ceiling s →
             is_ok result ≡ true }
-        ensures state { (ceiling : ℕ) (s : Session) (to : ℕ) (service : List ℕ) (request : Option ℕ) →
+        ensures state { (ceiling : ℕ) (s : Session) (to : ℕ) (service : List ℕ)
+            (request : Option ℕ) →
             Sound true ceiling s → self.old ≡ kept_of true ceiling s →
-            OnOk result (self.new ≡ kept_of true ceiling (heard s (slots.Start to from credits size service request))) }
+            OnOk result (self.new
+            ≡ kept_of true ceiling (heard s
+            (slots.Start to from credits size service request))) }
         ensures err { OnErr result (self.new ≡ self.old) }
     {
         self.grant(credits)?;
@@ -64,7 +68,8 @@ impl Stream {
     /// A reject, at a session of a master that is Calling.
     pub fn hear_reject(&mut self, reason: u8)
         requires { self.old.state ≡ kept_states.Calling }
-        ensures { (ceiling : ℕ) (s : Session) (to from : ℕ) → Sound true ceiling s → self.old ≡ kept_of true ceiling s →
+        ensures { (ceiling : ℕ) (s : Session) (to from : ℕ) → Sound true ceiling s →
+            self.old ≡ kept_of true ceiling s →
             self.new ≡ kept_of true ceiling (heard s (slots.Reject to from reason)) }
     {
         self.turn_away(reason);
@@ -78,7 +83,8 @@ impl Stream {
             is_ok result ≡ behind_fits s (slots.DataA to from credits bytes.now) }
         ensures state { (master : Bool) (ceiling : ℕ) (s : Session) (to : ℕ) →
             Sound master ceiling s → self.old ≡ kept_of master ceiling s →
-            OnOk result (self.new ≡ kept_of master ceiling (heard s (slots.DataA to from credits bytes.now))) }
+            OnOk result (self.new
+            ≡ kept_of master ceiling (heard s (slots.DataA to from credits bytes.now))) }
         ensures err { OnErr result (self.new ≡ self.old) }
     {
         if !self.hears_from(from) {
@@ -99,7 +105,8 @@ impl Stream {
             is_ok result ≡ behind_fits s (slots.DataB to from credits setting) }
         ensures state { (master : Bool) (ceiling : ℕ) (s : Session) (to : ℕ) →
             Sound master ceiling s → self.old ≡ kept_of master ceiling s →
-            OnOk result (self.new ≡ kept_of master ceiling (heard s (slots.DataB to from credits setting))) }
+            OnOk result (self.new
+            ≡ kept_of master ceiling (heard s (slots.DataB to from credits setting))) }
         ensures err { OnErr result (self.new ≡ self.old) }
     {
         if !self.hears_from(from) {
@@ -117,7 +124,8 @@ impl Stream {
             is_ok result ≡ behind_fits s (slots.Attention to from flag) }
         ensures state { (master : Bool) (ceiling : ℕ) (s : Session) (to : ℕ) →
             Sound master ceiling s → self.old ≡ kept_of master ceiling s →
-            OnOk result (self.new ≡ kept_of master ceiling (heard s (slots.Attention to from flag))) }
+            OnOk result (self.new
+            ≡ kept_of master ceiling (heard s (slots.Attention to from flag))) }
         ensures err { OnErr result (self.new ≡ self.old) }
     {
         if !self.hears_from(from) {
@@ -186,7 +194,8 @@ impl Stream {
     }
 
     fn keep_setting(&mut self, setting: [u8; 5])
-        ensures { length self.old.heard + 1 ≤ 3825 → self.new ≡ kept_more (kept_items.Set setting ∷ []) self.old }
+        ensures { length self.old.heard + 1 ≤ 3825 →
+            self.new ≡ kept_more (kept_items.Set setting ∷ []) self.old }
     {
         if !self.closed {
             self.heard.push_back(Item::Set(setting));

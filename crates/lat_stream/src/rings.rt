@@ -15,7 +15,8 @@ const PIECE_BYTES: usize = 64;
 /// Adds as many of the bytes as fit, and tells how many.
 pub(crate) fn push_bytes(ring: &mut HeapCircularBuffer<Item>, bytes: &[u8]) -> usize
     ensures count { result ≡ min (length bytes.now) (ring.old.capacity - length ring.old.items) }
-    ensures items { ring.new ≡ buffer (ring.old.items ++ map kept_items.Byte (take result bytes.now)) ring.old.capacity }
+    ensures items { ring.new ≡ buffer (ring.old.items
+        ++ map kept_items.Byte (take result bytes.now)) ring.old.capacity }
 {
     let count = bytes.len().min(ring.capacity() - ring.len());
     push_all(ring, &bytes[..count]);
@@ -24,7 +25,8 @@ pub(crate) fn push_bytes(ring: &mut HeapCircularBuffer<Item>, bytes: &[u8]) -> u
 
 fn push_all(ring: &mut HeapCircularBuffer<Item>, bytes: &[u8])
     requires { length ring.old.items + length bytes.now ≤ ring.old.capacity }
-    ensures { ring.new ≡ buffer (ring.old.items ++ map kept_items.Byte bytes.now) ring.old.capacity }
+    ensures { ring.new ≡ buffer (ring.old.items
+        ++ map kept_items.Byte bytes.now) ring.old.capacity }
 {
     for piece in bytes.chunks(PIECE_BYTES) {
         push_piece(ring, piece);
@@ -34,7 +36,8 @@ fn push_all(ring: &mut HeapCircularBuffer<Item>, bytes: &[u8])
 fn push_piece(ring: &mut HeapCircularBuffer<Item>, piece: &[u8])
     requires piece { length piece.now ≤ 64 }
     requires room { length ring.old.items + length piece.now ≤ ring.old.capacity }
-    ensures { ring.new ≡ buffer (ring.old.items ++ map kept_items.Byte piece.now) ring.old.capacity }
+    ensures { ring.new ≡ buffer (ring.old.items
+        ++ map kept_items.Byte piece.now) ring.old.capacity }
 {
     let mut items = [Item::Byte(0); PIECE_BYTES];
     for (i, b) in piece.iter().enumerate() {
@@ -45,7 +48,8 @@ fn push_piece(ring: &mut HeapCircularBuffer<Item>, piece: &[u8])
 
 /// Takes `taken` more items of the held slots. Those of which all are taken are held no more.
 pub(crate) fn let_go(held: &mut HeapCircularBuffer<u8>, credits: &mut Credits, taken: usize)
-    requires { (length held.old.items ≡ credits.old.held) × (length held.old.items ≤ held.old.capacity) }
+    requires { (length held.old.items ≡ credits.old.held)
+        × (length held.old.items ≤ held.old.capacity) }
     ensures held { held.new ≡ buffer (still_held taken held.old.items) held.old.capacity }
     ensures credits { credits.new ≡ record credits.old { held = length (still_held taken held.old.items) } }
 {

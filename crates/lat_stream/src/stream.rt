@@ -160,7 +160,8 @@ impl Stream {
 
     /// The session of a master that connects to a service, in place of the last one. It may answer a request.
     pub fn call(&mut self, service: &Name, request: Option<u16>)
-        ensures { (id : ℕ) → id ≢ 0 → self.new ≡ kept_of true self.old.credits.ceiling (called id service.now request) }
+        ensures { (id : ℕ) → id ≢ 0 →
+            self.new ≡ kept_of true self.old.credits.ceiling (called id service.now request) }
     {
         self.forget();
         self.wait(
@@ -211,7 +212,8 @@ impl Stream {
     /// Its state.
     pub fn state(&self) -> SessionState
         ensures value { result ≡ self.now.state }
-        ensures model { (master : Bool) (ceiling : ℕ) (s : Session) → self.now ≡ kept_of master ceiling s →
+        ensures model { (master : Bool) (ceiling : ℕ) (s : Session) →
+            self.now ≡ kept_of master ceiling s →
             result ≡ state_shown (state master s) }
     {
         self.state
@@ -220,7 +222,8 @@ impl Stream {
     /// The flag of the attention that was heard last.
     pub fn mark(&self) -> Option<u8>
         ensures value { result ≡ self.now.mark }
-        ensures model { (master : Bool) (ceiling : ℕ) (s : Session) → self.now ≡ kept_of master ceiling s →
+        ensures model { (master : Bool) (ceiling : ℕ) (s : Session) →
+            self.now ≡ kept_of master ceiling s →
             result ≡ s.mark }
     {
         self.mark
@@ -229,7 +232,8 @@ impl Stream {
     /// The peer's id, 0 where it isn't known.
     pub fn peer(&self) -> u8
         ensures value { result ≡ self.now.peer }
-        ensures model { (master : Bool) (ceiling : ℕ) (s : Session) → self.now ≡ kept_of master ceiling s →
+        ensures model { (master : Bool) (ceiling : ℕ) (s : Session) →
+            self.now ≡ kept_of master ceiling s →
             result ≡ peer s }
     {
         self.peer
@@ -238,7 +242,8 @@ impl Stream {
     /// The credits that this end gave, and those that it used. Either stops at the greatest number of 64 bits.
     pub fn totals(&self) -> (u64, u64)
         ensures value { result ≡ (self.now.given, self.now.used) }
-        ensures model { (master : Bool) (ceiling : ℕ) (s : Session) → self.now ≡ kept_of master ceiling s →
+        ensures model { (master : Bool) (ceiling : ℕ) (s : Session) →
+            self.now ≡ kept_of master ceiling s →
             result ≡ (saturated (credits s.out), saturated (costs s.out)) }
     {
         (self.given, self.used)
@@ -247,7 +252,8 @@ impl Stream {
     /// How it ended. `None` while it isn't over, and where there was none.
     pub fn end(&self) -> Option<SessionEnd>
         ensures value { result ≡ self.now.end }
-        ensures model { (master : Bool) (ceiling : ℕ) (s : Session) → self.now ≡ kept_of master ceiling s →
+        ensures model { (master : Bool) (ceiling : ℕ) (s : Session) →
+            self.now ≡ kept_of master ceiling s →
             result ≡ end_of s }
     {
         self.end
@@ -257,7 +263,8 @@ impl Stream {
     pub fn start(&self) -> Option<Opening>
         ensures value { result ≡ self.now.start }
         ensures asked { self.now.state ≡ states.Asked → is_some result ≡ true }
-        ensures model { (master : Bool) (ceiling : ℕ) (s : Session) → self.now ≡ kept_of master ceiling s →
+        ensures model { (master : Bool) (ceiling : ℕ) (s : Session) →
+            self.now ≡ kept_of master ceiling s →
             result ≡ start_left s }
     {
         self.start

@@ -86,7 +86,8 @@ pub fn write_start(
 )
     requires low { credits < 16 }
     requires room { length out.old + sessions.slot_len (sessions.Start to from credits 255 service.now request) ≤ 1500 }
-    ensures { out.new ≡ out.old ++ slot_text (formed_as (sessions.Start to from credits 255 service.now request)) }
+    ensures { out.new ≡ out.old
+        ++ slot_text (formed_as (sessions.Start to from credits 255 service.now request)) }
 {
     let name = service.bytes();
     let count = 5 + name.len() as u8 + request_len(request);
@@ -104,7 +105,8 @@ pub fn write_start(
 pub fn write_setting(out: &mut Payload, to: u8, from: u8, credits: u8, setting: &[u8; 5])
     requires low { credits < 16 }
     requires room { length out.old + 10 ≤ 1500 }
-    ensures { out.new ≡ out.old ++ slot_text (formed_as (sessions.DataB to from credits setting.now)) }
+    ensures { out.new ≡ out.old
+        ++ slot_text (formed_as (sessions.DataB to from credits setting.now)) }
 {
     write_head(out, to, from, 5, SlotKind::DataB, credits);
     out.append(setting);

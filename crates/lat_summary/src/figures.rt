@@ -42,7 +42,8 @@ fn exists(line: u8, lines: u8) -> bool
 
 // Those of the newest session of a line of the server.
 fn at_server(server: &ServerCore, line: u8) -> Figures
-    ensures { (s : Server) → servers.Stands server.now s → HasHad s.core line → ShowsFigures result (rows.figures_of s.core (seat_at s.core line)) }
+    ensures { (s : Server) → servers.Stands server.now s → HasHad s.core line →
+        ShowsFigures result (rows.figures_of s.core (seat_at s.core line)) }
 {
     let there = exists(line, server.lines());
     if there {
@@ -54,7 +55,8 @@ fn at_server(server: &ServerCore, line: u8) -> Figures
 
 // Those of the newest session of a line of the node.
 fn at_node<H: RatingRule>(node: &NodeCore<H>, line: u8) -> Figures
-    ensures { (s : Node) → nodes.Stands node.now s → HasHad s.core line → ShowsFigures result (rows.figures_of s.core (seat_at s.core line)) }
+    ensures { (s : Node) → nodes.Stands node.now s → HasHad s.core line →
+        ShowsFigures result (rows.figures_of s.core (seat_at s.core line)) }
 {
     let there = exists(line, node.lines());
     if there {

@@ -56,7 +56,9 @@ fn place(places: &mut Vec<Option<Key>>, request: &Record) -> Result<(), Memory>
 
 // The keys of all requests that were granted, each in the place of its grant's number.
 fn places_of(alloc: Global, server: &ServerCore) -> Result<Vec<Option<Key>>, Memory>
-    ensures { IfOk result (λ places. (s : Server) → Stands server.now s → flat_map place_text places.items ≡ flat_map grant_text (grants_of s.queue)) }
+    ensures { IfOk result (λ places.
+        (s : Server) → Stands server.now s →
+        flat_map place_text places.items ≡ flat_map grant_text (grants_of s.queue)) }
 {
     let mut places = Vec::new(alloc);
     for number in 0..usize::MAX {
@@ -70,7 +72,8 @@ fn places_of(alloc: Global, server: &ServerCore) -> Result<Vec<Option<Key>>, Mem
 
 // Appends the grants of these places, in order.
 fn places_onto(alloc: Global, places: &[Option<Key>], out: &mut String) -> Result<(), Memory>
-    ensures { OnOk result (string_bytes out.new ≡ string_bytes out.old ++ flat_map place_text places.now) }
+    ensures { OnOk result (string_bytes out.new
+        ≡ string_bytes out.old ++ flat_map place_text places.now) }
 {
     for place in places {
         if let Some(key) = place {

@@ -10,7 +10,8 @@ use lat_wire::Note;
 
 /// Appends the lines of these events, in order.
 pub(crate) fn notes_onto(out: &mut String, notes: &[Note]) -> Result<(), Memory>
-    ensures { OnOk result (string_bytes out.new ≡ string_bytes out.old ++ flat_map note_line notes.now) }
+    ensures { OnOk result (string_bytes out.new
+        ≡ string_bytes out.old ++ flat_map note_line notes.now) }
 {
     for note in notes {
         noted_onto(out, note.event, note.noted)?;

@@ -20,7 +20,8 @@ pub(crate) fn requests_onto(
 ) -> Result<(), Memory>
     ensures { OnOk result ((s : Server) →
         Stands server.now s →
-        string_bytes out.new ≡ string_bytes out.old ++ flat_map request_text (request_rows s.queue)) }
+        string_bytes out.new
+        ≡ string_bytes out.old ++ flat_map request_text (request_rows s.queue)) }
 {
     for place in 0..usize::MAX {
         match server.record_at(place) {

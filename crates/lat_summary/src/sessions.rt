@@ -26,7 +26,8 @@ fn some_line(line: u8) -> Option<u8>
 
 // The session of a row, with its figures at both ends.
 fn session_row(row: &Row, server: Figures, node: Figures) -> SessionRow<'_>
-    ensures { (r : rows.RowAfter) → ShowsRow row.now r → row_in result ≡ row_with r (figures_shown server) (figures_shown node) }
+    ensures { (r : rows.RowAfter) → ShowsRow row.now r →
+        row_in result ≡ row_with r (figures_shown server) (figures_shown node) }
 {
     SessionRow {
         line: row.line,

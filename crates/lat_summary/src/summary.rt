@@ -29,7 +29,9 @@ use std::alloc::Global;
 fn queue_onto(alloc: Global, server: &ServerCore, out: &mut String) -> Result<(), Memory>
     ensures { OnOk result ((s : Server) →
         servers.Stands server.now s →
-        string_bytes out.new ≡ string_bytes out.old ++ flat_map request_text (request_rows s.queue) ++ flat_map grant_text (grants_of s.queue)) }
+        string_bytes out.new
+        ≡ string_bytes out.old ++ flat_map request_text (request_rows s.queue)
+        ++ flat_map grant_text (grants_of s.queue)) }
 {
     requests_onto(alloc, server, out)?;
     grants_onto(alloc, server, out)?;
@@ -49,7 +51,8 @@ pub fn report_onto<H: RatingRule>(
         Stands wire.now w →
         Keeps (setups_of wire.now) w k →
         Shows roster.now k →
-        string_bytes out.new ≡ string_bytes out.old ++ report_text (report (setups_of wire.now) w)) }
+        string_bytes out.new
+        ≡ string_bytes out.old ++ report_text (report (setups_of wire.now) w)) }
 {
     frames_onto(out, wire.frames())?;
     sessions_onto(alloc, wire, roster, out)?;

@@ -55,7 +55,8 @@ impl SwitchCore {
         requires empty { out.old ≡ [] }
         ensures valid { IsValid self.new }
         ensures same { IsSame self.old self.new }
-        ensures does { Simulates (λ c. connects_at line service.now c (Some inner_line)) self.old self.new result out.old out.new }
+        ensures does { Simulates (λ c.
+            connects_at line service.now c (Some inner_line)) self.old self.new result out.old out.new }
         ensures told { IsPlain result }
     {
         let event = Event::Connect {
@@ -77,7 +78,8 @@ impl SwitchCore {
         requires inner { IsInner (line_in line self.old.lines) inner_line }
         ensures valid { IsValid self.new }
         ensures same { IsSame self.old self.new }
-        ensures does { (frames : List OutFrame) → Comes (changes line (shows inner_line service)) self.old self.new frames frames }
+        ensures does { (frames : List OutFrame) →
+            Comes (changes line (shows inner_line service)) self.old self.new frames frames }
     {
         let shown = &mut self.lines[line as usize - 1];
         shown.show(inner_line, service);
@@ -107,7 +109,8 @@ impl SwitchCore {
         requires empty { out.old ≡ [] }
         ensures valid { IsValid self.new }
         ensures same { IsSame self.old self.new }
-        ensures does { (t : Step) → HasDone t self.old before out.old → HasDone (closes_one t inner_line) self.new result out.new }
+        ensures does { (t : Step) → HasDone t self.old before out.old →
+            HasDone (closes_one t inner_line) self.new result out.new }
         ensures told { IsPlain before → IsPlain result }
         ensures quiet { out.new ≡ [] }
     {

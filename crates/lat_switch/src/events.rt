@@ -24,7 +24,8 @@ impl SwitchCore {
         requires empty { out.old ≡ [] }
         ensures valid { IsValid self.new }
         ensures same { IsSame self.old self.new }
-        ensures does { IfOk result (λ a. Simulates (does event.now) self.old self.new a out.old out.new) }
+        ensures does { IfOk result (λ a.
+            Simulates (does event.now) self.old self.new a out.old out.new) }
         ensures put { IfOk result (λ a. PutFits a event.now) }
         ensures took { IfOk result (λ a. TookFits (ready self.old) a event.now) }
         ensures unchanged { OnErr result (self.new ≡ self.old) }
@@ -70,7 +71,8 @@ impl SwitchCore {
         requires empty { out.old ≡ [] }
         ensures valid { IsValid self.new }
         ensures same { IsSame self.old self.new }
-        ensures does { IfOk result (λ a. Simulates (does (events.Put line bytes.now)) self.old self.new a out.old out.new) }
+        ensures does { IfOk result (λ a.
+            Simulates (does (events.Put line bytes.now)) self.old self.new a out.old out.new) }
         ensures put { IfOk result (λ a. PutFits a (events.Put line bytes.now)) }
         ensures took { IfOk result (λ a. TookFits (ready self.old) a (events.Put line bytes.now)) }
         ensures unchanged { OnErr result (self.new ≡ self.old) }
@@ -108,7 +110,8 @@ impl SwitchCore {
         requires empty { out.old ≡ [] }
         ensures valid { IsValid self.new }
         ensures same { IsSame self.old self.new }
-        ensures does { IfOk result (λ a. Simulates (does (events.Take line n)) self.old self.new a out.old out.new) }
+        ensures does { IfOk result (λ a.
+            Simulates (does (events.Take line n)) self.old self.new a out.old out.new) }
         ensures put { IfOk result (λ a. PutFits a (events.Take line n)) }
         ensures took { IfOk result (λ a. TookFits (ready self.old) a (events.Take line n)) }
         ensures unchanged { OnErr result (self.new ≡ self.old) }

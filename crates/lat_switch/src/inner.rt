@@ -33,7 +33,8 @@ impl SwitchCore {
     fn give_way(&mut self)
         requires { AtRest self.old.inner }
         ensures inner { self.new.inner ≡ self.old.inner }
-        ensures lines { (m : Machine) → IsMachine self.old.inner m → self.new.lines ≡ map (gives_way m) self.old.lines }
+        ensures lines { (m : Machine) → IsMachine self.old.inner m →
+            self.new.lines ≡ map (gives_way m) self.old.lines }
     {
         let Self { inner, lines } = self;
         give_way_each(inner, lines.as_mut_slice());
@@ -67,7 +68,8 @@ impl SwitchCore {
         requires empty { out.old ≡ [] }
         ensures valid { IsValid self.new }
         ensures same { IsSame self.old self.new }
-        ensures does { IfOk result (λ a. Simulates (relays event.now) self.old self.new a out.old out.new) }
+        ensures does { IfOk result (λ a.
+            Simulates (relays event.now) self.old self.new a out.old out.new) }
         ensures put { IfOk result (λ a. PutFits a event.now) }
         ensures took { IfOk result (λ a. TookFits (lines.ready self.old.inner.lines) a event.now) }
         ensures unchanged { OnErr result (self.new ≡ self.old) }
@@ -92,7 +94,8 @@ impl SwitchCore {
         requires line { IsLine (length self.old.lines) line }
         ensures valid { IsValid self.new }
         ensures same { IsSame self.old self.new }
-        ensures does { (frames : List OutFrame) → Comes (λ c. changes line (shows_next c.state.inner) c) self.old self.new frames frames }
+        ensures does { (frames : List OutFrame) →
+            Comes (λ c. changes line (shows_next c.state.inner) c) self.old self.new frames frames }
     {
         let Self { inner, lines } = self;
         let shown = &mut lines[line as usize - 1];

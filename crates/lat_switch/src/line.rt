@@ -41,7 +41,11 @@ impl Model for Line {
 
     ghost view = { λ a. record { first = a.first; shown = a.shown; service = a.service } };
 
-    ghost invariant = { λ a. IsLine (record { first = a.first; shown = a.shown; service = a.service }) };
+    ghost invariant = { λ a. IsLine (record {
+      first = a.first;
+      shown = a.shown;
+      service = a.service;
+    }) };
 }
 
 fn is_session(state: SessionState) -> bool
@@ -137,7 +141,8 @@ impl Line {
     // The next inner line that has a session, or the one that is shown where there is none.
     fn next_session(&self, inner: &ServerCore) -> u8
         requires { AtRest inner.now }
-        ensures value { (m : Machine) → IsMachine inner.now m → result ≡ unwrap_or (find (has_session m) (round self.now)) self.now.shown }
+        ensures value { (m : Machine) → IsMachine inner.now m →
+            result ≡ unwrap_or (find (has_session m) (round self.now)) self.now.shown }
         ensures inner { IsInner self.now result }
     {
         for by in 1..INNER + 1 {

@@ -44,7 +44,8 @@ impl SwitchCore {
         requires empty { out.old ≡ [] }
         ensures valid { IsValid self.new }
         ensures same { IsSame self.old self.new }
-        ensures does { IfOk result (λ a. Simulates (puts line bytes.now) self.old self.new a out.old out.new) }
+        ensures does { IfOk result (λ a.
+            Simulates (puts line bytes.now) self.old self.new a out.old out.new) }
         ensures put { IfOk result (λ a. PutFits a (events.Put line bytes.now)) }
         ensures took { IfOk result (λ a. TookFits (ready self.old) a (events.Put line bytes.now)) }
         ensures unchanged { OnErr result (self.new ≡ self.old) }
@@ -67,7 +68,8 @@ impl SwitchCore {
         requires none { none ≡ [] }
         ensures valid { IsValid self.new }
         ensures same { IsSame self.old self.new }
-        ensures does { Simulates (λ c. relays (put_on line [] c) c) self.old self.new result out.old out.new }
+        ensures does { Simulates (λ c.
+            relays (put_on line [] c) c) self.old self.new result out.old out.new }
         ensures put { PutFits result (events.Put line []) }
         ensures took { TookFits (ready self.old) result (events.Put line []) }
     {

@@ -85,8 +85,10 @@ impl Progress {
 
     /// What a put is answered that was read so far.
     pub(crate) fn answer(self) -> Answer
-        ensures value { (r : Reading) → self.count ≡ r.count → self.refused ≡ r.refused → result ≡ read_answer r }
-        ensures put { (line : ℕ) (bytes : List ℕ) → self.count ≤ length bytes → PutFits result (events.Put line bytes) }
+        ensures value { (r : Reading) → self.count ≡ r.count → self.refused ≡ r.refused →
+            result ≡ read_answer r }
+        ensures put { (line : ℕ) (bytes : List ℕ) → self.count ≤ length bytes →
+            PutFits result (events.Put line bytes) }
         ensures took { (ready : ℕ → ℕ) (e : Event) → TookFits ready result e }
     {
         if self.refused {
@@ -105,7 +107,8 @@ impl SwitchCore {
         requires size { sizes pieces.items ≤ 65535 }
         ensures valid { IsValid self.new }
         ensures same { IsSame self.old self.new }
-        ensures reads { (c : Course) → HasCome c self.old out.old → HasRead (reads_all line pieces.items c) self.new result out.new }
+        ensures reads { (c : Course) → HasCome c self.old out.old →
+            HasRead (reads_all line pieces.items c) self.new result out.new }
         ensures count { result.count ≤ sizes pieces.items }
     {
         let mut pieces = pieces;
@@ -134,7 +137,8 @@ impl SwitchCore {
         requires size { progress.count + size_of piece ≤ 65535 }
         ensures valid { IsValid self.new }
         ensures same { IsSame self.old self.new }
-        ensures reads { (r : Reading) → HasRead r self.old progress out.old → HasRead (reads line r piece) self.new result out.new }
+        ensures reads { (r : Reading) → HasRead r self.old progress out.old →
+            HasRead (reads line r piece) self.new result out.new }
         ensures count { result.count ≤ progress.count + size_of piece }
         ensures quiet { IsTrue result.goes_on → out.new ≡ [] }
     {
@@ -162,7 +166,8 @@ impl SwitchCore {
         requires size { count + length bytes ≤ 65535 }
         ensures valid { IsValid self.new }
         ensures same { IsSame self.old self.new }
-        ensures reads { (r : Reading) → count ≡ r.count → HasCome r.course self.old out.old → HasRead (reads_run line r bytes) self.new result out.new }
+        ensures reads { (r : Reading) → count ≡ r.count → HasCome r.course self.old out.old →
+            HasRead (reads_run line r bytes) self.new result out.new }
         ensures count { result.count ≤ count + length bytes }
         ensures quiet { out.new ≡ [] }
     {

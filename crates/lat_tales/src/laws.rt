@@ -14,11 +14,13 @@ ghost use Rattle.lat_tales.specs.Books.{Comes, lines_at};
 /// the figures of each session that is no longer the newest of its line (`all`). So each move goes on from what was kept
 /// before it (`next`).
 pub fn rows_are_kept()
-    ensures all { (u : Setups) (moves : List Move) → Fit u → Keeps u (run u moves (open_machines u)) (rows_after_all u moves (open_machines u) no_rows) }
+    ensures all { (u : Setups) (moves : List Move) → Fit u →
+        Keeps u (run u moves (open_machines u)) (rows_after_all u moves (open_machines u) no_rows) }
     ensures next { (u : Setups) (moves : List Move) (m : Move) (k : RowsAfter) →
         Fit u →
         Keeps u (run u moves (open_machines u)) k →
-        Keeps u (happens u (run u moves (open_machines u)) m) (rows_after u (run u moves (open_machines u)) m k) }
+        Keeps u (happens u (run u moves (open_machines u)) m)
+        (rows_after u (run u moves (open_machines u)) m k) }
 {}
 
 /// What is kept, with the figures of the newest session of each line, are the rows of the report.
@@ -26,7 +28,8 @@ pub fn kept_rows_are_the_report()
     ensures { (u : Setups) (moves : List Move) (k : RowsAfter) →
         Fit u →
         Keeps u (run u moves (open_machines u)) k →
-        report_rows (run u moves (open_machines u)) k ≡ (report u (run u moves (open_machines u))).sessions }
+        report_rows (run u moves (open_machines u)) k
+        ≡ (report u (run u moves (open_machines u))).sessions }
 {}
 
 /// A move makes at each end at most as many sessions as it has lines, behind those that were there. The book of the line of
@@ -34,5 +37,6 @@ pub fn kept_rows_are_the_report()
 pub fn new_sessions_are_in_the_books()
     ensures { (u : Setups) (moves : List Move) (m : Move) (server : Bool) →
         Fit u →
-        Comes (lines_at server u) (core_of (run u moves (open_machines u)) server) (core_of (happens u (run u moves (open_machines u)) m) server) }
+        Comes (lines_at server u) (core_of (run u moves (open_machines u)) server)
+        (core_of (happens u (run u moves (open_machines u)) m) server) }
 {}

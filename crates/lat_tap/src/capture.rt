@@ -21,7 +21,8 @@ use std::alloc::Global;
 // What the first RUN says that the server sent the node with this source.
 fn first_up<H: RatingRule>(wire: &Wire<H>, tap: &Tap) -> Option<RunSeen>
     requires { IsTap (setups_of wire.now) tap.now }
-    ensures { (w : Machines) → Stands wire.now w → result ≡ option_map seen_of (first_up (setups_of wire.now) tap.now.circuit w.posts) }
+    ensures { (w : Machines) → Stands wire.now w →
+        result ≡ option_map seen_of (first_up (setups_of wire.now) tap.now.circuit w.posts) }
 {
     for index in 0..wire.frames() {
         let (by_server, frame) = wire.frame(index)?;
@@ -44,7 +45,9 @@ fn entries_onto<H: RatingRule>(
     requires { IsTap (setups_of wire.now) tap.now }
     ensures text { OnOk result ((w : Machines) →
         Stands wire.now w →
-        string_bytes text.new ≡ string_bytes text.old ++ captured_lines (setups_of wire.now) tap.now.circuit slave w.posts) }
+        string_bytes text.new
+        ≡ string_bytes text.old
+        ++ captured_lines (setups_of wire.now) tap.now.circuit slave w.posts) }
     ensures bytes { OnOk result ((w : Machines) → Stands wire.now w → AllGoOut w) }
 {
     for index in 0..wire.frames() {
@@ -64,8 +67,11 @@ pub fn captured<H: RatingRule>(
     wire: &Wire<H>,
     circuit: u16,
 ) -> Result<String, Memory>
-    ensures text { IfOk result (λ text. (w : Machines) → Stands wire.now w → string_bytes text ≡ captured_text (setups_of wire.now) w circuit) }
-    ensures legal { OnOk result ((w : Machines) → Stands wire.now w → AuditIsLegal (setups_of wire.now) w circuit) }
+    ensures text { IfOk result (λ text.
+        (w : Machines) → Stands wire.now w →
+        string_bytes text ≡ captured_text (setups_of wire.now) w circuit) }
+    ensures legal { OnOk result ((w : Machines) → Stands wire.now w →
+        AuditIsLegal (setups_of wire.now) w circuit) }
 {
     let tap = Tap::on(wire, circuit);
     let mut text = String::new(alloc);

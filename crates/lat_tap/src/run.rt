@@ -32,7 +32,8 @@ fn is_wide(payload: &[u8]) -> bool
 
 /// What the RUN says whose payload this is; `None` of any other payload that a program sends. A payload is bytes.
 pub(crate) fn run_of(payload: &[u8]) -> Option<RunSeen>
-    ensures value { (v : Value) → payload.now ≡ payload_of v → reading_of payload.now ≡ Whole v → result ≡ run_seen v }
+    ensures value { (v : Value) → payload.now ≡ payload_of v → reading_of payload.now ≡ Whole v →
+        result ≡ run_seen v }
     ensures bytes { IsBytes payload.now }
 {
     let wide = is_wide(payload);

@@ -37,21 +37,24 @@ impl Tap {
 
     // Whether a RUN of the server goes to the node with this source.
     fn is_up(&self, frame: &OutFrame, run: RunSeen) -> bool
-        ensures { result ≡ (nat_eq (address frame.now.to.0) (address self.now.node.0) && nat_eq run.from self.now.circuit) }
+        ensures { result ≡ (nat_eq (address frame.now.to.0) (address self.now.node.0)
+            && nat_eq run.from self.now.circuit) }
     {
         is_same(&frame.to.0, &self.node.0) && run.from == self.circuit
     }
 
     // Whether a RUN of the node goes to the server with both ids.
     fn is_back(&self, slave: u16, frame: &OutFrame, run: RunSeen) -> bool
-        ensures { result ≡ (nat_eq (address frame.now.to.0) (address self.now.server.0) && nat_eq run.to self.now.circuit && nat_eq run.from slave) }
+        ensures { result ≡ (nat_eq (address frame.now.to.0) (address self.now.server.0)
+            && nat_eq run.to self.now.circuit && nat_eq run.from slave) }
     {
         is_same(&frame.to.0, &self.server.0) && run.to == self.circuit && run.from == slave
     }
 
     /// What a frame says of its circuit, where it is a RUN that the server sent the node with this source.
     pub(crate) fn run_up(&self, by_server: bool, frame: &OutFrame) -> Option<RunSeen>
-        ensures { (u : Setups) (x : Posted) → IsTap u self.now → IsSeenAs by_server frame.now x → result ≡ up_seen u self.now.circuit x }
+        ensures { (u : Setups) (x : Posted) → IsTap u self.now → IsSeenAs by_server frame.now x →
+            result ≡ up_seen u self.now.circuit x }
     {
         let run = run_of(frame.payload.bytes())?;
         if by_server && self.is_up(frame, run) {
@@ -91,7 +94,8 @@ impl Tap {
         ensures text { (u : Setups) (x : Posted) →
             IsTap u self.now →
             IsSeenAs by_server frame.now x →
-            OnOk result (string_bytes text.new ≡ string_bytes text.old ++ line_of u self.now.circuit slave x) }
+            OnOk result (string_bytes text.new
+            ≡ string_bytes text.old ++ line_of u self.now.circuit slave x) }
         ensures bytes { IsBytes frame.now.payload }
     {
         if self.captures(slave, by_server, frame) {

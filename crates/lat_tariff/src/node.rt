@@ -66,8 +66,11 @@ impl<H: RatingRule, R: SteadyRule> TariffCore<H, R> {
         requires rules { AreKnown R.fact tariff }
         requires services { names tariff ≡ config.now.services }
         ensures stands { IfOk result (λ k. IsMachine k (opening k)) }
-        ensures config { IfOk result (λ k. (config_of k.node ≡ config_shown config.now) × (k.node.rule ≡ rule) × (k.rules ≡ tariff)) }
-        ensures valid { IfOk result (λ k. AtRest k.node × H.fact k.node.rule × AreKnown R.fact k.rules) }
+        ensures config { IfOk result (λ k.
+            (config_of k.node ≡ config_shown config.now) × (k.node.rule ≡ rule)
+            × (k.rules ≡ tariff)) }
+        ensures valid { IfOk result (λ k.
+            AtRest k.node × H.fact k.node.rule × AreKnown R.fact k.rules) }
     {
         let groups = Bytes::copy(alloc, config.groups.as_slice())?;
         Ok(TariffCore {

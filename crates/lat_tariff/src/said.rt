@@ -63,7 +63,8 @@ impl<H: RatingRule, R: SteadyRule> TariffCore<H, R> {
     fn said_to_solicit(&self, alloc: Global, from: Addr, solicit: &Solicit) -> Result<Said, Memory>
         requires rules { AreKnown R.fact self.now.rules }
         requires apart { nat_eq (address from.0) everyone ≡ false }
-        ensures { IfOk result (SaysTo R.may self.now (address from.0) (Whole (OfNotice (SolicitNotice (solicit_shown solicit.now))))) }
+        ensures { IfOk result (SaysTo R.may self.now (address from.0)
+            (Whole (OfNotice (SolicitNotice (solicit_shown solicit.now))))) }
     {
         match self.tariff.place_of(&solicit.service) {
             Some(place) => self.responded(alloc, from, solicit, self.tariff.rule_at(place)),
@@ -83,7 +84,8 @@ impl<H: RatingRule, R: SteadyRule> TariffCore<H, R> {
         requires fact { R.fact rule.now.rule }
         requires rule { rule_of self.now.rules (Some solicit.now.service) ≡ Some rule.now }
         requires apart { nat_eq (address from.0) everyone ≡ false }
-        ensures { IfOk result (SaysTo R.may self.now (address from.0) (Whole (OfNotice (SolicitNotice (solicit_shown solicit.now))))) }
+        ensures { IfOk result (SaysTo R.may self.now (address from.0)
+            (Whole (OfNotice (SolicitNotice (solicit_shown solicit.now))))) }
     {
         let used = self.node.used();
         let announcement = self.announced(alloc, used)?;

@@ -17,7 +17,8 @@ impl<R: SteadyRule> Tariff<R> {
     pub(crate) fn services(&self, alloc: Global, used: u16, max: u16) -> Result<Services, Memory>
         requires within { used ≤ max }
         requires rules { AreKnown R.fact self.now }
-        ensures names { IfOk result (λ ss. map service_shown ss ≡ machine.rated (names self.now) (ratings ss)) }
+        ensures names { IfOk result (λ ss.
+            map service_shown ss ≡ machine.rated (names self.now) (ratings ss)) }
         ensures own { IfOk result (λ ss. AreOwn R.may used max self.now (ratings ss)) }
         ensures few { length self.now ≤ 32 }
     {
@@ -34,7 +35,9 @@ impl<R: SteadyRule> Rule<R> {
     fn service(&self, alloc: Global, used: u16, max: u16) -> Result<Service, Memory>
         requires within { used ≤ max }
         requires fact { R.fact self.now.rule }
-        ensures shown { IfOk result (λ s. service_shown s ≡ record { rating = s.rating; name = self.now.name; description = [] }) }
+        ensures shown { IfOk result (λ s.
+            service_shown s
+            ≡ record { rating = s.rating; name = self.now.name; description = [] }) }
         ensures rating { IfOk result (λ s. R.may self.now.rule used max s.rating) }
     {
         Ok(Service {

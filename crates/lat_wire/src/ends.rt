@@ -40,7 +40,11 @@ impl<H: RatingRule> Model for Ends<H> {
 
     ghost view = { λ a. record { server = a.server; node = a.node; out = a.out } };
 
-    ghost invariant = { λ a. Holds H.may H.fact (record { server = a.server; node = a.node; out = a.out }) };
+    ghost invariant = { λ a. Holds H.may H.fact (record {
+      server = a.server;
+      node = a.node;
+      out = a.out;
+    }) };
 }
 
 impl<H: RatingRule> Ends<H> {
@@ -54,9 +58,13 @@ impl<H: RatingRule> Ends<H> {
         requires { self.old.out ≡ [] }
         ensures state { OnOk result ((w : Machines) →
             AreEnds self.old w →
-            AreEnds self.new (tell (setups_of self.old) w server (event_shown event.now) (rates (setups_of self.old) w))) }
-        ensures answer { IfOk result (λ a. (w : Machines) → AreEnds self.old w → a ≡ answered (setups_of self.old) w server (event_shown event.now)) }
-        ensures frames { OnOk result ((w : Machines) → AreEnds self.old w → MadeFrames (setups_of self.old) w server (event_shown event.now) self.new.out) }
+            AreEnds self.new (tell (setups_of self.old) w server (event_shown event.now)
+            (rates (setups_of self.old) w))) }
+        ensures answer { IfOk result (λ a.
+            (w : Machines) → AreEnds self.old w →
+            a ≡ answered (setups_of self.old) w server (event_shown event.now)) }
+        ensures frames { OnOk result ((w : Machines) → AreEnds self.old w →
+            MadeFrames (setups_of self.old) w server (event_shown event.now) self.new.out) }
         ensures put { IfOk result (λ a. PutFits a event.now) }
         ensures setups { setups_of self.new ≡ setups_of self.old }
         ensures err { OnErr result (self.new ≡ self.old) }
@@ -86,7 +94,8 @@ impl<H: RatingRule> Ends<H> {
     /// Half the range of the numbers of the circuit that a RUN names at the server or the node; `None` where no circuit of this
     /// address and these ids lives there whose reply was heard.
     pub(crate) fn half_range(&self, server: bool, from: Addr, heading: Heading) -> Option<u64>
-        ensures value { (w : Machines) → AreEnds self.now w → result ≡ half_at (core_of w server) (address from.0) heading }
+        ensures value { (w : Machines) → AreEnds self.now w →
+            result ≡ half_at (core_of w server) (address from.0) heading }
         ensures above { IfSome result (λ half. 0 < half) }
     {
         if server {
@@ -104,7 +113,8 @@ impl<H: RatingRule> Ends<H> {
 
     /// Whether a line of the server or of the node has a session.
     pub(crate) fn has_session(&self, server: bool, line: u8) -> bool
-        ensures { (w : Machines) → AreEnds self.now w → result ≡ has_session (core_of w server) line }
+        ensures { (w : Machines) → AreEnds self.now w →
+            result ≡ has_session (core_of w server) line }
     {
         if server {
             is_held(self.server.line(line))
@@ -115,7 +125,8 @@ impl<H: RatingRule> Ends<H> {
 
     /// How many heard items a take on a line of the server or of the node could give now.
     pub(crate) fn waiting(&self, server: bool, line: u8) -> u16
-        ensures { (w : Machines) → AreEnds self.now w → result ≡ waiting_at (core_of w server) line }
+        ensures { (w : Machines) → AreEnds self.now w →
+            result ≡ waiting_at (core_of w server) line }
     {
         if server {
             self.server.waiting(line)

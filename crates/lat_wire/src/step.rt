@@ -28,11 +28,14 @@ impl<H: RatingRule> Wire<H> {
         event: &Event,
     ) -> Result<Answer, EventFault>
         requires { IsLocal (event_shown event.now) }
-        ensures stands { OnOk result (Happens self.old self.new (Does server (event_shown event.now))) }
+        ensures stands { OnOk result (Happens self.old self.new (Does server
+            (event_shown event.now))) }
         ensures answer { IfOk result (IsAnswered self.old server (event_shown event.now)) }
-        ensures refused { (w : Machines) → Stands self.old w → RefusedAs result (local_refusal w self.old.moment (event_shown event.now)) }
+        ensures refused { (w : Machines) → Stands self.old w →
+            RefusedAs result (local_refusal w self.old.moment (event_shown event.now)) }
         ensures put { IfOk result (λ a. PutFits a event.now) }
-        ensures moment { OnOk result (self.new.moment ≡ moment_after self.old.moment (event_shown event.now)) }
+        ensures moment { OnOk result (self.new.moment
+            ≡ moment_after self.old.moment (event_shown event.now)) }
         ensures setups { setups_of self.new ≡ setups_of self.old }
         ensures err { OnErr result (self.new ≡ self.old) }
     {
@@ -50,7 +53,8 @@ impl<H: RatingRule> Wire<H> {
         ensures answer { IfOk result (λ a. (w : Machines) →
             Stands self.old w →
             a ≡ answered_to (setups_of self.old) w self.old.moment (slice_get w.posts index)) }
-        ensures refused { (w : Machines) → Stands self.old w → RefusedAs result (deliver_refusal (setups_of self.old) w index) }
+        ensures refused { (w : Machines) → Stands self.old w →
+            RefusedAs result (deliver_refusal (setups_of self.old) w index) }
         ensures moment { self.new.moment ≡ self.old.moment }
         ensures setups { setups_of self.new ≡ setups_of self.old }
         ensures err { OnErr result (self.new ≡ self.old) }
@@ -80,8 +84,10 @@ impl<H: RatingRule> Wire<H> {
     ) -> Result<Answer, EventFault>
         ensures stands { OnOk result (Happens self.old self.new
             (HearsForeign server (address from.0) (reading_of payload.now) self.old.moment)) }
-        ensures answer { IfOk result (IsAnswered self.old server (Hears (address from.0) (reading_of payload.now) None self.old.moment)) }
-        ensures refused { (w : Machines) → Stands self.old w → RefusedAs result (inject_refusal (setups_of self.old) w (address from.0)) }
+        ensures answer { IfOk result (IsAnswered self.old server (Hears (address from.0)
+            (reading_of payload.now) None self.old.moment)) }
+        ensures refused { (w : Machines) → Stands self.old w →
+            RefusedAs result (inject_refusal (setups_of self.old) w (address from.0)) }
         ensures moment { self.new.moment ≡ self.old.moment }
         ensures setups { setups_of self.new ≡ setups_of self.old }
         ensures err { OnErr result (self.new ≡ self.old) }

@@ -70,7 +70,8 @@ impl<H: RatingRule> Wire<H> {
     /// The moment of the schedule behind an event. Refused where it lies before the last one.
     pub(crate) fn moment_behind(&self, event: &Event) -> Result<u64, EventFault>
         ensures refused { RefusedAs result (backward self.now.moment (event_shown event.now)) }
-        ensures ok { IfOk result (λ moment. moment ≡ moment_after self.now.moment (event_shown event.now)) }
+        ensures ok { IfOk result (λ moment.
+            moment ≡ moment_after self.now.moment (event_shown event.now)) }
     {
         let last = self.moment;
         match event {
@@ -91,8 +92,10 @@ impl<H: RatingRule> Wire<H> {
 
     /// The frame of this index. Refused where there is none.
     pub(crate) fn sent(&self, index: u64) -> Result<&Sent, EventFault>
-        ensures refused { (w : Machines) → Mirrors self.now w → RefusedAs result (no_frame w index) }
-        ensures ok { IfOk result (λ sent. (w : Machines) → Mirrors self.now w → IsSent (setups_of self.now) w index sent.now) }
+        ensures refused { (w : Machines) → Mirrors self.now w →
+            RefusedAs result (no_frame w index) }
+        ensures ok { IfOk result (λ sent.
+            (w : Machines) → Mirrors self.now w → IsSent (setups_of self.now) w index sent.now) }
         ensures there { OnOk result (index < length self.now.book.log.posts) }
     {
         let sent = self.ledger.posts.len() as u64;
@@ -155,7 +158,8 @@ impl<H: RatingRule> Wire<H> {
     /// A frame that isn't for the other end is delivered: an event at which nothing is heard.
     pub(crate) fn pass_by(&mut self, index: u64) -> Result<(), Memory>
         requires { index < length self.old.book.log.posts }
-        ensures mirrors { OnOk result ((w : Machines) → Mirrors self.old w → Mirrors self.new (counted (marked_delivered index w))) }
+        ensures mirrors { OnOk result ((w : Machines) → Mirrors self.old w →
+            Mirrors self.new (counted (marked_delivered index w))) }
         ensures moment { self.new.moment ≡ self.old.moment }
         ensures setups { setups_of self.new ≡ setups_of self.old }
         ensures err { OnErr result (self.new ≡ self.old) }
@@ -170,7 +174,8 @@ impl<H: RatingRule> Wire<H> {
     pub(crate) fn come(&mut self, index: u64)
         requires there { index < length self.old.book.log.posts }
         requires room { CameLess self.old }
-        ensures mirrors { (w : Machines) → Mirrors self.old w → Mirrors self.new (marked_delivered index w) }
+        ensures mirrors { (w : Machines) → Mirrors self.old w →
+            Mirrors self.new (marked_delivered index w) }
         ensures moment { self.new.moment ≡ self.old.moment }
         ensures setups { setups_of self.new ≡ setups_of self.old }
     {
@@ -179,7 +184,8 @@ impl<H: RatingRule> Wire<H> {
 
     // The number of the next event. There is no room for more than a number of 64 bits counts.
     fn next_count(&self) -> Result<u64, Memory>
-        ensures { IfOk result (λ count. (count ≡ self.now.count + 1) × (self.now.count < 2 ^ 64 - 1)) }
+        ensures { IfOk result (λ count.
+            (count ≡ self.now.count + 1) × (self.now.count < 2 ^ 64 - 1)) }
     {
         self.count.checked_add(1).ok_or(Memory)
     }
@@ -196,8 +202,11 @@ impl<H: RatingRule> Wire<H> {
         ensures mirrors { OnOk result ((w : Machines) →
             Mirrors self.old w →
             RunTallies (setups_of self.old) w →
-            Mirrors self.new (tell (setups_of self.old) w server (event_shown event.now) (rates (setups_of self.old) w))) }
-        ensures answer { IfOk result (λ a. (w : Machines) → Mirrors self.old w → a ≡ answered (setups_of self.old) w server (event_shown event.now)) }
+            Mirrors self.new (tell (setups_of self.old) w server (event_shown event.now)
+            (rates (setups_of self.old) w))) }
+        ensures answer { IfOk result (λ a.
+            (w : Machines) → Mirrors self.old w →
+            a ≡ answered (setups_of self.old) w server (event_shown event.now)) }
         ensures put { IfOk result (λ a. PutFits a event.now) }
         ensures posts { OnOk result (length self.old.book.log.posts ≤ length self.new.book.log.posts) }
         ensures came { OnOk result (CameLess self.new) }
@@ -234,10 +243,12 @@ fn reserve(ledger: &mut Ledger, notes: &mut Vec<Note>) -> Result<(), Memory>
 fn deliver(ledger: &mut Ledger, index: u64)
     requires there { index < length ledger.old.book.log.posts }
     requires few { CameAtMost (2 ^ 64 - 2) ledger.old.book.log.ways }
-    ensures book { (u : Setups) (w : Machines) → IsBookOf u ledger.old.book w → IsBookOf u ledger.new.book (marked_delivered index w) }
+    ensures book { (u : Setups) (w : Machines) → IsBookOf u ledger.old.book w →
+        IsBookOf u ledger.new.book (marked_delivered index w) }
     ensures posts { ledger.new.book.log.posts ≡ ledger.old.book.log.posts }
     ensures tallies { (b : Bool) → tallies_of ledger.new.book b ≡ tallies_of ledger.old.book b }
-    ensures came { (n : ℕ) → CameAtMost n ledger.old.book.log.ways → CameAtMost (n + 1) ledger.new.book.log.ways }
+    ensures came { (n : ℕ) → CameAtMost n ledger.old.book.log.ways →
+        CameAtMost (n + 1) ledger.new.book.log.ways }
 {
     ledger.posts.deliver(index as usize);
 }
@@ -245,8 +256,10 @@ fn deliver(ledger: &mut Ledger, index: u64)
 // The circuit that took a message has taken one more.
 fn take(ledger: &mut Ledger, server: bool, taker: Option<u16>)
     requires { (x : ℕ) → (tally_at (tallies_of ledger.old.book server) x).taken < 2 ^ 64 - 1 }
-    ensures took { Took taker (tallies_of ledger.old.book server) (tallies_of ledger.new.book server) }
-    ensures other { tallies_of ledger.new.book (not server) ≡ tallies_of ledger.old.book (not server) }
+    ensures took { Took taker (tallies_of ledger.old.book server)
+        (tallies_of ledger.new.book server) }
+    ensures other { tallies_of ledger.new.book (not server)
+        ≡ tallies_of ledger.old.book (not server) }
     ensures log { ledger.new.book.log ≡ ledger.old.book.log }
     ensures reserved { ledger.new.reserved ≡ ledger.old.reserved }
 {
@@ -283,7 +296,8 @@ fn is_recent(acknowledgement: bool, number: u64, newest: u64, half: u64) -> Resu
 // Refused where the number of a post, or else its acknowledgement, does.
 fn are_recent(post: &Post, tally: Tally, half: u64) -> Result<(), EventFault>
     requires { 0 < half }
-    ensures { RefusedAs result (first_of (old_so false half post.now.number tally.formed ∷ old_so true half post.now.acknowledgement tally.shown ∷ [])) }
+    ensures { RefusedAs result (first_of (old_so false half post.now.number tally.formed
+        ∷ old_so true half post.now.acknowledgement tally.shown ∷ [])) }
 {
     is_recent(false, post.number, tally.formed, half)?;
     is_recent(true, post.acknowledgement, tally.shown, half)
@@ -299,7 +313,8 @@ fn is_taken(answer: &Answer) -> bool
 // The circuit that a payload names at the end that hears it.
 fn named_in(payload: &[u8]) -> Option<u16>
     ensures value { result ≡ option_map (λ h. h.to) (heading_in payload.now) }
-    ensures read { (v : Value) → reading_of payload.now ≡ Whole v → heading_in payload.now ≡ heading_of v }
+    ensures read { (v : Value) → reading_of payload.now ≡ Whole v →
+        heading_in payload.now ≡ heading_of v }
 {
     heading_of(payload).map(|heading| heading.to)
 }

@@ -83,7 +83,11 @@ impl<H: RatingRule> Wire<H> {
         requires node_own { address node.now.own.0 ≢ everyone }
         requires fact { H.fact rule }
         requires rates { RatesWhatIsLeft (H.may rule) }
-        ensures setups { IfOk result (λ k. setups_of k ≡ record { server = servers.config_shown server.now; node = nodes.config_shown node.now }) }
+        ensures setups { IfOk result (λ k.
+            setups_of k ≡ record {
+              server = servers.config_shown server.now;
+              node = nodes.config_shown node.now;
+            }) }
         ensures stands { IfOk result (λ k. Stands k (open_machines (setups_of k))) }
         ensures moment { IfOk result (λ k. k.moment ≡ 0) }
     {
@@ -128,7 +132,8 @@ impl<H: RatingRule> Wire<H> {
     pub fn frame(&self, index: u64) -> Option<(bool, &OutFrame)>
         ensures { (w : Machines) →
             Stands self.now w →
-            MatchOption result (slice_get w.posts index ≡ None) (λ shown. ShowsPost w.posts index shown.0 shown.1.now) }
+            MatchOption result (slice_get w.posts index ≡ None) (λ shown.
+            ShowsPost w.posts index shown.0 shown.1.now) }
     {
         let sent = self.ledger.posts.get(index)?;
         Some((sent.post.by_server, &sent.post.frame))
@@ -144,7 +149,8 @@ impl<H: RatingRule> Wire<H> {
     /// Whether nothing was lost between the two ends so far: in each direction the frames that were delivered at least once
     /// are the first of those sent, and they came in this order.
     pub fn lossless(&self) -> bool
-        ensures { (w : Machines) → Stands self.now w → IsTrue result ↔ Lossless (setups_of self.now) w }
+        ensures { (w : Machines) → Stands self.now w →
+            IsTrue result ↔ Lossless (setups_of self.now) w }
     {
         self.ledger.posts.lossless()
     }
@@ -165,7 +171,8 @@ impl<H: RatingRule> Wire<H> {
 
     /// Whether a line of the server or of the node exists and has a session.
     pub fn has_session(&self, server: bool, line: u8) -> bool
-        ensures { (w : Machines) → Stands self.now w → result ≡ has_session (core_of w server) line }
+        ensures { (w : Machines) → Stands self.now w →
+            result ≡ has_session (core_of w server) line }
     {
         self.ends.has_session(server, line)
     }
@@ -179,7 +186,8 @@ impl<H: RatingRule> Wire<H> {
 
     /// The events that were noted, in order.
     pub fn notes(&self) -> &[Note]
-        ensures { (w : Machines) → Stands self.now w → map note_shown result.now ≡ map noted_info w.noted }
+        ensures { (w : Machines) → Stands self.now w →
+            map note_shown result.now ≡ map noted_info w.noted }
     {
         self.notes.as_slice()
     }

@@ -42,7 +42,8 @@ fn added<'a>(command: Command<'a>, arg: Arg<'a>) -> Result<Command<'a>, AllocErr
 
 // The command with one more option.
 fn optioned<'a>(alloc: Global, command: Command<'a>, id: &'a str) -> Result<Command<'a>, AllocError>
-    ensures { IfOk result (λ c. app_of c ≡ with_rule (app_of command.entry) (option_rule id.entry.now)) }
+    ensures { IfOk result (λ c.
+        app_of c ≡ with_rule (app_of command.entry) (option_rule id.entry.now)) }
 {
     added(command, option(alloc, id))
 }
@@ -66,7 +67,8 @@ fn command<'a>(alloc: Global) -> Result<Command<'a>, AllocError>
 // An error that isn't for want of memory says that the words aren't taken.
 fn refused<'a>(error: Error) -> Result<Option<ArgMatches<'a>>, Memory>
     ensures none { IfOk result (λ r. r ≡ None) }
-    ensures kinds { IfOk result (λ r. (ks : List ErrorKind) → HasKind ks error → no_fault ks ≡ false) }
+    ensures kinds { IfOk result (λ r.
+        (ks : List ErrorKind) → HasKind ks error → no_fault ks ≡ false) }
 {
     match error.kind() {
         ErrorKind::OutOfMemory => Err(Memory),
@@ -78,7 +80,8 @@ fn refused<'a>(error: Error) -> Result<Option<ArgMatches<'a>>, Memory>
 #[tactic(auto, using(crate::proofs::Simple::latd_simple, crate::proofs::Simple::latd_free))]
 pub fn matched<'a>(alloc: Global, words: &'a [String]) -> Result<Option<ArgMatches<'a>>, Memory>
     ensures taken { IfOk result (λ r. is_some r ≡ is_taken (map string_bytes words.entry.now)) }
-    ensures rows { IfOk result (λ r. IfSome r (λ m. rows_of (found_of m) ≡ rows (map string_bytes words.entry.now))) }
+    ensures rows { IfOk result (λ r.
+        IfSome r (λ m. rows_of (found_of m) ≡ rows (map string_bytes words.entry.now))) }
 {
     let command = command(alloc)?;
     match command.try_get_matches_from(words) {
@@ -96,7 +99,8 @@ pub fn value<'a>(found: &ArgMatches<'a>, id: &str) -> Option<&'a str>
 
 /// The words behind the options.
 pub fn values<'b, 'a>(found: &'b ArgMatches<'a>, id: &str) -> Option<&'b [&'a str]>
-    ensures { option_map (λ s. map (λ v. v.now) s.now) result ≡ all_of id.now (rows_of (found_of found.entry.now)) }
+    ensures { option_map (λ s. map (λ v. v.now) s.now) result
+        ≡ all_of id.now (rows_of (found_of found.entry.now)) }
 {
     found.get_raw(id)
 }

@@ -225,8 +225,10 @@ pub fn run<
     requires made { C.made (C.opening core) }
     requires stands { C.stands core (C.opening core) }
     requires valid { C.valid core }
-    requires names { (blanks.events.name ≡ E.name) × (blanks.bytes.name ≡ B.name) × (blanks.full.name ≡ F.name) }
-    requires parts { (blanks.events.parts ≡ E.parts) × (blanks.bytes.parts ≡ B.parts) × (blanks.full.parts ≡ F.parts) }
+    requires names { (blanks.events.name ≡ E.name) × (blanks.bytes.name ≡ B.name)
+        × (blanks.full.name ≡ F.name) }
+    requires parts { (blanks.events.parts ≡ E.parts) × (blanks.bytes.parts ≡ B.parts)
+        × (blanks.full.parts ≡ F.parts) }
     requires many { (E.parts ≡ 66) × (B.parts ≡ 66) × (F.parts ≡ 66) }
 {
     let tx = FarTx {

@@ -66,8 +66,10 @@ fn served<
 ) -> (u8, Lines<O::L>)
     requires fact { H.fact rule }
     requires rules { AreKnown P.fact tariff }
-    requires names { (blanks.events.name ≡ E.name) × (blanks.bytes.name ≡ B.name) × (blanks.full.name ≡ F.name) }
-    requires parts { (blanks.events.parts ≡ E.parts) × (blanks.bytes.parts ≡ B.parts) × (blanks.full.parts ≡ F.parts) }
+    requires names { (blanks.events.name ≡ E.name) × (blanks.bytes.name ≡ B.name)
+        × (blanks.full.name ≡ F.name) }
+    requires parts { (blanks.events.parts ≡ E.parts) × (blanks.bytes.parts ≡ B.parts)
+        × (blanks.full.parts ≡ F.parts) }
     requires many { (E.parts ≡ 66) × (B.parts ≡ 66) × (F.parts ≡ 66) }
 {
     kept(serve::<_, _, _, _, _, _, E, B, F, R>(

@@ -193,7 +193,8 @@ fn session<
     let ((server, node), is_passed) = thread::join(
         rt,
         move ||
-            requires { AreBlanks blanks E.name E.parts B.name B.parts F.name F.parts × AreBlanks others P.name P.parts Q.name Q.parts S.name S.parts }
+            requires { AreBlanks blanks E.name E.parts B.name B.parts F.name F.parts
+                × AreBlanks others P.name P.parts Q.name Q.parts S.name S.parts }
         { pair::<E, B, F, P, Q, S, R>(rt, alloc, case, blanks, others) },
         move ||
             requires { case.first < 60000 }

@@ -60,8 +60,10 @@ fn played<
     fails: u64,
     blanks: Blanks,
 ) -> Option<(Came, bool, bool)>
-    requires names { (blanks.events.name ≡ E.name) × (blanks.bytes.name ≡ B.name) × (blanks.full.name ≡ F.name) }
-    requires parts { (blanks.events.parts ≡ E.parts) × (blanks.bytes.parts ≡ B.parts) × (blanks.full.parts ≡ F.parts) }
+    requires names { (blanks.events.name ≡ E.name) × (blanks.bytes.name ≡ B.name)
+        × (blanks.full.name ≡ F.name) }
+    requires parts { (blanks.events.parts ≡ E.parts) × (blanks.bytes.parts ≡ B.parts)
+        × (blanks.full.parts ≡ F.parts) }
     requires many { (E.parts ≡ 66) × (B.parts ≡ 66) × (F.parts ≡ 66) }
 {
     let (far, signs, failing) = (Mutex::new(far), Signs::new(), [fails]);
@@ -86,8 +88,10 @@ fn one<E: Ledger + Sync, B: Ledger + Sync, F: Ledger + Sync, R: Threads + Wait +
     fails: u64,
     blanks: Blanks,
 ) -> Option<(Came, bool, bool)>
-    requires names { (blanks.events.name ≡ E.name) × (blanks.bytes.name ≡ B.name) × (blanks.full.name ≡ F.name) }
-    requires parts { (blanks.events.parts ≡ E.parts) × (blanks.bytes.parts ≡ B.parts) × (blanks.full.parts ≡ F.parts) }
+    requires names { (blanks.events.name ≡ E.name) × (blanks.bytes.name ≡ B.name)
+        × (blanks.full.name ≡ F.name) }
+    requires parts { (blanks.events.parts ≡ E.parts) × (blanks.bytes.parts ≡ B.parts)
+        × (blanks.full.parts ≡ F.parts) }
     requires many { (E.parts ≡ 66) × (B.parts ≡ 66) × (F.parts ≡ 66) }
 {
     let service = Name::read(b"VAX").ok()?;
