@@ -27,11 +27,7 @@ pub struct Limits {
 fn timer_fits(master: bool, timer: u8) -> bool
     ensures { result ≡ timer_fits master timer }
 {
-    if master {
-        timer > 0 && timer <= 100
-    } else {
-        true
-    }
+    !master || (timer > 0 && timer <= 100)
 }
 
 fn keepalive_fits(master: bool, keepalive: u8) -> bool

@@ -19,7 +19,7 @@ use Rattle.lat_notices.specs.Services.{service_text}
 use Rattle.lat_notices.specs.Texts.{Fits, fields_text, type_of}
 use Rattle.lat_notices.specs.Fields.{is_version, is_timer, byte_for, groups_at, action_at, outcome_at}
 use Rattle.lat_notices.specs.ServicesReading.{services_at}
-use Rattle.lat_notices.specs.Reading.{announcement, command, status, solicit, response, announced_at, announcement_at, commanded_at, command_at, told_at, status_at, solicit_at, rated_at, response_at, fields_at}
+use Rattle.lat_notices.specs.Reading.{announcement, command, status, solicit, response, announcement_at, command_at, status_at, solicit_at, response_at, fields_at}
 use Rattle.lat_notices.proofs.FieldsFound.{right_byte_found, groups_found, action_found, outcome_found, services_found}
 
 -- the notice and the bytes behind its fields, with the place between them
@@ -97,7 +97,7 @@ below : {a b m : ℕ} → a ≡ b → b < m → a < m
 below e lt = omega arith
 
 announcement_found : (bytes : List ℕ) (x : Read) → IsBytes bytes → announcement_at bytes ≡ Ok x → FoundFields kinds.Announcement bytes x
-unfolding announcement_at announced_at
+unfolding announcement_at
 announcement_found bytes x all h =
     let t = bind_ok (byte_for is_timer fields.Timer 1 bytes) announced_timer x h in
     let t_text = right_byte_found is_timer fields.Timer 1 bytes t.0 all t.1 in
@@ -159,7 +159,7 @@ command_joined bytes v i r a n s is1 five is2 is3 is4 is5 is6 =
     whole ∙ regroup
 
 command_found : (bytes : List ℕ) (x : Read) → IsBytes bytes → command_at bytes ≡ Ok x → FoundFields kinds.Command bytes x
-unfolding command_at commanded_at
+unfolding command_at
 command_found bytes x all h =
     let v = bind_ok (byte_for is_version fields.Version 1 bytes) commanded_version x h in
     let v_text = right_byte_found is_version fields.Version 1 bytes v.0 all v.1 in
@@ -202,7 +202,7 @@ status_joined bytes v i r o n is1 five is2 is3 is4 is5 =
     is1 ∙ (λ j. five j ∷ is2 j) ∙ ap (λ bs. 5 ∷ number i.0 ++ bs) (is3 ∙ ap (λ bs. number r.0 ++ bs) placed)
 
 status_found : (bytes : List ℕ) (x : Read) → IsBytes bytes → status_at bytes ≡ Ok x → FoundFields kinds.Status bytes x
-unfolding status_at told_at
+unfolding status_at
 status_found bytes x all h =
     let v = bind_ok (byte_for is_version fields.Version 1 bytes) told_version x h in
     let v_text = right_byte_found is_version fields.Version 1 bytes v.0 all v.1 in
@@ -286,7 +286,7 @@ response_joined bytes v i n s r t is1 five is2 is3 is4 is5 is6 =
     whole ∙ regroup
 
 response_found : (bytes : List ℕ) (x : Read) → IsBytes bytes → response_at bytes ≡ Ok x → FoundFields kinds.Response bytes x
-unfolding response_at rated_at
+unfolding response_at
 response_found bytes x all h =
     let v = bind_ok (byte_for is_version fields.Version 1 bytes) answered_version x h in
     let v_text = right_byte_found is_version fields.Version 1 bytes v.0 all v.1 in

@@ -16,14 +16,14 @@ use Rattle.lat_notices.specs.Outcomes.{action_number, outcome_number, outcome_pl
 use Rattle.lat_notices.specs.Services.{service_text}
 use Rattle.lat_notices.specs.Texts.{Fits, announcement_text, command_text, status_text, solicit_text, response_text, fields_text, type_of}
 use Rattle.lat_notices.specs.Fields.{is_version, is_timer}
-use Rattle.lat_notices.specs.Reading.{announced_at, announcement_at, commanded_at, command_at, told_at, status_at, solicit_at, rated_at, response_at, fields_at}
+use Rattle.lat_notices.specs.Reading.{announcement_at, command_at, status_at, solicit_at, response_at, fields_at}
 use Rattle.lat_notices.proofs.FieldsTaken.{byte_taken, groups_taken, action_taken, outcome_taken, services_taken}
 
 timer_right : (seconds : ℕ) → 0 < seconds → is_timer seconds ≡ true
 timer_right seconds h = grind (arith, nat_tests)
 
 announcement_taken : (a : Announcement) (rest : List ℕ) → Fits (notices.Announcement a) → announcement_at (announcement_text a ++ rest) ≡ Ok (notices.Announcement a, 1 + length (announcement_text a), rest)
-unfolding announcement_at announced_at
+unfolding announcement_at
 announcement_taken a rest h =
     let services = flat_map service_text a.services ++ rest in
     let described = counted a.description ++ (length a.services ∷ services) in
@@ -46,7 +46,7 @@ announcement_taken a rest h =
     ) (ap (λ (n : ℕ). Ok (notices.Announcement a, n, rest)) places)
 
 command_taken : (c : Command) (rest : List ℕ) → Fits (notices.Command c) → command_at (command_text c ++ rest) ≡ Ok (notices.Command c, 1 + length (command_text c), rest)
-unfolding command_at commanded_at
+unfolding command_at
 command_taken c rest h =
     let service = counted c.service ++ rest in
     let named = counted c.node ++ service in
@@ -66,7 +66,7 @@ command_taken c rest h =
     ) (ap (λ (n : ℕ). Ok (notices.Command c, n, rest)) places)
 
 status_taken : (s : Status) (rest : List ℕ) → Fits (notices.Status s) → status_at (status_text s ++ rest) ≡ Ok (notices.Status s, 1 + length (status_text s), rest)
-unfolding status_at told_at
+unfolding status_at
 status_taken s rest h =
     let named = counted s.node ++ rest in
     let placed = outcome_number s.outcome ∷ number (outcome_place s.outcome) ++ named in
@@ -99,7 +99,7 @@ solicit_taken s rest h =
     ) (ap (λ (n : ℕ). Ok (notices.Solicit s, n, rest)) places)
 
 response_taken : (r : Response) (rest : List ℕ) → Fits (notices.Response r) → response_at (response_text r ++ rest) ≡ Ok (notices.Response r, 1 + length (response_text r), rest)
-unfolding response_at rated_at
+unfolding response_at
 response_taken r rest h =
     let service = counted r.service ++ (r.rating ∷ r.timer ∷ rest) in
     let named = counted r.node ++ service in

@@ -1,8 +1,8 @@
 -- Reading notices: the fields behind the first byte, from place 1 on, in the order of their layouts.
-use Rattle.std.specs.Prelude.{ℕ, ◌/◌, ◌||◌, ◌==◌, nat_le, List, length, Result, Ok}
+use Rattle.std.specs.Prelude.{ℕ, List, Result, Ok}
 use Rattle.lat_base.specs.declared.field.Bad.{Bad}
 use Rattle.lat_base.specs.declared.field.Field.TheVariants as fields
-use Rattle.lat_fields.specs.Reading.{◌>>=◌, wanted, known, byte_at, number_at, counted_at, name_at}
+use Rattle.lat_fields.specs.Reading.{◌>>=◌, byte_at, number_at, counted_at, name_at}
 use Rattle.lat_fields.specs.Payloads.{payload_at}
 use Rattle.lat_notices.specs.declared.kind.NoticeKind.{NoticeKind}
 use Rattle.lat_notices.specs.declared.kind.NoticeKind.TheVariants as kinds
@@ -32,51 +32,36 @@ solicit id asker service = notices.Solicit (record { id = id; asker = asker; ser
 abbrev pub response : ℕ → List ℕ → List ℕ → ℕ → ℕ → Notice
 response id node service rating timer = notices.Response (record { id = id; node = node; service = service; rating = rating; timer = timer })
 
--- an announcement from its node's name on, behind its timer, its incarnation and its groups
-unfoldable pub announced_at : ℕ → ℕ → List ℕ → ℕ → List ℕ → Result (Notice × ℕ × List ℕ) Bad
-announced_at timer incarnation groups place bytes = do
-  node ← name_at fields.NodeName place bytes
-  description ← counted_at fields.Description node.1 node.1 node.2
-  count ← byte_at fields.ServiceCount description.1 description.1 description.2
-  services ← services_at count.0 count.1 count.2
-  Ok (announcement timer incarnation groups node.0 description.0 services.0, services.1, services.2)
-
 unfoldable pub announcement_at : List ℕ → Result (Notice × ℕ × List ℕ) Bad
 announcement_at bytes = do
   timer ← byte_for is_timer fields.Timer 1 bytes
   version ← byte_for is_version fields.Version timer.1 timer.2
   incarnation ← number_at fields.Incarnation version.1 version.2
   groups ← groups_at incarnation.1 incarnation.2
-  announced_at timer.0 incarnation.0 groups.0 groups.1 groups.2
-
--- a command from its action on, behind the node's incarnation and the number of its request
-unfoldable pub commanded_at : ℕ → ℕ → ℕ → List ℕ → Result (Notice × ℕ × List ℕ) Bad
-commanded_at incarnation request place bytes = do
-  action ← action_at place bytes
-  node ← name_at fields.NodeName action.1 action.2
-  service ← name_at fields.Service node.1 node.2
-  Ok (command incarnation request action.0 node.0 service.0, service.1, service.2)
+  node ← name_at fields.NodeName groups.1 groups.2
+  description ← counted_at fields.Description node.1 node.1 node.2
+  count ← byte_at fields.ServiceCount description.1 description.1 description.2
+  services ← services_at count.0 count.1 count.2
+  Ok (announcement timer.0 incarnation.0 groups.0 node.0 description.0 services.0, services.1, services.2)
 
 unfoldable pub command_at : List ℕ → Result (Notice × ℕ × List ℕ) Bad
 command_at bytes = do
   version ← byte_for is_version fields.Version 1 bytes
   incarnation ← number_at fields.Incarnation version.1 version.2
   request ← number_at fields.RequestId incarnation.1 incarnation.2
-  commanded_at incarnation.0 request.0 request.1 request.2
-
--- a status from its outcome on, behind the node's incarnation and the number of its request
-unfoldable pub told_at : ℕ → ℕ → ℕ → List ℕ → Result (Notice × ℕ × List ℕ) Bad
-told_at incarnation request place bytes = do
-  outcome ← outcome_at place bytes
-  node ← name_at fields.NodeName outcome.1 outcome.2
-  Ok (status incarnation request outcome.0 node.0, node.1, node.2)
+  action ← action_at request.1 request.2
+  node ← name_at fields.NodeName action.1 action.2
+  service ← name_at fields.Service node.1 node.2
+  Ok (command incarnation.0 request.0 action.0 node.0 service.0, service.1, service.2)
 
 unfoldable pub status_at : List ℕ → Result (Notice × ℕ × List ℕ) Bad
 status_at bytes = do
   version ← byte_for is_version fields.Version 1 bytes
   incarnation ← number_at fields.Incarnation version.1 version.2
   request ← number_at fields.RequestId incarnation.1 incarnation.2
-  told_at incarnation.0 request.0 request.1 request.2
+  outcome ← outcome_at request.1 request.2
+  node ← name_at fields.NodeName outcome.1 outcome.2
+  Ok (status incarnation.0 request.0 outcome.0 node.0, node.1, node.2)
 
 unfoldable pub solicit_at : List ℕ → Result (Notice × ℕ × List ℕ) Bad
 solicit_at bytes = do
@@ -86,20 +71,15 @@ solicit_at bytes = do
   service ← name_at fields.Service asker.1 asker.2
   Ok (solicit id.0 asker.0 service.0, service.1, service.2)
 
--- a response from its rating on, behind the number of the question, the node and the service
-unfoldable pub rated_at : ℕ → List ℕ → List ℕ → ℕ → List ℕ → Result (Notice × ℕ × List ℕ) Bad
-rated_at id node service place bytes = do
-  rating ← byte_at fields.Rating place place bytes
-  timer ← byte_for is_timer fields.Timer rating.1 rating.2
-  Ok (response id node service rating.0 timer.0, timer.1, timer.2)
-
 unfoldable pub response_at : List ℕ → Result (Notice × ℕ × List ℕ) Bad
 response_at bytes = do
   version ← byte_for is_version fields.Version 1 bytes
   id ← number_at fields.SolicitId version.1 version.2
   node ← name_at fields.NodeName id.1 id.2
   service ← name_at fields.Service node.1 node.2
-  rated_at id.0 node.0 service.0 service.1 service.2
+  rating ← byte_at fields.Rating service.1 service.1 service.2
+  timer ← byte_for is_timer fields.Timer rating.1 rating.2
+  Ok (response id.0 node.0 service.0 rating.0 timer.0, timer.1, timer.2)
 
 -- the fields that a type has
 abbrev pub fields_at : NoticeKind → List ℕ → Result (Notice × ℕ × List ℕ) Bad
@@ -108,14 +88,6 @@ fields_at kinds.Command bytes = command_at bytes
 fields_at kinds.Status bytes = status_at bytes
 fields_at kinds.Solicit bytes = solicit_at bytes
 fields_at kinds.Response bytes = response_at bytes
-
--- the notice whose first byte is this one, before these bytes of the payload, and the rule on trailing bytes
-unfoldable pub begun_at : ℕ → List ℕ → List ℕ → Result Notice Bad
-begun_at first bytes payload = do
-  kind ← known (kind_of (first / 4)) fields.Kind 0
-  notice ← fields_at kind bytes
-  a ← wanted (length notice.2 == 0 || nat_le (length payload) 46) fields.Trailing notice.1
-  Ok notice.0
 
 -- the notice that a payload is, or its first bad field
 abbrev pub notice_read : List ℕ → Result Notice Bad
