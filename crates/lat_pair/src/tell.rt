@@ -5,7 +5,7 @@ use crate::post::Post;
 use crate::print::{book_onto, record_onto, span_word, yes_word};
 use crate::station::Station;
 use lat_script::{ScriptFault, address, byte, number, short, state_word, word};
-use std::alloc::Global;
+use std::alloc::{AllocError, Global};
 
 impl<S: Station, N: Station> Play<S, N> {
     /// What is told at a question.
@@ -17,7 +17,7 @@ impl<S: Station, N: Station> Play<S, N> {
             }
             "used" => {
                 let used = self.node.used().unwrap_or(0);
-                Ok(write!(text, "{used}\n")?)
+                Ok(number_onto(text, u64::from(used))?)
             }
             _ => match side_at(line, 1) {
                 Side::Server => tell_onto(alloc, &self.server, line, text),
@@ -35,28 +35,37 @@ fn tell_onto<C: Station>(
     text: &mut String,
 ) -> Result<(), ScriptFault> {
     match word(line, 0) {
-        "book" => book_onto(alloc, text, post.book(byte(line, 2)?))?,
-        "state" => {
-            let state = state_word(post.state(byte(line, 2)?));
-            write!(text, "{state}\n")?;
-        }
-        "waiting" => {
-            let waiting = post.waiting(byte(line, 2)?);
-            write!(text, "{waiting}\n")?;
-        }
-        "moment" => {
-            let moment = post.moment();
-            write!(text, "{moment}\n")?;
-        }
-        "finished" => {
-            let finished = post.finished();
-            write!(text, "{finished}\n")?;
-        }
-        "span" => text.push_str(span_word(post.span(short(line, 2)?)))?,
-        "names" => text.push_str(yes_word(names(post, line)?))?,
-        _ => text.push_str("no command\n")?,
+        "book" => Ok(book_onto(alloc, text, post.book(byte(line, 2)?))?),
+        "state" => state_onto(post, line, text),
+        "waiting" => waiting_onto(post, line, text),
+        "moment" => Ok(number_onto(text, post.moment())?),
+        "finished" => Ok(number_onto(text, u64::from(post.finished()))?),
+        "span" => Ok(text.push_str(span_word(post.span(short(line, 2)?)))?),
+        "names" => Ok(text.push_str(yes_word(names(post, line)?))?),
+        _ => Ok(text.push_str("no command\n")?),
     }
-    Ok(())
+}
+
+fn number_onto(text: &mut String, number: u64) -> Result<(), AllocError> {
+    write!(text, "{number}\n")
+}
+
+fn state_onto<C: Station>(
+    post: &Post<C>,
+    line: &str,
+    text: &mut String,
+) -> Result<(), ScriptFault> {
+    let state = state_word(post.state(byte(line, 2)?));
+    Ok(write!(text, "{state}\n")?)
+}
+
+fn waiting_onto<C: Station>(
+    post: &Post<C>,
+    line: &str,
+    text: &mut String,
+) -> Result<(), ScriptFault> {
+    let waiting = post.waiting(byte(line, 2)?);
+    Ok(number_onto(text, u64::from(waiting))?)
 }
 
 // Whether a RUN of the address and the ids in this line names a circuit.
