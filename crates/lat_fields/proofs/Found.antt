@@ -1,18 +1,17 @@
 -- What is read of a field is its text.
-use Rattle.std.proofs.Common.{◌≡◌, ℕ, zero, suc, ◌+◌, ◌-◌, ◌*◌, ◌/◌, ◌%◌, ◌<◌, ◌≤◌, Bool, true, false, cond, eqb, ltb, List, [], ◌∷◌, ◌++◌, length, take, drop, Result, Ok, Err, is_ok, refl, sym, ap, ◌∙◌, subst, arith, append_assoc, length-append}
+use Rattle.std.proofs.Common.{◌≡◌, ℕ, zero, suc, ◌+◌, ◌*◌, ◌/◌, ◌%◌, ◌<◌, ◌≤◌, Bool, true, false, cond, eqb, ltb, List, [], ◌∷◌, ◌++◌, length, take, drop, Ok, is_ok, refl, sym, ap, ◌∙◌, subst, arith, append_assoc, length-append}
 use Rattle.std.specs.List.{AllByRecursion}
 use Rattle.std.proofs.lemmas.List.{take-append-drop, length-take-le}
 use Rattle.std.proofs.lemmas.Bool.Decides.{nat_tests}
 use Rattle.lat_base.specs.Names.{IsName, name_read}
 use Rattle.lat_base.proofs.NameLemmas.{name_is}
-use Rattle.lat_base.specs.declared.field.Bad.{Bad}
 use Rattle.lat_base.specs.declared.field.Field.{Field}
 use Rattle.lat_base.specs.declared.field.Field.TheVariants.{Parameters}
 use Rattle.lat_fields.specs.declared.params.Param.{Param}
-use Rattle.lat_fields.specs.Reading.{◌>>=◌, bad, wanted, byte_at, number_at, counted_at, name_at}
+use Rattle.lat_fields.specs.Reading.{◌>>=◌, bad, byte_at, number_at, counted_at, name_at}
 use Rattle.lat_fields.specs.ParamsReading.{entry, params_at}
 use Rattle.lat_fields.specs.Texts.{number, counted}
-use Rattle.lat_fields.specs.Params.{IsEntry, entry_text, params_text}
+use Rattle.lat_fields.specs.Params.{IsEntry, params_text}
 use Rattle.lat_fields.proofs.Steps.{IsBytes, bind_ok, guard_ok, chosen, behind}
 
 pub record FoundByte (place : ℕ) (bytes : List ℕ) (x : ℕ × ℕ × List ℕ) : Type 0 where

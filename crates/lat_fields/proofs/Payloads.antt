@@ -1,10 +1,10 @@
 -- Payloads: a text with what stands behind it.
-use Rattle.std.proofs.Common.{◌≡◌, ℕ, zero, suc, ◌+◌, ◌/◌, ◌<◌, ◌≤◌, Bool, true, false, ◌||◌, ◌⊎◌, inl, inr, eqb, leb, List, [], ◌∷◌, ◌++◌, length, Option, Some, Result, Ok, Err, refl, sym, ap, ◌∙◌, arith, length-append}
+use Rattle.std.proofs.Common.{◌≡◌, ℕ, ◌/◌, ◌<◌, ◌≤◌, Bool, true, false, ◌||◌, ◌⊎◌, inl, inr, eqb, leb, List, [], ◌∷◌, length, Option, Some, Result, Ok, refl, sym, ap, ◌∙◌, arith}
 use Rattle.std.proofs.lemmas.Bool.Decides.{nat_tests}
 use Rattle.lat_base.specs.declared.field.Bad.{Bad}
 use Rattle.lat_base.specs.declared.field.Field.TheVariants.{Size, Kind, Trailing}
-use Rattle.lat_fields.specs.Reading.{◌>>=◌, bad, wanted, known, byte_at}
-use Rattle.lat_fields.specs.Payloads.{PayloadText, payload_at}
+use Rattle.lat_fields.specs.Reading.{◌>>=◌, bad, wanted, known}
+use Rattle.lat_fields.specs.Payloads.{payload_at}
 use Rattle.lat_fields.proofs.Steps.{bind_ok, wanted_ok, known_ok, no_bytes, or_true}
 
 ends_right : (rest payload : List ℕ) → (rest ≡ []) ⊎ (length payload ≤ 46) → (eqb (length rest) 0 || leb (length payload) 46) ≡ true

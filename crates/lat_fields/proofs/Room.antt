@@ -1,5 +1,5 @@
 -- Room for each entry.
-use Rattle.std.proofs.Common.{◌≡◌, ℕ, zero, suc, ◌+◌, ◌<◌, ◌≤◌, List, [], ◌∷◌, ◌++◌, length, take, get_or, ap, arith, length-append}
+use Rattle.std.proofs.Common.{◌≡◌, ℕ, zero, suc, ◌+◌, ◌<◌, ◌≤◌, List, [], ◌∷◌, length, take, get_or, ap, arith, length-append}
 use Rattle.std.specs.List.{flat_map}
 use Rattle.lat_fields.specs.declared.params.Param.{Param}
 use Rattle.lat_fields.specs.Params.{entry_text}

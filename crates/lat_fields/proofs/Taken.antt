@@ -1,17 +1,17 @@
 -- A field's text is read as its value, whatever stands behind it.
-use Rattle.std.proofs.Common.{◌≡◌, ℕ, zero, suc, ◌+◌, ◌*◌, ◌/◌, ◌%◌, ◌<◌, ◌≤◌, false, eqb, ltb, List, [], ◌∷◌, ◌++◌, length, take, drop, Ok, refl, ap, ◌∙◌, arith, append_assoc, length-append}
+use Rattle.std.proofs.Common.{◌≡◌, ℕ, zero, suc, ◌+◌, ◌*◌, ◌/◌, ◌%◌, ◌<◌, false, eqb, ltb, List, [], ◌∷◌, ◌++◌, length, Ok, refl, ap, ◌∙◌, arith, append_assoc, length-append}
 use Rattle.std.specs.List.{AllByRecursion}
 use Rattle.std.proofs.lemmas.List.{take_at, drop_at}
 use Rattle.std.proofs.lemmas.Bool.Decides.{nat_tests}
-use Rattle.lat_base.specs.Names.{IsName, name_read}
+use Rattle.lat_base.specs.Names.{IsName}
 use Rattle.lat_base.proofs.NameLemmas.{name_reads}
 use Rattle.lat_base.specs.declared.field.Field.{Field}
 use Rattle.lat_base.specs.declared.field.Field.TheVariants.{Parameters}
 use Rattle.lat_fields.specs.declared.params.Param.{Param}
-use Rattle.lat_fields.specs.Reading.{◌>>=◌, byte_at, number_at, counted_at, name_at}
+use Rattle.lat_fields.specs.Reading.{number_at, counted_at, name_at}
 use Rattle.lat_fields.specs.ParamsReading.{params_at}
 use Rattle.lat_fields.specs.Texts.{number, counted}
-use Rattle.lat_fields.specs.Params.{IsEntry, entry_text, params_text}
+use Rattle.lat_fields.specs.Params.{IsEntry, params_text}
 
 not_short : (t rest : List ℕ) → ltb (length (t ++ rest)) (length t) ≡ false
 not_short t rest = grind (arith, nat_tests, length-append)

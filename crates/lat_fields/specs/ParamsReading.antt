@@ -1,5 +1,5 @@
 -- Reading parameters.
-use Rattle.std.specs.Prelude.{ℕ, zero, suc, ◌+◌, Bool, List, [], ◌∷◌, Result, Ok, ◌==◌, if◌then◌else◌}
+use Rattle.std.specs.Prelude.{ℕ, zero, suc, List, [], ◌∷◌, Result, Ok, ◌==◌, if◌then◌else◌}
 use Rattle.lat_base.specs.declared.field.Field.TheVariants.{Parameters}
 use Rattle.lat_base.specs.declared.field.Bad.{Bad}
 use Rattle.lat_fields.specs.declared.params.Param.{Param}

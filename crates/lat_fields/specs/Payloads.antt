@@ -1,5 +1,5 @@
 -- A payload is one message or notice, then trailing bytes.
-use Rattle.std.specs.Prelude.{◌≡◌, ℕ, ◌+◌, ◌-◌, ◌/◌, ◌≤◌, ◌||◌, ◌⊎◌, List, [], ◌∷◌, ◌++◌, length, replicate, Option, Result, Ok, nat_le, ◌==◌}
+use Rattle.std.specs.Prelude.{◌≡◌, ℕ, ◌-◌, ◌/◌, ◌≤◌, ◌||◌, ◌⊎◌, List, [], ◌++◌, length, replicate, Option, Result, Ok, nat_le, ◌==◌}
 use Rattle.lat_base.specs.declared.field.Field.TheVariants.{Size, Kind, Trailing}
 use Rattle.lat_base.specs.declared.field.Bad.{Bad}
 use Rattle.lat_fields.specs.Reading.{◌>>=◌, wanted, known, byte_at}

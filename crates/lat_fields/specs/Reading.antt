@@ -1,6 +1,6 @@
 -- Reading fields from left to right. What is read is the value with the place behind it and the bytes from there on,
 -- or the first bad field with its place.
-use Rattle.std.specs.Prelude.{◌≡◌, ℕ, ◌+◌, ◌*◌, Bool, true, false, List, [], ◌∷◌, length, take, drop, Result, Ok, Err, Option, Some, None, nat_lt, if◌then◌else◌, is_ok}
+use Rattle.std.specs.Prelude.{◌≡◌, ℕ, ◌+◌, ◌*◌, Bool, List, [], ◌∷◌, length, take, drop, Result, Ok, Err, Option, Some, None, nat_lt, if◌then◌else◌, is_ok}
 use Rattle.lat_base.specs.Names.{name_read}
 use Rattle.lat_base.specs.declared.field.Field.{Field}
 use Rattle.lat_base.specs.declared.field.Bad.{Bad}

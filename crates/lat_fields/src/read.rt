@@ -1,11 +1,13 @@
 //! Reading one field. Each call reads at a place of the bytes and gives the value with the place behind it; `at` is
 //! the place that is named where the field is bad.
 
-ghost use Rattle.std.specs.Prelude.{◌≡◌, ◌+◌, ◌*◌, ◌^◌, ◌<◌, ◌≤◌, length, take, drop, IfOk};
+ghost use Rattle.std.specs.Prelude.{◌≡◌, ◌+◌, ◌*◌, ◌^◌, ◌<◌, ◌≤◌, ◌==◌, ◌||◌, nat_le, length, take, drop, IfOk};
 ghost use Rattle.lat_fields.specs.Reading.{Gives, fault, known, wanted, byte_at, number_at, counted_at, name_at};
 
 use crate::fault::LayoutFault;
-use lat_base::{Bad, Field, Name};
+use crate::write::LEAST_PAYLOAD;
+use lat_base::{Bad, Bytes, Field, Name};
+use std::alloc::Global;
 
 fn bad(field: Field, at: usize) -> LayoutFault
     requires { at < 2 ^ 16 }
@@ -100,6 +102,25 @@ pub fn counted_of(
     Ok((&bytes[place..end], end))
 }
 
+/// A copy of a counted text, for which it takes memory. The text is refused at its length byte.
+pub fn copy_of(
+    alloc: Global,
+    field: Field,
+    bytes: &[u8],
+    place: usize,
+) -> Result<(Bytes, usize), LayoutFault>
+    requires { (place ≤ length bytes.now) × (length bytes.now ≤ 1500) }
+    ensures gives { Gives (λ x. (
+      x.0,
+      x.1,
+      drop x.1 bytes.now,
+    )) result (counted_at field place place (drop place bytes.now)) }
+    ensures within { IfOk result (λ x. x.1 ≤ length bytes.now) }
+{
+    let (text, end) = counted_of(field, place, bytes, place)?;
+    Ok((Bytes::copy(alloc, text)?, end))
+}
+
 /// A counted name: a counted text whose bytes are a name. It is refused at its length byte.
 #[tactic(auto, unfolding(crate::specs::Reading::name_at))]
 pub fn name_of(field: Field, bytes: &[u8], place: usize) -> Result<(Name, usize), LayoutFault>
@@ -116,4 +137,13 @@ pub fn name_of(field: Field, bytes: &[u8], place: usize) -> Result<(Name, usize)
         Ok(name) => Ok((name, end)),
         Err(_) => Err(bad(field, place)),
     }
+}
+
+/// Whether a payload that says all up to this place may end as it does: nothing stands behind the place, or the
+/// payload has at most 46 bytes.
+pub fn ends_right(end: usize, payload: &[u8]) -> bool
+    requires { end ≤ length payload.now }
+    ensures { result ≡ (length (drop end payload.now) == 0 || nat_le (length payload.now) 46) }
+{
+    end == payload.len() || payload.len() <= LEAST_PAYLOAD
 }

@@ -1,6 +1,6 @@
 //! Reading a payload as a circuit message.
 
-ghost use Rattle.std.specs.Prelude.{◌≡◌, ◌+◌, ◌<◌, ◌≤◌, ◌==◌, ◌||◌, nat_le, length, drop, Ok, IfOk};
+ghost use Rattle.std.specs.Prelude.{◌≡◌, ◌+◌, ◌<◌, ◌≤◌, length, drop, Ok, IfOk};
 ghost use Rattle.lat_fields.specs.Reading.{Gives};
 ghost use Rattle.lat_fields.specs.Payloads.{PayloadText};
 ghost use Rattle.lat_frames.specs.declared.message.Message.{Message};
@@ -13,7 +13,7 @@ use crate::read_head::{Circuits, circuits_of, is_master};
 use crate::read_run::{run_of, wide_of};
 use crate::read_start::{start_of, stop_of};
 use lat_base::{Field, PAYLOAD_BYTES};
-use lat_fields::{LEAST_PAYLOAD, LayoutFault, byte_of, known, wanted};
+use lat_fields::{LayoutFault, byte_of, ends_right, known, wanted};
 use std::alloc::Global;
 
 fn tail_of(
@@ -54,14 +54,6 @@ fn layout_of(
 {
     let (circuits, place) = circuits_of(kind, is_master(first), payload, 1)?;
     tail_of(alloc, kind, first, circuits, payload, place)
-}
-
-// Whether the payload may end as it does: nothing stands behind the message, or the payload is short.
-fn ends_right(end: usize, payload: &[u8]) -> bool
-    requires { end ≤ length payload.now }
-    ensures { result ≡ (length (drop end payload.now) == 0 || nat_le (length payload.now) 46) }
-{
-    end == payload.len() || payload.len() <= LEAST_PAYLOAD
 }
 
 // The message whose first byte is this one.

@@ -1,13 +1,13 @@
 //! Reading START and STOP messages.
 
 ghost use Rattle.std.specs.Prelude.{◌≡◌, ◌+◌, ◌<◌, ◌≤◌, length, drop, IfOk};
-ghost use Rattle.lat_fields.specs.Reading.{Gives, counted_at};
+ghost use Rattle.lat_fields.specs.Reading.{Gives};
 ghost use Rattle.lat_frames.specs.Reading.{timer_fits, keepalive_fits, timed_at, holding_at, limits_at, named_at, info_at, start_at, stop_at};
 
 use crate::message::{Message, StartInfo};
 use crate::read_head::{Circuits, asks, is_master};
-use lat_base::{Bytes, Field};
-use lat_fields::{LayoutFault, byte_of, counted_of, name_of, number_of, params_of, wanted};
+use lat_base::Field;
+use lat_fields::{LayoutFault, byte_of, copy_of, name_of, number_of, params_of, wanted};
 use std::alloc::Global;
 
 /// The protocol version that is spoken here.
@@ -103,22 +103,6 @@ fn limits_of(master: bool, payload: &[u8], place: usize) -> Result<(Limits, usiz
     let (version, place) = byte_of(Field::Version, version_place, payload, version_place)?;
     wanted(version == VERSION, Field::Version, version_place)?;
     holding_of(master, size, payload, place)
-}
-
-// A copy of the counted text at the place, for which it takes memory.
-fn copy_of(
-    alloc: Global,
-    field: Field,
-    payload: &[u8],
-    place: usize,
-) -> Result<(Bytes, usize), LayoutFault>
-    requires { (place ≤ length payload.now) × (length payload.now ≤ 1500) }
-    ensures gives { Gives (λ x. (x.0, x.1, drop x.1 payload.now)) result
-        (counted_at field place place (drop place payload.now)) }
-    ensures within { IfOk result (λ x. x.1 ≤ length payload.now) }
-{
-    let (text, behind) = counted_of(field, place, payload, place)?;
-    Ok((Bytes::copy(alloc, text)?, behind))
 }
 
 // The names, the location and the parameters of the sender, and with what stands before them all that it tells.

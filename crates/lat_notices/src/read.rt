@@ -1,6 +1,6 @@
 //! Reading notices.
 
-ghost use Rattle.std.specs.Prelude.{◌≡◌, ◌≤◌, ◌==◌, ◌||◌, nat_le, length, drop, Ok, IfOk};
+ghost use Rattle.std.specs.Prelude.{◌≡◌, ◌≤◌, length, drop, Ok, IfOk};
 ghost use Rattle.lat_fields.specs.Payloads.{PayloadText};
 ghost use Rattle.lat_fields.specs.Reading.{Gives};
 ghost use Rattle.lat_notices.specs.Reading.{announcement_at, command_at, status_at, solicit_at, response_at, fields_at, notice_read};
@@ -13,9 +13,7 @@ use crate::kind::NoticeKind;
 use crate::notice::{Announcement, Command, Notice, Response, Solicit, Status};
 use crate::read_services::services_of;
 use lat_base::{Bytes, Field, PAYLOAD_BYTES};
-use lat_fields::{
-    LEAST_PAYLOAD, LayoutFault, byte_of, counted_of, known, name_of, number_of, wanted,
-};
+use lat_fields::{LayoutFault, byte_of, counted_of, ends_right, known, name_of, number_of, wanted};
 use std::alloc::Global;
 
 // Each of these reads the fields of a type, from place 1 on, and gives the place behind them.
@@ -155,14 +153,6 @@ fn fields_of(alloc: Global, kind: NoticeKind, bytes: &[u8]) -> Result<(Notice, u
         NoticeKind::Solicit => solicit_of(bytes),
         NoticeKind::Response => response_of(bytes),
     }
-}
-
-// Whether the payload may end as it does: nothing stands behind the notice, or the payload is short.
-fn ends_right(end: usize, payload: &[u8]) -> bool
-    requires { end ≤ length payload.now }
-    ensures { result ≡ (length (drop end payload.now) == 0 || nat_le (length payload.now) 46) }
-{
-    end == payload.len() || payload.len() <= LEAST_PAYLOAD
 }
 
 // The notice that the payload is.

@@ -5,8 +5,8 @@ ghost use Rattle.lat_fields.specs.Reading.{Gives};
 ghost use Rattle.lat_notices.specs.ServicesReading.{service_at, services_at};
 
 use crate::services::{Service, Services};
-use lat_base::{Bytes, Field};
-use lat_fields::{LayoutFault, byte_of, counted_of, name_of};
+use lat_base::Field;
+use lat_fields::{LayoutFault, byte_of, copy_of, name_of};
 use std::alloc::Global;
 
 #[tactic(auto, unfolding(crate::specs::ServicesReading::service_at))]
@@ -18,8 +18,7 @@ fn service_of(alloc: Global, bytes: &[u8], place: usize) -> Result<(Service, usi
 {
     let (rating, at) = byte_of(Field::Rating, place, bytes, place)?;
     let (name, at) = name_of(Field::Service, bytes, at)?;
-    let (text, behind) = counted_of(Field::ServiceDescription, at, bytes, at)?;
-    let description = Bytes::copy(alloc, text)?;
+    let (description, behind) = copy_of(alloc, Field::ServiceDescription, bytes, at)?;
     let service = Service {
         rating,
         name,

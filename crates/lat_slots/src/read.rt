@@ -1,8 +1,7 @@
 //! Reading a slot.
 
 ghost use Rattle.std.specs.Prelude.{◌≡◌, ◌+◌, ◌<◌, ◌≤◌, ◌==◌, ℕ, length, take, drop, Ok, IfOk, IsTrue, slice_index};
-ghost use Rattle.lat_fields.specs.Reading.{Gives, counted_at};
-ghost use Rattle.lat_base.specs.declared.field.Field.TheVariants as fields;
+ghost use Rattle.lat_fields.specs.Reading.{Gives};
 ghost use Rattle.lat_slots.specs.Reading.{count_fits, fitting, head_at, asked_at, start_at, body_at, slot_at};
 ghost use Rattle.lat_slots.specs.Layout.{StandsAt};
 ghost use Rattle.lat_slots.specs.declared.slot.Slot.{Slot};
@@ -12,7 +11,7 @@ use crate::head::{SERVICE_CLASS, SlotHead, count_fits, destination_fits, source_
 use crate::kind::SlotKind;
 use crate::slot::Slot;
 use lat_base::{Bytes, Field};
-use lat_fields::{LayoutFault, byte_of, counted_of, known, name_of, params_of, wanted};
+use lat_fields::{LayoutFault, byte_of, copy_of, known, name_of, params_of, wanted};
 use std::alloc::Global;
 
 // The head, if its type may have its ids and its count, and its body is there in so many bytes of the slot.
@@ -66,17 +65,6 @@ fn is_end(place: usize, bytes: &[u8]) -> bool
     place == bytes.len()
 }
 
-// A copy of the subject at the place, for which it takes memory, and the place behind it.
-fn subject_of(alloc: Global, bytes: &[u8], place: usize) -> Result<(Bytes, usize), LayoutFault>
-    requires { (place ≤ length bytes.now) × (length bytes.now ≤ 1500) }
-    ensures gives { Gives (λ x. (x.0, x.1, drop x.1 bytes.now)) result
-        (counted_at fields.Subject place place (drop place bytes.now)) }
-    ensures within { IfOk result (λ x. x.1 ≤ length bytes.now) }
-{
-    let (text, behind) = counted_of(Field::Subject, place, bytes, place)?;
-    Ok((Bytes::copy(alloc, text)?, behind))
-}
-
 // The start of these sizes, whose body goes on at the place with the service that it asks for.
 #[tactic(auto, unfolding(crate::specs::Reading::asked_at))]
 fn asked_of(
@@ -92,7 +80,7 @@ fn asked_of(
         (asked_at (length bytes.now + 1) head attention size place (drop place bytes.now)) }
 {
     let (service, at) = name_of(Field::Service, bytes, place)?;
-    let (subject, at) = subject_of(alloc, bytes, at)?;
+    let (subject, at) = copy_of(alloc, Field::Subject, bytes, at)?;
     let (params, at) = params_of(alloc, bytes, at)?;
     wanted(is_end(at, bytes), Field::SlotEnd, at)?;
     Ok(Slot::Start {

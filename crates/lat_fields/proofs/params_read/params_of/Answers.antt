@@ -1,8 +1,8 @@
-use Rattle.std.proofs.Common.{◌≡◌, ℕ, ◌+◌, ◌-◌, List, ◌∷◌, [], ◌++◌, Ok, length, drop, ap, sym, ◌∙◌, refl, append-nil, arith, rules}
+use Rattle.std.proofs.Common.{◌≡◌, ◌+◌, ◌-◌, ◌∷◌, [], ◌++◌, Ok, length, drop, ap, ◌∙◌, refl, append-nil, arith}
 use Rattle.std.proofs.lemmas.Bool.Decides.{nat_tests}
 use Rattle.std.proofs.lemmas.Result.{err_from_is_err_and}
-use Rattle.lat_fields.specs.ParamsReading.{entry, params_at}
-use Rattle.lat_fields.proofs.ParamsLoop.{with_front, ends, goes_on, no_code, no_text}
+use Rattle.lat_fields.specs.ParamsReading.{entry}
+use Rattle.lat_fields.proofs.ParamsLoop.{ends, goes_on, no_code, no_text}
 use Rattle.lat_fields.proofs.params_read.params_of.Goals as goal
 
 pub returns-in_err-code-clause-gives : goal.returns-in_err-code-clause-gives
