@@ -5,7 +5,6 @@ mod cores;
 mod crew;
 mod daemon;
 mod far;
-mod free;
 mod loopback;
 mod opener;
 mod outside;

@@ -37,7 +37,10 @@ first_of None other = other
 
 -- events are compared first, then bytes
 abbrev pub seat_fault : ℕ → List Past → List SeatView → Option SeatFault
-seat_fault seat h shares = first_of (differs seat (past_events seat h) (share_events seat shares)) (differs seat (past_bytes seat h) (share_bytes seat shares))
+seat_fault seat h shares =
+    first_of
+    (differs seat (past_events seat h) (share_events seat shares))
+    (differs seat (past_bytes seat h) (share_bytes seat shares))
 
 -- over so many seats from this one on
 unfoldable pub faults_from : ℕ → ℕ → List Past → List SeatView → Option SeatFault

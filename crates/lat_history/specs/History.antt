@@ -5,11 +5,16 @@ use Rattle.lat_base.specs.declared.answer.Answer.{Answer}
 use Rattle.lat_base.specs.declared.outbox.OutFrame.{OutFrame}
 use Rattle.lat_outside.specs.declared.frames.SentFrame.{SentFrame}
 use Rattle.lat_history.specs.declared.past.Past.{Past}
+use Rattle.lat_history.specs.CellView.{CellView}
 
 -- the state behind the events of a history
 abbrev pub run_of : {S : Type 0} → (S → Event → S) → S → List Past → S
 run_of next s [] = s
 run_of next s (p ∷ ps) = run_of next (next s p.event) ps
+
+-- the state of the core of a cell, behind all that it was told
+abbrev pub state_of : {C T S : Type 0} → (C → S) → (S → Event → S) → CellView C T → S
+state_of opening next cell = run_of next (opening cell.core) cell.history
 
 -- each answer of the history is the machine's
 abbrev pub IsLegal : {S : Type 0} → (S → Event → S) → (S → Event → Answer) → S → List Past → Type 0
@@ -24,10 +29,15 @@ pub record IsRun {C S : Type 0} (made : S → Type 0) (opening : C → S) (stand
   pub legal : IsLegal next answer (opening core) history
 
 -- these frames may go out over the history, in order
-abbrev pub FramesOf : {S : Type 0} → (S → Event → S) → (S → Event → List OutFrame → Type 0) → S → List Past → List OutFrame → Type 0
+abbrev pub FramesOf : {S : Type 0} → (S → Event → S) → (S → Event → List OutFrame → Type 0) → S → List Past
+    → List OutFrame → Type 0
 FramesOf next frames s [] fs = fs ≡ []
 FramesOf next frames s (p ∷ ps) fs =
-    (front : List OutFrame) × (rest : List OutFrame) × frames s p.event front × FramesOf next frames (next s p.event) ps rest × (fs ≡ front ++ rest)
+    (front : List OutFrame)
+    × (rest : List OutFrame)
+    × frames s p.event front
+    × FramesOf next frames (next s p.event) ps rest
+    × (fs ≡ front ++ rest)
 
 -- a frame as it is handed to a carrier
 abbrev pub tried_as : OutFrame → SentFrame
@@ -43,7 +53,18 @@ Grew (Some old) (Some now) fs = now ≡ old ++ map tried_as fs
 -- where frames are told, the last so many are frames of which P holds
 abbrev pub LastAre : Option (List SentFrame) → ℕ → (List OutFrame → Type 0) → Type 0
 LastAre None n P = Unit {0}
-LastAre (Some all) n P = (front : List SentFrame) × (fs : List OutFrame) × (all ≡ front ++ map tried_as fs) × (length fs ≡ n) × P fs
+LastAre (Some all) n P =
+    (front : List SentFrame)
+    × (fs : List OutFrame)
+    × (all ≡ front ++ map tried_as fs)
+    × (length fs ≡ n)
+    × P fs
+
+-- where its carrier tells its frames, those tried since the cell was made are the frames of its history, in order
+abbrev pub HasSent : {C T S : Type 0} → (T → Option (List SentFrame)) → (C → S) → (S → Event → S)
+    → (S → Event → List OutFrame → Type 0) → CellView C T → Type 0
+HasSent tried opening next frames cell =
+    LastAre (tried cell.tx) cell.sent (FramesOf next frames (opening cell.core) cell.history)
 
 -- what was told before the last so many
 abbrev pub before : Option (List SentFrame) → ℕ → Option (List SentFrame)

@@ -4,3 +4,5 @@ pub mod Numbers
 pub mod CellView
 pub mod Audits
 pub mod Seats
+pub mod Ledgers
+pub mod Uncut

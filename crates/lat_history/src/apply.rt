@@ -1,9 +1,9 @@
 //! One event, under one hold of the lock.
 
 ghost use Rattle.std.specs.Prelude.{◌≡◌, ◌≢◌, ◌+◌, ◌<◌, ◌++◌, ◌≤◌, ◌∷◌, [], length, vec_len, vec_capacity, true, Some, Err, IfOk, OnOk, OnErr};
-ghost use Rattle.lat_history.specs.CellView.{IsRefused};
+ghost use Rattle.lat_history.specs.CellView.{AreFull, IsRefused, SameFull, with_event};
 ghost use Rattle.lat_history.specs.Counts.{seat_of, bytes_in, put_of, put_by, past, ShowsLimit, IsFullAt, MayAdd};
-ghost use Rattle.lat_history.specs.History.{Grew, SameBefore, run_of};
+ghost use Rattle.lat_history.specs.History.{Grew, SameBefore, state_of};
 
 use crate::cell::{BYTES, Cell, MOST};
 use crate::fault::{CellFault, FullAt, Receipt};
@@ -43,14 +43,10 @@ impl<C: Core, T: Tx, E: Ledger, B: Ledger, F: Ledger> Cell<C, T, E, B, F> {
             self.new.history ≡ self.old.history ++ past event r.answer ∷ []) }
         ensures place { IfOk result (λ r. r.place ≡ length self.old.history) }
         ensures answer { IfOk result (λ r.
-            r.answer ≡ C.answer (run_of C.next (C.opening self.old.core) self.old.history) event) }
+            r.answer ≡ C.answer (state_of C.opening C.next self.old) event) }
         ensures opening { C.opening self.new.core ≡ C.opening self.old.core }
         ensures before { SameBefore (T.tried self.old.tx) self.old.sent (T.tried self.new.tx) self.new.sent }
-        ensures share { IfOk result (λ r.
-            share.new ≡ record share.old {
-              events = share.old.events + 1;
-              bytes = share.old.bytes + put_of r.answer;
-            }) }
+        ensures share { IfOk result (λ r. share.new ≡ with_event share.old (put_of r.answer)) }
         ensures put { IfOk result (λ r. put_of r.answer ≤ put_by event) }
         ensures stopping { self.new.stopping ≡ self.old.stopping }
         ensures limit { (at : FullAt) → result ≡ Err (CellFault.Full at) →
@@ -60,11 +56,10 @@ impl<C: Core, T: Tx, E: Ledger, B: Ledger, F: Ledger> Cell<C, T, E, B, F> {
         ensures no_room { ((at : FullAt) → result ≢ Err (CellFault.Full at)) →
             MayAdd self.old.history event }
         ensures full { (at : FullAt) → result ≡ Err (CellFault.Full at) →
-            (share.new ≡ record share.old { full = true }) × (0 < self.new.full_seats) }
+            AreFull share.old share.new self.new }
         ensures first { (at : FullAt) → result ≡ Err (CellFault.Full at) →
             IsRefused self.old share.old self.new at }
-        ensures room_left { OnOk result ((self.new.full ≡ self.old.full)
-            × (self.new.full_seats ≡ self.old.full_seats)) }
+        ensures room_left { OnOk result (SameFull self.old self.new) }
         ensures memory { result ≡ Err CellFault.Memory →
             (share.new ≡ share.old) × (self.new ≡ self.old) }
         ensures err { OnErr result ((self.new.core ≡ self.old.core)

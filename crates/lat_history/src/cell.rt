@@ -1,8 +1,10 @@
 //! The cell.
 
-ghost use Rattle.std.specs.Prelude.{◌≡◌, ◌≤◌, [], length, true, false, None, IfOk};
+ghost use Rattle.std.specs.Prelude.{◌≡◌, ◌≤◌, length, true, IfOk};
+ghost use Rattle.lat_history.specs.CellView.{IsEmpty};
 ghost use Rattle.lat_history.specs.Counts.{ShowsLimit};
-ghost use Rattle.lat_history.specs.History.{IsRun, FramesOf, LastAre, run_of};
+ghost use Rattle.lat_history.specs.History.{IsRun, HasSent, state_of};
+ghost use Rattle.lat_history.specs.Ledgers.{AreBlanks};
 ghost use Rattle.lat_history.specs.Numbers.{Counted, FullIsShown};
 ghost use Rattle.lat_history.specs.Seats.{all_seats};
 
@@ -101,15 +103,9 @@ impl<C: Core, T: Tx, E: Ledger, B: Ledger, F: Ledger> Cell<C, T, E, B, F> {
         requires stands { C.stands core (C.opening core) }
         requires valid { C.valid core }
         requires lines { (1 ≤ lines) × (lines ≤ 64) }
-        requires names { (blanks.events.name ≡ E.name) × (blanks.bytes.name ≡ B.name)
-            × (blanks.full.name ≡ F.name) }
-        requires parts { (blanks.events.parts ≡ E.parts) × (blanks.bytes.parts ≡ B.parts)
-            × (blanks.full.parts ≡ F.parts) }
-        requires many { (E.parts ≡ 66) × (B.parts ≡ 66) × (F.parts ≡ 66) }
+        requires blanks { AreBlanks blanks E.name E.parts B.name B.parts F.name F.parts }
         ensures core { IfOk result (λ r. (r.0.core ≡ core) × (r.0.tx ≡ tx) × (r.0.sent ≡ 0)) }
-        ensures empty { IfOk result (λ r.
-            (r.0.history ≡ []) × (r.0.stopping ≡ false) × (r.0.full ≡ None)
-            × (r.0.full_seats ≡ 0)) }
+        ensures empty { IfOk result (λ r. IsEmpty r.0) }
         ensures shares { IfOk result (λ r. r.1 ≡ all_seats lines) }
     {
         let (books, shares) = opened::<E, B, F>(alloc, lines, blanks)?;
@@ -137,7 +133,7 @@ impl<C: Core, T: Tx, E: Ledger, B: Ledger, F: Ledger> Cell<C, T, E, B, F> {
         ensures value { result.now ≡ self.now.history }
         ensures most { length self.now.history ≤ 1000000 }
         ensures run { IsRun C.made C.opening C.stands C.next C.answer self.now.core self.now.history }
-        ensures frames { LastAre (T.tried self.now.tx) self.now.sent (FramesOf C.next C.frames (C.opening self.now.core) self.now.history) }
+        ensures frames { HasSent T.tried C.opening C.next C.frames self.now }
     {
         self.history.as_slice()
     }
@@ -178,27 +174,23 @@ impl<C: Core, T: Tx, E: Ledger, B: Ledger, F: Ledger> Cell<C, T, E, B, F> {
 
     /// The core's moment, in milliseconds.
     pub fn moment(&self) -> u64
-        ensures { result ≡ C.moment_of (run_of C.next (C.opening self.now.core) self.now.history) }
+        ensures { result ≡ C.moment_of (state_of C.opening C.next self.now) }
     {
         self.core.moment()
     }
 
     /// How many sessions of the core have become free.
     pub fn finished(&self) -> u32
-        ensures { result ≡ C.finished_of (run_of C.next
-            (C.opening self.now.core) self.now.history) }
+        ensures { result ≡ C.finished_of (state_of C.opening C.next self.now) }
     {
         self.core.finished()
     }
 
     /// What it shows of a line.
     pub fn look(&self, line: u8) -> Seen
-        ensures state { result.state ≡ C.line_of (run_of C.next
-            (C.opening self.now.core) self.now.history) line }
-        ensures waiting { result.waiting
-            ≡ C.waiting_of (run_of C.next (C.opening self.now.core) self.now.history) line }
-        ensures moment { result.moment
-            ≡ C.moment_of (run_of C.next (C.opening self.now.core) self.now.history) }
+        ensures state { result.state ≡ C.line_of (state_of C.opening C.next self.now) line }
+        ensures waiting { result.waiting ≡ C.waiting_of (state_of C.opening C.next self.now) line }
+        ensures moment { result.moment ≡ C.moment_of (state_of C.opening C.next self.now) }
         ensures stopping { result.stopping ≡ self.now.stopping }
     {
         Seen {

@@ -1,7 +1,7 @@
 //! What the shares of all seats say together.
 
 ghost use Rattle.std.specs.Prelude.{◌≡◌, ◌<◌, length, vec_len, sum_by};
-ghost use Rattle.lat_history.specs.CellView.{full_in};
+ghost use Rattle.lat_history.specs.CellView.{full_in, parts_of};
 ghost use Rattle.lat_history.specs.Counts.{bytes_put};
 
 use crate::cell::Cell;
@@ -15,13 +15,13 @@ impl<C: Core, T: Tx, E: Ledger, B: Ledger, F: Ledger> Cell<C, T, E, B, F> {
     /// say together, and that as many bytes were put; the cell is full exactly where one of them is.
     pub fn gather(&mut self, shares: Vec<LineShare<E, B, F>>)
         requires some { 0 < vec_len shares }
-        requires events { sum_by (λ s. s.parts) shares.items ≡ E.parts }
-        requires bytes { sum_by (λ s. s.parts) shares.items ≡ B.parts }
+        requires events { parts_of shares.items ≡ E.parts }
+        requires bytes { parts_of shares.items ≡ B.parts }
         ensures same { self.new ≡ self.old }
         ensures history { self.new.history ≡ self.old.history }
         ensures events { length self.new.history ≡ sum_by (λ s. s.events) shares.items }
         ensures bytes { bytes_put self.new.history ≡ sum_by (λ s. s.bytes) shares.items }
-        ensures full { sum_by (λ s. s.parts) shares.items ≡ F.parts →
+        ensures full { parts_of shares.items ≡ F.parts →
             self.new.full_seats ≡ sum_by full_in shares.items }
     {
         let mut shares = shares;

@@ -1,7 +1,7 @@
 //! The share of a seat.
 
 ghost use Rattle.std.specs.Prelude.{◌≡◌, ◌+◌, ◌*◌, ◌<◌, ℕ, false, true, if◌then◌else◌};
-ghost use Rattle.lat_history.specs.CellView.{full_in};
+ghost use Rattle.lat_history.specs.CellView.{full_in, with_event};
 
 use std::marker::Model;
 use std::sync::ledger::{Book, Ledger, Share};
@@ -113,10 +113,7 @@ impl<E: Ledger, B: Ledger, F: Ledger> LineShare<E, B, F> {
     // One more event, by which so many bytes were put.
     pub(crate) fn count(&mut self, events: &mut Book<E>, bytes: &mut Book<B>, put: u16)
         requires { (events.old.total < 2000000) × (bytes.old.total < 2000000 * 65536) }
-        ensures counts { self.new ≡ record self.old {
-          events = self.old.events + 1;
-          bytes = self.old.bytes + put;
-        } }
+        ensures counts { self.new ≡ with_event self.old put }
         ensures books { (events.new.total ≡ events.old.total + 1)
             × (bytes.new.total ≡ bytes.old.total + put) }
     {

@@ -1,7 +1,9 @@
 //! The ledgers, and the shares of the seats.
 
 ghost use Rattle.std.specs.Prelude.{◌≡◌, ◌+◌, ◌<◌, ◌≤◌, [], IfOk, vec_len, vec_capacity};
+ghost use Rattle.lat_history.specs.Ledgers.{AreBlanks};
 ghost use Rattle.lat_history.specs.Seats.{all_seats, fresh, seats_from};
+ghost use Rattle.lat_history.specs.Uncut.{EachParts, NoneCounted, SameParts};
 
 use crate::share::LineShare;
 use lat_base::Memory;
@@ -93,17 +95,14 @@ struct Uncut<E: Ledger, B: Ledger, F: Ledger> {
 impl<E: Ledger, B: Ledger, F: Ledger> Uncut<E, B, F> {
     // One part of each, for this seat.
     fn cut(&mut self, seat: u8) -> LineShare<E, B, F>
-        requires parts { (1 < self.old.events.parts)
-            × (self.old.bytes.parts ≡ self.old.events.parts)
-            × (self.old.full.parts ≡ self.old.events.parts) }
-        requires none { (self.old.events.amount ≡ 0) × (self.old.bytes.amount ≡ 0)
-            × (self.old.full.amount ≡ 0) }
+        requires more { 1 < self.old.events.parts }
+        requires parts { SameParts self.old }
+        requires none { NoneCounted self.old }
         ensures seat { result ≡ fresh seat 1 }
         ensures parts { (self.new.events.parts + 1 ≡ self.old.events.parts)
             × (self.new.bytes.parts + 1 ≡ self.old.bytes.parts)
             × (self.new.full.parts + 1 ≡ self.old.full.parts) }
-        ensures none { (self.new.events.amount ≡ 0) × (self.new.bytes.amount ≡ 0)
-            × (self.new.full.amount ≡ 0) }
+        ensures none { NoneCounted self.new }
     {
         LineShare::make(
             seat,
@@ -115,10 +114,9 @@ impl<E: Ledger, B: Ledger, F: Ledger> Uncut<E, B, F> {
 
     // All that are left, for this seat.
     fn last(self, seat: u8) -> LineShare<E, B, F>
-        requires parts { (0 < self.events.parts) × (self.bytes.parts ≡ self.events.parts)
-            × (self.full.parts ≡ self.events.parts) }
-        requires none { (self.events.amount ≡ 0) × (self.bytes.amount ≡ 0)
-            × (self.full.amount ≡ 0) }
+        requires some { 0 < self.events.parts }
+        requires parts { SameParts self }
+        requires none { NoneCounted self }
         ensures { result ≡ fresh seat self.events.parts }
     {
         LineShare::make(seat, self.events, self.bytes, self.full)
@@ -132,16 +130,12 @@ fn cut_lines<E: Ledger, B: Ledger, F: Ledger>(
     lines: u8,
 )
     requires lines { lines ≤ 64 }
-    requires parts { (uncut.old.events.parts ≡ 66) × (uncut.old.bytes.parts ≡ 66)
-        × (uncut.old.full.parts ≡ 66) }
-    requires none { (uncut.old.events.amount ≡ 0) × (uncut.old.bytes.amount ≡ 0)
-        × (uncut.old.full.amount ≡ 0) }
+    requires parts { EachParts (λ parts. parts ≡ 66) uncut.old }
+    requires none { NoneCounted uncut.old }
     requires room { (shares.old.items ≡ []) × (lines + 2 ≤ vec_capacity shares.old) }
     ensures shares { shares.new.items ≡ seats_from (lines + 1) 0 }
-    ensures parts { (uncut.new.events.parts + lines ≡ 65) × (uncut.new.bytes.parts + lines ≡ 65)
-        × (uncut.new.full.parts + lines ≡ 65) }
-    ensures none { (uncut.new.events.amount ≡ 0) × (uncut.new.bytes.amount ≡ 0)
-        × (uncut.new.full.amount ≡ 0) }
+    ensures parts { EachParts (λ parts. parts + lines ≡ 65) uncut.new }
+    ensures none { NoneCounted uncut.new }
     ensures room { (vec_len shares.new ≡ lines + 1) × (lines + 2 ≤ vec_capacity shares.new) }
 {
     for seat in 0..lines + 1 {
@@ -157,11 +151,7 @@ pub fn opened<E: Ledger, B: Ledger, F: Ledger>(
     blanks: Blanks,
 ) -> Result<(Books<E, B, F>, Shares<E, B, F>), Memory>
     requires lines { lines ≤ 64 }
-    requires names { (blanks.events.name ≡ E.name) × (blanks.bytes.name ≡ B.name)
-        × (blanks.full.name ≡ F.name) }
-    requires parts { (blanks.events.parts ≡ E.parts) × (blanks.bytes.parts ≡ B.parts)
-        × (blanks.full.parts ≡ F.parts) }
-    requires many { (E.parts ≡ 66) × (B.parts ≡ 66) × (F.parts ≡ 66) }
+    requires blanks { AreBlanks blanks E.name E.parts B.name B.parts F.name F.parts }
     ensures { IfOk result (λ r. r.1 ≡ all_seats lines) }
 {
     let mut shares = Vec::with_capacity(alloc, lines as usize + 2)?;

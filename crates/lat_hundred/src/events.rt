@@ -1,22 +1,34 @@
 //! The events.
 
+ghost use Rattle.std.specs.Prelude.{◌≡◌, true, is_ok};
+ghost use Rattle.lat_base.specs.Names.{name_read};
+
 use lat_base::{Addr, Bytes, Event, Memory, Name};
 use std::alloc::Global;
 
+/// Where the node is.
 pub const NODE: Addr = Addr([0xaa, 0x00, 0x04, 0x00, 0x02, 0x04]);
 
 /// Node VAX1 offers VAX, rated 200.
 const ANNOUNCEMENT: [u8; 19] = *b"\x28\x1e\x05\x01\x00\x00\x04VAX1\x00\x01\xc8\x03VAX\x00";
 
-fn name(bytes: &[u8]) -> Result<Name, Memory> {
-    Name::read(bytes).map_err(|_| Memory)
+/// The name that these bytes are.
+pub fn name(bytes: &[u8]) -> Name
+    requires { is_ok (name_read bytes.now) ≡ true }
+{
+    let Ok(name) = Name::read(bytes) else {
+        unreachable!()
+    };
+    name
 }
 
-fn connect(line: u8, service: &[u8]) -> Result<Event, Memory> {
-    Ok(Event::Connect {
+fn connect(line: u8, service: &[u8]) -> Event
+    requires { is_ok (name_read service.now) ≡ true }
+{
+    Event::Connect {
         line,
-        service: name(service)?,
-    })
+        service: name(service),
+    }
 }
 
 fn put(alloc: Global, line: u8, bytes: &[u8]) -> Result<Event, Memory> {
@@ -35,7 +47,7 @@ pub fn event_of(alloc: Global, number: u64) -> Result<Event, Memory> {
             payload: Bytes::copy(alloc, &ANNOUNCEMENT)?,
             now,
         }),
-        1 => connect(1, b"VAX"),
+        1 => Ok(connect(1, b"VAX")),
         2 => put(alloc, 1, b"hello"),
         3 => Ok(Event::Set {
             line: 1,
@@ -44,7 +56,7 @@ pub fn event_of(alloc: Global, number: u64) -> Result<Event, Memory> {
         4 => Ok(Event::Attend { line: 1, flag: 1 }),
         5 => Ok(Event::Time { now }),
         6 => Ok(Event::Take { line: 1, n: 16 }),
-        7 => connect(2, b"NONE"),
+        7 => Ok(connect(2, b"NONE")),
         8 => put(alloc, 2, b"x"),
         _ => Ok(Event::Announce),
     }

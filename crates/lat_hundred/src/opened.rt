@@ -1,11 +1,13 @@
 //! The cell, and its hundred events.
 
-ghost use Rattle.std.specs.Prelude.{◌≡◌, IfOk};
+ghost use Rattle.std.specs.Prelude.{◌≡◌};
+ghost use Rattle.lat_history.specs.Ledgers.{AreBlanks};
 ghost use Rattle.lat_server.specs.Config.{IsConfig};
 
+use crate::events::name;
 use crate::print::text_of;
 use crate::told::{Told, Wrong};
-use lat_base::{Addr, Memory, Name};
+use lat_base::Addr;
 use lat_history::{Blanks, Cell};
 use lat_outside::MemTx;
 use lat_server::{Offers, ServerConfig, ServerCore, Timing};
@@ -14,15 +16,12 @@ use std::sync::ledger::{Blank, Ledger};
 
 const EVENTS: u64 = 100;
 
-fn config(alloc: Global) -> Result<ServerConfig, Memory>
-    ensures { IfOk result IsConfig }
+fn config(alloc: Global) -> ServerConfig
+    ensures { IsConfig result }
 {
-    let Ok(name) = Name::read(b"TS1") else {
-        return Err(Memory);
-    };
-    Ok(ServerConfig {
+    ServerConfig {
         own: Addr([0xaa, 0x00, 0x04, 0x00, 0x01, 0x04]),
-        name,
+        name: name(b"TS1"),
         lines: 2,
         offers: Offers::new(alloc),
         groups: [0xff; 32],
@@ -34,9 +33,10 @@ fn config(alloc: Global) -> Result<ServerConfig, Memory>
             ceiling: 4,
             wide: false,
         },
-    })
+    }
 }
 
+/// Blanks of 66 parts, one for each seat.
 pub fn blanks() -> Blanks
     ensures { (result.events.parts ≡ 66) × (result.bytes.parts ≡ 66) × (result.full.parts ≡ 66) }
 {
@@ -52,13 +52,9 @@ pub fn played<E: Ledger, B: Ledger, F: Ledger>(
     alloc: Global,
     blanks: Blanks,
 ) -> Result<String, Wrong>
-    requires names { (blanks.events.name ≡ E.name) × (blanks.bytes.name ≡ B.name)
-        × (blanks.full.name ≡ F.name) }
-    requires parts { (blanks.events.parts ≡ E.parts) × (blanks.bytes.parts ≡ B.parts)
-        × (blanks.full.parts ≡ F.parts) }
-    requires many { (E.parts ≡ 66) × (B.parts ≡ 66) × (F.parts ≡ 66) }
+    requires blanks { AreBlanks blanks E.name E.parts B.name B.parts F.name F.parts }
 {
-    let core = ServerCore::make(alloc, &config(alloc)?)?;
+    let core = ServerCore::make(alloc, &config(alloc))?;
     let tx = MemTx::new(alloc, &[]);
     let (cell, shares) = Cell::<ServerCore, MemTx, E, B, F>::make(alloc, core, tx, 2, blanks)?;
     let mut told = Told {

@@ -1,4 +1,3 @@
-pub mod Ledgers
 pub mod Openings
 pub mod Printed
 pub mod Seating

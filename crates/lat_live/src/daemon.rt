@@ -1,6 +1,7 @@
 //! The call that does all that the program `latd` does.
 
 ghost use Rattle.std.specs.Prelude.{◌≡◌, ◌⊎◌, map, string_bytes, []};
+ghost use Rattle.lat_history.specs.Ledgers.{AreBlanks};
 ghost use Rattle.std.specs.Io.KnownBytes.{Appends};
 ghost use Rattle.lat_tariff.specs.Tariffs.{AreKnown};
 ghost use Rattle.lat_live.specs.declared.ran.Ran.TheVariants as ran;
@@ -67,11 +68,7 @@ pub fn serve<
 ) -> Served<H, P, O::T, O::L, E, B, F>
     requires fact { H.fact rule }
     requires rules { AreKnown P.fact tariff }
-    requires names { (blanks.events.name ≡ E.name) × (blanks.bytes.name ≡ B.name)
-        × (blanks.full.name ≡ F.name) }
-    requires parts { (blanks.events.parts ≡ E.parts) × (blanks.bytes.parts ≡ B.parts)
-        × (blanks.full.parts ≡ F.parts) }
-    requires many { (E.parts ≡ 66) × (B.parts ≡ 66) × (F.parts ≡ 66) }
+    requires blanks { AreBlanks blanks E.name E.parts B.name B.parts F.name F.parts }
     ensures wrong { result.status ≡ 1 → AreWrong (map string_bytes words.now) }
     ensures refused { AreWrong (map string_bytes words.now) → IsRefusal result.status }
     ensures written { result.status ≡ 1 → Appends (S.written out.old) (S.written out.new) refusal }

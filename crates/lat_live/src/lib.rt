@@ -14,7 +14,7 @@ mod serving;
 
 pub use daemon::serve;
 pub use lists::{Ends, Lines};
-pub use opening::OpenFault;
+pub use opening::StartFault;
 pub use ran::{Ran, Served};
 pub use seats::Given;
 pub use serving::{CoreServed, Plan, serve_core};

@@ -9,43 +9,43 @@ use std::alloc::{AllocError, Global};
 
 /// Why no worker was started.
 #[derive(Clone, Copy)]
-pub enum OpenFault {
+pub enum StartFault {
     /// The carrier or a line wasn't opened.
     Failed,
     /// No memory was found.
     Memory,
 }
 
-impl From<Failed> for OpenFault {
+impl From<Failed> for StartFault {
     ghost use Rattle.std.specs.Prelude.{◌≡◌};
-    ghost use Rattle.lat_live.specs.declared.opening.OpenFault.TheVariants as faults;
+    ghost use Rattle.lat_live.specs.declared.opening.StartFault.TheVariants as faults;
 
     ghost from_gives = { λ _ e. e ≡ faults.Failed };
 
-    fn from(_e: Failed) -> OpenFault {
-        OpenFault::Failed
+    fn from(_e: Failed) -> StartFault {
+        StartFault::Failed
     }
 }
 
-impl From<Memory> for OpenFault {
+impl From<Memory> for StartFault {
     ghost use Rattle.std.specs.Prelude.{◌≡◌};
-    ghost use Rattle.lat_live.specs.declared.opening.OpenFault.TheVariants as faults;
+    ghost use Rattle.lat_live.specs.declared.opening.StartFault.TheVariants as faults;
 
     ghost from_gives = { λ _ e. e ≡ faults.Memory };
 
-    fn from(_e: Memory) -> OpenFault {
-        OpenFault::Memory
+    fn from(_e: Memory) -> StartFault {
+        StartFault::Memory
     }
 }
 
-impl From<AllocError> for OpenFault {
+impl From<AllocError> for StartFault {
     ghost use Rattle.std.specs.Prelude.{◌≡◌};
-    ghost use Rattle.lat_live.specs.declared.opening.OpenFault.TheVariants as faults;
+    ghost use Rattle.lat_live.specs.declared.opening.StartFault.TheVariants as faults;
 
     ghost from_gives = { λ _ e. e ≡ faults.Memory };
 
-    fn from(_e: AllocError) -> OpenFault {
-        OpenFault::Memory
+    fn from(_e: AllocError) -> StartFault {
+        StartFault::Memory
     }
 }
 
@@ -55,11 +55,11 @@ pub fn open_lines<O: Opener>(
     opener: &mut O,
     first: u16,
     count: u8,
-) -> Result<Vec<O::L>, OpenFault>
+) -> Result<Vec<O::L>, StartFault>
     requires { first + count ≤ 65536 }
     ensures count { IfOk result (λ lines. vec_len lines ≡ count) }
     ensures later { O.faults opener.old ≤ O.faults opener.new }
-    ensures fault { result ≡ Err OpenFault.Failed →
+    ensures fault { result ≡ Err StartFault.Failed →
         Rose (O.faults opener.old) (O.faults opener.new) }
 {
     let mut lines = Vec::with_capacity(alloc, count as usize)?;

@@ -1,6 +1,7 @@
 //! What a daemon does in each role, once its words are read.
 
 ghost use Rattle.std.specs.Prelude.{◌≡◌, ◌⊎◌, [], IfSome};
+ghost use Rattle.lat_history.specs.Ledgers.{AreBlanks};
 ghost use Rattle.lat_words.specs.Configs.{Within};
 ghost use Rattle.lat_tariff.specs.Tariffs.{AreKnown};
 ghost use Rattle.lat_live.specs.declared.ran.Ran.TheVariants as ran;
@@ -69,11 +70,7 @@ pub fn serve_in_role<
     requires within { Within config.now.role config.now.lines }
     requires fact { H.fact rule }
     requires rules { AreKnown P.fact tariff }
-    requires names { (blanks.events.name ≡ E.name) × (blanks.bytes.name ≡ B.name)
-        × (blanks.full.name ≡ F.name) }
-    requires parts { (blanks.events.parts ≡ E.parts) × (blanks.bytes.parts ≡ B.parts)
-        × (blanks.full.parts ≡ F.parts) }
-    requires many { (E.parts ≡ 66) × (B.parts ≡ 66) × (F.parts ≡ 66) }
+    requires blanks { AreBlanks blanks E.name E.parts B.name B.parts F.name F.parts }
     ensures role { IfSome (role_of result.ran) (λ role. role ≡ config.now.role) }
     ensures ended { HasPrinted S.written S.faults out.old out.new result }
     ensures back { IsBack O.L.faults config.now.lines.count result }

@@ -1,12 +1,13 @@
 //! The call that does all that a daemon does once its words are read and its core is made.
 
 ghost use Rattle.std.specs.Prelude.{◌≡◌, ◌≢◌, ◌⊎◌, ◌+◌, ◌≤◌, length, IfOk, None, Err};
+ghost use Rattle.lat_history.specs.Ledgers.{AreBlanks};
 ghost use Rattle.lat_outside.specs.Causes.{Rose};
 ghost use Rattle.lat_live.specs.Printed.{printed, IsOwn, IsPrinted, RoseIn};
 ghost use Rattle.lat_live.specs.Seating.{AreFresh, IsNothing};
 ghost use Rattle.lat_live.specs.Served.{CoreHasPrinted, CoreIsBack};
 
-use crate::opening::{OpenFault, open_lines};
+use crate::opening::{StartFault, open_lines};
 use crate::running::{Ending, run_all};
 use crate::seats::{Given, Seated, take_seats};
 use lat_base::{Addr, Core, Memory, Name};
@@ -63,19 +64,15 @@ fn opened<O: Opener, C: Core, E: Ledger, B: Ledger, F: Ledger>(
     core: Result<C, Memory>,
     blanks: Blanks,
     opener: &mut O,
-) -> Result<Start<C, O::T, O::R, O::L, E, B, F>, OpenFault>
+) -> Result<Start<C, O::T, O::R, O::L, E, B, F>, StartFault>
     requires made { IfOk core (λ c. C.made (C.opening c)) }
     requires stands { IfOk core (λ c. C.stands c (C.opening c)) }
     requires valid { IfOk core C.valid }
     requires lines { (1 ≤ plan.now.lines) × (plan.now.lines ≤ 64)
         × (plan.now.line_port + plan.now.lines ≤ 65536) }
-    requires names { (blanks.events.name ≡ E.name) × (blanks.bytes.name ≡ B.name)
-        × (blanks.full.name ≡ F.name) }
-    requires parts { (blanks.events.parts ≡ E.parts) × (blanks.bytes.parts ≡ B.parts)
-        × (blanks.full.parts ≡ F.parts) }
-    requires many { (E.parts ≡ 66) × (B.parts ≡ 66) × (F.parts ≡ 66) }
+    requires blanks { AreBlanks blanks E.name E.parts B.name B.parts F.name F.parts }
     ensures fresh { IfOk result (λ s. AreFresh plan.now.lines s.seated s.given) }
-    ensures fault { result ≡ Err OpenFault.Failed →
+    ensures fault { result ≡ Err StartFault.Failed →
         Rose (O.faults opener.old) (O.faults opener.new) }
 {
     let core = core?;
@@ -210,11 +207,7 @@ pub fn serve_core<
     requires valid { IfOk core C.valid }
     requires lines { (1 ≤ plan.now.lines) × (plan.now.lines ≤ 64)
         × (plan.now.line_port + plan.now.lines ≤ 65536) }
-    requires names { (blanks.events.name ≡ E.name) × (blanks.bytes.name ≡ B.name)
-        × (blanks.full.name ≡ F.name) }
-    requires parts { (blanks.events.parts ≡ E.parts) × (blanks.bytes.parts ≡ B.parts)
-        × (blanks.full.parts ≡ F.parts) }
-    requires many { (E.parts ≡ 66) × (B.parts ≡ 66) × (F.parts ≡ 66) }
+    requires blanks { AreBlanks blanks E.name E.parts B.name B.parts F.name F.parts }
     ensures ended { CoreHasPrinted S.written S.faults out.old out.new result }
     ensures back { CoreIsBack O.L.faults plan.now.lines result }
     ensures own { IsOwn result.status ⊎ ((result.status ≡ 4) ⊎ (result.status ≡ 5)) }
@@ -227,7 +220,7 @@ pub fn serve_core<
 {
     match opened::<O, C, E, B, F>(alloc, plan, core, blanks, opener) {
         Ok(start) => run_started(rt, alloc, plan, start, clock, gate, out),
-        Err(OpenFault::Failed) => not_run(alloc, 4),
-        Err(OpenFault::Memory) => not_run(alloc, 9),
+        Err(StartFault::Failed) => not_run(alloc, 4),
+        Err(StartFault::Memory) => not_run(alloc, 9),
     }
 }

@@ -2,7 +2,8 @@
 //! status.
 #![tactic(auto)]
 
-ghost use Rattle.std.specs.Prelude.{◌≡◌, ◌-◌, ◌≤◌, codes, min};
+ghost use Rattle.std.specs.Prelude.{◌≡◌, codes};
+ghost use Rattle.lat_history.specs.Ledgers.{AreBlanks};
 ghost use Rattle.lat_tariff.specs.Tariffs.{AreKnown};
 
 mod rates;
@@ -11,7 +12,7 @@ use crate::rates::{NineWhileFree, TwentyPerFreeLine};
 use lat_base::Name;
 use lat_cell::Blanks;
 use lat_live::{Served, serve};
-use lat_node::{RateHook, RatingRule};
+use lat_node::{FreeLines, RatingRule};
 use lat_outside::{FreeGate, LineEnd, StdSink, Tx};
 use lat_tariff::{Rule, SteadyRule, Tariff};
 use lat_udp::{NetOpener, RealClock};
@@ -64,11 +65,7 @@ fn status_by<
 >(rt: &R, alloc: Global, words: &[String], blanks: Blanks, rule: H, tariff: Tariff<P>) -> u8
     requires fact { H.fact rule }
     requires rules { AreKnown P.fact tariff }
-    requires names { (blanks.events.name ≡ E.name) × (blanks.bytes.name ≡ B.name)
-        × (blanks.full.name ≡ F.name) }
-    requires parts { (blanks.events.parts ≡ E.parts) × (blanks.bytes.parts ≡ B.parts)
-        × (blanks.full.parts ≡ F.parts) }
-    requires many { (E.parts ≡ 66) × (B.parts ≡ 66) × (F.parts ≡ 66) }
+    requires blanks { AreBlanks blanks E.name E.parts B.name B.parts F.name F.parts }
 {
     let mut opener = NetOpener::new(*rt);
     let clock = RealClock::new(*rt);
@@ -112,17 +109,8 @@ fn status<
         + Send
         + Sync,
 >(rt: &R, alloc: Global, words: &[String], blanks: Blanks) -> Result<u8, AllocError>
-    requires names { (blanks.events.name ≡ E.name) × (blanks.bytes.name ≡ B.name)
-        × (blanks.full.name ≡ F.name) }
-    requires parts { (blanks.events.parts ≡ E.parts) × (blanks.bytes.parts ≡ B.parts)
-        × (blanks.full.parts ≡ F.parts) }
-    requires many { (E.parts ≡ 66) × (B.parts ≡ 66) × (F.parts ≡ 66) }
+    requires blanks { AreBlanks blanks E.name E.parts B.name B.parts F.name F.parts }
 {
-    let rule = |used: u16, max: u16| -> u8
-        requires { used ≤ max }
-        ensures { result ≡ min (max - used) 255 }
-    { (max - used).min(255) as u8 };
-    let hook = RateHook::new(rule);
     let (login, print) = services();
     let per_line: Box<dyn SteadyRule + Send> = Box::new(alloc, TwentyPerFreeLine)?;
     let while_free: Box<dyn SteadyRule + Send> = Box::new(alloc, NineWhileFree)?;
@@ -136,7 +124,7 @@ fn status<
         rule: while_free,
     })?;
     let tariff = Tariff::make(rules);
-    Ok(status_by::<_, _, E, B, F, R>(rt, alloc, words, blanks, hook, tariff))
+    Ok(status_by::<_, _, E, B, F, R>(rt, alloc, words, blanks, FreeLines, tariff))
 }
 
 fn main(rt: HostRuntime) -> ExitCode {

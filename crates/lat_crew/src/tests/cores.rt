@@ -10,8 +10,10 @@ use lat_queue::Services16;
 use lat_server::{Offers, ServerConfig, Timing};
 use std::alloc::Global;
 
+/// Where the server is.
 pub const SERVER_ADDRESS: Addr = Addr([0xaa, 0x00, 0x04, 0x00, 0x01, 0x04]);
 
+/// Where the node is.
 pub const NODE_ADDRESS: Addr = Addr([0xaa, 0x00, 0x04, 0x00, 0x02, 0x04]);
 
 /// How many lines each of them has.
@@ -26,6 +28,7 @@ const TIMING: Timing = Timing {
     wide: false,
 };
 
+/// A server of this name with the lines of the tests, which offers nothing.
 pub fn server(alloc: Global, name: Name) -> ServerConfig
     ensures { servers.IsConfig result }
 {

@@ -1,6 +1,7 @@
 //! The workers of a cell in threads.
 
 ghost use Rattle.std.specs.Prelude.{◌≡◌};
+ghost use Rattle.lat_history.specs.Ledgers.{AreBlanks};
 
 use super::cores::LINES;
 use super::far::Far;
@@ -225,11 +226,7 @@ pub fn run<
     requires made { C.made (C.opening core) }
     requires stands { C.stands core (C.opening core) }
     requires valid { C.valid core }
-    requires names { (blanks.events.name ≡ E.name) × (blanks.bytes.name ≡ B.name)
-        × (blanks.full.name ≡ F.name) }
-    requires parts { (blanks.events.parts ≡ E.parts) × (blanks.bytes.parts ≡ B.parts)
-        × (blanks.full.parts ≡ F.parts) }
-    requires many { (E.parts ≡ 66) × (B.parts ≡ 66) × (F.parts ≡ 66) }
+    requires blanks { AreBlanks blanks E.name E.parts B.name B.parts F.name F.parts }
 {
     let tx = FarTx {
         rt: place.rt,

@@ -2,7 +2,7 @@
 
 ghost use Rattle.std.specs.Prelude.{◌≡◌};
 ghost use Rattle.lat_tariff.specs.Tariffs.{AreKnown};
-ghost use Rattle.lat_live.specs.Ledgers.{AreBlanks};
+ghost use Rattle.lat_history.specs.Ledgers.{AreBlanks};
 
 use lat_base::{Bytes, Memory};
 use lat_cell::Blanks;
@@ -66,11 +66,7 @@ fn served<
 ) -> (u8, Lines<O::L>)
     requires fact { H.fact rule }
     requires rules { AreKnown P.fact tariff }
-    requires names { (blanks.events.name ≡ E.name) × (blanks.bytes.name ≡ B.name)
-        × (blanks.full.name ≡ F.name) }
-    requires parts { (blanks.events.parts ≡ E.parts) × (blanks.bytes.parts ≡ B.parts)
-        × (blanks.full.parts ≡ F.parts) }
-    requires many { (E.parts ≡ 66) × (B.parts ≡ 66) × (F.parts ≡ 66) }
+    requires blanks { AreBlanks blanks E.name E.parts B.name B.parts F.name F.parts }
 {
     kept(serve::<_, _, _, _, _, _, E, B, F, R>(
         rt, alloc, words, blanks, opener, clock, gate, rule, tariff, out,

@@ -1,14 +1,14 @@
 //! A server and a node at once, over the loopback address.
 
 ghost use Rattle.std.specs.Prelude.{◌≡◌, ◌<◌};
-ghost use Rattle.lat_live.specs.Ledgers.{AreBlanks};
+ghost use Rattle.lat_history.specs.Ledgers.{AreBlanks};
 
 use super::daemon::daemon;
-use super::free::Free;
 use super::steady::whole_tariff;
 use super::threads::blanks;
 use lat_base::{Memory, Name};
 use lat_cell::Blanks;
+use lat_node::FreeLines;
 use lat_outside::FreeGate;
 use lat_udp::{NetOpener, RealClock};
 use std::alloc::Global;
@@ -129,7 +129,7 @@ fn real<
         &mut opener,
         clock,
         &FreeGate,
-        Free,
+        FreeLines,
         tariff,
         &[],
     )?;

@@ -21,6 +21,7 @@ pub struct Opens {
 }
 
 impl Opens {
+    /// No call yet; that of this number fails, and none where it is 0.
     pub fn new(failing: u8) -> Opens {
         Opens {
             made: 0,

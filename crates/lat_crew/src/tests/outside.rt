@@ -46,6 +46,7 @@ fn is_set(sign: &AtomicU64) -> bool {
 }
 
 impl Signs {
+    /// Nothing is signed yet.
     pub fn new() -> Signs {
         Signs {
             given: AtomicU64::new(0),
@@ -56,10 +57,12 @@ impl Signs {
         }
     }
 
+    /// Whether line 1 waited in vain.
     pub fn is_late(&self) -> bool {
         is_set(&self.late)
     }
 
+    /// Whether a send has failed.
     pub fn has_lost(&self) -> bool {
         is_set(&self.lost)
     }

@@ -3,17 +3,17 @@
 
 ghost use Rattle.std.specs.Prelude.{◌≡◌};
 ghost use Rattle.lat_tariff.specs.Tariffs.{AreKnown};
-ghost use Rattle.lat_live.specs.Ledgers.{AreBlanks};
+ghost use Rattle.lat_history.specs.Ledgers.{AreBlanks};
 
 use super::daemon::{Came, daemon};
 use super::far::Far;
-use super::free::Free;
 use super::opener::{FarOpener, Opens};
 use super::outside::{RoundClock, RoundGate, RoundLine, Signs};
 use super::steady::whole_tariff;
 use super::threads::{announced_node, blanks};
 use lat_base::{Core, Memory, Name};
 use lat_cell::Blanks;
+use lat_node::FreeLines;
 use lat_tariff::{SteadyRule, Tariff};
 use std::alloc::Global;
 use std::marker::Brand;
@@ -202,7 +202,7 @@ fn over<
         &mut opener,
         clock,
         &gate,
-        Free,
+        FreeLines,
         tariff,
         case.writes,
     )?;

@@ -3,17 +3,17 @@
 //! carrier fails at each of its sends in turn.
 
 ghost use Rattle.std.specs.Prelude.{◌≡◌, IfOk};
+ghost use Rattle.lat_history.specs.Ledgers.{AreBlanks};
 ghost use Rattle.lat_server.specs.Kept.{AtRest};
 ghost use Rattle.lat_server.specs.Stands.{IsMachine, opening};
 
 use super::cores::{LINES, node, server};
 use super::crew::{Came, Place, run};
 use super::far::Far;
-use super::free::Free;
 use super::outside::Signs;
 use lat_base::{Core, Event, Memory, Name};
 use lat_cell::Blanks;
-use lat_node::NodeCore;
+use lat_node::{FreeLines, NodeCore};
 use lat_outside::MemTx;
 use lat_server::ServerCore;
 use std::alloc::Global;
@@ -38,8 +38,8 @@ fn fresh_server(alloc: Global) -> Result<ServerCore, Memory>
 }
 
 /// A node behind its first announcement.
-pub fn announced_node(alloc: Global, service: &Name) -> Result<Far<NodeCore<Free>>, Memory> {
-    let core = NodeCore::make(alloc, &node(alloc, name(b"VAX1")?, service)?, Free)?;
+pub fn announced_node(alloc: Global, service: &Name) -> Result<Far<NodeCore<FreeLines>>, Memory> {
+    let core = NodeCore::make(alloc, &node(alloc, name(b"VAX1")?, service)?, FreeLines)?;
     let mut far = Far::new(alloc, core, LINES)?;
     far.tell(alloc, &Event::Announce)?;
     Ok(far)
@@ -60,11 +60,7 @@ fn played<
     fails: u64,
     blanks: Blanks,
 ) -> Option<(Came, bool, bool)>
-    requires names { (blanks.events.name ≡ E.name) × (blanks.bytes.name ≡ B.name)
-        × (blanks.full.name ≡ F.name) }
-    requires parts { (blanks.events.parts ≡ E.parts) × (blanks.bytes.parts ≡ B.parts)
-        × (blanks.full.parts ≡ F.parts) }
-    requires many { (E.parts ≡ 66) × (B.parts ≡ 66) × (F.parts ≡ 66) }
+    requires blanks { AreBlanks blanks E.name E.parts B.name B.parts F.name F.parts }
 {
     let (far, signs, failing) = (Mutex::new(far), Signs::new(), [fails]);
     let place = Place {
@@ -88,15 +84,11 @@ fn one<E: Ledger + Sync, B: Ledger + Sync, F: Ledger + Sync, R: Threads + Wait +
     fails: u64,
     blanks: Blanks,
 ) -> Option<(Came, bool, bool)>
-    requires names { (blanks.events.name ≡ E.name) × (blanks.bytes.name ≡ B.name)
-        × (blanks.full.name ≡ F.name) }
-    requires parts { (blanks.events.parts ≡ E.parts) × (blanks.bytes.parts ≡ B.parts)
-        × (blanks.full.parts ≡ F.parts) }
-    requires many { (E.parts ≡ 66) × (B.parts ≡ 66) × (F.parts ≡ 66) }
+    requires blanks { AreBlanks blanks E.name E.parts B.name B.parts F.name F.parts }
 {
     let service = Name::read(b"VAX").ok()?;
     let far = announced_node(alloc, &service).ok()?;
-    played::<NodeCore<Free>, E, B, F, R>(rt, alloc, far, service, fails, blanks)
+    played::<NodeCore<FreeLines>, E, B, F, R>(rt, alloc, far, service, fails, blanks)
 }
 
 /// Blanks of 66 parts.

@@ -1,6 +1,7 @@
 //! One cell after another, without threads.
 
 ghost use Rattle.std.specs.Prelude.{◌≡◌};
+ghost use Rattle.lat_history.specs.Ledgers.{AreBlanks};
 
 use super::echo::Echo;
 use super::outside::FailingTx;
@@ -40,11 +41,7 @@ fn make_cell<T: Tx, E: Ledger, B: Ledger, F: Ledger>(
     tx: T,
     blanks: Blanks,
 ) -> Option<OpenCell<T, E, B, F>>
-    requires names { (blanks.events.name ≡ E.name) × (blanks.bytes.name ≡ B.name)
-        × (blanks.full.name ≡ F.name) }
-    requires parts { (blanks.events.parts ≡ E.parts) × (blanks.bytes.parts ≡ B.parts)
-        × (blanks.full.parts ≡ F.parts) }
-    requires many { (E.parts ≡ 66) × (B.parts ≡ 66) × (F.parts ≡ 66) }
+    requires blanks { AreBlanks blanks E.name E.parts B.name B.parts F.name F.parts }
 {
     let (cell, shares) = Cell::<Echo, T, E, B, F>::make(alloc, Echo::new(), tx, 1, blanks).ok()?;
     let mut shares = shares.into_vec();
@@ -80,11 +77,7 @@ struct Filled {
 }
 
 fn fill_cell<E: Ledger, B: Ledger, F: Ledger>(alloc: Global, blanks: Blanks) -> Option<Filled>
-    requires names { (blanks.events.name ≡ E.name) × (blanks.bytes.name ≡ B.name)
-        × (blanks.full.name ≡ F.name) }
-    requires parts { (blanks.events.parts ≡ E.parts) × (blanks.bytes.parts ≡ B.parts)
-        × (blanks.full.parts ≡ F.parts) }
-    requires many { (E.parts ≡ 66) × (B.parts ≡ 66) × (F.parts ≡ 66) }
+    requires blanks { AreBlanks blanks E.name E.parts B.name B.parts F.name F.parts }
 {
     let tx = MemTx::new(alloc, &[]);
     let OpenCell {
@@ -112,11 +105,7 @@ fn audited<E: Ledger, B: Ledger, F: Ledger>(
     alloc: Global,
     blanks: Blanks,
 ) -> Option<(bool, Option<SeatFault>)>
-    requires names { (blanks.events.name ≡ E.name) × (blanks.bytes.name ≡ B.name)
-        × (blanks.full.name ≡ F.name) }
-    requires parts { (blanks.events.parts ≡ E.parts) × (blanks.bytes.parts ≡ B.parts)
-        × (blanks.full.parts ≡ F.parts) }
-    requires many { (E.parts ≡ 66) × (B.parts ≡ 66) × (F.parts ≡ 66) }
+    requires blanks { AreBlanks blanks E.name E.parts B.name B.parts F.name F.parts }
 {
     let tx = MemTx::new(alloc, &[]);
     let OpenCell {
@@ -146,11 +135,7 @@ fn put_three<T: Tx, E: Ledger, B: Ledger, F: Ledger>(
     tx: T,
     blanks: Blanks,
 ) -> Option<usize>
-    requires names { (blanks.events.name ≡ E.name) × (blanks.bytes.name ≡ B.name)
-        × (blanks.full.name ≡ F.name) }
-    requires parts { (blanks.events.parts ≡ E.parts) × (blanks.bytes.parts ≡ B.parts)
-        × (blanks.full.parts ≡ F.parts) }
-    requires many { (E.parts ≡ 66) × (B.parts ≡ 66) × (F.parts ≡ 66) }
+    requires blanks { AreBlanks blanks E.name E.parts B.name B.parts F.name F.parts }
 {
     let OpenCell {
         mut cell,
@@ -170,11 +155,7 @@ fn tried<E: Ledger, B: Ledger, F: Ledger>(
     fails: u64,
     blanks: Blanks,
 ) -> Option<(u64, usize)>
-    requires names { (blanks.events.name ≡ E.name) × (blanks.bytes.name ≡ B.name)
-        × (blanks.full.name ≡ F.name) }
-    requires parts { (blanks.events.parts ≡ E.parts) × (blanks.bytes.parts ≡ B.parts)
-        × (blanks.full.parts ≡ F.parts) }
-    requires many { (E.parts ≡ 66) × (B.parts ≡ 66) × (F.parts ≡ 66) }
+    requires blanks { AreBlanks blanks E.name E.parts B.name B.parts F.name F.parts }
 {
     let tried = AtomicU64::new(0);
     let tx = FailingTx {
@@ -193,11 +174,7 @@ fn failed<E: Ledger, B: Ledger, F: Ledger, R: Wait>(
     alloc: Global,
     blanks: Blanks,
 ) -> Option<(LineDone, u64, u64, u64)>
-    requires names { (blanks.events.name ≡ E.name) × (blanks.bytes.name ≡ B.name)
-        × (blanks.full.name ≡ F.name) }
-    requires parts { (blanks.events.parts ≡ E.parts) × (blanks.bytes.parts ≡ B.parts)
-        × (blanks.full.parts ≡ F.parts) }
-    requires many { (E.parts ≡ 66) × (B.parts ≡ 66) × (F.parts ≡ 66) }
+    requires blanks { AreBlanks blanks E.name E.parts B.name B.parts F.name F.parts }
 {
     let tx = MemTx::new(alloc, &[]);
     let OpenCell { cell, line, .. } = make_cell::<MemTx, E, B, F>(alloc, tx, blanks)?;
