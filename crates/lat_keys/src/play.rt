@@ -30,6 +30,7 @@ impl<C: Core> Model for Post<C> {
 }
 
 impl<C: Core> Post<C> {
+    /// A core at this address, which has done nothing.
     pub fn new(core: C, own: Addr) -> Post<C>
         requires { C.valid core }
     {
@@ -42,6 +43,7 @@ impl<C: Core> Post<C> {
         self.core.step(alloc, event, out)
     }
 
+    /// The core, to be asked.
     pub fn core(&self) -> &C
         ensures { C.valid result.now }
     {
@@ -68,6 +70,7 @@ pub struct Play<H: RatingRule> {
 }
 
 impl<H: RatingRule> Play<H> {
+    /// The switch and the node, before their first event.
     pub fn new(alloc: Global, switch: Post<SwitchCore>, node: Post<NodeCore<H>>) -> Play<H> {
         Play {
             switch,

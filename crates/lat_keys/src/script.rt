@@ -1,19 +1,17 @@
 //! The blocks of a script, in order.
 
-ghost use Rattle.std.specs.Prelude.{◌≡◌, ◌≤◌, ◌-◌, min};
 ghost use Rattle.lat_schedule.specs.Setups.{IsSetup};
 
 use crate::play::{Play, Post};
 use lat_base::Memory;
-use lat_node::{NodeCore, RateHook, RatingRule};
+use lat_node::{FreeLines, NodeCore};
 use lat_schedule::{Schedule, ScheduleFault, Setup, read_schedule};
 use lat_switch::{SwitchConfig, SwitchCore};
 use std::alloc::Global;
 
-// Makes both; the node's ratings are the rule's.
-fn opened<H: RatingRule>(alloc: Global, setup: &Setup, rule: H) -> Result<Play<H>, Memory>
-    requires setup { IsSetup setup.now }
-    requires rule { H.fact rule }
+// Makes both; the node rates by the lines that are left.
+fn opened(alloc: Global, setup: &Setup) -> Result<Play<FreeLines>, Memory>
+    requires { IsSetup setup.now }
 {
     let config = SwitchConfig {
         own: setup.server.own,
@@ -23,35 +21,21 @@ fn opened<H: RatingRule>(alloc: Global, setup: &Setup, rule: H) -> Result<Play<H
         timing: setup.server.timing,
     };
     let switch = Post::new(SwitchCore::make(alloc, &config)?, config.own);
-    let node = Post::new(NodeCore::make(alloc, &setup.node, rule)?, setup.node.own);
+    let node = Post::new(
+        NodeCore::make(alloc, &setup.node, FreeLines)?,
+        setup.node.own,
+    );
     Ok(Play::new(alloc, switch, node))
 }
 
-fn play_by<H: RatingRule>(
-    alloc: Global,
-    schedule: &Schedule,
-    rule: H,
-    text: &mut String,
-) -> Result<(), Memory>
-    requires setup { IsSetup schedule.now.setup }
-    requires rule { H.fact rule }
+fn play(alloc: Global, schedule: &Schedule, text: &mut String) -> Result<(), Memory>
+    requires { IsSetup schedule.now.setup }
 {
-    let mut play = opened(alloc, &schedule.setup, rule)?;
+    let mut play = opened(alloc, &schedule.setup)?;
     for event in schedule.events.as_slice() {
         play.told(alloc, event, text)?;
     }
     Ok(())
-}
-
-// The rule is the least of 255 and the lines that are left.
-fn play(alloc: Global, schedule: &Schedule, text: &mut String) -> Result<(), Memory>
-    requires { IsSetup schedule.now.setup }
-{
-    let rule = |used: u16, max: u16| -> u8
-        requires { used ≤ max }
-        ensures { result ≡ min (max - used) 255 }
-    { (max - used).min(255) as u8 };
-    play_by(alloc, schedule, RateHook::new(rule), text)
 }
 
 fn block_onto(alloc: Global, block: &str, text: &mut String) -> Result<(), Memory> {

@@ -2,6 +2,7 @@
 #![tactic(auto)]
 
 mod acts;
+mod answers;
 mod calls;
 mod events;
 mod getters;
@@ -10,6 +11,7 @@ mod opening;
 mod reap;
 mod seat;
 
+pub use answers::hearing_answer;
 pub use events::line_call;
 pub use lat_circuits::{Asked, Hearing, SessionCall, Timing};
 pub use lines::Lines;

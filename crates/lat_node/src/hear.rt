@@ -9,7 +9,6 @@ ghost use Rattle.lat_machines.specs.values.Addresses.{address, everyone};
 ghost use Rattle.lat_machines.specs.values.Events.{Hears};
 ghost use Rattle.lat_machines.specs.values.Frames.{Reading, Whole, OfNotice};
 ghost use Rattle.lat_circuit.specs.Frames.{message_shown};
-ghost use Rattle.lat_circuits.specs.Hears.{hearing_shown};
 ghost use Rattle.lat_lines.specs.Answers.{answer_shown, IsPlain};
 ghost use Rattle.lat_payload.specs.Reads as reads;
 ghost use Rattle.lat_value.specs.Texts as texts;
@@ -24,7 +23,7 @@ use crate::node::NodeCore;
 use lat_base::{Addr, Answer, Memory, OutBox};
 use lat_fields::LayoutFault;
 use lat_frames::Message;
-use lat_lines::Hearing;
+use lat_lines::hearing_answer;
 use lat_notices::Notice;
 use lat_payload::{Value, is_everyone, read_value};
 use std::alloc::Global;
@@ -221,17 +220,5 @@ impl<H: RatingRule> NodeCore<H> {
                 Ok(Answer::Ignored)
             }
         }
-    }
-}
-
-// What is answered to a circuit message.
-fn hearing_answer(hearing: Hearing) -> Answer
-    ensures value { answer_shown result ≡ hearing_shown hearing }
-    ensures plain { IsPlain result }
-{
-    match hearing {
-        Hearing::Circuit(heard) => Answer::Circuit(heard),
-        Hearing::Started(id) => Answer::Started(id),
-        Hearing::Refused => Answer::StartRefused,
     }
 }

@@ -1,4 +1,4 @@
-//! Rules of rating, and the closure that is one.
+//! Rules of rating: a closure, and the lines that are left.
 
 ghost use Rattle.std.specs.Prelude.{◌≡◌, ◌≤◌, ℕ};
 ghost use Rattle.lat_node.specs.Rules.{TellsFullness, HookFact};
@@ -50,5 +50,24 @@ impl<F: Fn(u16, u16) -> u8 + Drop> RatingRule for RateHook<F> {
 
     fn rate(&self, used: u16, max: u16) -> u8 {
         (self.rule)(used, max)
+    }
+}
+
+/// The rule that rates by the lines that are left: the least of 255 and their number.
+#[derive(Drop)]
+pub struct FreeLines;
+
+impl RatingRule for FreeLines {
+    ghost use Rattle.std.specs.Prelude.{◌≡◌, ◌-◌, min};
+    ghost use Rattle.std.proofs.Common.{rules};
+
+    ghost may = { λ rule used max rating. rating ≡ min (max - used) 255 };
+
+    ghost fact = { λ rule. Unit {0} };
+
+    ghost full = { Prim.search rules };
+
+    fn rate(&self, used: u16, max: u16) -> u8 {
+        (max - used).min(255) as u8
     }
 }

@@ -12,6 +12,6 @@ mod requests;
 mod step;
 
 pub use config::NodeConfig;
-pub use hook::{RateHook, RatingRule};
+pub use hook::{FreeLines, RateHook, RatingRule};
 pub use lat_lines::Timing;
 pub use node::NodeCore;

@@ -36,6 +36,7 @@ impl<C: Station> Post<C> {
         Post { core, own, lines }
     }
 
+    /// Its address.
     pub fn own(&self) -> Addr {
         self.own
     }
@@ -47,18 +48,22 @@ impl<C: Station> Post<C> {
         self.core.told(alloc, event, out)
     }
 
+    /// The state of a line's session; free where there is no such line.
     pub fn state(&self, line: u8) -> SessionState {
         self.core.line(line)
     }
 
+    /// How many items wait at a line; 0 where there is no such line.
     pub fn waiting(&self, line: u8) -> u16 {
         self.core.waiting(line)
     }
 
+    /// The core's moment, in milliseconds.
     pub fn moment(&self) -> u64 {
         self.core.moment()
     }
 
+    /// How many of its sessions have become free.
     pub fn finished(&self) -> u32 {
         self.core.finished()
     }
@@ -71,18 +76,22 @@ impl<C: Station> Post<C> {
         Some(self.core.book(line))
     }
 
+    /// Whether a RUN from this address, with this destination and this source, names a living circuit.
     pub fn names(&self, from: Addr, to: u16, source: u16) -> bool {
         self.core.names(from, to, source)
     }
 
+    /// How far the message numbers of a living circuit count.
     pub fn span(&self, circuit: u16) -> Option<Span> {
         self.core.span(circuit)
     }
 
+    /// The record of a request at this place, where the core keeps records.
     pub fn record_at(&self, place: usize) -> Option<Record> {
         self.core.record_at(place)
     }
 
+    /// How many lines have a session, where the core tells it.
     pub fn used(&self) -> Option<u16> {
         self.core.used()
     }

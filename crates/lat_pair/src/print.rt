@@ -79,6 +79,7 @@ pub fn span_word(span: Option<Span>) -> &'static str {
     }
 }
 
+/// The line of an answer that is yes or no.
 pub fn yes_word(yes: bool) -> &'static str {
     if yes { "yes\n" } else { "no\n" }
 }

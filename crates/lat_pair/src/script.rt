@@ -1,13 +1,13 @@
 //! The blocks of a script, in order.
 
-ghost use Rattle.std.specs.Prelude.{◌≡◌, ◌≤◌, ◌-◌, min};
+ghost use Rattle.std.specs.Prelude.{◌≡◌};
 
 use crate::play::{Play, Side};
 use crate::post::Post;
 use crate::setup::Setup;
 use crate::station::Station;
 use lat_base::Memory;
-use lat_node::{NodeCore, RateHook, RatingRule};
+use lat_node::{FreeLines, NodeCore};
 use lat_script::{Part, ScriptFault, is_command, line_behind, refused_onto, word};
 use lat_server::ServerCore;
 use std::alloc::Global;
@@ -60,28 +60,11 @@ fn play_cores<S: Station, N: Station>(
     play.act_all(alloc, lines, text)
 }
 
-// Makes both cores; the node's ratings are the rule's.
-fn play_by<H: RatingRule>(
-    alloc: Global,
-    setup: &Setup,
-    rule: H,
-    lines: Part,
-    text: &mut String,
-) -> Result<(), Memory>
-    requires { H.fact rule }
-{
-    let server = ServerCore::make(alloc, &setup.server)?;
-    let node = NodeCore::make(alloc, &setup.node, rule)?;
-    play_cores(alloc, setup, server, node, lines, text)
-}
-
-// The rule is the least of 255 and the lines that are left.
+// Makes both cores; the node rates by the lines that are left.
 fn play(alloc: Global, setup: &Setup, lines: Part, text: &mut String) -> Result<(), Memory> {
-    let rule = |used: u16, max: u16| -> u8
-        requires { used ≤ max }
-        ensures { result ≡ min (max - used) 255 }
-    { (max - used).min(255) as u8 };
-    play_by(alloc, setup, RateHook::new(rule), lines, text)
+    let server = ServerCore::make(alloc, &setup.server)?;
+    let node = NodeCore::make(alloc, &setup.node, FreeLines)?;
+    play_cores(alloc, setup, server, node, lines, text)
 }
 
 // What the lines before `go` say.

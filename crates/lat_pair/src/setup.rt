@@ -61,7 +61,7 @@ impl Setup {
     /// What they are made of where nothing is said.
     pub fn usual(alloc: Global) -> Result<Setup, Memory> {
         let (Ok(server), Ok(node)) = (Name::read(b"TS1"), Name::read(b"VAX1")) else {
-            return Err(Memory);
+            unreachable!()
         };
         Ok(Setup {
             server: ServerConfig {

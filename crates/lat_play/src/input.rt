@@ -5,6 +5,7 @@ ghost use Rattle.std.specs.Prelude.{◌≤◌, length};
 use lat_base::Memory;
 use std::alloc::Global;
 
+/// The input of the program's next runs: lines of text.
 #[derive(Drop)]
 pub struct Input {
     pub bytes: Vec<u8>,

@@ -1,12 +1,10 @@
 //! The lines of a file, in order.
 
-ghost use Rattle.std.specs.Prelude.{◌≡◌, ◌≤◌, ◌-◌, min};
-ghost use Rattle.lat_wire.specs.Rates.{RatesWhatIsLeft};
-
 use crate::input::Input;
 use crate::words::behind;
 use lat_base::Memory;
-use lat_cmd::{RateHook, RatingRule, run};
+use lat_cmd::run;
+use lat_node::FreeLines;
 use lat_outside::{MemSink, MemSource};
 use lat_script::{ScriptFault, bytes, is_command, number, refused_onto, word};
 use std::alloc::Global;
@@ -58,27 +56,9 @@ fn words_of(alloc: Global, line: &str) -> Result<Vec<String>, Memory> {
     Ok(words)
 }
 
-// Runs the program, whose node rates its services by this rule, and gives its status.
-fn status_by<H: RatingRule>(
-    alloc: Global,
-    words: &[String],
-    rule: H,
-    source: &mut MemSource,
-    sink: &mut MemSink,
-) -> u8
-    requires fact { H.fact rule }
-    requires rates { RatesWhatIsLeft (H.may rule) }
-{
-    run(alloc, words, rule, source, sink).status
-}
-
-// Runs the program with the rule of rating that it has: the least of 255 and the lines that are left.
+// Runs the program, whose node rates its services by the lines that are left, and gives its status.
 fn status_of(alloc: Global, words: &[String], source: &mut MemSource, sink: &mut MemSink) -> u8 {
-    let rule = |used: u16, max: u16| -> u8
-        requires { used ≤ max }
-        ensures { result ≡ min (max - used) 255 }
-    { (max - used).min(255) as u8 };
-    status_by(alloc, words, RateHook::new(rule), source, sink)
+    run(alloc, words, FreeLines, source, sink).status
 }
 
 // How many line feeds there are, and the sum over all bytes: taken 31 times before each byte is added.

@@ -34,6 +34,7 @@ fn print(alloc: Global, frame: &OutFrame, text: &mut String) -> Result<(), Memor
 }
 
 impl<C: Core> Play<C> {
+    /// A node that has done nothing.
     pub fn new(core: C) -> Play<C>
         requires { C.valid core }
     {

@@ -1,5 +1,7 @@
 //! The blocks of a script, in order.
 
+ghost use Rattle.std.specs.Prelude.{◌≡◌, true, is_ok};
+ghost use Rattle.lat_base.specs.Names.{name_read};
 ghost use Rattle.lat_tariff.specs.Tariffs.{AreKnown};
 
 use crate::play::Play;
@@ -21,19 +23,25 @@ const USUAL: Timing = Timing {
     wide: false,
 };
 
-// The name that these bytes are. They are always one here.
-fn name(bytes: &[u8]) -> Result<Name, Memory> {
-    Name::read(bytes).map_err(|_| Memory)
+// The name that these bytes are.
+fn name(bytes: &[u8]) -> Name
+    requires { is_ok (name_read bytes.now) ≡ true }
+{
+    let Ok(name) = Name::read(bytes) else {
+        unreachable!()
+    };
+    name
 }
 
 // One rule more.
 fn add<R: SteadyRule>(rules: &mut Vec<Rule<R>>, service: &[u8], rule: R) -> Result<(), Memory>
     requires known { AreKnown R.fact rules.old.items }
     requires fact { R.fact rule }
+    requires named { is_ok (name_read service.now) ≡ true }
     ensures known { AreKnown R.fact rules.new.items }
 {
     rules.push(Rule {
-        name: name(service)?,
+        name: name(service),
         rule,
     })?;
     Ok(())
@@ -56,7 +64,7 @@ fn play<R: SteadyRule>(
     let tariff = Tariff::make(rules);
     let config = NodeConfig {
         own: NODE,
-        name: name(b"VAX1")?,
+        name: name(b"VAX1"),
         incarnation: 1,
         lines: lines.clamp(1, 64),
         services: tariff.names(alloc)?,

@@ -1,6 +1,7 @@
 //! How the two ends begin.
 
-ghost use Rattle.std.specs.Prelude.{◌≡◌, ◌+◌, ◌<◌, ◌≤◌, [], true, length, IfOk};
+ghost use Rattle.std.specs.Prelude.{◌≡◌, ◌+◌, ◌<◌, ◌≤◌, [], true, is_ok, length, IfOk};
+ghost use Rattle.lat_base.specs.Names.{name_read};
 ghost use Rattle.lat_frames.specs.Conditions.{InfoFits};
 ghost use Rattle.lat_circuit.specs.Agrees.{IsTiming};
 
@@ -54,9 +55,14 @@ fn timing_of(line: &str) -> Result<Timing, ScriptFault>
     Ok(bounded(numbers, word(line, 6) == "word"))
 }
 
-// The name that these bytes are. They are always one here.
-fn name(bytes: &[u8]) -> Result<Name, Memory> {
-    Name::read(bytes).map_err(|_| Memory)
+// The name that these bytes are.
+fn name(bytes: &[u8]) -> Name
+    requires { is_ok (name_read bytes.now) ≡ true }
+{
+    let Ok(name) = Name::read(bytes) else {
+        unreachable!()
+    };
+    name
 }
 
 /// The server TS1 and the node VAX1, with the numbers that a line states.
@@ -65,7 +71,7 @@ pub fn setup_of(line: &str) -> Result<Setup, ScriptFault>
     ensures slave { IfOk result (λ setup. IsTiming setup.slave.timing) }
 {
     let timing = timing_of(line)?;
-    let (server, node) = (name(b"TS1")?, name(b"VAX1")?);
+    let (server, node) = (name(b"TS1"), name(b"VAX1"));
     Ok(Setup {
         master: CircuitConfig {
             own: SERVER,

@@ -6,6 +6,7 @@ use lat_script::{end_onto, mark_onto};
 use lat_show::show;
 use std::alloc::{AllocError, Global};
 
+/// Adds what came of a moment to the text.
 pub fn due_onto(text: &mut String, due: Due) -> Result<(), AllocError> {
     match due {
         Due::Quiet => text.push_str("quiet\n"),
@@ -14,6 +15,7 @@ pub fn due_onto(text: &mut String, due: Due) -> Result<(), AllocError> {
     }
 }
 
+/// The word of a refused call.
 pub fn fault_word(fault: SessionFault) -> &'static str {
     match fault {
         SessionFault::Full => "full\n",
@@ -33,6 +35,7 @@ pub fn count_onto(
     }
 }
 
+/// Adds a call's answer to the text.
 pub fn done_onto(text: &mut String, answer: Result<(), SessionFault>) -> Result<(), AllocError> {
     match answer {
         Ok(()) => text.push_str("done\n"),
@@ -48,6 +51,7 @@ pub fn ended_onto(text: &mut String, end: Option<SessionEnd>) -> Result<(), Allo
     }
 }
 
+/// Adds a number that may be missing to the text.
 pub fn maybe_onto(text: &mut String, value: Option<u8>) -> Result<(), AllocError> {
     match value {
         Some(value) => write!(text, "{value}\n"),

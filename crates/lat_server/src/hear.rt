@@ -5,7 +5,6 @@ ghost use Rattle.lat_frames.specs.Written.{IsWritable};
 ghost use Rattle.lat_machines.specs.values.Addresses.{address};
 ghost use Rattle.lat_machines.specs.server.Server.{tells, hears_message, hears_announcement, hears_notice, hears};
 ghost use Rattle.lat_base.specs.declared.outbox.OutFrame.{OutFrame};
-ghost use Rattle.lat_circuits.specs.Hears.{hearing_shown};
 ghost use Rattle.lat_lines.specs.Answers.{answer_shown, IsPlain};
 ghost use Rattle.lat_machines.specs.values.Frames.{Whole};
 ghost use Rattle.lat_dir.specs.declared.directory.DirFault.TheVariants as faults;
@@ -23,22 +22,10 @@ use lat_base::{Addr, Answer, Memory, OutBox};
 use lat_dir::DirFault;
 use lat_fields::LayoutFault;
 use lat_frames::Message;
-use lat_lines::Hearing;
+use lat_lines::hearing_answer;
 use lat_notices::{Announcement, Notice};
 use lat_payload::{Value, is_everyone, read_value};
 use std::alloc::Global;
-
-// What a circuit message is answered.
-fn answer_heard(hearing: Hearing) -> Answer
-    ensures shown { answer_shown result ≡ hearing_shown hearing }
-    ensures told { IsPlain result }
-{
-    match hearing {
-        Hearing::Circuit(heard) => Answer::Circuit(heard),
-        Hearing::Started(id) => Answer::Started(id),
-        Hearing::Refused => Answer::StartRefused,
-    }
-}
 
 // What an announcement is answered.
 fn answer_announced(heard: Result<bool, DirFault>) -> Result<Answer, Memory>
@@ -137,7 +124,7 @@ impl ServerCore {
         ensures most { length out.new ≤ length out.old + 1 }
     {
         self.lines.pass(now);
-        answer_heard(self.lines.heard(from, message, out))
+        hearing_answer(self.lines.heard(from, message, out))
     }
 
     fn hear_notice(

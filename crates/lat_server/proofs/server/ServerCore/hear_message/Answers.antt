@@ -26,6 +26,6 @@ returns-clause-does c = λ s st.
     let side : lines.side_of c.pass.new.self ≡ server_side (config_of k) = sides k.lines c.pass.new.self c.pass.ensures.same ∙ sym (same_side k c.self.invariant.server) in
     let did : stands.HasStepped m (heard_core (server_side (config_of k)) x message m).doing c.heard.new.self c.args.out.now c.heard.new.out =
     subst (λ (z : Side). stands.HasStepped m (heard_core z x message m).doing c.heard.new.self c.args.out.now c.heard.new.out) side (c.heard.ensures.did m there) in
-    let told : answer_shown c.answer_heard.result ≡ (heard_core (server_side (config_of k)) x message m).answer = c.answer_heard.ensures.shown ∙ c.heard.ensures.answer m there ∙ ap (λ (z : Side). (heard_core z x message m).answer) side in
-    subst (λ (z : Kept). HasDone s (hears_message (config_of z) (with_core s m) x message None) (record k { lines = c.heard.new.self }) c.answer_heard.result c.args.out.now c.heard.new.out) c.self.view_is
-    (did_message k s c.args.now x message c.heard.new.self c.answer_heard.result c.args.out.now c.heard.new.out in_it did told)
+    let told : answer_shown c.hearing_answer.result ≡ (heard_core (server_side (config_of k)) x message m).answer = c.hearing_answer.ensures.value ∙ c.heard.ensures.answer m there ∙ ap (λ (z : Side). (heard_core z x message m).answer) side in
+    subst (λ (z : Kept). HasDone s (hears_message (config_of z) (with_core s m) x message None) (record k { lines = c.heard.new.self }) c.hearing_answer.result c.args.out.now c.heard.new.out) c.self.view_is
+    (did_message k s c.args.now x message c.heard.new.self c.hearing_answer.result c.args.out.now c.heard.new.out in_it did told)
