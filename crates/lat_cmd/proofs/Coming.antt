@@ -18,7 +18,7 @@ use Rattle.lat_replay.specs.Played.{State, Played, Through, Refused, open_state,
 use Rattle.lat_growth.specs.Grown as gen
 use Rattle.lat_cmd.specs.declared.command.Command.{Command}
 use Rattle.lat_cmd.specs.declared.command.Command.TheVariants.{Show, Choose, Replay, Capture, Settle, Audit, Gen, Bench}
-use Rattle.lat_cmd.specs.Answers.{Ended, Answer, Tale, plain, with_world, told_to, told_of, told_at, told_behind, reported, captured, settled}
+use Rattle.lat_cmd.specs.Answers.{Ended, Answer, Tale, plain, with_world, told_to, answered_of, told_at, answered_behind, reported, captured, settled}
 use Rattle.lat_cmd.specs.Answers.{settled_to, gen_of, bench_of, answer_to, HandsBack}
 use Rattle.lat_cmd.specs.Commands.{ComesTo, makes_world}
 
@@ -68,8 +68,8 @@ played_fits tale u first (Refused index (faults.NoFrame place sent) t) told = (i
 played_fits tale u first (Refused index (faults.Old acknowledgement number newest) t) told = (inr (inr (inl refl)), refl)
 played_fits tale u first (Refused index faults.Memory t) told = (inr (inr (inr refl)), refl)
 
-of_fits : (tale : Tale) (s : Schedule) → ((u : Setups) (t : State) → Fits Replay (tale u t)) → Fits Replay (told_of tale s)
-unfolding told_of
+of_fits : (tale : Tale) (s : Schedule) → ((u : Setups) (t : State) → Fits Replay (tale u t)) → Fits Replay (answered_of tale s)
+unfolding answered_of
 of_fits tale s told =
     let u : Setups = setups_shown s.setup in
     played_fits tale u s.first (played u (open_state u) s.events) (told u)
@@ -84,8 +84,8 @@ schedule_fits tale (Ok s) told =
     let P : Result Schedule ScheduleFault → Type 0 = λ x. Fits Replay (told_at tale x) in
     either P (nat_lt 100000 (length s.events)) _ _ (inr (inr (inr refl)), refl) (of_fits tale s told)
 
-tale_fits : (tale : Tale) (input : List ℕ) → ((u : Setups) (t : State) → Fits Replay (tale u t)) → Fits Replay (told_behind tale input)
-unfolding told_behind
+tale_fits : (tale : Tale) (input : List ℕ) → ((u : Setups) (t : State) → Fits Replay (tale u t)) → Fits Replay (answered_behind tale input)
+unfolding answered_behind
 tale_fits tale input told = schedule_fits tale (schedules.schedule_at (record { number = 1; lines = lines_of input })) told
 
 grown_fits : (text : List ℕ) (u : Setups) (t : State) → ((with_world text u t).status ≡ 0) × (is_some (with_world text u t).world ≡ true)

@@ -25,7 +25,7 @@ use Rattle.lat_replay.specs.Played.{State, open_state, next, refusal, Played, Th
 use Rattle.lat_cmd.specs.declared.course.Course.{Course}
 use Rattle.lat_cmd.specs.declared.course.Course.TheVariants as courses
 use Rattle.lat_cmd.specs.declared.outcome.Outcome.{Outcome}
-use Rattle.lat_cmd.specs.Answers.{Answer, Tale, plain, misread, told_to, told_of, told_at, told_behind}
+use Rattle.lat_cmd.specs.Answers.{Answer, Tale, plain, misread, told_to, answered_of, told_at, answered_behind}
 use Rattle.lat_cmd.specs.Courses.{Leaves, Runs}
 use Rattle.lat_cmd.specs.Outcomes.{IsOutcome}
 use Rattle.lat_cmd.proofs.Coming.{none_of}
@@ -38,8 +38,8 @@ opens k stands moment = record { machines = stands; moment = moment }
 -- a schedule that is played whole
 through :
     (tale : Tale) (s : Schedule) (u v : Setups) (t : State) → u ≡ setups_shown s.setup → v ≡ u → played u (open_state u) s.events ≡ Through t →
-    told_of tale s ≡ tale v t
-unfolding told_of
+    answered_of tale s ≡ tale v t
+unfolding answered_of
 through tale s u v t made same all =
     let w : Setups = setups_shown s.setup in
     let here : played w (open_state w) s.events ≡ Through t = subst (λ x. played x (open_state x) s.events ≡ Through t) made all in
@@ -60,7 +60,7 @@ pub runs_through :
     {H : Type 0} (s : Schedule) (k new : Kept H) (es : List WorldEvent) → IsSetup s.setup → Each (IsEvent s.setup.server.own) s.events →
     setups_of k ≡ setups_shown s.setup → es ≡ s.events → setups_of new ≡ setups_of k →
     (t : State) × (played (setups_of k) (open_state (setups_of k)) es ≡ Through t) × StandsAt new t →
-    Runs (λ tale. told_of tale s) (courses.Through new)
+    Runs (λ tale. answered_of tale s) (courses.Through new)
 runs_through s k new es setup events made are same p =
     let u : Setups = setups_of k in
     let all : played u (open_state u) s.events ≡ Through p.0 = subst (λ (xs : List WorldEvent). played u (open_state u) xs ≡ Through p.0) are p.1 in
@@ -97,8 +97,8 @@ below u s es n f t other by = let h : n < 0 + length es = below_from u 0 s es n 
 refuses :
     {H : Type 0} (tale : Tale) (s : Schedule) (u : Setups) (t : State) (index line : ℕ) (fault : EventFault) (r : Refused) (o : Outcome H) →
     u ≡ setups_shown s.setup → played u (open_state u) s.events ≡ plays.Refused index fault t → r ≡ refused_of fault → line ≡ s.first + index →
-    IsOutcome (plain (status r, refused_text line r)) o → IsOutcome (told_of tale s) o
-unfolding told_of
+    IsOutcome (plain (status r, refused_text line r)) o → IsOutcome (answered_of tale s) o
+unfolding answered_of
 refuses tale s u t index line fault r o made all same at is =
     let w : Setups = setups_shown s.setup in
     let there : played w (open_state w) s.events ≡ plays.Refused index fault t =
@@ -111,7 +111,7 @@ refuses tale s u t index line fault r o made all same at is =
 pub runs_stopped :
     {H : Type 0} (s : Schedule) (u : Setups) (es : List WorldEvent) (index line : ℕ) (fault : EventFault) (r : Refused) (t : State) (o : Outcome H) →
     u ≡ setups_shown s.setup → es ≡ s.events → StopsBy u (open_state u) es index fault t → fault ≢ faults.Memory → r ≡ refused_of fault →
-    line ≡ s.first + index → IsOutcome (plain (status r, refused_text line r)) o → Runs (λ tale. told_of tale s) (courses.Stopped o)
+    line ≡ s.first + index → IsOutcome (plain (status r, refused_text line r)) o → Runs (λ tale. answered_of tale s) (courses.Stopped o)
 runs_stopped s u es index line fault r t o made are by other same at is = (
   none_of o.world is.world,
   λ tale. refuses tale s u t index line fault r o made
@@ -122,20 +122,20 @@ runs_stopped s u es index line fault r t o made are by other same at is = (
 -- a text that is a schedule
 read_course :
     {H : Type 0} (x : Result Schedule ScheduleFault) (input : List ℕ) (c : Course H) → x ≡ schedule_of input → Runs (λ tale. told_at tale x) c →
-    Runs (λ tale. told_behind tale input) c
-unfolding told_behind
+    Runs (λ tale. answered_behind tale input) c
+unfolding answered_behind
 read_course x input c is runs = subst (λ (z : Result Schedule ScheduleFault). Runs (λ tale. told_at tale z) c) is runs
 
 pub read_as :
     {H : Type 0} (s : Schedule) (input : List ℕ) (r : Result (Course H) memory.Memory) → ReadsSchedule (Ok s) input →
-    IfOk r (λ course. Runs (λ tale. told_of tale s) course) → IfOk r (λ course. Runs (λ tale. told_behind tale input) course)
+    IfOk r (λ course. Runs (λ tale. answered_of tale s) course) → IfOk r (λ course. Runs (λ tale. answered_behind tale input) course)
 read_as s input (Ok c) reads runs = read_course (Ok s) input c reads runs
 read_as s input (Err e) reads runs = tt
 
 -- one that is none
 pub misread_as :
     {H : Type 0} (fault : ScheduleFault) (input : List ℕ) (o : Outcome H) → ReadsSchedule (Err fault) input → fault ≢ reading.Memory →
-    IsOutcome (misread fault) o → Runs (λ tale. told_behind tale input) (courses.Stopped o)
+    IsOutcome (misread fault) o → Runs (λ tale. answered_behind tale input) (courses.Stopped o)
 misread_as (reading.Form line) input o reads other is =
     read_course (Err (reading.Form line)) input (courses.Stopped o) reads (none_of o.world is.world, λ tale. is)
 misread_as (reading.Events line) input o reads other is =

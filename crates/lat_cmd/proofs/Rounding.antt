@@ -7,7 +7,7 @@ use Rattle.lat_rounds.specs.Lossless.{Lossless}
 use Rattle.lat_rounds.specs.Settles.{Enough, Settled}
 use Rattle.lat_settle.specs.Rounds as rounds
 use Rattle.lat_settle.specs.Laws.{BeginsAt, IsFullOrMemory}
-use Rattle.lat_settle.specs.Texts.{told_of, Prints}
+use Rattle.lat_settle.specs.Texts.{rounds_text, Prints}
 use Rattle.lat_settle.proofs.Refusing.{enough_settle, full_or_memory}
 use Rattle.lat_report.specs.RefusedText.{status}
 use Rattle.lat_wire.specs.declared.fault.EventFault.{EventFault}
@@ -18,7 +18,7 @@ use Rattle.lat_replay.specs.Refusals.{refused_of}
 use Rattle.lat_cmd.specs.declared.course.Course.{Course}
 use Rattle.lat_cmd.specs.declared.course.Course.TheVariants as courses
 use Rattle.lat_cmd.specs.declared.outcome.Outcome.{Outcome}
-use Rattle.lat_cmd.specs.Answers.{Ended, Answer, Tale, told_behind, reported, settled, settled_to, settle_of, HandsBack}
+use Rattle.lat_cmd.specs.Answers.{Ended, Answer, Tale, answered_behind, reported, settled, settled_to, settle_of, HandsBack}
 use Rattle.lat_cmd.specs.Courses.{Runs}
 use Rattle.lat_cmd.specs.Laws.{SettleTakesAll}
 use Rattle.lat_cmd.specs.Outcomes.{IsOutcome}
@@ -33,8 +33,8 @@ settled_done u t count (Through b) k o e same prints done is =
     let w : (x : State) × (rounds.settled u t count ≡ Through x) × StandsAt k x = prints.world done in
     let one : Through b ≡ Through w.0 = sym e ∙ w.1 in
     let state : b ≡ w.0 = cc in
-    is_with_world (told_of u t.machines (Through b)).1 u b k o done
-    (prints.text ∙ ap (λ z. (told_of u t.machines z).1) e) is same (subst (λ x. StandsAt k x) (sym state) w.2)
+    is_with_world (rounds_text u t.machines (Through b)).1 u b k o done
+    (prints.text ∙ ap (λ z. (rounds_text u t.machines z).1) e) is same (subst (λ x. StandsAt k x) (sym state) w.2)
 settled_done u t count (Refused round fault b) k o e same prints done is =
     let w : (x : State) × (rounds.settled u t count ≡ Through x) × StandsAt k x = prints.world done in
     let one : Refused round fault b ≡ Through w.0 = sym e ∙ w.1 in
@@ -44,11 +44,11 @@ settled_done u t count (Refused round fault b) k o e same prints done is =
 settled_stopped :
     {H : Type 0} (u : Setups) (t : State) (count : ℕ) (p : Played) (k : Kept H) (o : Outcome H) → rounds.settled u t count ≡ p →
     Prints u t count o.status [] (string_bytes o.text) k → o.status ≢ 0 → o.world ≡ None → IsOutcome (settled_to u t p) o
-settled_stopped u t count (Through b) k o e prints not is = absurd (not (prints.status ∙ ap (λ z. (told_of u t.machines z).0) e))
+settled_stopped u t count (Through b) k o e prints not is = absurd (not (prints.status ∙ ap (λ z. (rounds_text u t.machines z).0) e))
 settled_stopped u t count (Refused round fault b) k o e prints not is =
-    is_plain (told_of u t.machines (Refused round fault b)) o
-    (prints.status ∙ ap (λ z. (told_of u t.machines z).0) e)
-    (prints.text ∙ ap (λ z. (told_of u t.machines z).1) e) is
+    is_plain (rounds_text u t.machines (Refused round fault b)) o
+    (prints.status ∙ ap (λ z. (rounds_text u t.machines z).0) e)
+    (prints.text ∙ ap (λ z. (rounds_text u t.machines z).1) e) is
 
 -- the same, as calls give it
 pub is_settled :
@@ -142,15 +142,15 @@ unfolding settled
 takes_all u t count e all some = settled_takes u t count (rounds.settled u t count) e refl all some
 
 pub settle_through :
-    {H : Type 0} (input : List ℕ) (count : ℕ) (c : Course H) (k : Kept H) → c ≡ courses.Through k → Runs (λ tale. told_behind tale input) c →
+    {H : Type 0} (input : List ℕ) (count : ℕ) (c : Course H) (k : Kept H) → c ≡ courses.Through k → Runs (λ tale. answered_behind tale input) c →
     SettleTakesAll count input (settle_of count input).status
 settle_through input count c k is runs =
-    let q : Runs (λ tale. told_behind tale input) (courses.Through k) = subst (λ (x : Course _). Runs (λ tale. told_behind tale input) x) is runs in
+    let q : Runs (λ tale. answered_behind tale input) (courses.Through k) = subst (λ (x : Course _). Runs (λ tale. answered_behind tale input) x) is runs in
     let u : Setups = setups_of k in
-    let so : told_behind (settled count) input ≡ settled count u q.0 = q.3 (settled count) in
+    let so : answered_behind (settled count) input ≡ settled count u q.0 = q.3 (settled count) in
     λ before one lossless.
     let same : Lossless u q.0.machines =
-    same_end (λ x. Lossless x.setups x.state.machines) before (record { setups = u; state = q.0 }) (told_behind reported input).world one
+    same_end (λ x. Lossless x.setups x.state.machines) before (record { setups = u; state = q.0 }) (answered_behind reported input).world one
     (ap (λ (a : Answer). a.world) (q.3 reported) ∙ reported_world u q.0) lossless in
     record {
       passes = subst (λ (a : Answer). a.status ≢ 3) (sym so) (passes u q.0 count (q.2.begins same));
@@ -159,9 +159,9 @@ settle_through input count c k is runs =
     }
 
 pub settle_stopped :
-    {H : Type 0} (input : List ℕ) (count : ℕ) (c : Course H) (o : Outcome H) → c ≡ courses.Stopped o → Runs (λ tale. told_behind tale input) c →
+    {H : Type 0} (input : List ℕ) (count : ℕ) (c : Course H) (o : Outcome H) → c ≡ courses.Stopped o → Runs (λ tale. answered_behind tale input) c →
     SettleTakesAll count input (settle_of count input).status
-settle_stopped input count c o is runs = λ before one lossless. absurd (not_stopped (λ tale. told_behind tale input) c o reported before is runs one)
+settle_stopped input count c o is runs = λ before one lossless. absurd (not_stopped (λ tale. answered_behind tale input) c o reported before is runs one)
 
 pub if_ok_all : {A E : Type 0} (P : Type 0) (r : Result A E) → P → IfOk r (λ a. P)
 if_ok_all P (Ok a) p = p

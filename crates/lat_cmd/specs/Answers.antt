@@ -58,41 +58,41 @@ abbrev pub told_to : Tale → Setups → (first : ℕ) → Played → Answer
 told_to tale u first (Through t) = tale u t
 told_to tale u first (Refused index fault t) = plain (status (refused_of fault), refused_text (first + index) (refused_of fault))
 
-unfoldable pub told_of : Tale → Schedule → Answer
-told_of tale s = told_to tale (setups_shown s.setup) s.first (played (setups_shown s.setup) (open_state (setups_shown s.setup)) s.events)
+unfoldable pub answered_of : Tale → Schedule → Answer
+answered_of tale s = told_to tale (setups_shown s.setup) s.first (played (setups_shown s.setup) (open_state (setups_shown s.setup)) s.events)
 
 abbrev pub told_at : Tale → Result Schedule ScheduleFault → Answer
-told_at tale (Ok s) = told_of tale s
+told_at tale (Ok s) = answered_of tale s
 told_at tale (Err fault) = misread fault
 
 -- what a command on schedules answers to a text
-unfoldable pub told_behind : Tale → List ℕ → Answer
-told_behind tale input = told_at tale (schedule_of input)
+unfoldable pub answered_behind : Tale → List ℕ → Answer
+answered_behind tale input = told_at tale (schedule_of input)
 
 -- the report, with the world
 unfoldable pub reported : Tale
 reported u t = with_world (report_text (report u t.machines)) u t
 
 abbrev pub replay_of : List ℕ → Answer
-replay_of input = told_behind reported input
+replay_of input = answered_behind reported input
 
 -- what is captured of circuit p of the server, with the world
 unfoldable pub captured : (p : ℕ) → Tale
 captured p u t = with_world (captured_text u t.machines p) u t
 
 abbrev pub capture_of : (p : ℕ) → List ℕ → Answer
-capture_of p input = told_behind (captured p) input
+capture_of p input = answered_behind (captured p) input
 
 -- where rounds lead from a state: to the report of the world behind them, or to the line of the round in which an event is refused
 abbrev pub settled_to : Setups → State → Played → Answer
-settled_to u t (Through behind) = with_world (texts.told_of u t.machines (Through behind)).1 u behind
-settled_to u t (Refused round fault before) = plain (texts.told_of u t.machines (Refused round fault before))
+settled_to u t (Through behind) = with_world (texts.rounds_text u t.machines (Through behind)).1 u behind
+settled_to u t (Refused round fault before) = plain (texts.rounds_text u t.machines (Refused round fault before))
 
 unfoldable pub settled : (count : ℕ) → Tale
 settled count u t = settled_to u t (rounds.settled u t count)
 
 abbrev pub settle_of : (count : ℕ) → List ℕ → Answer
-settle_of count input = told_behind (settled count) input
+settle_of count input = answered_behind (settled count) input
 
 unfoldable pub gen_of : ℕ → Answer
 gen_of seed = with_world (gen.gen_text seed) gen.setups (gen.grown seed).state

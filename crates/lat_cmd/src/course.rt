@@ -7,7 +7,7 @@ ghost use Rattle.lat_schedule.specs.Events.{IsEvent};
 ghost use Rattle.lat_schedule.specs.Setups.{IsSetup};
 ghost use Rattle.lat_schedule.specs.declared.schedule.ScheduleFault.TheVariants as reading;
 ghost use Rattle.lat_wire.specs.Rates.{RatesWhatIsLeft};
-ghost use Rattle.lat_cmd.specs.Answers.{plain, misread, told_of, told_behind};
+ghost use Rattle.lat_cmd.specs.Answers.{plain, misread, answered_of, answered_behind};
 ghost use Rattle.lat_cmd.specs.Outcomes.{IsOutcome};
 ghost use Rattle.lat_cmd.specs.Courses.{Runs};
 
@@ -53,7 +53,7 @@ fn played<H: RatingRule>(alloc: Global, rule: H, schedule: &Schedule) -> Result<
     requires setup { IsSetup schedule.now.setup }
     requires events { Each (IsEvent schedule.now.setup.server.own) schedule.now.events }
     requires few { length schedule.now.events ≤ 100000 }
-    ensures { IfOk result (λ course. Runs (λ tale. told_of tale schedule.now) course) }
+    ensures { IfOk result (λ course. Runs (λ tale. answered_of tale schedule.now) course) }
 {
     let mut world = World::make(alloc, &schedule.setup, rule)?;
     match world.play(alloc, schedule.events.as_slice()) {
@@ -75,7 +75,7 @@ pub(crate) fn course_of<H: RatingRule>(
 ) -> Result<Course<H>, Memory>
     requires fact { H.fact rule }
     requires rates { RatesWhatIsLeft (H.may rule) }
-    ensures { IfOk result (λ course. Runs (λ tale. told_behind tale input.now) course) }
+    ensures { IfOk result (λ course. Runs (λ tale. answered_behind tale input.now) course) }
 {
     match read_schedule(alloc, input) {
         Ok(schedule) => played(alloc, rule, &schedule),

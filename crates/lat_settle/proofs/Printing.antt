@@ -16,7 +16,7 @@ use Rattle.lat_rounds.specs.Lossless.{Lossless, sent_from, came_first}
 use Rattle.lat_wire.specs.declared.fault.EventFault.{EventFault}
 use Rattle.lat_wire.specs.declared.fault.EventFault.TheVariants.{FramesFull, Backward, OwnAddress, NoFrame, Old, Memory}
 use Rattle.lat_settle.specs.Rounds.{settled, StopsIn}
-use Rattle.lat_settle.specs.Texts.{begin, came_in_order, is_lossless, lossless_text, round_text, told_of, Prints}
+use Rattle.lat_settle.specs.Texts.{begin, came_in_order, is_lossless, lossless_text, round_text, rounds_text, Prints}
 
 -- the test is one
 
@@ -76,8 +76,8 @@ lossless_so u w false h = go (is_lossless u w) refl
 
 pub prints_through : {H : Type 0} (u : Setups) (s : State) (rounds : ℕ) (lossless : Bool) (old mid new : List ℕ) (k : Kept H) → lossless ≡ is_lossless u s.machines → (t : State) × (settled u s rounds ≡ Through t) × StandsAt k t → mid ≡ old ++ lossless_text lossless → ((w : Machines) → Stands k w → new ≡ mid ++ report_text (report u w)) → Prints u s rounds 0 old new k
 prints_through u s rounds lossless old mid new k e r first second = record {
-  status = sym (ap (λ z. (told_of u s.machines z).0) r.1);
-  text = second r.0.machines r.2.machines ∙ (ap (λ z. z ++ report_text (report u r.0.machines)) first ∙ (append_assoc old (lossless_text lossless) (report_text (report u r.0.machines)) ∙ (ap (λ z. old ++ (lossless_text z ++ report_text (report u r.0.machines))) e ∙ sym (ap (λ z. old ++ (told_of u s.machines z).1) r.1))));
+  status = sym (ap (λ z. (rounds_text u s.machines z).0) r.1);
+  text = second r.0.machines r.2.machines ∙ (ap (λ z. z ++ report_text (report u r.0.machines)) first ∙ (append_assoc old (lossless_text lossless) (report_text (report u r.0.machines)) ∙ (ap (λ z. old ++ (lossless_text z ++ report_text (report u r.0.machines))) e ∙ sym (ap (λ z. old ++ (rounds_text u s.machines z).1) r.1))));
   world = λ q. r;
 }
 
@@ -92,8 +92,8 @@ not_done lines.EventsLimit e = cc
 
 refused_so : {H : Type 0} (u : Setups) (s : State) (rounds round : ℕ) (fault : EventFault) (t : State) (old new : List ℕ) (k : Kept H) → settled u s rounds ≡ Refused round fault t → new ≡ old ++ round_text round (refused_of fault) → Prints u s rounds (status (refused_of fault)) old new k
 refused_so u s rounds round fault t old new k e text = record {
-  status = sym (ap (λ z. (told_of u s.machines z).0) e);
-  text = text ∙ sym (ap (λ z. old ++ (told_of u s.machines z).1) e);
+  status = sym (ap (λ z. (rounds_text u s.machines z).0) e);
+  text = text ∙ sym (ap (λ z. old ++ (rounds_text u s.machines z).1) e);
   world = λ q. absurd (not_done (refused_of fault) q);
 }
 

@@ -1,5 +1,5 @@
 -- What is printed of rounds.
-use Rattle.std.specs.Prelude.{◌≡◌, ℕ, Bool, true, false, ◌&&◌, List, [], ◌∷◌, ◌++◌, nat_eq, codes, decimal, if◌then◌else◌}
+use Rattle.std.specs.Prelude.{◌≡◌, ℕ, Bool, true, false, ◌&&◌, List, [], ◌∷◌, ◌++◌, nat_eq, codes, decimal}
 use Rattle.lat_machines.specs.world.Machines.{Setups, Machines}
 use Rattle.lat_machines.specs.world.Reports.{report}
 use Rattle.lat_replay.specs.Kept.{Kept}
@@ -9,6 +9,7 @@ use Rattle.lat_report.specs.RefusedText.{status, why_text}
 use Rattle.lat_report.specs.ReportText.{report_text}
 use Rattle.lat_report.specs.declared.refused.Refused.{Refused as Line}
 use Rattle.lat_rounds.specs.Lossless.{sent_from, came_first}
+use Rattle.lat_text.specs.FlagText.{flag_text}
 use Rattle.lat_text.specs.Line.{line}
 use Rattle.lat_settle.specs.Rounds.{settled}
 
@@ -26,9 +27,6 @@ came_in_order u b w = begin (came_first u b w) (sent_from u b 0 w.posts)
 unfoldable pub is_lossless : Setups → Machines → Bool
 is_lossless u w = came_in_order u true w && came_in_order u false w
 
-abbrev pub flag_text : Bool → List ℕ
-flag_text flag = if flag then codes "1" else codes "0"
-
 abbrev pub lossless_text : Bool → List ℕ
 lossless_text lossless = line (codes "lossless " ∷ flag_text lossless ∷ [])
 
@@ -38,13 +36,13 @@ round_text round why = line (codes "round " ∷ decimal round ∷ codes " " ∷ 
 
 -- A status and a text: whether nothing was lost before, and the report of the state behind the rounds; or the line of the
 -- round in which an event is refused
-abbrev pub told_of : Setups → (before : Machines) → Played → ℕ × List ℕ
-told_of u before (Through t) = (0, lossless_text (is_lossless u before) ++ report_text (report u t.machines))
-told_of u before (Refused round fault t) = (status (refused_of fault), round_text round (refused_of fault))
+abbrev pub rounds_text : Setups → (before : Machines) → Played → ℕ × List ℕ
+rounds_text u before (Through t) = (0, lossless_text (is_lossless u before) ++ report_text (report u t.machines))
+rounds_text u before (Refused round fault t) = (status (refused_of fault), round_text round (refused_of fault))
 
 -- what so many rounds come to in print
 abbrev pub settle_text : Setups → State → (rounds : ℕ) → ℕ × List ℕ
-settle_text u s rounds = told_of u s.machines (settled u s rounds)
+settle_text u s rounds = rounds_text u s.machines (settled u s rounds)
 
 -- A call printed it behind the text that was there; and where the status is 0, the world stands for the state that the report
 -- tells of

@@ -4,19 +4,14 @@ ghost use Rattle.std.specs.Prelude.{◌≡◌, ◌<◌, ◌^◌, ◌++◌, OnOk,
 ghost use Rattle.lat_replay.specs.Kept.{moment_of, setups_of};
 ghost use Rattle.lat_replay.specs.Played.{State, StandsAt};
 ghost use Rattle.lat_settle.specs.Rounds.{rounds_moment};
-ghost use Rattle.lat_settle.specs.Texts.{Prints, flag_text, lossless_text, round_text};
+ghost use Rattle.lat_settle.specs.Texts.{Prints, lossless_text, round_text};
 
 use crate::settling::{Unsettled, run_rounds};
 use lat_base::Memory;
 use lat_replay::{RatingRule, World, refused_of};
 use lat_report::{Refused, why_onto};
+use lat_text::flag_text;
 use std::alloc::{AllocError, Global};
-
-fn flag_text(flag: bool) -> &'static str
-    ensures { result.now ≡ flag_text flag }
-{
-    if flag { "1" } else { "0" }
-}
 
 // Adds the line that says whether nothing was lost.
 fn lossless_onto(text: &mut String, lossless: bool) -> Result<(), AllocError>
