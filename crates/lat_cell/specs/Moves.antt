@@ -3,13 +3,14 @@ use Rattle.std.specs.Prelude.{ℕ, ◌+◌, List, slice_range, Bool, true, false
 use Rattle.lat_base.specs.declared.event.Event.{Event}
 use Rattle.lat_base.specs.declared.event.Event.TheVariants as events
 use Rattle.lat_base.specs.declared.name.Name.{Name}
+use Rattle.lat_mind.specs.Minds.{left_of}
 use Rattle.lat_mind.specs.declared.mind.Move.{Move}
 use Rattle.lat_mind.specs.declared.mind.Move.TheVariants as moves
 use Rattle.lat_cell.specs.declared.desk.Desk.{Desk}
 
 -- the bytes that were read and not yet put
 abbrev pub unput : Desk → List ℕ
-unput desk = slice_range desk.buf desk.at (desk.at + desk.mind.left)
+unput desk = slice_range desk.buf desk.at (desk.at + left_of desk.mind)
 
 -- of a move of this line: a connect has its service, a put all bytes that are left; the other moves are no events
 abbrev pub move_event : Move → ℕ → Option Name → List ℕ → Option Event

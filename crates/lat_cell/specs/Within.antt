@@ -1,6 +1,7 @@
 -- What a worker may have put, by what its line gave.
 use Rattle.std.specs.Prelude.{ℕ, ◌+◌, ◌≤◌, List, length, Option, Some, None, Result, Ok, Err, Bool, true, false}
 use Rattle.lat_outside.specs.declared.line_end.LineGot.{LineGot}
+use Rattle.lat_mind.specs.Minds.{left_of}
 use Rattle.lat_history.specs.CellView.{SeatView}
 use Rattle.lat_cell.specs.declared.desk.Desk.{Desk}
 use Rattle.lat_cell.specs.declared.hold.HoldDone.{HoldDone}
@@ -20,7 +21,7 @@ got_of (Err e) = 0
 
 -- the bytes of a seat that were put, and those that its worker has read and not yet put
 abbrev pub in_hand : SeatView → Desk → ℕ
-in_hand share desk = share.bytes + desk.mind.left
+in_hand share desk = share.bytes + left_of desk.mind
 
 abbrev pub is_read : HoldDone → Bool
 is_read holds.Read = true

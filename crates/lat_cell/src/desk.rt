@@ -1,6 +1,7 @@
 //! What a line's worker has before it.
 
 ghost use Rattle.std.specs.Prelude.{◌≡◌, ◌+◌, ◌≤◌};
+ghost use Rattle.lat_mind.specs.Minds.{left_of};
 
 use lat_mind::LineMind;
 
@@ -10,7 +11,7 @@ pub struct Desk {
     pub mind: LineMind,
     pub buf: [u8; 1024],
     pub at: usize,
-    ghost within: { at + mind.left ≤ 1024 },
+    ghost within: { at + left_of mind ≤ 1024 },
 }
 
 impl Desk {
@@ -18,7 +19,7 @@ impl Desk {
 
     /// A desk with nothing on it.
     pub fn new(calls: bool) -> Desk
-        ensures { result.mind.left ≡ 0 }
+        ensures { left_of result.mind ≡ 0 }
     {
         Desk {
             mind: LineMind::make(calls),

@@ -1,6 +1,7 @@
 //! What a line's worker does under the lock.
 
 ghost use Rattle.std.specs.Prelude.{◌≡◌, ◌+◌, ◌≤◌, IfSome, IfOk, true, false};
+ghost use Rattle.lat_mind.specs.Minds.{left_of};
 ghost use Rattle.lat_history.specs.Counts.{seat_of, put_by, put_of};
 ghost use Rattle.lat_cell.specs.Moves.{is_put, move_event, unput};
 ghost use Rattle.lat_cell.specs.Within.{in_hand, is_read};
@@ -35,7 +36,7 @@ fn event_of(
 ) -> Result<Option<Event>, Memory>
     ensures seat { IfOk result (λ r. IfSome r (λ e. seat_of e ≡ line)) }
     ensures event { IfOk result (λ r. r ≡ move_event go line service (unput desk.now)) }
-    ensures put { IfOk result (λ r. IfSome r (λ e. put_by e ≤ desk.now.mind.left)) }
+    ensures put { IfOk result (λ r. IfSome r (λ e. put_by e ≤ left_of desk.now.mind)) }
     ensures other { IfOk result (λ r. IfSome r (λ e. is_put go ≡ false → put_by e ≡ 0)) }
 {
     match go {
@@ -65,9 +66,9 @@ fn took(answer: &Answer) -> u16
 
 // The mind is told what came of its move.
 fn tell(desk: &mut Desk, go: Move, answer: &Answer, moment: u64)
-    requires put { put_of answer.now ≤ desk.old.mind.left }
+    requires put { put_of answer.now ≤ left_of desk.old.mind }
     requires other { is_put go ≡ false → put_of answer.now ≡ 0 }
-    ensures { desk.new.mind.left + put_of answer.now ≡ desk.old.mind.left }
+    ensures { left_of desk.new.mind + put_of answer.now ≡ left_of desk.old.mind }
 {
     match go {
         Move::Connect => {
@@ -95,7 +96,7 @@ fn applied<C: Core, T: Tx, E: Ledger, B: Ledger, F: Ledger>(
     moment: u64,
 ) -> HoldDone
     requires seat { seat_of event ≡ share.old.seat }
-    requires put { put_by event ≤ desk.old.mind.left }
+    requires put { put_by event ≤ left_of desk.old.mind }
     requires other { is_put go ≡ false → put_by event ≡ 0 }
     ensures counts { in_hand share.new desk.new ≤ in_hand share.old desk.old }
     ensures seat { (share.new.seat ≡ share.old.seat) × (share.new.parts ≡ share.old.parts) }
@@ -126,7 +127,7 @@ pub fn hold<C: Core, T: Tx, E: Ledger, B: Ledger, F: Ledger>(
     ensures counts { in_hand share.new desk.new ≤ in_hand share.old desk.old }
     ensures seat { (share.new.seat ≡ share.old.seat) × (share.new.parts ≡ share.old.parts) }
     ensures full { result ≡ HoldDone.Full → share.new.full ≡ true }
-    ensures read { result ≡ HoldDone.Read → desk.new.mind.left ≡ 0 }
+    ensures read { result ≡ HoldDone.Read → left_of desk.new.mind ≡ 0 }
 {
     let line = share.seat();
     let see = cell.look(line);

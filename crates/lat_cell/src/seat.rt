@@ -1,6 +1,7 @@
 //! A line's worker.
 
 ghost use Rattle.std.specs.Prelude.{◌≡◌, ◌+◌, ◌≤◌, Some, OnErr, true, ℕ};
+ghost use Rattle.lat_mind.specs.Minds.{left_of};
 ghost use Rattle.lat_outside.specs.Causes.{Rose};
 ghost use Rattle.lat_cell.specs.Within.{Within, in_hand};
 
@@ -40,8 +41,8 @@ pub struct Seat<L: LineEnd, E: Ledger, B: Ledger, F: Ledger> {
 
 // Reads what the line gives.
 fn read_some<L: LineEnd>(line: &mut L, desk: &mut Desk) -> Result<(), Failed>
-    requires { desk.old.mind.left ≡ 0 }
-    ensures gave { (b : ℕ) → Within (L.left line.old) (L.left line.new) b (b + desk.new.mind.left) }
+    requires { left_of desk.old.mind ≡ 0 }
+    ensures gave { (b : ℕ) → Within (L.left line.old) (L.left line.new) b (b + left_of desk.new.mind) }
     ensures later { L.faults line.old ≤ L.faults line.new }
     ensures fault { OnErr result (Rose (L.faults line.old) (L.faults line.new)) }
 {

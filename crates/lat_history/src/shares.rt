@@ -19,6 +19,20 @@ pub struct Blanks {
     pub full: Blank,
 }
 
+impl Blanks {
+    /// Blanks of 66 parts, one for each seat that a cell may have.
+    pub fn new() -> Blanks
+        ensures { (result.events.parts ≡ 66) × (result.bytes.parts ≡ 66)
+            × (result.full.parts ≡ 66) }
+    {
+        Blanks {
+            events: Blank::new(66),
+            bytes: Blank::new(66),
+            full: Blank::new(66),
+        }
+    }
+}
+
 /// The shares of the seats, in the order of the seats. Contracts see their list.
 #[derive(Drop)]
 pub struct Shares<E: Ledger, B: Ledger, F: Ledger> {

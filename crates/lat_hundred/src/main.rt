@@ -12,16 +12,16 @@ mod print;
 mod told;
 
 use lat_base::Memory;
+use lat_history::Blanks;
 use lat_outside::{StdSink, write_all};
-use opened::{blanks, played};
+use opened::played;
 use std::io;
 use std::marker::Brand;
 use std::process::ExitCode;
 use told::Wrong;
 
 fn main(rt: HostRuntime) -> ExitCode {
-    let blanks = blanks();
-    let text = played::<Brand, Brand, Brand>(rt.alloc(), blanks);
+    let text = played::<Brand, Brand, Brand>(rt.alloc(), Blanks::new());
     let text = match text {
         Ok(text) => text,
         Err(Wrong::Memory) => return ExitCode::from(9),

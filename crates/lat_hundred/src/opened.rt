@@ -1,6 +1,5 @@
 //! The cell, and its hundred events.
 
-ghost use Rattle.std.specs.Prelude.{◌≡◌};
 ghost use Rattle.lat_history.specs.Ledgers.{AreBlanks};
 ghost use Rattle.lat_server.specs.Config.{IsConfig};
 
@@ -12,7 +11,7 @@ use lat_history::{Blanks, Cell};
 use lat_outside::MemTx;
 use lat_server::{Offers, ServerConfig, ServerCore, Timing};
 use std::alloc::Global;
-use std::sync::ledger::{Blank, Ledger};
+use std::sync::ledger::Ledger;
 
 const EVENTS: u64 = 100;
 
@@ -33,17 +32,6 @@ fn config(alloc: Global) -> ServerConfig
             ceiling: 4,
             wide: false,
         },
-    }
-}
-
-/// Blanks of 66 parts, one for each seat.
-pub fn blanks() -> Blanks
-    ensures { (result.events.parts ≡ 66) × (result.bytes.parts ≡ 66) × (result.full.parts ≡ 66) }
-{
-    Blanks {
-        events: Blank::new(66),
-        bytes: Blank::new(66),
-        full: Blank::new(66),
     }
 }
 

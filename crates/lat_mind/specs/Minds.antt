@@ -10,6 +10,22 @@ use Rattle.lat_mind.specs.declared.mind.Seen.{Seen}
 use Rattle.lat_base.specs.declared.state.SessionState.{SessionState}
 use Rattle.lat_base.specs.declared.state.SessionState.TheVariants as states
 
+-- how many bytes were read and not yet put
+abbrev pub left_of : LineMind → ℕ
+left_of m = m.left
+
+-- a mind that was told nothing
+abbrev pub fresh_mind : Bool → LineMind
+fresh_mind calls = record {
+  calls = calls;
+  connected = false;
+  ended = false;
+  closed = false;
+  tried = None;
+  cut = None;
+  left = 0;
+}
+
 -- what it knows behind a fact
 abbrev pub mind_told : LineMind → Fact → LineMind
 mind_told m (facts.Connect ok moment) = record m { connected = ok; tried = Some moment }

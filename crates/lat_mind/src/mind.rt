@@ -1,7 +1,7 @@
 //! The mind of a line's worker.
 
-ghost use Rattle.std.specs.Prelude.{◌≡◌, None, false};
-ghost use Rattle.lat_mind.specs.Minds.{Fits, mind_told, mind_next, is_free, is_open, may_try, is_now};
+ghost use Rattle.std.specs.Prelude.{◌≡◌};
+ghost use Rattle.lat_mind.specs.Minds.{Fits, fresh_mind, left_of, mind_told, mind_next, is_free, is_open, may_try, is_now};
 
 use lat_base::SessionState;
 
@@ -105,15 +105,7 @@ fn is_now(cut: Option<u64>, now: u64) -> bool
 impl LineMind {
     /// A mind that was told nothing. One that `calls` connects its line; another waits until a session is there.
     pub fn make(calls: bool) -> LineMind
-        ensures { result ≡ record {
-          calls = calls;
-          connected = false;
-          ended = false;
-          closed = false;
-          tried = None;
-          cut = None;
-          left = 0;
-        } }
+        ensures { result ≡ fresh_mind calls }
     {
         LineMind {
             calls,
@@ -157,7 +149,7 @@ impl LineMind {
     /// line has ended and all was put, `Read` where nothing is left; else `Rest`.
     pub fn next(&self, see: &Seen) -> Move
         ensures exact { result ≡ mind_next self.now see.now }
-        ensures read { result ≡ Move.Read → self.now.left ≡ 0 }
+        ensures read { result ≡ Move.Read → left_of self.now ≡ 0 }
     {
         if see.stopping || self.calls && self.connected && is_free(see.state) {
             return Move::Finish;
@@ -185,7 +177,7 @@ impl LineMind {
 
     /// How many bytes were read and not yet put.
     pub fn left(&self) -> u16
-        ensures { result ≡ self.now.left }
+        ensures { result ≡ left_of self.now }
     {
         self.left
     }

@@ -23,7 +23,7 @@ use std::marker::Brand;
 use std::net::{Net, TcpListener, TcpStream};
 use std::process::ExitCode;
 use std::sync::Wait;
-use std::sync::ledger::{Blank, Ledger};
+use std::sync::ledger::Ledger;
 use std::thread::Threads;
 use std::time::Clock;
 
@@ -137,16 +137,11 @@ fn main(rt: HostRuntime) -> ExitCode {
     let Ok(words) = words else {
         return ExitCode::from(NO_MEMORY);
     };
-    let blanks = Blanks {
-        events: Blank::new(66),
-        bytes: Blank::new(66),
-        full: Blank::new(66),
-    };
     let status = status::<Brand, Brand, Brand, HostRuntime>(
         &rt,
         rt.alloc(),
         words.as_slice(),
-        blanks,
+        Blanks::new(),
     );
     ExitCode::from(status.unwrap_or(NO_MEMORY))
 }

@@ -5,8 +5,8 @@ ghost use Rattle.lat_history.specs.Ledgers.{AreBlanks};
 
 use super::daemon::daemon;
 use super::steady::whole_tariff;
-use super::threads::blanks;
-use lat_base::{Memory, Name};
+use super::threads::name;
+use lat_base::Memory;
 use lat_cell::Blanks;
 use lat_node::FreeLines;
 use lat_outside::FreeGate;
@@ -115,10 +115,7 @@ fn real<
 >(rt: &R, alloc: Global, text: &str, blanks: Blanks) -> Result<u8, Memory>
     requires { AreBlanks blanks E.name E.parts B.name B.parts F.name F.parts }
 {
-    let Ok(service) = Name::read(b"PRINT") else {
-        return Err(Memory);
-    };
-    let tariff = whole_tariff(alloc, service)?;
+    let tariff = whole_tariff(alloc, name(b"PRINT"))?;
     let mut opener = NetOpener::new(*rt);
     let clock = RealClock::new(*rt);
     let came = daemon::<_, _, _, _, _, E, B, F, R>(
@@ -214,8 +211,8 @@ fn two_lines_at_once(rt: HostRuntime) -> Result<(), Fail> {
             &rt,
             rt.alloc(),
             case,
-            blanks(),
-            blanks(),
+            Blanks::new(),
+            Blanks::new(),
         );
         assert!(rt; ended.is_passed?);
         assert_eq!(rt; ended.server?, 0);

@@ -10,8 +10,8 @@ use super::far::Far;
 use super::opener::{FarOpener, Opens};
 use super::outside::{RoundClock, RoundGate, RoundLine, Signs};
 use super::steady::whole_tariff;
-use super::threads::{announced_node, blanks};
-use lat_base::{Core, Memory, Name};
+use super::threads::{announced_node, name};
+use lat_base::{Core, Memory};
 use lat_cell::Blanks;
 use lat_node::FreeLines;
 use lat_tariff::{SteadyRule, Tariff};
@@ -217,9 +217,7 @@ fn run<E: Ledger + Sync, B: Ledger + Sync, F: Ledger + Sync, R: Threads + Wait +
 ) -> Result<Option<&'static str>, Memory>
     requires { AreBlanks blanks E.name E.parts B.name B.parts F.name F.parts }
 {
-    let Ok(service) = Name::read(b"VAX") else {
-        return Err(Memory);
-    };
+    let service = name(b"VAX");
     let far = announced_node(alloc, &service)?;
     let tariff = whole_tariff(alloc, service)?;
     over::<_, _, E, B, F, R>(rt, alloc, far, tariff, case, blanks)
@@ -228,7 +226,7 @@ fn run<E: Ledger + Sync, B: Ledger + Sync, F: Ledger + Sync, R: Threads + Wait +
 #[test]
 fn daemons_end_as_is_due(rt: HostRuntime) -> Result<(), Fail> {
     for case in CASES {
-        let amiss = run::<Brand, Brand, Brand, HostRuntime>(&rt, rt.alloc(), &case, blanks())?;
+        let amiss = run::<Brand, Brand, Brand, HostRuntime>(&rt, rt.alloc(), &case, Blanks::new())?;
         assert!(rt; amiss.is_none(), "{}: {}", case.name, amiss.unwrap_or(""));
     }
     Ok(())

@@ -2,7 +2,8 @@
 //! 1 until line 2 has its bytes back, so that lines which work one after another, or don't work at all, fail the test. The
 //! carrier fails at each of its sends in turn.
 
-ghost use Rattle.std.specs.Prelude.{◌≡◌, IfOk};
+ghost use Rattle.std.specs.Prelude.{◌≡◌, true, is_ok, IfOk};
+ghost use Rattle.lat_base.specs.Names.{name_read};
 ghost use Rattle.lat_history.specs.Ledgers.{AreBlanks};
 ghost use Rattle.lat_server.specs.Kept.{AtRest};
 ghost use Rattle.lat_server.specs.Stands.{IsMachine, opening};
@@ -18,7 +19,7 @@ use lat_outside::MemTx;
 use lat_server::ServerCore;
 use std::alloc::Global;
 use std::marker::Brand;
-use std::sync::ledger::{Blank, Ledger};
+use std::sync::ledger::Ledger;
 use std::sync::{Mutex, Wait};
 use std::thread::Threads;
 use std::time::Clock;
@@ -26,20 +27,26 @@ use std::time::Clock;
 /// More sends than a run makes.
 const SENDS: u64 = 1000;
 
-fn name(bytes: &[u8]) -> Result<Name, Memory> {
-    Name::read(bytes).map_err(|_| Memory)
+/// The name that these bytes are.
+pub fn name(bytes: &[u8]) -> Name
+    requires { is_ok (name_read bytes.now) ≡ true }
+{
+    let Ok(name) = Name::read(bytes) else {
+        unreachable!()
+    };
+    name
 }
 
 // A server that has done nothing.
 fn fresh_server(alloc: Global) -> Result<ServerCore, Memory>
     ensures { IfOk result (λ k. IsMachine k (opening k) × AtRest k) }
 {
-    ServerCore::make(alloc, &server(alloc, name(b"TS1")?))
+    ServerCore::make(alloc, &server(alloc, name(b"TS1")))
 }
 
 /// A node behind its first announcement.
 pub fn announced_node(alloc: Global, service: &Name) -> Result<Far<NodeCore<FreeLines>>, Memory> {
-    let core = NodeCore::make(alloc, &node(alloc, name(b"VAX1")?, service)?, FreeLines)?;
+    let core = NodeCore::make(alloc, &node(alloc, name(b"VAX1"), service)?, FreeLines)?;
     let mut far = Far::new(alloc, core, LINES)?;
     far.tell(alloc, &Event::Announce)?;
     Ok(far)
@@ -86,26 +93,15 @@ fn one<E: Ledger + Sync, B: Ledger + Sync, F: Ledger + Sync, R: Threads + Wait +
 ) -> Option<(Came, bool, bool)>
     requires blanks { AreBlanks blanks E.name E.parts B.name B.parts F.name F.parts }
 {
-    let service = Name::read(b"VAX").ok()?;
+    let service = name(b"VAX");
     let far = announced_node(alloc, &service).ok()?;
     played::<NodeCore<FreeLines>, E, B, F, R>(rt, alloc, far, service, fails, blanks)
-}
-
-/// Blanks of 66 parts.
-pub fn blanks() -> Blanks
-    ensures { (result.events.parts ≡ 66) × (result.bytes.parts ≡ 66) × (result.full.parts ≡ 66) }
-{
-    Blanks {
-        events: Blank::new(66),
-        bytes: Blank::new(66),
-        full: Blank::new(66),
-    }
 }
 
 #[test]
 fn workers_work_at_once(rt: HostRuntime) {
     for fails in 0..SENDS {
-        let came = one::<Brand, Brand, Brand, HostRuntime>(&rt, rt.alloc(), fails, blanks());
+        let came = one::<Brand, Brand, Brand, HostRuntime>(&rt, rt.alloc(), fails, Blanks::new());
         assert!(rt; came.is_some(), "memory, where send {fails} fails");
         let Some((came, late, lost)) = came else {
             return;

@@ -1,6 +1,5 @@
 //! One cell after another, without threads.
 
-ghost use Rattle.std.specs.Prelude.{◌≡◌};
 ghost use Rattle.lat_history.specs.Ledgers.{AreBlanks};
 
 use super::echo::Echo;
@@ -14,18 +13,8 @@ use lat_outside::{FreeGate, MemLine, MemTx, Tx};
 use std::alloc::Global;
 use std::marker::Brand;
 use std::sync::atomic::{AtomicU64, Ordering};
-use std::sync::ledger::{Blank, Ledger};
+use std::sync::ledger::Ledger;
 use std::sync::{Mutex, Wait};
-
-fn blanks() -> Blanks
-    ensures { (result.events.parts ≡ 66) × (result.bytes.parts ≡ 66) × (result.full.parts ≡ 66) }
-{
-    Blanks {
-        events: Blank::new(66),
-        bytes: Blank::new(66),
-        full: Blank::new(66),
-    }
-}
 
 // A cell with one line, and the shares of wire, line and clock.
 #[derive(Drop)]
@@ -194,7 +183,7 @@ fn cells(rt: HostRuntime) {
         bytes: 0,
         more: 0,
     };
-    let came = fill_cell::<Brand, Brand, Brand>(alloc, blanks());
+    let came = fill_cell::<Brand, Brand, Brand>(alloc, Blanks::new());
     let came = came.map(|came| (came.answer, came.full, came.share, came.events));
     assert_eq!(rt; came, Some((Some(full), Some(full), true, 1_000_000)));
     let left_out = SeatFault {
@@ -202,12 +191,12 @@ fn cells(rt: HostRuntime) {
         kept: 2,
         share: 0,
     };
-    let came = audited::<Brand, Brand, Brand>(alloc, blanks());
+    let came = audited::<Brand, Brand, Brand>(alloc, Blanks::new());
     assert_eq!(rt; came, Some((true, Some(left_out))));
     for fails in 0..4 {
-        let came = tried::<Brand, Brand, Brand>(alloc, fails, blanks());
+        let came = tried::<Brand, Brand, Brand>(alloc, fails, Blanks::new());
         assert_eq!(rt; came, Some((0x61_62_63, 3)));
     }
-    let came = failed::<Brand, Brand, Brand, HostRuntime>(&rt, alloc, blanks());
+    let came = failed::<Brand, Brand, Brand, HostRuntime>(&rt, alloc, Blanks::new());
     assert_eq!(rt; came, Some((LineDone::Fault, 2, 2, 1)));
 }

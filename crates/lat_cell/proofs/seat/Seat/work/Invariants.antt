@@ -1,4 +1,5 @@
 use Rattle.std.proofs.Common.{◌≡◌, ◌≤◌, ◌+◌}
+use Rattle.lat_mind.specs.Minds.{left_of}
 use Rattle.lat_cell.specs.Within.{Within}
 use Rattle.lat_cell.proofs.seat.Seat.work.Given as goal
 
@@ -10,6 +11,6 @@ invariant-loop g l =
       ends : (goal.iterator-loop g).is_finite l.iterator';
       seat : l.self.share.seat ≡ l.initial.self.share.seat;
       parts : l.self.share.parts ≡ l.initial.self.share.parts;
-      gave : Within (k.left l.initial.self.line) (k.left l.self.line) l.initial.self.share.bytes (l.self.share.bytes + l.desk.mind.left);
+      gave : Within (k.left l.initial.self.line) (k.left l.self.line) l.initial.self.share.bytes (l.self.share.bytes + left_of l.desk.mind);
       later : k.faults l.initial.self.line ≤ k.faults l.self.line;
     }
