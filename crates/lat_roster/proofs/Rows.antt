@@ -7,7 +7,7 @@ use Rattle.lat_base.specs.declared.item.Item.{Item}
 use Rattle.lat_base.specs.declared.item.Item.TheVariants.{Byte}
 use Rattle.lat_model.specs.sessions.Slots as slots
 use Rattle.lat_roster.specs.Shown.{item_shown}
-use Rattle.lat_roster.specs.declared.row.Way.{Way}
+use Rattle.lat_roster.specs.declared.row.Flow.{Flow}
 use Rattle.lat_tales.specs.Keeping.{with_items, adds, lines_of}
 use Rattle.lat_tales.specs.Rows as rows
 use Rattle.lat_tales.specs.Rows.{RowAfter}
@@ -183,8 +183,8 @@ puts_up k v r bs e t d o h = record {
   node_line = o.3 ∙ h.node_line;
   put_up = more_bytes k.up.put.items v.up.put.items r.put_up bs e h.put_up;
   taken_up = t ∙ h.taken_up;
-  put_down = ap (λ (w : Way). w.put.items) d ∙ h.put_down;
-  taken_down = nothing_more v.down.taken.items r.taken_down (ap (λ (w : Way). w.taken.items) d ∙ h.taken_down);
+  put_down = ap (λ (w : Flow). w.put.items) d ∙ h.put_down;
+  taken_down = nothing_more v.down.taken.items r.taken_down (ap (λ (w : Flow). w.taken.items) d ∙ h.taken_down);
   server = subst (λ z. ShowsFigures z r.server) (sym o.4) h.server;
   node = subst (λ z. ShowsFigures z r.node) (sym o.5) h.node;
 }
@@ -197,8 +197,8 @@ puts_down k v r bs e t d o h = record {
   node_line = o.3 ∙ h.node_line;
   put_down = more_bytes k.down.put.items v.down.put.items r.put_down bs e h.put_down;
   taken_down = t ∙ h.taken_down;
-  put_up = ap (λ (w : Way). w.put.items) d ∙ h.put_up;
-  taken_up = nothing_more v.up.taken.items r.taken_up (ap (λ (w : Way). w.taken.items) d ∙ h.taken_up);
+  put_up = ap (λ (w : Flow). w.put.items) d ∙ h.put_up;
+  taken_up = nothing_more v.up.taken.items r.taken_up (ap (λ (w : Flow). w.taken.items) d ∙ h.taken_up);
   server = subst (λ z. ShowsFigures z r.server) (sym o.4) h.server;
   node = subst (λ z. ShowsFigures z r.node) (sym o.5) h.node;
 }

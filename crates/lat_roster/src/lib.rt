@@ -11,4 +11,4 @@ mod row;
 
 pub use figures::Figures;
 pub use roster::Roster;
-pub use row::{Row, Way};
+pub use row::{Flow, Row};

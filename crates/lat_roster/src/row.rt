@@ -14,12 +14,12 @@ use lat_base::{Item, Memory};
 use std::alloc::Global;
 
 /// The items that went one way: those that the sending end put, and those that the other end's Takes gave.
-pub struct Way {
+pub struct Flow {
     pub put: Vec<Item>,
     pub taken: Vec<Item>,
 }
 
-impl Drop for Way {
+impl Drop for Flow {
     fn drop(self) {
         let Self { put, taken } = self;
     }
@@ -34,9 +34,9 @@ pub struct Row {
     pub id: u8,
     pub node_line: u8,
     /// From the server to the node.
-    pub up: Way,
+    pub up: Flow,
     /// From the node to the server.
-    pub down: Way,
+    pub down: Flow,
     pub server: Figures,
     pub node: Figures,
 }
@@ -56,13 +56,13 @@ impl Drop for Row {
     }
 }
 
-impl Way {
+impl Flow {
     /// Nothing yet. It takes no memory.
-    pub(crate) fn new(alloc: Global) -> Way
+    pub(crate) fn new(alloc: Global) -> Flow
         ensures put { result.put.items ≡ [] }
         ensures taken { result.taken.items ≡ [] }
     {
-        Way {
+        Flow {
             put: Vec::new(alloc),
             taken: Vec::new(alloc),
         }
@@ -79,8 +79,8 @@ impl Row {
             circuit,
             id,
             node_line: 0,
-            up: Way::new(alloc),
-            down: Way::new(alloc),
+            up: Flow::new(alloc),
+            down: Flow::new(alloc),
             server: Figures::NONE,
             node: Figures::NONE,
         }

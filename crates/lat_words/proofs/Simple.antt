@@ -26,7 +26,7 @@ pub is_none : (ks : List ErrorKind) (e : Error) → (kind_of e ≡ kind.OutOfMem
 is_none ks e other (inl h) = absurd (other h)
 is_none ks e other (inr h) = sym (no_of ks (kind_of e) h)
 
-pub taken_of : {A M : Type 0} (r : Result (Option A) M) (ks : List ErrorKind) (e : Error) → IfOk r (λ x. x ≡ None) → IfOk r (λ x. (fs : List ErrorKind) → HasKind fs e → no_fault fs ≡ false) → HasKind ks e
+pub matched_of : {A M : Type 0} (r : Result (Option A) M) (ks : List ErrorKind) (e : Error) → IfOk r (λ x. x ≡ None) → IfOk r (λ x. (fs : List ErrorKind) → HasKind fs e → no_fault fs ≡ false) → HasKind ks e
     → IfOk r (λ x. is_some x ≡ no_fault ks)
-taken_of (Ok x) ks e none kinds h = rw none (sym (kinds ks h))
-taken_of (Err m) ks e none kinds h = tt
+matched_of (Ok x) ks e none kinds h = rw none (sym (kinds ks h))
+matched_of (Err m) ks e none kinds h = tt

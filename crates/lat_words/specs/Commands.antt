@@ -21,8 +21,8 @@ abbrev pub no_fault : {A : Type 0} → List A → Bool
 no_fault [] = true
 no_fault (k ∷ ks) = false
 
-abbrev pub is_taken : List Text → Bool
-is_taken words = no_fault (fault_of latd words)
+abbrev pub is_matched : List Text → Bool
+is_matched words = no_fault (fault_of latd words)
 
 -- what it makes of the words
 abbrev pub rows : List Text → List Row

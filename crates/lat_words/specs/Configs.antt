@@ -4,7 +4,7 @@ use Rattle.clap.specs.Words.{Row, Text, first_of, all_of}
 use Rattle.lat_text.specs.Numbers.{number_within}
 use Rattle.lat_text.specs.Digits.{address_of}
 use Rattle.lat_text.specs.NameWritten.{name_of}
-use Rattle.lat_words.specs.Commands.{is_taken, rows}
+use Rattle.lat_words.specs.Commands.{is_matched, rows}
 use Rattle.lat_words.specs.declared.config.Role.{Role}
 use Rattle.lat_words.specs.declared.config.Role.TheVariants.{Server, Switch, Node, Tariff}
 use Rattle.lat_words.specs.declared.config.Station.{Station}
@@ -78,7 +78,7 @@ config_in rows = do
 
 -- the words are right where `clap` takes them, and each value has its form and its range
 abbrev pub config_of : List Text → Option Config
-config_of words = if is_taken words then config_in (rows words) else None
+config_of words = if is_matched words then config_in (rows words) else None
 
 -- what is known of lines
 pub record Within (role : Role) (lines : Lines) : Type 0 where

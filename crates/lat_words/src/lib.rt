@@ -2,9 +2,9 @@
 #![tactic(auto)]
 
 mod config;
+mod matching;
 mod peers;
 mod read;
-mod taken;
 
 pub use config::{Config, Lines, Role, Station};
 pub use peers::Peers;

@@ -3,7 +3,7 @@
 ghost use Rattle.std.specs.Prelude.{◌≡◌, ℕ, List, None, true, false, IfOk, IfSome, is_some, map, option_map, string_bytes};
 ghost use Rattle.clap.specs.Words.{rule_of, app_of, rows_of, HasKind, found_of, first_of, all_of, with_rule};
 ghost use Rattle.clap.specs.declared.error.kind.ErrorKind.{ErrorKind};
-ghost use Rattle.lat_words.specs.Commands.{latd, option_rule, peers_rule, is_taken, no_fault, rows};
+ghost use Rattle.lat_words.specs.Commands.{latd, option_rule, peers_rule, is_matched, no_fault, rows};
 
 use clap::error::ErrorKind;
 use clap::{Arg, ArgAction, ArgMatches, Command, Error};
@@ -79,7 +79,7 @@ fn refused<'a>(error: Error) -> Result<Option<ArgMatches<'a>>, Memory>
 /// What `clap` makes of the words, and none where it doesn't take them. The first word is the program's name.
 #[tactic(auto, using(crate::proofs::Simple::latd_simple, crate::proofs::Simple::latd_free))]
 pub fn matched<'a>(alloc: Global, words: &'a [String]) -> Result<Option<ArgMatches<'a>>, Memory>
-    ensures taken { IfOk result (λ r. is_some r ≡ is_taken (map string_bytes words.entry.now)) }
+    ensures matched { IfOk result (λ r. is_some r ≡ is_matched (map string_bytes words.entry.now)) }
     ensures rows { IfOk result (λ r.
         IfSome r (λ m. rows_of (found_of m) ≡ rows (map string_bytes words.entry.now))) }
 {

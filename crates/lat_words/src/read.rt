@@ -5,8 +5,8 @@ ghost use Rattle.clap.specs.Words.{rows_of, found_of};
 ghost use Rattle.lat_words.specs.Configs.{role_of, port_of, peers_of, most_lines, station_of, lines_of, config_in, config_of, Within};
 
 use crate::config::{Config, Lines, Role, Station};
+use crate::matching::{matched, value, values};
 use crate::peers::Peers;
-use crate::taken::{matched, value, values};
 use clap::ArgMatches;
 use lat_base::Memory;
 use lat_text::{address_of, name_of, number_within};

@@ -2,7 +2,7 @@ use Rattle.std.proofs.Common.{◌≡◌, ◌∙◌, ap, ap₂, sym, refl, codes}
 use Rattle.std.proofs.lemmas.Result.{IfOk-weaker}
 use Rattle.clap.specs.Words.{App, app_of, new_app, with_rule}
 use Rattle.lat_words.specs.Commands.{latd, option_rule, peers_rule}
-use Rattle.lat_words.proofs.taken.command.Goals as goal
+use Rattle.lat_words.proofs.matching.command.Goals as goal
 
 abbrev a1 : App
 a1 = with_rule (new_app (codes "latd")) (option_rule (codes "role"))

@@ -1,12 +1,12 @@
 use Rattle.std.proofs.Common.{◌≡◌, true, map, string_bytes, subst, List, ℕ}
 use Rattle.clap.specs.Words.{App, app_of, is_simple_and_free, fault_of, HasKind}
 use Rattle.lat_words.specs.Commands.{latd}
-use Rattle.lat_words.proofs.Simple.{latd_free, taken_of}
-use Rattle.lat_words.proofs.taken.matched.Goals as goal
+use Rattle.lat_words.proofs.Simple.{latd_free, matched_of}
+use Rattle.lat_words.proofs.matching.matched.Goals as goal
 
-pub returns-in-Err-clause-taken : goal.returns-in-Err-clause-taken
-returns-in-Err-clause-taken c =
+pub returns-in-Err-clause-matched : goal.returns-in-Err-clause-matched
+returns-in-Err-clause-matched c =
     let ws : List (List ℕ) = map string_bytes c.args.words.now in
     let K : App → Type 0 = λ a. is_simple_and_free a ≡ true → HasKind (fault_of a ws) c.in-Err.error in
     let has : HasKind (fault_of latd ws) c.in-Err.error = subst K c.in_ok-command.ensures c.in-Err.ensures.kinds latd_free in
-    taken_of c.refused.result (fault_of latd ws) c.in-Err.error c.refused.ensures.none c.refused.ensures.kinds has
+    matched_of c.refused.result (fault_of latd ws) c.in-Err.error c.refused.ensures.none c.refused.ensures.kinds has
