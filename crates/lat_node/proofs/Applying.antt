@@ -15,7 +15,7 @@ use Rattle.lat_lines.specs.Answers.{SimulatesCall}
 use Rattle.lat_lines.specs.Events.{event_shown}
 use Rattle.lat_node.specs.Kept.{Kept, config_of}
 use Rattle.lat_node.specs.Stands.{Stands}
-use Rattle.lat_node.specs.Events.{Simulates, SimulatesRated, Rated, IsAct, announces}
+use Rattle.lat_node.specs.Events.{Simulates, SimulatesRated, Rated, TakesNoMemory, announces}
 use Rattle.lat_node.proofs.StepLemmas.{with_lines, called}
 use Rattle.lat_node.proofs.FrameLemmas.{IsQuiet, steps_quiet, steps_announce}
 
@@ -51,7 +51,7 @@ steps_announced may k e (Err m) before after is done rated = tt
 
 -- the other events take no memory
 pub act_of : (e : base_event.Event) → ((from : _) (payload : _) (now : _) → e ≡ events.Heard from payload now → ⊥) → ((line : _) (n : _) → e ≡ events.Take line n → ⊥) → ((to : _) (id : _) (service : _) → e ≡ events.Request to id service → ⊥)
-    → (e ≡ events.Announce → ⊥) → IsAct e
+    → (e ≡ events.Announce → ⊥) → TakesNoMemory e
 act_of (events.Heard from payload now) h t r a = absurd (h from payload now refl)
 act_of (events.Time now) h t r a = tt
 act_of (events.Connect line service) h t r a = tt

@@ -23,7 +23,7 @@ use Rattle.lat_payload.specs.Frames.{Emits}
 use Rattle.lat_lines.specs.Events.{event_shown}
 use Rattle.lat_node.specs.Kept.{Kept, config_of}
 use Rattle.lat_node.specs.Stands.{Stands, Machine, IsMachine, Frames}
-use Rattle.lat_node.specs.Events.{Simulates, SimulatesRated, Rated, ratings_for, IsAct}
+use Rattle.lat_node.specs.Events.{Simulates, SimulatesRated, Rated, ratings_for, TakesNoMemory}
 
 -- as many ratings as are asked for give the frames of an event
 pub frames_rated : {H : Type 0} (may : H → ℕ → ℕ → ℕ → Type 0) (k : Kept H) (m : Machine H) (e : base.Event) (after : List OutFrame) → IsMachine k m →
@@ -127,7 +127,7 @@ pub steps_announce : {H : Type 0} (may : H → ℕ → ℕ → ℕ → Type 0) (
     ((s : Node) → Stands k s → Rated may k s (λ rates. node_step (config_of k) rates s Announces) (length k.services) before after) → SimulatesRated may Announces k k answers.Done before after
 steps_announce may k before after rated = λ s st. (st, refl, rated s st)
 
-pub act_quiet : (e : base.Event) → IsAct e → IsQuiet (event_shown e)
+pub act_quiet : (e : base.Event) → TakesNoMemory e → IsQuiet (event_shown e)
 act_quiet (events.Heard from payload now) a = absurd a
 act_quiet (events.Time now) a = tt
 act_quiet (events.Connect line service) a = tt

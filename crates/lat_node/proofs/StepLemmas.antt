@@ -22,7 +22,7 @@ use Rattle.lat_lines.specs.Calls.{call_on, event_of, IsNoCall}
 use Rattle.lat_lines.specs.Events.{event_shown}
 use Rattle.lat_node.specs.Kept.{Kept, SameConfig, config_of}
 use Rattle.lat_node.specs.Stands.{Stands}
-use Rattle.lat_node.specs.Events.{Simulates, IsAct}
+use Rattle.lat_node.specs.Events.{Simulates, TakesNoMemory}
 
 abbrev pub with_lines : {H : Type 0} → Kept H → lines.Kept → Kept H
 with_lines k l = record k { lines = l }
@@ -83,7 +83,7 @@ does_call {H = H} k old l e line call answer out same node is says =
 
 -- an event that there is none of at a node
 
-at_nothing : (config : NodeConfig) (s : Node) (e : Event) → IsAct e → ((now : _) → e ≡ events.Time now → ⊥) → ((id : _) → e ≡ events.Cancel id → ⊥) → IsNoCall e → node_step config [] s (event_shown e) ≡ tells s NotHere
+at_nothing : (config : NodeConfig) (s : Node) (e : Event) → TakesNoMemory e → ((now : _) → e ≡ events.Time now → ⊥) → ((id : _) → e ≡ events.Cancel id → ⊥) → IsNoCall e → node_step config [] s (event_shown e) ≡ tells s NotHere
 at_nothing config s (events.Heard from payload now) a t w c = absurd a
 at_nothing config s (events.Time now) a t w c = absurd (t now refl)
 at_nothing config s (events.Connect line service) a t w c = refl
@@ -96,7 +96,7 @@ at_nothing config s (events.Request to id service) a t w c = absurd a
 at_nothing config s (events.Cancel id) a t w c = absurd (w id refl)
 at_nothing config s events.Announce a t w c = absurd a
 
-pub does_nothing : {H : Type 0} (k : Kept H) (e : Event) (before : List OutFrame) → IsAct e → ((now : _) → e ≡ events.Time now → ⊥) → ((id : _) → e ≡ events.Cancel id → ⊥) → IsNoCall e →
+pub does_nothing : {H : Type 0} (k : Kept H) (e : Event) (before : List OutFrame) → TakesNoMemory e → ((now : _) → e ≡ events.Time now → ⊥) → ((id : _) → e ≡ events.Cancel id → ⊥) → IsNoCall e →
     Simulates (λ config s. node_step config [] s (event_shown e)) k k answers.NotHere before before
 does_nothing k e before a t w c = λ s st.
     subst (HasDone k answers.NotHere before) (sym (at_nothing (config_of k) s e a t w c)) (st, refl, adds_none before)

@@ -11,7 +11,7 @@ use Rattle.lat_lines.specs.Events.{event_shown}
 use Rattle.lat_lines.proofs.Back.{answer_back}
 use Rattle.lat_node.specs.Kept.{Kept, SameConfig, config_of}
 use Rattle.lat_node.specs.Stands.{Stands, Machine, IsMachine, opening, next, answered, Frames}
-use Rattle.lat_node.specs.Events.{Simulates, SimulatesRated, Rated, IsLocal, IsAct}
+use Rattle.lat_node.specs.Events.{Simulates, SimulatesRated, Rated, IsLocal, TakesNoMemory}
 use Rattle.lat_node.proofs.FrameLemmas.{frames_rated, steps_quiet, act_quiet}
 
 -- what a core promises of a step
@@ -34,7 +34,7 @@ stepped_frames may k middle e a before after empty steps m is =
     (subst (λ (b : List OutFrame). Rated may k m.state (λ rates. node_step (config_of k) rates m.state (event_shown e)) (rates_of (config_of k) (node_step (config_of k) [] m.state (event_shown e)).answer (event_shown e)) b after) empty (steps m.state is.state).2)
 
 -- the events of `local` take no memory
-pub local_act : (e : base_event.Event) → IsLocal e → IsAct e
+pub local_act : (e : base_event.Event) → IsLocal e → TakesNoMemory e
 local_act (events.Heard from payload now) l = absurd l
 local_act (events.Time now) l = tt
 local_act (events.Connect line service) l = tt

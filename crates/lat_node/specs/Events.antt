@@ -72,9 +72,9 @@ IsLocal (events.Close line) = Unit {0}
 IsLocal e = ⊥
 
 -- an event that takes no memory, or that there is none of at a node
-abbrev pub IsAct : Event → Type 0
-IsAct (events.Heard from payload now) = ⊥
-IsAct (events.Take line n) = ⊥
-IsAct (events.Request to id service) = ⊥
-IsAct events.Announce = ⊥
-IsAct e = Unit {0}
+abbrev pub TakesNoMemory : Event → Type 0
+TakesNoMemory (events.Heard from payload now) = ⊥
+TakesNoMemory (events.Take line n) = ⊥
+TakesNoMemory (events.Request to id service) = ⊥
+TakesNoMemory events.Announce = ⊥
+TakesNoMemory e = Unit {0}

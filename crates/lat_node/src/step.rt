@@ -7,7 +7,7 @@ ghost use Rattle.lat_machines.specs.node.Node.{Node, node_step};
 ghost use Rattle.lat_machines.specs.values.Events.{Time};
 ghost use Rattle.lat_lines.specs.Answers as lines;
 ghost use Rattle.lat_lines.specs.Events.{event_shown};
-ghost use Rattle.lat_node.specs.Events.{Simulates, SimulatesRated, IsLocal, IsAct};
+ghost use Rattle.lat_node.specs.Events.{Simulates, SimulatesRated, IsLocal, TakesNoMemory};
 ghost use Rattle.lat_node.specs.Kept.{AtRest, SameConfig};
 ghost use Rattle.lat_node.specs.Stands.{Stands, Machine, IsMachine, opening, next, answered, Frames};
 
@@ -127,7 +127,7 @@ impl<H: RatingRule> NodeCore<H> {
 
     // The events that take no memory. The others are answered as if there were none of them here.
     fn act(&mut self, event: &Event, out: &mut OutBox) -> Answer
-        requires act { IsAct event.now }
+        requires act { TakesNoMemory event.now }
         requires room { length out.old + 128 ≤ 256 }
         ensures does { Simulates (λ config s.
             node_step config [] s (event_shown event.now)) self.old self.new result out.old out.new }

@@ -39,7 +39,7 @@ impl ServerCore {
             (action_shown command.now.action))
             self.old self.new a out.old out.new) }
         ensures same { SameConfig self.old self.new }
-        ensures told { IfOk result IsPlain }
+        ensures plain { IfOk result IsPlain }
         ensures most { length out.new ≤ length out.old + 1 }
         ensures err { OnErr result ((self.new ≡ self.old) × (out.new ≡ out.old)) }
     {
@@ -94,7 +94,7 @@ fn note(
 // What the command is answered where this is kept of its request.
 fn answer_kept(kept: Option<Kept>) -> Answer
     ensures value { result ≡ kept_answer kept }
-    ensures told { IsPlain result }
+    ensures plain { IsPlain result }
 {
     match kept {
         Some(kept) => Answer::Kept(kept),

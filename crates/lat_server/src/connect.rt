@@ -37,7 +37,7 @@ impl ServerCore {
         ensures does { Simulates (λ config s.
             connect_event config s line service.now) self.old self.new result out.old out.new }
         ensures same { SameConfig self.old self.new }
-        ensures told { IsPlain result }
+        ensures plain { IsPlain result }
         ensures most { length out.new ≤ length out.old + 1 }
     {
         if !self.lines.exists(line) {
@@ -62,7 +62,7 @@ impl ServerCore {
             has_session s.core line ≡ false →
             HasDone s (connects_to (config_of self.old) s line service.now (best_shown best.now)) self.new result out.old out.new }
         ensures same { SameConfig self.old self.new }
-        ensures told { IsPlain result }
+        ensures plain { IsPlain result }
         ensures most { length out.new ≤ length out.old + 1 }
     {
         let opened = self
@@ -78,7 +78,7 @@ impl ServerCore {
         ensures does { Simulates (λ config s.
             solicits_for config s service.now) self.old self.new result out.old out.new }
         ensures same { SameConfig self.old self.new }
-        ensures told { IsPlain result }
+        ensures plain { IsPlain result }
         ensures most { length out.new ≤ length out.old + 1 }
     {
         self.solicits = self.solicits.wrapping_add(1);

@@ -31,7 +31,7 @@ use std::alloc::Global;
 fn answer_announced(heard: Result<bool, DirFault>) -> Result<Answer, Memory>
     ensures shown { UnlessMemory heard (IfOk result (λ a.
         answer_shown a ≡ announced_answer heard)) }
-    ensures told { IfOk result IsPlain }
+    ensures plain { IfOk result IsPlain }
     ensures ok { IfOk result (λ a. heard ≢ Err faults.Memory) }
     ensures err { OnErr result (heard ≡ Err faults.Memory) }
 {
@@ -59,7 +59,7 @@ impl ServerCore {
             DoesAt now (λ config s. hears config s (address from.0) (reading_of payload.now) None)
             self.old self.new a out.old out.new) }
         ensures same { SameConfig self.old self.new }
-        ensures told { IfOk result IsPlain }
+        ensures plain { IfOk result IsPlain }
         ensures most { length out.new ≤ length out.old + 1 }
         ensures err { OnErr result ((self.new ≡ self.old) × (out.new ≡ out.old)) }
     {
@@ -99,7 +99,7 @@ impl ServerCore {
             hears config s (address from.0) (Whole (value_shown value.now)) None)
             self.old self.new a out.old out.new) }
         ensures same { SameConfig self.old self.new }
-        ensures told { IfOk result IsPlain }
+        ensures plain { IfOk result IsPlain }
         ensures most { length out.new ≤ length out.old + 1 }
         ensures err { OnErr result ((self.new ≡ self.old) × (out.new ≡ out.old)) }
     {
@@ -120,7 +120,7 @@ impl ServerCore {
             hears_message config s (address from.0) (message_shown message.now) None)
             self.old self.new result out.old out.new }
         ensures same { SameConfig self.old self.new }
-        ensures told { IsPlain result }
+        ensures plain { IsPlain result }
         ensures most { length out.new ≤ length out.old + 1 }
     {
         self.lines.pass(now);
@@ -142,7 +142,7 @@ impl ServerCore {
             hears_notice config s (address from.0) (notice_shown notice.now))
             self.old self.new a out.old out.new) }
         ensures same { SameConfig self.old self.new }
-        ensures told { IfOk result IsPlain }
+        ensures plain { IfOk result IsPlain }
         ensures most { length out.new ≤ length out.old + 1 }
         ensures err { OnErr result ((self.new ≡ self.old) × (out.new ≡ out.old)) }
     {
@@ -168,7 +168,7 @@ impl ServerCore {
             hears_announcement config s (address from.0) (announcement_shown announcement.now))
             self.old self.new a frames frames) }
         ensures same { SameConfig self.old self.new }
-        ensures told { IfOk result IsPlain }
+        ensures plain { IfOk result IsPlain }
         ensures err { OnErr result (self.new ≡ self.old) }
     {
         let moment = self.lines.moment().max(now);

@@ -160,10 +160,10 @@ closed_all whole k a out h = subst (λ t. HasDone t k a out) h.leads h.has
 
 -- connecting and closing
 
-pub says_little : (a : Answer) (x : ℕ) (service : Name) (ready : ℕ → ℕ) → PutFits a (events.Connect x service) → TookFits ready a (events.Connect x service) → IsPlain a
-says_little (answers.Put n) x service ready p t = p
-says_little (answers.Took items) x service ready p t = t
-says_little a x service ready p t = tt
+pub connect_is_plain : (a : Answer) (x : ℕ) (service : Name) (ready : ℕ → ℕ) → PutFits a (events.Connect x service) → TookFits ready a (events.Connect x service) → IsPlain a
+connect_is_plain (answers.Put n) x service ready p t = p
+connect_is_plain (answers.Took items) x service ready p t = t
+connect_is_plain a x service ready p t = tt
 
 pub connected_at : (line x : ℕ) (service : Name) (c : Course) (told new : Kept) (a : Answer) (out : List OutFrame) (b : Bool)
     → is_connected a ≡ b

@@ -23,7 +23,7 @@ fn is_connected(answer: &Answer) -> bool
 // `Done` once an inner line answers it.
 fn either_done(before: Answer, answer: Answer) -> Answer
     ensures value { result ≡ either_done before answer }
-    ensures told { IsPlain before → IsPlain result }
+    ensures plain { IsPlain before → IsPlain result }
 {
     match answer {
         Answer::Done => Answer::Done,
@@ -40,7 +40,7 @@ impl SwitchCore {
         ensures valid { IsValid self.new }
         ensures same { IsSame self.old self.new }
         ensures does { Simulates (connects line service.now) self.old self.new result out.old out.new }
-        ensures told { IsPlain result }
+        ensures plain { IsPlain result }
     {
         match self.line_at(line).first_free(&self.inner) {
             Some(inner_line) => self.connect_at(line, inner_line, service, out),
@@ -57,7 +57,7 @@ impl SwitchCore {
         ensures same { IsSame self.old self.new }
         ensures does { Simulates (λ c.
             connects_at line service.now c (Some inner_line)) self.old self.new result out.old out.new }
-        ensures told { IsPlain result }
+        ensures plain { IsPlain result }
     {
         let event = Event::Connect {
             line: inner_line,
@@ -93,7 +93,7 @@ impl SwitchCore {
         ensures valid { IsValid self.new }
         ensures same { IsSame self.old self.new }
         ensures does { Simulates (closes line) self.old self.new result out.old out.new }
-        ensures told { IsPlain result }
+        ensures plain { IsPlain result }
     {
         let first = self.line_at(line).first();
         let mut answer = Answer::Closed;
@@ -111,7 +111,7 @@ impl SwitchCore {
         ensures same { IsSame self.old self.new }
         ensures does { (t : Step) → HasDone t self.old before out.old →
             HasDone (closes_one t inner_line) self.new result out.new }
-        ensures told { IsPlain before → IsPlain result }
+        ensures plain { IsPlain before → IsPlain result }
         ensures quiet { out.new ≡ [] }
     {
         if !has_session(&self.inner, inner_line) {

@@ -13,7 +13,7 @@ loop-place-init c = record {
   valid = c.requires.valid;
   same = same_itself c.args.self.now;
   empty = c.requires.empty;
-  told = tt;
+  plain = tt;
   closes = λ course h. record {
     step = refuses answers.Closed course;
     has = record { course = h; answered = refl };
@@ -26,7 +26,7 @@ loop-place-preserved c = record {
   valid = c.close_one-answer.ensures.valid;
   same = same_then c.args.self.now c.loop-place.self c.close_one-answer.new.self c.loop-place.invariant.same c.close_one-answer.ensures.same;
   empty = c.close_one-answer.ensures.quiet;
-  told = c.close_one-answer.ensures.told c.loop-place.invariant.told;
+  plain = c.close_one-answer.ensures.plain c.loop-place.invariant.plain;
   closes = λ course h.
       let n : ℕ = c.loop-place.place in
       let left : map (λ i. c.first-first.result + i) (drop n places) ≡ (c.first-first.result + n) ∷ map (λ i. c.first-first.result + i) (drop (n + 1) places) = place_left (λ i. c.first-first.result + i) n (omega arith) in

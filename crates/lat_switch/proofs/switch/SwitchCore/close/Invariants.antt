@@ -13,6 +13,6 @@ invariant-loop-place l = record {
   valid : IsValid l.self;
   same : IsSame l.initial.self l.self;
   empty : l.out ≡ [];
-  told : IsPlain l.answer;
+  plain : IsPlain l.answer;
   closes : (c : Course) → HasCome c l.initial.self l.initial.out → ClosesOn (closes l.line c) (map (λ i. l.first + i) (drop l.place places)) l.self l.answer l.out;
 }
