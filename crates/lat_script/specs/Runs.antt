@@ -14,7 +14,8 @@ abbrev pub IsStatus : ℕ → Type 0
 IsStatus status = (status ≡ 0) ⊎ (status ≡ 5) ⊎ (status ≡ 6) ⊎ IsEarly status
 
 -- the program prints this text of this script
-pub record Prints {F A E : Type 0} (g : Shared F (A × (Bor (List ℕ) × Unit {0})) (Result (String A) E)) (f : F) (alloc : A) (script text : List ℕ) : Type 0 where
+pub record Prints {F A E : Type 0} (g : Shared F (A × (Bor (List ℕ) × Unit {0})) (Result (String A) E))
+    (f : F) (alloc : A) (script text : List ℕ) : Type 0 where
   pub shown : Bor (List ℕ)
   pub shows : shown.now ≡ script
   pub made : String A
