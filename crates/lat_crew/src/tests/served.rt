@@ -32,7 +32,7 @@ const WRONG: &str =
     "latd --role server --name TS1 --address aa0004000104 --port 1 --lines 2 --line-port 2 --service VAX --sessions 0 4";
 
 /// The words, the call of the opener and the calls of the sink that fail, and what is due.
-#[derive(Clone, Copy, Drop)]
+#[derive(Drop)]
 struct Case {
     name: &'static str,
     words: &'static str,
@@ -225,8 +225,8 @@ fn run<E: Ledger + Sync, B: Ledger + Sync, F: Ledger + Sync, R: Threads + Wait +
 
 #[test]
 fn daemons_end_as_is_due(rt: HostRuntime) -> Result<(), Fail> {
-    for case in CASES {
-        let amiss = run::<Brand, Brand, Brand, HostRuntime>(&rt, rt.alloc(), &case, Blanks::new())?;
+    for case in CASES.iter() {
+        let amiss = run::<Brand, Brand, Brand, HostRuntime>(&rt, rt.alloc(), case, Blanks::new())?;
         assert!(rt; amiss.is_none(), "{}: {}", case.name, amiss.unwrap_or(""));
     }
     Ok(())
