@@ -1,0 +1,6 @@
+use Rattle.std.proofs.Common.{arith}
+use Rattle.std.proofs.lemmas.Grind.{common_steps}
+use Rattle.lat_ending.proofs.ending.end_text.Goals as goal
+
+pub loop-done-init : goal.loop-done-init
+loop-done-init c = grind (arith, common_steps)

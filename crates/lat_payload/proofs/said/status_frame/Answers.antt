@@ -1,0 +1,6 @@
+use Rattle.lat_payload.proofs.NoticesBack.{sendable_fits}
+use Rattle.std.proofs.Common.{rules}
+use Rattle.lat_payload.proofs.said.status_frame.Goals as goal
+
+pub returns : goal.returns
+returns c = search (rules, sendable_fits)

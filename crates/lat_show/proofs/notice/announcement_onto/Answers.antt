@@ -1,0 +1,7 @@
+use Rattle.std.proofs.Common.{arith}
+use Rattle.std.proofs.lemmas.Grind.{common_steps}
+use Rattle.lat_show.proofs.notice.announcement_onto.Goals as goal
+
+pub returns : goal.returns
+unfolding Rattle.lat_show.specs.NoticeShown.announcement_shown
+returns c = grind (arith, common_steps)
