@@ -1,5 +1,6 @@
 use Rattle.std.proofs.Common.{length, take, ap, arith, length-append, ◌∷◌, []}
 use Rattle.std.specs.List.{flat_map}
+use Rattle.std.proofs.lemmas.Grind.{common_steps}
 use Rattle.lat_fields.specs.Params.{entry_text}
 use Rattle.lat_fields.proofs.Room.{room_at}
 use Rattle.lat_fields.proofs.params_write.write_params.Goals as goal
@@ -17,3 +18,15 @@ write_entry-requires-clause-room c =
       ap (λ es. length (flat_map entry_text es)) c.as_slice-entry-items.ensures,
       c.requires.room,
     )
+
+pub write_entry-requires-clause-short : goal.write_entry-requires-clause-short
+write_entry-requires-clause-short c = grind (arith, common_steps)
+
+pub loop-entry-preserved : goal.loop-entry-preserved
+loop-entry-preserved c = grind (arith, common_steps)
+
+pub push-requires : goal.push-requires
+push-requires c = grind (arith, common_steps)
+
+pub returns : goal.returns
+returns c = grind (arith, common_steps)

@@ -4,3 +4,18 @@ use Rattle.lat_notices.proofs.write.write_response.Goals as goal
 
 pub returns-clause-text : goal.returns-clause-text
 returns-clause-text c = grind (arith, common_steps)
+
+pub write_number-requires : goal.write_number-requires
+write_number-requires c = grind (arith, common_steps)
+
+pub write_counted-requires-clause-room : goal.write_counted-requires-clause-room
+write_counted-requires-clause-room c = grind (arith, common_steps)
+
+pub write_counted-requires-2-clause-room : goal.write_counted-requires-2-clause-room
+write_counted-requires-2-clause-room c = grind (arith, common_steps)
+
+pub push-requires-2 : goal.push-requires-2
+push-requires-2 c = grind (arith, common_steps)
+
+pub push-requires-3 : goal.push-requires-3
+push-requires-3 c = grind (arith, common_steps)

@@ -1,5 +1,6 @@
 use Rattle.std.proofs.Common.{length, take, ap, arith, length-append}
 use Rattle.std.specs.List.{flat_map, sum_by}
+use Rattle.std.proofs.lemmas.Grind.{common_steps}
 use Rattle.lat_notices.specs.Services.{service_text}
 use Rattle.lat_notices.specs.Writing.{service_len}
 use Rattle.lat_notices.proofs.Room.{room_at}
@@ -19,3 +20,15 @@ write_service-requires-clause-room c =
       ap (sum_by service_len) c.as_slice-service-items.ensures,
       c.requires.room,
     )
+
+pub write_service-requires-clause-short : goal.write_service-requires-clause-short
+write_service-requires-clause-short c = grind (arith, common_steps)
+
+pub loop-service-preserved : goal.loop-service-preserved
+loop-service-preserved c = grind (arith, common_steps)
+
+pub returns-clause-text : goal.returns-clause-text
+returns-clause-text c = grind (arith, common_steps)
+
+pub returns-clause-names : goal.returns-clause-names
+returns-clause-names c = grind (arith, common_steps)

@@ -1,4 +1,5 @@
 use Rattle.std.proofs.Common.{◌≡◌, ◌-◌, ◌∷◌, List, ℕ, length, take, drop, ap, subst, arith, length-drop}
+use Rattle.std.proofs.lemmas.Grind.{common_steps}
 use Rattle.lat_switch.specs.Pieces.{pieces_of}
 use Rattle.lat_switch.proofs.Firsts.{pieces_more, rest_is}
 use Rattle.lat_switch.proofs.piece.pieces_of.Goals as goal
@@ -12,3 +13,6 @@ loop-at-preserved c =
           (subst (λ (z : List ℕ). pieces_of z ≡ c.in_ok-piece.piece ∷ pieces_of (drop c.in_ok-piece.size z)) same c.in_ok-piece.ensures.value)
           c.loop-at.invariant.pieces;
     }
+
+pub returns : goal.returns
+returns c = grind (arith, common_steps)

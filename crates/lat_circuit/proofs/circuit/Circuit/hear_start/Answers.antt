@@ -1,5 +1,6 @@
-use Rattle.std.proofs.Common.{◌≡◌, true, false, not, ◌&&◌, nat_eq, sym, ap, subst, ◌∙◌}
+use Rattle.std.proofs.Common.{◌≡◌, true, false, not, ◌&&◌, nat_eq, sym, ap, subst, ◌∙◌, arith}
 use Rattle.std.proofs.lemmas.Bool.{and_parts, not-true}
+use Rattle.std.proofs.lemmas.Grind.{common_steps}
 use Rattle.lat_model.specs.ends.End.{End}
 use Rattle.lat_base.specs.declared.heard.Heard.TheVariants as answers
 use Rattle.lat_circuit.specs.Kept.{Kept}
@@ -34,3 +35,6 @@ returns-then-not-self-clause-did c =
     c.push_start.ensures.frame
     (λ e st. replies_formed c.self.inside _ c.self.invariant.1 (slave e st) c.reply_start.ensures c.push_start.ensures.names)
     )
+
+pub returns-then-not-self-clause-most : goal.returns-then-not-self-clause-most
+returns-then-not-self-clause-most c = grind (arith, common_steps)

@@ -1,4 +1,5 @@
 use Rattle.std.proofs.Common.{◌+◌, ◌≤◌, true, ◌++◌, List, [], ◌∷◌, sym, ap, subst, ◌∙◌, arith, length, length-append}
+use Rattle.std.proofs.lemmas.Grind.{common_steps}
 use Rattle.lat_base.specs.declared.outbox.Mark.TheVariants.{Fresh}
 use Rattle.lat_base.specs.declared.outbox.OutFrame.{OutFrame}
 use Rattle.lat_base.specs.Lending.{frame_of}
@@ -45,3 +46,15 @@ returns-clause-did c =
     count in
     (did.0, ap outs (sym c.form.ensures.keeps.facts) ∙ ap (λ z. c.args.out.now ++ z) did.1, did.2))
     )
+
+pub withdraw-requires : goal.withdraw-requires
+withdraw-requires c = grind (arith, common_steps)
+
+pub acknowledge-requires-then-slots-eq0-clause-room : goal.acknowledge-requires-then-slots-eq0-clause-room
+acknowledge-requires-then-slots-eq0-clause-room c = grind (arith, common_steps)
+
+pub returns-then-slots-eq0-clause-most : goal.returns-then-slots-eq0-clause-most
+returns-then-slots-eq0-clause-most c = grind (arith, common_steps)
+
+pub returns-clause-most : goal.returns-clause-most
+returns-clause-most c = grind (arith, common_steps)

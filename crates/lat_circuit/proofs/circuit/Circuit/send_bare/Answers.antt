@@ -1,4 +1,5 @@
-use Rattle.std.proofs.Common.{◌≡◌, ◌++◌, [], ◌∷◌, refl, sym, ap, subst, ◌∙◌}
+use Rattle.std.proofs.Common.{◌≡◌, ◌++◌, [], ◌∷◌, refl, sym, ap, subst, ◌∙◌, arith}
+use Rattle.std.proofs.lemmas.Grind.{common_steps}
 use Rattle.lat_base.specs.declared.outbox.Mark.TheVariants as marks
 use Rattle.lat_base.specs.Lending.{frame_of}
 use Rattle.lat_circuit.specs.Kept.{Kept}
@@ -17,3 +18,6 @@ returns-clause-did c = λ e st.
     here
     (c.bare.ensures e.half.link here.link)
     (subst P (sym c.self.view_is) refl)
+
+pub returns-clause-most : goal.returns-clause-most
+returns-clause-most c = grind (arith, common_steps)

@@ -1,4 +1,5 @@
-use Rattle.std.proofs.Common.{◌≡◌, ◌++◌, [], ◌∷◌, sym, ap, subst, ◌∙◌}
+use Rattle.std.proofs.Common.{◌≡◌, ◌++◌, [], ◌∷◌, sym, ap, subst, ◌∙◌, arith}
+use Rattle.std.proofs.lemmas.Grind.{common_steps}
 use Rattle.lat_base.specs.declared.outbox.Mark.TheVariants as marks
 use Rattle.lat_fields.specs.Payloads.{padded}
 use Rattle.lat_frames.specs.Written.{message_text}
@@ -22,3 +23,6 @@ returns-clause-did c = λ e st.
     (subst Is (sym c.self.view_is) c.call_start.ensures)
     c.push_start.ensures.names
     (subst P (sym c.self.view_is) c.push_start.ensures.frame)
+
+pub returns-clause-most : goal.returns-clause-most
+returns-clause-most c = grind (arith, common_steps)

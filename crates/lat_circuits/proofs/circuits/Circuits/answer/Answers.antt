@@ -1,4 +1,5 @@
-use Rattle.std.proofs.Common.{ap, subst, slice_set}
+use Rattle.std.proofs.Common.{ap, subst, slice_set, arith}
+use Rattle.std.proofs.lemmas.Grind.{elements}
 use Rattle.lat_model.specs.sessions.Calls.{Answer}
 use Rattle.lat_circuits.specs.Kept.{Kept, Holds, side_of}
 use Rattle.lat_circuits.proofs.Calling.{called_of, called_same, called_holds, called_stands, answers_nothing}
@@ -25,3 +26,9 @@ returns-in-Some-clause-same c =
 pub returns-in_default-clause-state : goal.returns-in_default-clause-state
 returns-in_default-clause-state c = λ d st.
     answers_nothing c.args.self.now (side_of c.args.self.now) d c.args.circuit c.args.id c.in_default.ensures.place st
+
+pub answer_session-requires-clause-lives : goal.answer_session-requires-clause-lives
+answer_session-requires-clause-lives c = grind (arith, elements)
+
+pub answer_session-requires-clause-asked : goal.answer_session-requires-clause-asked
+answer_session-requires-clause-asked c = grind (arith, elements)

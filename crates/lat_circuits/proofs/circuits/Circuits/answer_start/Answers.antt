@@ -1,5 +1,6 @@
 use Rattle.std.proofs.Common.{◌∙◌, ◌++◌, ◌+◌, suc, sym, ap, subst, arith}
 use Rattle.std.specs.Option.{option_to_list}
+use Rattle.std.proofs.lemmas.Grind.{common_steps, elements}
 use Rattle.lat_machines.specs.values.Addresses.{address}
 use Rattle.lat_machines.specs.cores.Hearing.{Makes}
 use Rattle.lat_circuit.specs.Frames.{info_shown}
@@ -67,3 +68,9 @@ returns-clause-core c = record {
 pub returns-clause-held : goal.returns-clause-held
 returns-clause-held c =
     ids_pushed c.args.self.now c.self.inside.held.items c.push_reserved.new.self.items c.answer_in-circuit.result (record { are = ap (λ (z : Kept). z.held) c.self.view_is; more = c.push_reserved.ensures.items })
+
+pub answer_in-circuit-requires-clause-sessions : goal.answer_in-circuit-requires-clause-sessions
+answer_in-circuit-requires-clause-sessions c = grind (arith, elements)
+
+pub returns-clause-most : goal.returns-clause-most
+returns-clause-most c = grind (arith, common_steps)

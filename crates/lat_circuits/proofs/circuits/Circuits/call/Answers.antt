@@ -1,4 +1,5 @@
 use Rattle.std.proofs.Common.{◌∙◌, sym, ap, subst, arith, ◌+◌, ◌≤◌, ◌++◌, [], ◌∷◌, length, length-append}
+use Rattle.std.proofs.lemmas.Grind.{common_steps, elements}
 use Rattle.lat_model.specs.Lists.{Each}
 use Rattle.lat_machines.specs.values.Addresses.{address}
 use Rattle.lat_machines.specs.cores.Acts.{called}
@@ -78,3 +79,9 @@ returns-clause-held c =
 pub returns-clause-ids : goal.returns-clause-ids
 returns-clause-ids c =
     ids_pushed c.args.self.now c.self.inside.held.items c.push_reserved.new.self.items c.call_in-circuit.result (record { are = ap (λ (z : Kept). z.held) c.self.view_is; more = c.push_reserved.ensures.items })
+
+pub call_in-circuit-requires-clause-sessions : goal.call_in-circuit-requires-clause-sessions
+call_in-circuit-requires-clause-sessions c = grind (arith, elements)
+
+pub returns-clause-most : goal.returns-clause-most
+returns-clause-most c = grind (arith, common_steps)

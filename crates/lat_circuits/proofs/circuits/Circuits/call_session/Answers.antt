@@ -1,5 +1,6 @@
-use Rattle.std.proofs.Common.{◌∙◌, sym, ap, subst, refl, Err, if◌then◌else◌, slice_set}
+use Rattle.std.proofs.Common.{◌∙◌, sym, ap, subst, refl, Err, if◌then◌else◌, slice_set, arith}
 use Rattle.std.proofs.lemmas.Result.{err_from_is_err_and}
+use Rattle.std.proofs.lemmas.Grind.{elements}
 use Rattle.lat_session.proofs.Results.{found_none}
 use Rattle.lat_model.specs.sessions.Sessions.{named}
 use Rattle.lat_model.specs.ends.End.{End}
@@ -57,3 +58,6 @@ returns-in_err-at-clause-answer c = λ d st.
 pub returns-in_err-at-clause-state : goal.returns-in_err-at-clause-state
 returns-in_err-at-clause-state c = λ d st.
     calls_none c.args.self.now (side_of c.args.self.now) d c.args.circuit (call_of c.args.id c.args.call.now) (living_told c.args.self.now d c.args.circuit _ refl st ∙ place_none c.args.self.now c.args.circuit c.living_at.result c.living_at.ensures.place c.in_err-at.ensures.ok_part) st
+
+pub call_session-requires : goal.call_session-requires
+call_session-requires c = grind (arith, elements)

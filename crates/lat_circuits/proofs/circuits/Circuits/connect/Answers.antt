@@ -1,5 +1,6 @@
-use Rattle.std.proofs.Common.{◌∙◌, sym, ap, subst, refl, ◌&&◌, if◌then◌else◌, Ok, Err, slice_set}
+use Rattle.std.proofs.Common.{◌∙◌, sym, ap, subst, refl, ◌&&◌, if◌then◌else◌, Ok, Err, slice_set, arith}
 use Rattle.std.proofs.lemmas.Result.{err_from_is_err_and}
+use Rattle.std.proofs.lemmas.Grind.{common_steps, elements}
 use Rattle.lat_session.proofs.Results.{found_none}
 use Rattle.lat_model.specs.sessions.Calls.{Connect}
 use Rattle.lat_model.specs.sessions.Sessions.{least_free}
@@ -54,3 +55,9 @@ returns-in_err-at-clause-answer c = λ d st.
 pub returns-in_err-at-clause-state : goal.returns-in_err-at-clause-state
 returns-in_err-at-clause-state c = λ d st.
     calls_none c.args.self.now (side_of c.args.self.now) d c.args.circuit (Connect c.args.service.now c.args.request) (living_told c.args.self.now d c.args.circuit _ refl st ∙ place_none c.args.self.now c.args.circuit c.living_at.result c.living_at.ensures.place c.in_err-at.ensures.ok_part) st
+
+pub connect-requires-clause-lives : goal.connect-requires-clause-lives
+connect-requires-clause-lives c = grind (arith, elements)
+
+pub connect-requires-clause-master : goal.connect-requires-clause-master
+connect-requires-clause-master c = grind (arith, common_steps)

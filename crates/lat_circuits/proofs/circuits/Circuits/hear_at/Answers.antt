@@ -1,4 +1,5 @@
 use Rattle.std.proofs.Common.{◌≡◌, ◌<◌, length, slice_index, ap, subst, arith}
+use Rattle.std.proofs.lemmas.Grind.{common_steps}
 use Rattle.lat_machines.specs.cores.Cores.{Core}
 use Rattle.lat_machines.specs.values.Answers.{Circuit}
 use Rattle.lat_circuit.specs.Frames.{message_shown}
@@ -58,3 +59,9 @@ returns-clause-same c =
     let low : c.args.at < length a.held.items = omega (arith, c.requires.at, ap (λ (k : Kept). length k.held) c.self.view_is) in
     let b = became a c.args.at q c.heard.new.self low c.index_mut-circuit.ensures.value r.config r.id in
     subst (λ (k : Kept). SameCircuits k (shown (with_at a c.args.at c.heard.new.self))) c.self.view_is (same_after (shown a) c.args.at q c.heard.new.self (shown (with_at a c.args.at c.heard.new.self)) b)
+
+pub heard-requires-clause-lives : goal.heard-requires-clause-lives
+heard-requires-clause-lives c = grind (arith, common_steps)
+
+pub heard-requires-clause-moment : goal.heard-requires-clause-moment
+heard-requires-clause-moment c = grind (arith, common_steps)

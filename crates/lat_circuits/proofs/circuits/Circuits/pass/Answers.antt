@@ -1,4 +1,5 @@
-use Rattle.std.proofs.Common.{subst}
+use Rattle.std.proofs.Common.{subst, arith}
+use Rattle.std.proofs.lemmas.Grind.{elements}
 use Rattle.lat_machines.specs.cores.Cores.{Core, at_moment}
 use Rattle.lat_circuits.specs.Kept.{Kept}
 use Rattle.lat_circuits.specs.Shown.{shown}
@@ -12,3 +13,6 @@ returns-clause-state c =
     let n = c.max-self-inside.result in
     subst (λ (k : Kept). (d : Core) → Stands k d → Stands (shown (record a { moment = n })) (at_moment c.args.now d)) c.self.view_is
     (λ d st. moved_stands (shown a) d c.args.now n c.max-self-inside.ensures st)
+
+pub invariant_of-self : goal.invariant_of-self
+invariant_of-self c = grind (arith, elements)

@@ -1,4 +1,5 @@
-use Rattle.std.proofs.Common.{ap, subst, slice_set}
+use Rattle.std.proofs.Common.{ap, subst, slice_set, arith}
+use Rattle.std.proofs.lemmas.Grind.{elements}
 use Rattle.lat_model.specs.sessions.Calls.{Refuse}
 use Rattle.lat_circuits.specs.Kept.{Kept, Holds, side_of}
 use Rattle.lat_circuits.proofs.Calling.{called_of, called_same, called_holds, called_stands, refuses_nothing}
@@ -25,3 +26,9 @@ returns-in-Some-clause-same c =
 pub returns-in_default-clause-state : goal.returns-in_default-clause-state
 returns-in_default-clause-state c = λ d st.
     refuses_nothing c.args.self.now (side_of c.args.self.now) d c.args.circuit c.args.id c.args.reason c.in_default.ensures.place st
+
+pub reject-requires-clause-lives : goal.reject-requires-clause-lives
+reject-requires-clause-lives c = grind (arith, elements)
+
+pub reject-requires-clause-asked : goal.reject-requires-clause-asked
+reject-requires-clause-asked c = grind (arith, elements)

@@ -1,5 +1,6 @@
-use Rattle.std.proofs.Common.{◌∙◌, sym, ap, subst, refl, ◌&&◌, if◌then◌else◌, Ok, Err, slice_set, length, map, drop, ◌++◌}
+use Rattle.std.proofs.Common.{◌∙◌, sym, ap, subst, refl, ◌&&◌, if◌then◌else◌, Ok, Err, slice_set, length, map, drop, ◌++◌, arith}
 use Rattle.std.proofs.lemmas.Result.{err_from_is_err_and}
+use Rattle.std.proofs.lemmas.Grind.{elements}
 use Rattle.lat_session.proofs.Results.{found_none}
 use Rattle.lat_model.specs.sessions.Calls.{take_count, took, Take}
 use Rattle.lat_model.specs.sessions.Session.{take_open}
@@ -69,3 +70,9 @@ pub returns-in_err-at-clause-items : goal.returns-in_err-at-clause-items
 returns-in_err-at-clause-items c = λ d st.
     let e : End = (d.circuits.circuit_at c.args.circuit).end in
     ap (λ b. if b && take_open (named e.half.sessions c.args.id) then map item_shown (took e.half.sessions c.args.id (length c.args.out.now)) ++ drop (take_count (named e.half.sessions c.args.id) (length c.args.out.now)) c.args.out.now else c.args.out.now) (sym (living_told c.args.self.now d c.args.circuit _ refl st ∙ place_none c.args.self.now c.args.circuit c.living_at.result c.living_at.ensures.place c.in_err-at.ensures.ok_part))
+
+pub take-requires : goal.take-requires
+take-requires c = grind (arith, elements)
+
+pub returns-clause-count : goal.returns-clause-count
+returns-clause-count c = grind (arith, elements)

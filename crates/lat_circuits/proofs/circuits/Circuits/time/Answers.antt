@@ -1,4 +1,5 @@
 use Rattle.std.proofs.Common.{length, ap, subst, arith}
+use Rattle.std.proofs.lemmas.Grind.{common_steps}
 use Rattle.lat_circuits.specs.Kept.{Kept, Holds}
 use Rattle.lat_circuits.proofs.Passing.{did_nothing, same_none, same_then, times_more, times_all}
 use Rattle.lat_circuits.proofs.circuits.Circuits.time.Goals as goal
@@ -27,3 +28,6 @@ returns-clause-did c =
 
 pub returns-clause-same : goal.returns-clause-same
 returns-clause-same c = c.loop-at.invariant.same
+
+pub time_at-requires-clause-at : goal.time_at-requires-clause-at
+time_at-requires-clause-at c = grind (arith, common_steps)

@@ -1,5 +1,6 @@
 use Rattle.std.proofs.Common.{◌∙◌, ◌<◌, length, is_none, slice_index, refl, sym, ap, subst, arith}
 use Rattle.std.proofs.lemmas.Option.{same_Some}
+use Rattle.std.proofs.lemmas.Grind.{common_steps}
 use Rattle.lat_circuit.specs.Kept as circuit
 use Rattle.lat_circuits.specs.Kept.{Kept, SameCircuits, IsOwn, side_of, ids}
 use Rattle.lat_circuits.specs.Shown.{shown}
@@ -56,3 +57,9 @@ returns-clause-same c =
     let low : c.args.at < length a.held.items = omega (arith, c.requires.at, ap (λ (k : Kept). length k.held) c.self.view_is) in
     let b = became a c.args.at q c.time.new.self low c.index_mut-circuit.ensures.value (ap (λ (f : circuit.Facts). f.config) c.time.ensures.facts) (ap (λ (f : circuit.Facts). f.id) c.time.ensures.facts) in
     subst (λ (k : Kept). SameCircuits k (shown (with_at a c.args.at c.time.new.self))) c.self.view_is (same_after (shown a) c.args.at q c.time.new.self (shown (with_at a c.args.at c.time.new.self)) b)
+
+pub time-requires-clause-lives : goal.time-requires-clause-lives
+time-requires-clause-lives c = grind (arith, common_steps)
+
+pub time-requires-clause-moment : goal.time-requires-clause-moment
+time-requires-clause-moment c = grind (arith, common_steps)

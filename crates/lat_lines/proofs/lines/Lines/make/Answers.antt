@@ -1,4 +1,5 @@
-use Rattle.std.proofs.Common.{◌≡◌, [], replicate, None, IfOk, sym, subst, rules}
+use Rattle.std.proofs.Common.{◌≡◌, [], replicate, None, IfOk, sym, subst, rules, arith}
+use Rattle.std.proofs.lemmas.Grind.{common_steps}
 use Rattle.lat_model.specs.Lists.{Each}
 use Rattle.lat_machines.specs.values.Addresses.{address}
 use Rattle.lat_machines.specs.cores.Cores.{open_core}
@@ -23,3 +24,6 @@ pub returns-clause-clear : goal.returns-clause-clear
 returns-clause-clear c =
     let none = subst (λ r. IfOk r (λ (k : Kept). (k.held ≡ []) × (k.moment ≡ 0))) c.in_ok-make.was c.make.ensures.none in
     subst (Each (λ (q : circuit.Kept). q.ended ≡ None)) (sym none.0) tt
+
+pub invariant_of-result : goal.invariant_of-result
+invariant_of-result c = grind (arith, common_steps)

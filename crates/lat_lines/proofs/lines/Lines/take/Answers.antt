@@ -1,4 +1,5 @@
-use Rattle.std.proofs.Common.{◌≡◌, [], length, min, sym, ap, ap₂, subst, ◌∙◌, rules}
+use Rattle.std.proofs.Common.{◌≡◌, [], length, min, sym, ap, ap₂, subst, ◌∙◌, rules, arith}
+use Rattle.std.proofs.lemmas.Grind.{common_steps}
 use Rattle.lat_model.specs.sessions.Calls.{Take}
 use Rattle.lat_machines.specs.cores.LineCalls.{take_on, on_line}
 use Rattle.lat_circuits.specs.Stands.{calling}
@@ -51,3 +52,6 @@ returns-in_ok-items-in-Ok-clause-clear c =
 pub returns-in_ok-items-in-Ok-clause-moment : goal.returns-in_ok-items-in-Ok-clause-moment
 returns-in_ok-items-in-Ok-clause-moment c =
     moment_same (shown c.self.inside) c.args.self.now c.reap_unless.new.self c.take-answer.new.self (record { was = c.self.view_is; circuits = c.reap_unless.ensures.circuits }) c.take-answer.ensures.same.moment
+
+pub returns-in_ok-items-in-Ok-clause-took : goal.returns-in_ok-items-in-Ok-clause-took
+returns-in_ok-items-in-Ok-clause-took c = grind (arith, common_steps)

@@ -1,4 +1,5 @@
-use Rattle.std.proofs.Common.{◌∙◌, sym, ap, subst, length}
+use Rattle.std.proofs.Common.{◌∙◌, sym, ap, subst, length, arith}
+use Rattle.std.proofs.lemmas.Grind.{common_steps}
 use Rattle.circular_buffer.specs.Buffer.{keep_last}
 use Rattle.lat_model.specs.numbers.Near.{near}
 use Rattle.lat_seq.specs.Spans.{half}
@@ -21,3 +22,9 @@ returns-in-New-clause-state c =
     ∙ (sym (c.acked-fact.ensures.answer (length l.sent) l.known stood.sends) ∙ c.in-New.is))
     (subst (λ r. Sends c.acked-fact.new.self (length l.sent) (known_after l.known r)) c.in-New.is (c.acked-fact.ensures.after (length l.sent) l.known stood.sends))
     (ap (λ b. b.items) c.truncate_front.ensures ∙ ap (λ n. keep_last n c.self.inside.texts.items) c.again.ensures.value)
+
+pub invariant_of-self : goal.invariant_of-self
+invariant_of-self c = grind (arith, common_steps)
+
+pub returns-in_default : goal.returns-in_default
+returns-in_default c = grind (arith, common_steps)

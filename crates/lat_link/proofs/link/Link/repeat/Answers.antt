@@ -1,4 +1,5 @@
-use Rattle.std.proofs.Common.{◌≡◌, ◌<◌, ◌∙◌, false, sym, ap, subst, List, length, map, slice_get, Some}
+use Rattle.std.proofs.Common.{◌≡◌, ◌<◌, ◌∙◌, false, sym, ap, subst, List, length, map, slice_get, Some, arith}
+use Rattle.std.proofs.lemmas.Grind.{elements}
 use Rattle.lat_link.specs.Links.{Stands}
 use Rattle.std.specs.Option.{option_copied}
 use Rattle.lat_model.specs.numbers.Link.{Link, again_frames}
@@ -22,3 +23,6 @@ pub unreachable-requires : goal.unreachable-requires
 unreachable-requires c =
     let within = subst (λ n. c.args.place < n) (sym c.self.invariant.0.count) (subst (λ k. c.args.place < k.sending.unacknowledged) (sym c.self.view_is) c.requires.place) in
     is_there c.self.inside.texts.items c.args.place within (sym c.get.ensures ∙ ap option_copied c.in_default.is)
+
+pub set_acknowledgement-requires-clause-room : goal.set_acknowledgement-requires-clause-room
+set_acknowledgement-requires-clause-room c = grind (arith, elements)

@@ -1,3 +1,5 @@
+use Rattle.std.proofs.Common.{arith}
+use Rattle.std.proofs.lemmas.Grind.{common_steps}
 use Rattle.lat_machines.specs.values.Addresses.{address}
 use Rattle.lat_payload.specs.Shown.{value_shown}
 use Rattle.lat_node.proofs.HearLemmas.{steps_read}
@@ -6,3 +8,6 @@ use Rattle.lat_node.proofs.node.NodeCore.hear.Goals as goal
 pub returns-in-Ok-clause-steps : goal.returns-in-Ok-clause-steps
 returns-in-Ok-clause-steps g c =
     steps_read _ c.args.self.now c.hear_value.new.self (address c.args.from.0) c.args.now _ (value_shown c.in-Ok.value) c.hear_value.result c.args.out.now c.hear_value.new.out c.in-Ok.ensures.reading c.hear_value.ensures.steps
+
+pub returns-in-Err-clause-steps : goal.returns-in-Err-clause-steps
+returns-in-Err-clause-steps c = grind (arith, common_steps)

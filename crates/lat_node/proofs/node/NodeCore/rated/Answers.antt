@@ -1,5 +1,6 @@
-use Rattle.std.proofs.Common.{◌≡◌, ◌+◌, sym, ap, ◌∙◌, take, [], ◌∷◌, ◌++◌}
+use Rattle.std.proofs.Common.{◌≡◌, ◌+◌, sym, ap, ◌∙◌, take, [], ◌∷◌, ◌++◌, arith}
 use Rattle.std.proofs.lemmas.List.{take_more}
+use Rattle.std.proofs.lemmas.Grind.{common_steps}
 use Rattle.lat_node.proofs.AnnounceLemmas.{services_more, each_more}
 use Rattle.lat_node.proofs.node.NodeCore.rated.Goals as goal
 
@@ -15,3 +16,6 @@ loop-name-preserved g c =
       names = services_more (take i ns) (take (i + 1) ns) ss c.push.new.self n s more c.in_ok-push.ensures.ok c.loop-name.invariant.names c.in_ok-service.ensures.shown;
       ratings = each_more _ ss s c.push.new.self c.in_ok-push.ensures.ok c.loop-name.invariant.ratings c.in_ok-service.ensures.rating;
     }
+
+pub returns-clause-names : goal.returns-clause-names
+returns-clause-names c = grind (arith, common_steps)

@@ -1,4 +1,5 @@
-use Rattle.std.proofs.Common.{sym, ap, ◌∙◌, subst}
+use Rattle.std.proofs.Common.{sym, ap, ◌∙◌, subst, arith}
+use Rattle.std.proofs.lemmas.Grind.{common_steps}
 use Rattle.lat_machines.specs.values.Addresses.{address}
 use Rattle.lat_lines.specs.Stands as lines
 use Rattle.lat_node.specs.Kept.{Kept}
@@ -15,3 +16,12 @@ returns-clause-frames g c = λ s st.
     (ap (λ (k : Kept g.row.H.Denot). k.timer) c.self.view_is)
     c.response_frame.ensures)
     c.push.ensures c.notice_frame.ensures.goes c.push-2.ensures
+
+pub push-requires : goal.push-requires
+push-requires c = grind (arith, common_steps)
+
+pub push-requires-2 : goal.push-requires-2
+push-requires-2 c = grind (arith, common_steps)
+
+pub returns-clause-most : goal.returns-clause-most
+returns-clause-most c = grind (arith, common_steps)

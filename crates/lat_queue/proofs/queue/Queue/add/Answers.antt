@@ -1,5 +1,6 @@
-use Rattle.std.proofs.Common.{◌<◌, ◌++◌, ◌∷◌, [], length, sym, ap, ◌∙◌, subst, slice_set, List}
+use Rattle.std.proofs.Common.{◌<◌, ◌++◌, ◌∷◌, [], length, sym, ap, ◌∙◌, subst, slice_set, List, arith}
 use Rattle.std.proofs.lemmas.Option.{get_or_from_slice_get}
+use Rattle.std.proofs.lemmas.Grind.{elements}
 use Rattle.lat_queue.specs.declared.key.Key.{Key}
 use Rattle.lat_queue.specs.declared.entry.Entry.{Entry}
 use Rattle.lat_queue.specs.Tables.{Table, Holds, MayStand, waiters, waiter_of}
@@ -27,3 +28,6 @@ invariant_of-self-in_default c =
     let few = subst (λ (z : Table). length z.entries < 65536) (sym c.self.view_is) c.requires.few in
     subst (λ (es : List (Key × Entry)). Holds (record { offered = s.offered; entries = es; granted = s.granted }) s.lines.items) (sym c.in_ok-insert_new.ensures.ok)
     (holds_added t s.lines.items c.args.key.now c.args.entry c.self.invariant few (not_waiting c.args.entry.standing c.in_default.not-Waits))
+
+pub join-requires : goal.join-requires
+join-requires c = grind (arith, elements)

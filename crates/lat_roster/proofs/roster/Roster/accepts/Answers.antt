@@ -1,5 +1,6 @@
 use Rattle.std.proofs.Common.{◌≡◌, ◌<◌, ap, ap₂, sym, ◌∙◌, subst, arith, length, slice_set}
 use Rattle.std.proofs.lemmas.List.{with_items_is}
+use Rattle.std.proofs.lemmas.Grind.{common_steps, elements}
 use Rattle.lat_tales.specs.Keeping.{change}
 use Rattle.lat_roster.specs.Roster.{Kept, ShowsRows}
 use Rattle.lat_roster.proofs.Rows.{accepted, read_at}
@@ -17,3 +18,9 @@ returns-clause-shows c = λ r f h g.
     (ap (λ (k : Kept). k.server_lines) d)
     (ap₂ (λ xs i. slice_set xs i c.args.place) (ap (λ (k : Kept). k.node_lines) d) c.from-2.ensures)
     (ap (λ (k : Kept). k.names) d)
+
+pub hand_over-requires-clause-left : goal.hand_over-requires-clause-left
+hand_over-requires-clause-left c = grind (arith, elements)
+
+pub invariant_of-self : goal.invariant_of-self
+invariant_of-self c = grind (arith, common_steps)

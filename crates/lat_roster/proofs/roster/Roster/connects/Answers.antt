@@ -1,5 +1,6 @@
 use Rattle.std.proofs.Common.{◌≡◌, ◌<◌, ap, ap₂, sym, ◌∙◌, subst, arith, cond, [], ◌∷◌, ◌++◌, length, nat_eq, slice_set}
 use Rattle.std.proofs.lemmas.List.{with_items_is}
+use Rattle.std.proofs.lemmas.Grind.{elements}
 use Rattle.lat_roster.specs.Names.{key_of, place_of}
 use Rattle.lat_roster.specs.Roster.{Kept, ShowsRows}
 use Rattle.lat_roster.proofs.Rows.{connected, read_at}
@@ -20,3 +21,6 @@ returns-clause-shows c = λ r s f h is g.
     (ap₂ (λ xs i. slice_set xs i c.len-place.result) (ap (λ (k : Kept). k.server_lines) d) c.from-2.ensures ∙ ap (slice_set c.args.self.now.server_lines c.args.line) place)
     (ap (λ (k : Kept). k.node_lines) d)
     (λ q. c.set.ensures.place q ∙ (ap (λ z. cond (nat_eq (key_of c.args.circuit c.args.id) q) z (place_of c.self.inside.names q)) place ∙ ap (λ (k : Kept). cond (nat_eq (key_of c.args.circuit c.args.id) q) (length c.push_reserved.new.self.items) (place_of k.names q)) d))
+
+pub leave_server-requires : goal.leave_server-requires
+leave_server-requires c = grind (arith, elements)

@@ -1,5 +1,6 @@
-use Rattle.std.proofs.Common.{ap, sym, ◌∙◌, subst, [], map}
+use Rattle.std.proofs.Common.{ap, sym, ◌∙◌, subst, [], map, arith}
 use Rattle.std.proofs.lemmas.List.{with_items_is}
+use Rattle.std.proofs.lemmas.Grind.{common_steps}
 use Rattle.lat_model.specs.sessions.Slots as slots
 use Rattle.lat_tales.specs.Keeping.{change, with_items}
 use Rattle.lat_roster.specs.Roster.{Kept, ShowsRows}
@@ -15,3 +16,6 @@ returns-clause-shows c = λ r h.
     (ap (λ (k : Kept). k.server_lines) d)
     (ap (λ (k : Kept). k.node_lines) d)
     (ap (λ (k : Kept). k.names) d)
+
+pub invariant_of-self : goal.invariant_of-self
+invariant_of-self c = grind (arith, common_steps)

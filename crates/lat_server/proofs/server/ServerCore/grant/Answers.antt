@@ -1,4 +1,5 @@
-use Rattle.std.proofs.Common.{sym, subst}
+use Rattle.std.proofs.Common.{sym, subst, arith}
+use Rattle.std.proofs.lemmas.Grind.{common_steps}
 use Rattle.lat_machines.specs.server.Server.{granting}
 use Rattle.lat_queue.specs.Histories.{key_in, address_in}
 use Rattle.lat_server.specs.Kept.{Kept, config_of}
@@ -16,3 +17,9 @@ returns-clause-passes c = λ p start r h holds n key from can.
     (has_granted k p start c.args.out.now c.push.new.self c.open.new.out c.args.line c.args.service.now r (key_in c.args.key) (address_in c.args.from) c.open.new.self c.grant.new.self c.grant.result c.status_frame.result c.open.result in_it n key from can
     (c.grant.ensures.answer p.state.queue in_it.state.queue) (c.grant.ensures.stands p.state.queue in_it.state.queue) c.status_frame.ensures c.push.ensures (c.open.ensures.answer p.state.core in_it.state.lines)
     (c.open.ensures.opened (config_of k) p.state.core (same_side k c.self.invariant.server) in_it.state.lines holds))
+
+pub open-requires-clause-room : goal.open-requires-clause-room
+open-requires-clause-room c = grind (arith, common_steps)
+
+pub returns-clause-most : goal.returns-clause-most
+returns-clause-most c = grind (arith, common_steps)

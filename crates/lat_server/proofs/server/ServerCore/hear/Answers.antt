@@ -1,5 +1,6 @@
-use Rattle.std.proofs.Common.{◌≡◌, None, sym, subst}
+use Rattle.std.proofs.Common.{◌≡◌, None, sym, subst, arith}
 use Rattle.std.specs.Prelude.{Err}
+use Rattle.std.proofs.lemmas.Grind.{elements}
 use Rattle.lat_fields.specs.declared.fault.LayoutFault.{LayoutFault}
 use Rattle.lat_machines.specs.values.Addresses.{address}
 use Rattle.lat_machines.specs.values.Frames.{Reading}
@@ -15,3 +16,6 @@ returns-in-Err-Bad-clause-does c = λ s st.
     let is : reading_of c.args.payload.now ≡ malformed c.in-Err-Bad.bad = subst (λ (f : LayoutFault). Answers (Err f) (reading_of c.args.payload.now)) c.in-Err-Bad.field-0-is c.in-Err-Bad.ensures.reading in
     let d = rw c.in-Err-Bad.field-0-is at (c.turn_away.ensures.does c.args.out.now s st) in
     subst (λ (r : Reading). HasDone s (hears (config_of c.args.self.now) (with_core s (at_moment c.args.now s.core)) (address c.args.from.0) r None) c.turn_away.new.self c.turn_away.result c.args.out.now c.args.out.now) (sym is) d
+
+pub returns-in-Ok-clause-does : goal.returns-in-Ok-clause-does
+returns-in-Ok-clause-does c = grind (arith, elements)

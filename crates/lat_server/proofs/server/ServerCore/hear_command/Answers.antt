@@ -1,4 +1,5 @@
-use Rattle.std.proofs.Common.{sym, subst}
+use Rattle.std.proofs.Common.{sym, subst, arith}
+use Rattle.std.proofs.lemmas.Grind.{common_steps}
 use Rattle.lat_machines.specs.values.Addresses.{address}
 use Rattle.lat_machines.specs.cores.Cores.{at_moment}
 use Rattle.lat_machines.specs.server.Server.{with_core, status_frame, hears_command}
@@ -27,3 +28,6 @@ returns-clause-does c = λ s st.
     did_command k s c.args.now from m a c.pass.new.self c.note.new.requests c.in_ok-kept.kept c.status_frame.result c.args.out.now c.push.new.self rest in_it (same_offers k c.self.invariant.services) (c.in_ok-kept.ensures.noted s.queue in_it.queue) sent c.push.ensures (c.pass.ensures.state s.core in_it.lines) c.pass.ensures.freed in
     subst (λ z. HasDone s (hears_command (config_of c.args.self.now) (with_core s (at_moment c.args.now s.core)) from m a) new z c.args.out.now c.push.new.self) (sym c.answer_kept.ensures.value)
     (subst (λ (z : Kept). HasDone s (hears_command (config_of z) (with_core s (at_moment c.args.now s.core)) from m a) new (kept_answer c.in_ok-kept.kept) c.args.out.now c.push.new.self) c.self.view_is done)
+
+pub returns-clause-most : goal.returns-clause-most
+returns-clause-most c = grind (arith, common_steps)

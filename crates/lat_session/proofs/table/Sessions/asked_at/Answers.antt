@@ -1,4 +1,5 @@
-use Rattle.std.proofs.Common.{◌∙◌, sym, ap, Some, None}
+use Rattle.std.proofs.Common.{◌∙◌, sym, ap, Some, None, arith}
+use Rattle.std.proofs.lemmas.Grind.{elements}
 use Rattle.lat_session.specs.States.{is_asked}
 use Rattle.lat_session.specs.Table.{Table, state_in, state_at}
 use Rattle.lat_session.proofs.AskedIds.{is_asked_is, told_here, told_none, told_waits}
@@ -39,3 +40,9 @@ pub returns-else-is_asked-clause-value : goal.returns-else-is_asked-clause-value
 returns-else-is_asked-clause-value c =
     let here = ap state_in (read_here c.args.self.now c.self.inside.sessions c.in_ok-at.at c.args.id c.index.result.now (ap (λ (t : Table). t.sessions) c.self.view_is) c.in_ok-at.ensures.0 c.in_ok-at.ensures.1 c.index.ensures) in
     sym (ap is_asked here ∙ sym c.is_asked.ensures ∙ c.if-is_asked.false)
+
+pub returns-in_err-at-clause-model : goal.returns-in_err-at-clause-model
+returns-in_err-at-clause-model c = grind (arith, elements)
+
+pub returns-in_err-at-clause-slave : goal.returns-in_err-at-clause-slave
+returns-in_err-at-clause-slave c = grind (arith, elements)

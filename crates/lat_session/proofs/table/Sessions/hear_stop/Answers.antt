@@ -1,5 +1,6 @@
 use Rattle.std.proofs.Common.{ap, refl, arith, slice_set}
 use Rattle.std.proofs.lemmas.Bool.{false≢true}
+use Rattle.std.proofs.lemmas.Grind.{common_steps}
 use Rattle.lat_model.specs.sessions.Sessions.{named}
 use Rattle.lat_model.specs.sessions.Slots as sessions
 use Rattle.lat_session.specs.Table.{Table}
@@ -21,3 +22,6 @@ returns-clause-hears c = λ e reason st.
 
 pub returns-in_err-at-clause-hears : goal.returns-in_err-at-clause-hears
 returns-in_err-at-clause-hears c = λ e reason st. behind_nowhere c.args.self.now e c.args.to (sessions.Stop c.args.to c.args.from reason) c.from_residual.result (nothing_here c.args.self.now e c.args.to st (placed_nowhere c.args.self.now c.args.to c.place.result c.place.ensures c.in_err-at.ensures.ok_part)) refl (err_not_ok c.from_residual.result c.from_residual.ensures.0)
+
+pub returns-clause-err : goal.returns-clause-err
+returns-clause-err c = grind (arith, common_steps)

@@ -1,5 +1,6 @@
 use Rattle.std.proofs.Common.{◌≡◌, ◌-◌, true, not, ◌&&◌, sym, ap, ◌∙◌, refl, subst, arith, get_or, nat_lt, rules}
 use Rattle.std.specs.List.{remove}
+use Rattle.std.proofs.lemmas.Grind.{common_steps}
 use Rattle.lat_session.specs.contracts.table.Sessions.{the_view}
 use Rattle.lat_session.specs.declared.ask.Ask.{Ask}
 use Rattle.lat_session.specs.declared.ask.Ask.TheVariants.{Waits, Rejected}
@@ -52,3 +53,6 @@ returns-clause-open c = λ before p h.
     let g : (not c.args.progress.now.ended && nat_lt c.args.progress.now.formed 255) ≡ true = sym c.goes.ensures ∙ search rules in
     (sent_reject before c.args.self.now (record c.args.self.now { asks = remove c.args.self.now.asks c.args.at }) c.args.progress.now c.count-2.new.self c.args.out.now c.write_reject.new.out p c.args.at c.in-Rejected.peer c.in-Rejected.reason d h c.requires.at q g (search rules) refl
     (ap (λ (z : Progress). z.room) c.count-2.ensures) (ap (λ (z : Progress). z.formed) c.count-2.ensures) (ap (λ (z : Progress). z.ended) c.count-2.ensures) c.write_reject.ensures.text c.write_reject.ensures.small).1
+
+pub returns-clause-room : goal.returns-clause-room
+returns-clause-room c = grind (arith, common_steps)

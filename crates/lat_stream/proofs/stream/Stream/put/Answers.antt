@@ -1,4 +1,5 @@
-use Rattle.std.proofs.Common.{◌≡◌, ◌++◌, ℕ, true, cond, length, map, take, min, ◌-◌, ap, sym, ◌∙◌}
+use Rattle.std.proofs.Common.{◌≡◌, ◌++◌, ℕ, true, cond, length, map, take, min, ◌-◌, ap, sym, ◌∙◌, arith}
+use Rattle.std.proofs.lemmas.Grind.{elements}
 use Rattle.lat_base.specs.declared.item.Item.TheVariants as kept_items
 use Rattle.lat_model.specs.sessions.Slots.{Byte}
 use Rattle.lat_model.specs.sessions.Session.{put_open}
@@ -17,3 +18,6 @@ returns-clause-state c = λ m ceiling s h e.
     ∙ ap (λ (k : Kept). record k { unframed = k.unframed ++ map kept_items.Byte (take n c.args.bytes.now) }) e
     ∙ put_bytes_is m ceiling s c.args.bytes.now n h o (c.add_bytes.ensures.count ∙ ap (λ (k : Kept). min (length c.args.bytes.now) (4096 - length k.unframed)) e)
     ∙ ap (λ b. cond b (kept_of m ceiling (put_items s (map Byte (take (put_count s (length c.args.bytes.now)) c.args.bytes.now)))) k) (sym o)
+
+pub returns-clause-answer : goal.returns-clause-answer
+returns-clause-answer c = grind (arith, elements)

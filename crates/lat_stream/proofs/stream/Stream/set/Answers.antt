@@ -1,4 +1,5 @@
-use Rattle.std.proofs.Common.{◌≡◌, ◌++◌, ◌∷◌, [], true, ap, sym, ◌∙◌}
+use Rattle.std.proofs.Common.{◌≡◌, ◌++◌, ◌∷◌, [], true, ap, sym, ◌∙◌, arith}
+use Rattle.std.proofs.lemmas.Grind.{elements}
 use Rattle.lat_base.specs.declared.item.Item.TheVariants as kept_items
 use Rattle.lat_model.specs.sessions.Slots.{Setting}
 use Rattle.lat_model.specs.sessions.Session.{put_open}
@@ -13,3 +14,9 @@ returns-clause-state c = λ m ceiling s h e.
     c.add_setting.ensures
     ∙ ap (λ (k : Kept). record k { unframed = k.unframed ++ kept_items.Set c.args.setting ∷ [] }) e
     ∙ put_is m ceiling s (Setting c.args.setting ∷ []) h o
+
+pub returns-then-is_full-clause-answer : goal.returns-then-is_full-clause-answer
+returns-then-is_full-clause-answer c = grind (arith, elements)
+
+pub returns-clause-answer : goal.returns-clause-answer
+returns-clause-answer c = grind (arith, elements)

@@ -1,4 +1,5 @@
-use Rattle.std.proofs.Common.{◌≡◌, ◌+◌, ◌++◌, ℕ, true, cond, length, map, take, drop, min, ap, ap₂, sym, ◌∙◌}
+use Rattle.std.proofs.Common.{◌≡◌, ◌+◌, ◌++◌, ℕ, true, cond, length, map, take, drop, min, ap, ap₂, sym, ◌∙◌, arith}
+use Rattle.std.proofs.lemmas.Grind.{elements}
 use Rattle.lat_model.specs.sessions.Slots.{items}
 use Rattle.lat_model.specs.sessions.Session.{take_open}
 use Rattle.lat_model.specs.sessions.Calls.{take_count}
@@ -27,3 +28,6 @@ returns-clause-items c = λ m ceiling s h e.
     ∙ ap₂ (λ (n : ℕ) (k : Kept). take n k.heard ++ drop n c.args.out.now) n e
     ∙ ap (λ z. z ++ drop (take_count s (length c.args.out.now)) c.args.out.now) (gives m ceiling s (take_count s (length c.args.out.now)) o)
     ∙ ap (λ b. cond b (map item_shown (take (take_count s (length c.args.out.now)) (drop s.taken (items s.came))) ++ drop (take_count s (length c.args.out.now)) c.args.out.now) c.args.out.now) (sym o)
+
+pub returns-clause-answer : goal.returns-clause-answer
+returns-clause-answer c = grind (arith, elements)

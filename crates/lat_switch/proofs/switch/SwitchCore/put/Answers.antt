@@ -1,5 +1,6 @@
 use Rattle.std.proofs.Common.{◌≡◌, ◌≤◌, ℕ, List, [], ◌∷◌, length, take, refl, sym, ap, subst, ◌∙◌, arith, eqb-true}
 use Rattle.std.proofs.lemmas.Bool.{eqb-false}
+use Rattle.std.proofs.lemmas.Grind.{common_steps}
 use Rattle.lat_switch.specs.Pieces.{pieces_of, sizes}
 use Rattle.lat_switch.specs.Progress.{HasRead}
 use Rattle.lat_switch.specs.Reading.{puts, reads_all}
@@ -33,3 +34,6 @@ pub returns-then-is_empty-clause-does : goal.returns-then-is_empty-clause-does
 returns-then-is_empty-clause-does c =
     let none : c.args.bytes.now ≡ [] = nil_of c.args.bytes.now (eqb-true (length c.args.bytes.now) 0 (sym c.is_empty.ensures ∙ c.if-is_empty.true)) in
     subst (λ (bytes : List ℕ). Simulates (puts c.args.line bytes) c.args.self.now c.put_nothing.new.self c.put_nothing.result c.args.out.now c.put_nothing.new.out) (sym none) c.put_nothing.ensures.does
+
+pub put_nothing-requires-clause-none : goal.put_nothing-requires-clause-none
+put_nothing-requires-clause-none c = grind (arith, common_steps)

@@ -1,5 +1,6 @@
-use Rattle.std.proofs.Common.{◌≡◌, ◌∙◌, Err, ap, not, subst, sym, true, is_some, slice_get}
+use Rattle.std.proofs.Common.{◌≡◌, ◌∙◌, Err, ap, not, subst, sym, true, is_some, slice_get, arith}
 use Rattle.std.proofs.lemmas.Result.{err_from_is_err_and}
+use Rattle.std.proofs.lemmas.Grind.{common_steps}
 use Rattle.lat_base.specs.declared.event.Event.{Event}
 use Rattle.lat_base.specs.declared.event.Event.TheVariants as events
 use Rattle.lat_machines.specs.values.Addresses.{address}
@@ -67,3 +68,6 @@ returns-clause-refused g c = λ w s.
     let marks : MarksRun q.post.frame = marks_run c.args.self.now w c.args.index q.post s q.there (sym q.for_other ∙ some) in
     last_of (full w) (no_frame w c.args.index) (old (setups_of c.args.self.now) w (slice_get w.posts c.args.index)) (c.in_ok-may_step.ensures.refused w s.parts) (c.in_ok-sent.ensures.refused w s.parts)
     ∙ (old_other (setups_of c.args.self.now) w c.args.index c.in_ok-sent.sent.now q some ∙ c.in_ok-is_young.ensures w q.post s.parts q.is marks)
+
+pub come-requires-clause-there : goal.come-requires-clause-there
+come-requires-clause-there c = grind (arith, common_steps)

@@ -1,4 +1,5 @@
-use Rattle.std.proofs.Common.{ap, subst, sym}
+use Rattle.std.proofs.Common.{ap, subst, sym, arith}
+use Rattle.std.proofs.lemmas.Grind.{common_steps}
 use Rattle.lat_machines.specs.world.Machines.{Does, happens}
 use Rattle.lat_lines.specs.Events.{event_shown}
 use Rattle.lat_wire.specs.Kept.{Kept, setups_of}
@@ -17,3 +18,6 @@ returns-clause-stands g c = λ w s.
 
 pub returns-clause-refused : goal.returns-clause-refused
 returns-clause-refused g c = λ w s. none_of (full w) (backward c.args.self.now.moment (event_shown c.args.event.now)) (c.in_ok-may_step.ensures.refused w s.parts) c.in_ok-moment.ensures.refused
+
+pub returns-clause-answer : goal.returns-clause-answer
+returns-clause-answer c = grind (arith, common_steps)

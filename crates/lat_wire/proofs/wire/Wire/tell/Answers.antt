@@ -1,4 +1,5 @@
-use Rattle.std.proofs.Common.{◌≡◌, ◌∙◌, ◌+◌, ◌≤◌, ap, length, map, not, refl, subst, sym}
+use Rattle.std.proofs.Common.{◌≡◌, ◌∙◌, ◌+◌, ◌≤◌, ap, length, map, not, refl, subst, sym, arith}
+use Rattle.std.proofs.lemmas.Grind.{common_steps}
 use Rattle.lat_machines.specs.world.Machines.{Machines, tell}
 use Rattle.lat_machines.specs.world.Tally.{RunTallies}
 use Rattle.lat_lines.specs.Events.{event_shown}
@@ -61,3 +62,9 @@ returns-clause-mirrors g c =
     answer
     (subst (λ z. NotesOn (map note_shown z) c.in_ok-count.count c.in_ok-answer.answer (map note_shown c.note.new.notes.items)) c.in_ok-reserve.ensures.notes c.note.ensures)
     (c.in_ok-count.ensures.0 ∙ ap (λ (z : Kept g.row.H.Denot). z.count + 1) (sym c.self.view_is)))
+
+pub note-requires : goal.note-requires
+note-requires c = grind (arith, common_steps)
+
+pub take-requires : goal.take-requires
+take-requires c = grind (arith, common_steps)

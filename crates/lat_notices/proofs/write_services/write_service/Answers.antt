@@ -1,0 +1,12 @@
+use Rattle.std.proofs.Common.{arith}
+use Rattle.std.proofs.lemmas.Grind.{common_steps}
+use Rattle.lat_notices.proofs.write_services.write_service.Goals as goal
+
+pub write_counted-requires-clause-room : goal.write_counted-requires-clause-room
+write_counted-requires-clause-room c = grind (arith, common_steps)
+
+pub write_counted-requires-2-clause-room : goal.write_counted-requires-2-clause-room
+write_counted-requires-2-clause-room c = grind (arith, common_steps)
+
+pub returns-clause-text : goal.returns-clause-text
+returns-clause-text c = grind (arith, common_steps)
