@@ -4,3 +4,9 @@ use Rattle.lat_ending.proofs.ending.end_text.Goals as goal
 
 pub loop-done-init : goal.loop-done-init
 loop-done-init c = grind (arith, common_steps)
+
+pub loop-done-preserved : goal.loop-done-preserved
+loop-done-preserved c = grind (arith, common_steps)
+
+pub returns : goal.returns
+returns c = grind (arith, common_steps)

@@ -1,5 +1,6 @@
 use Rattle.std.proofs.Common.{◌≡◌, ◌≤◌, true, false, length, sym, ◌∙◌, arith, rules}
 use Rattle.std.specs.Prelude.{is_some}
+use Rattle.std.proofs.lemmas.Grind.{elements}
 use Rattle.lat_wire.specs.Kept.{setups_of}
 use Rattle.lat_tap.proofs.Posts.{SeenAt, seen_at, first_found, first_later, first_past}
 use Rattle.lat_tap.proofs.capture.first_up.Goals as goal
@@ -24,3 +25,6 @@ pub returns : goal.returns
 returns g c = λ w s.
     let past : length w.posts ≤ c.loop-index.index = omega (arith, c.loop-index-test.false, c.frames-index-end.ensures w s) in
     sym (c.loop-index.invariant w s ∙ first_past (setups_of c.args.wire.now) c.args.tap.now.circuit w.posts c.loop-index.index past)
+
+pub returns-in_err-by_server : goal.returns-in_err-by_server
+returns-in_err-by_server c = grind (arith, elements)

@@ -1,7 +1,7 @@
-use Rattle.std.proofs.Common.{◌≡◌, true, map, string_bytes, subst, List, ℕ}
+use Rattle.std.proofs.Common.{◌≡◌, true, map, string_bytes, subst, List, ℕ, rules}
 use Rattle.clap.specs.Words.{App, app_of, is_simple_and_free, fault_of, HasKind}
 use Rattle.lat_words.specs.Commands.{latd}
-use Rattle.lat_words.proofs.Simple.{latd_free, matched_of}
+use Rattle.lat_words.proofs.Simple.{latd_free, matched_of, latd_simple}
 use Rattle.lat_words.proofs.matching.matched.Goals as goal
 
 pub returns-in-Err-clause-matched : goal.returns-in-Err-clause-matched
@@ -10,3 +10,9 @@ returns-in-Err-clause-matched c =
     let K : App → Type 0 = λ a. is_simple_and_free a ≡ true → HasKind (fault_of a ws) c.in-Err.error in
     let has : HasKind (fault_of latd ws) c.in-Err.error = subst K c.in_ok-command.ensures c.in-Err.ensures.kinds latd_free in
     matched_of c.refused.result (fault_of latd ws) c.in-Err.error c.refused.ensures.none c.refused.ensures.kinds has
+
+pub returns-in-Ok-clause-matched : goal.returns-in-Ok-clause-matched
+returns-in-Ok-clause-matched c = search (rules, latd_simple, latd_free)
+
+pub returns-in-Ok-clause-rows : goal.returns-in-Ok-clause-rows
+returns-in-Ok-clause-rows c = search (rules, latd_simple, latd_free)

@@ -1,5 +1,6 @@
 use Rattle.std.proofs.Common.{◌∙◌, ap, refl, ◌++◌, ◌∷◌, [], ◌≡◌, ◌+◌, length, length-append, arith}
 use Rattle.std.proofs.lemmas.List.Sums.{sum_by_push}
+use Rattle.std.proofs.lemmas.Grind.{common_steps}
 use Rattle.lat_history.specs.Counts.{past, put_in, bytes_in, bytes_put, history_bytes}
 use Rattle.lat_history.specs.History.{FramesOf, run_of}
 use Rattle.lat_history.proofs.OneMore.{one_more, last_more, frames_of-push}
@@ -42,3 +43,9 @@ invariant_of-self-2 g c =
 -- it was refused so
 pub returns-then-place-ge-MOST-clause-no_room : goal.returns-then-place-ge-MOST-clause-no_room
 returns-then-place-ge-MOST-clause-no_room g c = λ no. absurd (no _ refl)
+
+pub push_reserved-requires : goal.push_reserved-requires
+push_reserved-requires c = grind (arith, common_steps)
+
+pub returns-clause-before : goal.returns-clause-before
+returns-clause-before c = grind (arith, common_steps)

@@ -1,4 +1,5 @@
-use Rattle.std.proofs.Common.{◌≡◌, ◌∙◌, subst, ap, not}
+use Rattle.std.proofs.Common.{◌≡◌, ◌∙◌, subst, ap, not, arith}
+use Rattle.std.proofs.lemmas.Grind.{elements}
 use Rattle.lat_machines.specs.world.Machines.{Machines, HearsFrame, happens}
 use Rattle.lat_wire.specs.Rates.{rates}
 use Rattle.lat_replay.specs.Kept.{Kept, setups_of, moment_of}
@@ -73,3 +74,6 @@ invariant_of-self-then-is_none g c =
     holds_on k new (λ w. HearsFrame c.args.index (moment_of k) (rates (setups_of k) w)) c.self.inside.server_lines c.self.inside.node_lines c.in_ok-deliver.ensures.setups
     (λ w s. unheard_stands k new w c.args.index (moment_of k) c.in_ok-deliver.field-0 c.in_ok-deliver.ensures.setups c.in_ok-before.ensures.same (c.in_ok-deliver.ensures.answer w s.wire) (c.is_none.ensures ∙ ap not c.if-is_none.true) (c.in_ok-deliver.ensures.stands w s.wire) s)
     c.self.invariant
+
+pub returns-in_err-before-clause-refused : goal.returns-in_err-before-clause-refused
+returns-in_err-before-clause-refused c = grind (arith, elements)
