@@ -141,24 +141,30 @@ after_description rating name d = Ok (service rating name d.0, d.1, d.2)
 abbrev after_name : ℕ → (List ℕ × ℕ × List ℕ) → Result (Service × ℕ × List ℕ) Bad
 after_name rating n = counted_at fields.ServiceDescription n.1 n.1 n.2 >>= after_description rating n.0
 
-service_found : (place : ℕ) (bytes : List ℕ) (x : Service × ℕ × List ℕ) → IsBytes bytes → service_at place bytes ≡ Ok x → FoundService bytes x
-unfolding service_at
-service_found place bytes x all h =
-    let r = bind_ok (byte_at fields.Rating place place bytes) (λ r. (name_at fields.Service r.1 r.2 >>= after_name r.0)) x h in
-    let one = byte_found fields.Rating place place bytes r.0 all r.1 in
-    let n = bind_ok (name_at fields.Service r.0.1 r.0.2) (after_name r.0.0) x r.2 in
-    let two = name_found fields.Service r.0.1 r.0.2 n.0 one.others n.1 in
-    let d = bind_ok (counted_at fields.ServiceDescription n.0.1 n.0.1 n.0.2) (after_description r.0.0 n.0.0) x n.2 in
-    let three = counted_found fields.ServiceDescription n.0.1 n.0.1 n.0.2 d.0 two.0.others d.1 in
-    let e : (service r.0.0 n.0.0 d.0.0, d.0.1, d.0.2) ≡ x = let same = d.2 in cc in
-    let regroup : r.0.0 ∷ (counted n.0.0 ++ (counted d.0.0 ++ d.0.2)) ≡ service_text (service r.0.0 n.0.0 d.0.0) ++ d.0.2 = simp append_assoc in
+service_of_fields : (place : ℕ) (bytes : List ℕ) (x : Service × ℕ × List ℕ) (r : ℕ × ℕ × List ℕ) (n d : List ℕ × ℕ × List ℕ) → IsBytes bytes
+    → byte_at fields.Rating place place bytes ≡ Ok r → name_at fields.Service r.1 r.2 ≡ Ok n → counted_at fields.ServiceDescription n.1 n.1 n.2 ≡ Ok d
+    → after_description r.0 n.0 d ≡ Ok x → FoundService bytes x
+service_of_fields place bytes x r n d all r_read n_read d_read last =
+    let one = byte_found fields.Rating place place bytes r all r_read in
+    let two = name_found fields.Service r.1 r.2 n one.others n_read in
+    let three = counted_found fields.ServiceDescription n.1 n.1 n.2 d two.0.others d_read in
+    let e : (service r.0 n.0 d.0, d.1, d.2) ≡ x = cc in
+    let regroup : r.0 ∷ (counted n.0 ++ (counted d.0 ++ d.2)) ≡ service_text (service r.0 n.0 d.0) ++ d.2 = simp append_assoc in
     let P : (Service × ℕ × List ℕ) → Type 0 = FoundService bytes in
     subst P e (record {
-      is = one.is ∙ ap (λ bs. r.0.0 ∷ bs) (two.0.is ∙ ap (λ bs. counted n.0.0 ++ bs) three.is) ∙ regroup;
+      is = one.is ∙ ap (λ bs. r.0 ∷ bs) (two.0.is ∙ ap (λ bs. counted n.0 ++ bs) three.is) ∙ regroup;
       named = two.1;
       short = three.short;
       others = three.others;
     })
+
+service_found : (place : ℕ) (bytes : List ℕ) (x : Service × ℕ × List ℕ) → IsBytes bytes → service_at place bytes ≡ Ok x → FoundService bytes x
+unfolding service_at
+service_found place bytes x all h =
+    let r = bind_ok (byte_at fields.Rating place place bytes) (λ r. (name_at fields.Service r.1 r.2 >>= after_name r.0)) x h in
+    let n = bind_ok (name_at fields.Service r.0.1 r.0.2) (after_name r.0.0) x r.2 in
+    let d = bind_ok (counted_at fields.ServiceDescription n.0.1 n.0.1 n.0.2) (after_description r.0.0 n.0.0) x n.2 in
+    service_of_fields place bytes x r.0 n.0 d.0 all r.1 n.1 d.1 d.2
 
 pub record FoundServices (count : ℕ) (bytes : List ℕ) (x : List Service × ℕ × List ℕ) : Type 0 where
   pub is : bytes ≡ flat_map service_text x.0 ++ x.2

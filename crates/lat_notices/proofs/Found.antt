@@ -96,38 +96,45 @@ announcement_joined bytes t v i g n d c s is1 is2 five is3 is4 is5 is6 is7 all i
 below : {a b m : ℕ} → a ≡ b → b < m → a < m
 below e lt = omega arith
 
-announcement_found : (bytes : List ℕ) (x : Read) → IsBytes bytes → announcement_at bytes ≡ Ok x → FoundFields kinds.Announcement bytes x
-unfolding announcement_at
-announcement_found bytes x all h =
-    let t = bind_ok (byte_for is_timer fields.Timer 1 bytes) announced_timer x h in
-    let t_text = right_byte_found is_timer fields.Timer 1 bytes t.0 all t.1 in
-    let v = bind_ok (byte_for is_version fields.Version t.0.1 t.0.2) (announced_version t.0.0) x t.2 in
-    let v_text = right_byte_found is_version fields.Version t.0.1 t.0.2 v.0 t_text.0.others v.1 in
-    let i = bind_ok (number_at fields.Incarnation v.0.1 v.0.2) (announced_incarnation t.0.0) x v.2 in
-    let i_text = number_found fields.Incarnation v.0.1 v.0.2 i.0 v_text.0.others i.1 in
-    let g = bind_ok (groups_at i.0.1 i.0.2) (announced_groups t.0.0 i.0.0) x i.2 in
-    let g_text = groups_found i.0.1 i.0.2 g.0 i_text.others g.1 in
-    let n = bind_ok (name_at fields.NodeName g.0.1 g.0.2) (announced_node t.0.0 i.0.0 g.0.0) x g.2 in
-    let n_text = name_found fields.NodeName g.0.1 g.0.2 n.0 g_text.0.others n.1 in
-    let d = bind_ok (counted_at fields.Description n.0.1 n.0.1 n.0.2) (announced_description t.0.0 i.0.0 g.0.0 n.0.0) x n.2 in
-    let d_text = counted_found fields.Description n.0.1 n.0.1 n.0.2 d.0 n_text.0.others d.1 in
-    let c = bind_ok (byte_at fields.ServiceCount d.0.1 d.0.1 d.0.2) (announced_count t.0.0 i.0.0 g.0.0 n.0.0 d.0.0) x d.2 in
-    let c_text = byte_found fields.ServiceCount d.0.1 d.0.1 d.0.2 c.0 d_text.others c.1 in
-    let s = bind_ok (services_at c.0.0 c.0.1 c.0.2) (announced t.0.0 i.0.0 g.0.0 n.0.0 d.0.0) x c.2 in
-    let s_text = services_found c.0.0 c.0.1 c.0.2 s.0 c_text.others s.1 in
-    finish kinds.Announcement bytes (announcement t.0.0 i.0.0 g.0.0 n.0.0 d.0.0 s.0.0) s.0.1 s.0.2 x refl
-    (announcement_joined bytes t.0 v.0 i.0 g.0 n.0 d.0 c.0 s.0 t_text.0.is v_text.0.is (five v.0.0 v_text.1) i_text.is g_text.0.is n_text.0.is d_text.is c_text.is s_text.all s_text.is)
+announcement_of_fields : (bytes : List ℕ) (x : Read) (t v i : Number) (g n d : Text) (c : Number) (s : List Service × ℕ × List ℕ) → IsBytes bytes
+    → byte_for is_timer fields.Timer 1 bytes ≡ Ok t → byte_for is_version fields.Version t.1 t.2 ≡ Ok v → number_at fields.Incarnation v.1 v.2 ≡ Ok i → groups_at i.1 i.2 ≡ Ok g
+    → name_at fields.NodeName g.1 g.2 ≡ Ok n → counted_at fields.Description n.1 n.1 n.2 ≡ Ok d → byte_at fields.ServiceCount d.1 d.1 d.2 ≡ Ok c → services_at c.0 c.1 c.2 ≡ Ok s
+    → announced t.0 i.0 g.0 n.0 d.0 s ≡ Ok x → FoundFields kinds.Announcement bytes x
+announcement_of_fields bytes x t v i g n d c s all t_read v_read i_read g_read n_read d_read c_read s_read last =
+    let t_text = right_byte_found is_timer fields.Timer 1 bytes t all t_read in
+    let v_text = right_byte_found is_version fields.Version t.1 t.2 v t_text.0.others v_read in
+    let i_text = number_found fields.Incarnation v.1 v.2 i v_text.0.others i_read in
+    let g_text = groups_found i.1 i.2 g i_text.others g_read in
+    let n_text = name_found fields.NodeName g.1 g.2 n g_text.0.others n_read in
+    let d_text = counted_found fields.Description n.1 n.1 n.2 d n_text.0.others d_read in
+    let c_text = byte_found fields.ServiceCount d.1 d.1 d.2 c d_text.others c_read in
+    let s_text = services_found c.0 c.1 c.2 s c_text.others s_read in
+    finish kinds.Announcement bytes (announcement t.0 i.0 g.0 n.0 d.0 s.0) s.1 s.2 x refl
+    (announcement_joined bytes t v i g n d c s t_text.0.is v_text.0.is (five v.0 v_text.1) i_text.is g_text.0.is n_text.0.is d_text.is c_text.is s_text.all s_text.is)
     (record {
       names = (n_text.1, s_text.named);
       suits = record {
-        timer = timer_some t.0.0 t_text.1;
+        timer = timer_some t.0 t_text.1;
         groups = g_text.1;
         description = d_text.short;
         count = below s_text.all c_text.byte;
         services = s_text.short;
       };
     })
-    s.2
+    last
+
+announcement_found : (bytes : List ℕ) (x : Read) → IsBytes bytes → announcement_at bytes ≡ Ok x → FoundFields kinds.Announcement bytes x
+unfolding announcement_at
+announcement_found bytes x all h =
+    let t = bind_ok (byte_for is_timer fields.Timer 1 bytes) announced_timer x h in
+    let v = bind_ok (byte_for is_version fields.Version t.0.1 t.0.2) (announced_version t.0.0) x t.2 in
+    let i = bind_ok (number_at fields.Incarnation v.0.1 v.0.2) (announced_incarnation t.0.0) x v.2 in
+    let g = bind_ok (groups_at i.0.1 i.0.2) (announced_groups t.0.0 i.0.0) x i.2 in
+    let n = bind_ok (name_at fields.NodeName g.0.1 g.0.2) (announced_node t.0.0 i.0.0 g.0.0) x g.2 in
+    let d = bind_ok (counted_at fields.Description n.0.1 n.0.1 n.0.2) (announced_description t.0.0 i.0.0 g.0.0 n.0.0) x n.2 in
+    let c = bind_ok (byte_at fields.ServiceCount d.0.1 d.0.1 d.0.2) (announced_count t.0.0 i.0.0 g.0.0 n.0.0 d.0.0) x d.2 in
+    let s = bind_ok (services_at c.0.0 c.0.1 c.0.2) (announced t.0.0 i.0.0 g.0.0 n.0.0 d.0.0) x c.2 in
+    announcement_of_fields bytes x t.0 v.0 i.0 g.0 n.0 d.0 c.0 s.0 all t.1 v.1 i.1 g.1 n.1 d.1 c.1 s.1 s.2
 
 -- what follows each field of a command
 abbrev commanded : ℕ → ℕ → Action → List ℕ → Text → Result Read Bad
@@ -158,25 +165,32 @@ command_joined bytes v i r a n s is1 five is2 is3 is4 is5 is6 =
     let regroup : 5 ∷ number i.0 ++ (number r.0 ++ (action_number a.0 ∷ (counted n.0 ++ (counted s.0 ++ s.2)))) ≡ fields_text (command i.0 r.0 a.0 n.0 s.0) ++ s.2 = simp append_assoc in
     whole ∙ regroup
 
+command_of_fields : (bytes : List ℕ) (x : Read) (v i r : Number) (a : Action × ℕ × List ℕ) (n s : Text) → IsBytes bytes
+    → byte_for is_version fields.Version 1 bytes ≡ Ok v → number_at fields.Incarnation v.1 v.2 ≡ Ok i → number_at fields.RequestId i.1 i.2 ≡ Ok r → action_at r.1 r.2 ≡ Ok a
+    → name_at fields.NodeName a.1 a.2 ≡ Ok n → name_at fields.Service n.1 n.2 ≡ Ok s
+    → commanded i.0 r.0 a.0 n.0 s ≡ Ok x → FoundFields kinds.Command bytes x
+command_of_fields bytes x v i r a n s all v_read i_read r_read a_read n_read s_read last =
+    let v_text = right_byte_found is_version fields.Version 1 bytes v all v_read in
+    let i_text = number_found fields.Incarnation v.1 v.2 i v_text.0.others i_read in
+    let r_text = number_found fields.RequestId i.1 i.2 r i_text.others r_read in
+    let a_text = action_found r.1 r.2 a r_text.others a_read in
+    let n_text = name_found fields.NodeName a.1 a.2 n a_text.others n_read in
+    let s_text = name_found fields.Service n.1 n.2 s n_text.0.others s_read in
+    finish kinds.Command bytes (command i.0 r.0 a.0 n.0 s.0) s.1 s.2 x refl
+    (command_joined bytes v i r a n s v_text.0.is (five v.0 v_text.1) i_text.is r_text.is a_text.is n_text.0.is s_text.0.is)
+    (record { names = (n_text.1, s_text.1); suits = tt })
+    last
+
 command_found : (bytes : List ℕ) (x : Read) → IsBytes bytes → command_at bytes ≡ Ok x → FoundFields kinds.Command bytes x
 unfolding command_at
 command_found bytes x all h =
     let v = bind_ok (byte_for is_version fields.Version 1 bytes) commanded_version x h in
-    let v_text = right_byte_found is_version fields.Version 1 bytes v.0 all v.1 in
     let i = bind_ok (number_at fields.Incarnation v.0.1 v.0.2) commanded_incarnation x v.2 in
-    let i_text = number_found fields.Incarnation v.0.1 v.0.2 i.0 v_text.0.others i.1 in
     let r = bind_ok (number_at fields.RequestId i.0.1 i.0.2) (commanded_request i.0.0) x i.2 in
-    let r_text = number_found fields.RequestId i.0.1 i.0.2 r.0 i_text.others r.1 in
     let a = bind_ok (action_at r.0.1 r.0.2) (commanded_action i.0.0 r.0.0) x r.2 in
-    let a_text = action_found r.0.1 r.0.2 a.0 r_text.others a.1 in
     let n = bind_ok (name_at fields.NodeName a.0.1 a.0.2) (commanded_node i.0.0 r.0.0 a.0.0) x a.2 in
-    let n_text = name_found fields.NodeName a.0.1 a.0.2 n.0 a_text.others n.1 in
     let s = bind_ok (name_at fields.Service n.0.1 n.0.2) (commanded i.0.0 r.0.0 a.0.0 n.0.0) x n.2 in
-    let s_text = name_found fields.Service n.0.1 n.0.2 s.0 n_text.0.others s.1 in
-    finish kinds.Command bytes (command i.0.0 r.0.0 a.0.0 n.0.0 s.0.0) s.0.1 s.0.2 x refl
-    (command_joined bytes v.0 i.0 r.0 a.0 n.0 s.0 v_text.0.is (five v.0.0 v_text.1) i_text.is r_text.is a_text.is n_text.0.is s_text.0.is)
-    (record { names = (n_text.1, s_text.1); suits = tt })
-    s.2
+    command_of_fields bytes x v.0 i.0 r.0 a.0 n.0 s.0 all v.1 i.1 r.1 a.1 n.1 s.1 s.2
 
 -- what follows each field of a status
 abbrev told : ℕ → ℕ → Outcome → Text → Result Read Bad
@@ -201,23 +215,30 @@ status_joined bytes v i r o n is1 five is2 is3 is4 is5 =
     let placed : r.2 ≡ outcome_number o.0 ∷ number (outcome_place o.0) ++ (counted n.0 ++ n.2) = is4 ∙ ap (λ bs. outcome_number o.0 ∷ number (outcome_place o.0) ++ bs) is5 in
     is1 ∙ (λ j. five j ∷ is2 j) ∙ ap (λ bs. 5 ∷ number i.0 ++ bs) (is3 ∙ ap (λ bs. number r.0 ++ bs) placed)
 
+status_of_fields : (bytes : List ℕ) (x : Read) (v i r : Number) (o : Outcome × ℕ × List ℕ) (n : Text) → IsBytes bytes
+    → byte_for is_version fields.Version 1 bytes ≡ Ok v → number_at fields.Incarnation v.1 v.2 ≡ Ok i → number_at fields.RequestId i.1 i.2 ≡ Ok r → outcome_at r.1 r.2 ≡ Ok o
+    → name_at fields.NodeName o.1 o.2 ≡ Ok n
+    → told i.0 r.0 o.0 n ≡ Ok x → FoundFields kinds.Status bytes x
+status_of_fields bytes x v i r o n all v_read i_read r_read o_read n_read last =
+    let v_text = right_byte_found is_version fields.Version 1 bytes v all v_read in
+    let i_text = number_found fields.Incarnation v.1 v.2 i v_text.0.others i_read in
+    let r_text = number_found fields.RequestId i.1 i.2 r i_text.others r_read in
+    let o_text = outcome_found r.1 r.2 o r_text.others o_read in
+    let n_text = name_found fields.NodeName o.1 o.2 n o_text.others n_read in
+    finish kinds.Status bytes (status i.0 r.0 o.0 n.0) n.1 n.2 x refl
+    (status_joined bytes v i r o n v_text.0.is (five v.0 v_text.1) i_text.is r_text.is o_text.is n_text.0.is)
+    (record { names = n_text.1; suits = o_text.fits })
+    last
+
 status_found : (bytes : List ℕ) (x : Read) → IsBytes bytes → status_at bytes ≡ Ok x → FoundFields kinds.Status bytes x
 unfolding status_at
 status_found bytes x all h =
     let v = bind_ok (byte_for is_version fields.Version 1 bytes) told_version x h in
-    let v_text = right_byte_found is_version fields.Version 1 bytes v.0 all v.1 in
     let i = bind_ok (number_at fields.Incarnation v.0.1 v.0.2) told_incarnation x v.2 in
-    let i_text = number_found fields.Incarnation v.0.1 v.0.2 i.0 v_text.0.others i.1 in
     let r = bind_ok (number_at fields.RequestId i.0.1 i.0.2) (told_request i.0.0) x i.2 in
-    let r_text = number_found fields.RequestId i.0.1 i.0.2 r.0 i_text.others r.1 in
     let o = bind_ok (outcome_at r.0.1 r.0.2) (told_outcome i.0.0 r.0.0) x r.2 in
-    let o_text = outcome_found r.0.1 r.0.2 o.0 r_text.others o.1 in
     let n = bind_ok (name_at fields.NodeName o.0.1 o.0.2) (told i.0.0 r.0.0 o.0.0) x o.2 in
-    let n_text = name_found fields.NodeName o.0.1 o.0.2 n.0 o_text.others n.1 in
-    finish kinds.Status bytes (status i.0.0 r.0.0 o.0.0 n.0.0) n.0.1 n.0.2 x refl
-    (status_joined bytes v.0 i.0 r.0 o.0 n.0 v_text.0.is (five v.0.0 v_text.1) i_text.is r_text.is o_text.is n_text.0.is)
-    (record { names = n_text.1; suits = o_text.fits })
-    n.2
+    status_of_fields bytes x v.0 i.0 r.0 o.0 n.0 all v.1 i.1 r.1 o.1 n.1 n.2
 
 -- what follows each field of a solicit
 abbrev asked : ℕ → List ℕ → Text → Result Read Bad
@@ -240,21 +261,27 @@ solicit_joined bytes v i n s is1 five is2 is3 is4 =
     let regroup : 5 ∷ number i.0 ++ (counted n.0 ++ (counted s.0 ++ s.2)) ≡ fields_text (solicit i.0 n.0 s.0) ++ s.2 = simp append_assoc in
     whole ∙ regroup
 
+solicit_of_fields : (bytes : List ℕ) (x : Read) (v i : Number) (n s : Text) → IsBytes bytes
+    → byte_for is_version fields.Version 1 bytes ≡ Ok v → number_at fields.SolicitId v.1 v.2 ≡ Ok i → name_at fields.NodeName i.1 i.2 ≡ Ok n → name_at fields.Service n.1 n.2 ≡ Ok s
+    → asked i.0 n.0 s ≡ Ok x → FoundFields kinds.Solicit bytes x
+solicit_of_fields bytes x v i n s all v_read i_read n_read s_read last =
+    let v_text = right_byte_found is_version fields.Version 1 bytes v all v_read in
+    let i_text = number_found fields.SolicitId v.1 v.2 i v_text.0.others i_read in
+    let n_text = name_found fields.NodeName i.1 i.2 n i_text.others n_read in
+    let s_text = name_found fields.Service n.1 n.2 s n_text.0.others s_read in
+    finish kinds.Solicit bytes (solicit i.0 n.0 s.0) s.1 s.2 x refl
+    (solicit_joined bytes v i n s v_text.0.is (five v.0 v_text.1) i_text.is n_text.0.is s_text.0.is)
+    (record { names = (n_text.1, s_text.1); suits = tt })
+    last
+
 solicit_found : (bytes : List ℕ) (x : Read) → IsBytes bytes → solicit_at bytes ≡ Ok x → FoundFields kinds.Solicit bytes x
 unfolding solicit_at
 solicit_found bytes x all h =
     let v = bind_ok (byte_for is_version fields.Version 1 bytes) asked_version x h in
-    let v_text = right_byte_found is_version fields.Version 1 bytes v.0 all v.1 in
     let i = bind_ok (number_at fields.SolicitId v.0.1 v.0.2) asked_id x v.2 in
-    let i_text = number_found fields.SolicitId v.0.1 v.0.2 i.0 v_text.0.others i.1 in
     let n = bind_ok (name_at fields.NodeName i.0.1 i.0.2) (asked_node i.0.0) x i.2 in
-    let n_text = name_found fields.NodeName i.0.1 i.0.2 n.0 i_text.others n.1 in
     let s = bind_ok (name_at fields.Service n.0.1 n.0.2) (asked i.0.0 n.0.0) x n.2 in
-    let s_text = name_found fields.Service n.0.1 n.0.2 s.0 n_text.0.others s.1 in
-    finish kinds.Solicit bytes (solicit i.0.0 n.0.0 s.0.0) s.0.1 s.0.2 x refl
-    (solicit_joined bytes v.0 i.0 n.0 s.0 v_text.0.is (five v.0.0 v_text.1) i_text.is n_text.0.is s_text.0.is)
-    (record { names = (n_text.1, s_text.1); suits = tt })
-    s.2
+    solicit_of_fields bytes x v.0 i.0 n.0 s.0 all v.1 i.1 n.1 s.1 s.2
 
 -- what follows each field of a response
 abbrev answered : ℕ → List ℕ → List ℕ → ℕ → Number → Result Read Bad
@@ -285,25 +312,32 @@ response_joined bytes v i n s r t is1 five is2 is3 is4 is5 is6 =
     let regroup : 5 ∷ number i.0 ++ (counted n.0 ++ (counted s.0 ++ (r.0 ∷ t.0 ∷ t.2))) ≡ fields_text (response i.0 n.0 s.0 r.0 t.0) ++ t.2 = simp append_assoc in
     whole ∙ regroup
 
+response_of_fields : (bytes : List ℕ) (x : Read) (v i : Number) (n s : Text) (r t : Number) → IsBytes bytes
+    → byte_for is_version fields.Version 1 bytes ≡ Ok v → number_at fields.SolicitId v.1 v.2 ≡ Ok i → name_at fields.NodeName i.1 i.2 ≡ Ok n → name_at fields.Service n.1 n.2 ≡ Ok s
+    → byte_at fields.Rating s.1 s.1 s.2 ≡ Ok r → byte_for is_timer fields.Timer r.1 r.2 ≡ Ok t
+    → answered i.0 n.0 s.0 r.0 t ≡ Ok x → FoundFields kinds.Response bytes x
+response_of_fields bytes x v i n s r t all v_read i_read n_read s_read r_read t_read last =
+    let v_text = right_byte_found is_version fields.Version 1 bytes v all v_read in
+    let i_text = number_found fields.SolicitId v.1 v.2 i v_text.0.others i_read in
+    let n_text = name_found fields.NodeName i.1 i.2 n i_text.others n_read in
+    let s_text = name_found fields.Service n.1 n.2 s n_text.0.others s_read in
+    let r_text = byte_found fields.Rating s.1 s.1 s.2 r s_text.0.others r_read in
+    let t_text = right_byte_found is_timer fields.Timer r.1 r.2 t r_text.others t_read in
+    finish kinds.Response bytes (response i.0 n.0 s.0 r.0 t.0) t.1 t.2 x refl
+    (response_joined bytes v i n s r t v_text.0.is (five v.0 v_text.1) i_text.is n_text.0.is s_text.0.is r_text.is t_text.0.is)
+    (record { names = (n_text.1, s_text.1); suits = timer_some t.0 t_text.1 })
+    last
+
 response_found : (bytes : List ℕ) (x : Read) → IsBytes bytes → response_at bytes ≡ Ok x → FoundFields kinds.Response bytes x
 unfolding response_at
 response_found bytes x all h =
     let v = bind_ok (byte_for is_version fields.Version 1 bytes) answered_version x h in
-    let v_text = right_byte_found is_version fields.Version 1 bytes v.0 all v.1 in
     let i = bind_ok (number_at fields.SolicitId v.0.1 v.0.2) answered_id x v.2 in
-    let i_text = number_found fields.SolicitId v.0.1 v.0.2 i.0 v_text.0.others i.1 in
     let n = bind_ok (name_at fields.NodeName i.0.1 i.0.2) (answered_node i.0.0) x i.2 in
-    let n_text = name_found fields.NodeName i.0.1 i.0.2 n.0 i_text.others n.1 in
     let s = bind_ok (name_at fields.Service n.0.1 n.0.2) (answered_service i.0.0 n.0.0) x n.2 in
-    let s_text = name_found fields.Service n.0.1 n.0.2 s.0 n_text.0.others s.1 in
     let r = bind_ok (byte_at fields.Rating s.0.1 s.0.1 s.0.2) (answered_rating i.0.0 n.0.0 s.0.0) x s.2 in
-    let r_text = byte_found fields.Rating s.0.1 s.0.1 s.0.2 r.0 s_text.0.others r.1 in
     let t = bind_ok (byte_for is_timer fields.Timer r.0.1 r.0.2) (answered i.0.0 n.0.0 s.0.0 r.0.0) x r.2 in
-    let t_text = right_byte_found is_timer fields.Timer r.0.1 r.0.2 t.0 r_text.others t.1 in
-    finish kinds.Response bytes (response i.0.0 n.0.0 s.0.0 r.0.0 t.0.0) t.0.1 t.0.2 x refl
-    (response_joined bytes v.0 i.0 n.0 s.0 r.0 t.0 v_text.0.is (five v.0.0 v_text.1) i_text.is n_text.0.is s_text.0.is r_text.is t_text.0.is)
-    (record { names = (n_text.1, s_text.1); suits = timer_some t.0.0 t_text.1 })
-    t.2
+    response_of_fields bytes x v.0 i.0 n.0 s.0 r.0 t.0 all v.1 i.1 n.1 s.1 r.1 t.1 t.2
 
 -- the fields that are read are those of the notice
 pub fields_found : (k : NoticeKind) (bytes : List ℕ) (x : Notice × ℕ × List ℕ) → IsBytes bytes → fields_at k bytes ≡ Ok x → FoundFields k bytes x

@@ -3,7 +3,7 @@
 ghost use Rattle.std.specs.Prelude.{◌≡◌, ◌≤◌, length, drop, Ok, IfOk};
 ghost use Rattle.lat_fields.specs.Payloads.{PayloadText};
 ghost use Rattle.lat_fields.specs.Reading.{Gives};
-ghost use Rattle.lat_notices.specs.Reading.{announcement_at, command_at, status_at, solicit_at, response_at, fields_at, notice_read};
+ghost use Rattle.lat_notices.specs.Reading.{announcement, announcement_at, command_at, status_at, solicit_at, response_at, fields_at, notice_read};
 ghost use Rattle.lat_notices.specs.Texts.{NoticeText};
 ghost use Rattle.lat_notices.specs.declared.notice.Notice.{Notice};
 
@@ -12,9 +12,32 @@ use crate::fields::{action_of, groups_of, outcome_of, timer_of, version_of};
 use crate::kind::NoticeKind;
 use crate::notice::{Announcement, Command, Notice, Response, Solicit, Status};
 use crate::read_services::services_of;
-use lat_base::{Bytes, Field, PAYLOAD_BYTES};
+use crate::services::Services;
+use lat_base::{Bytes, Field, Memory, Name, PAYLOAD_BYTES};
 use lat_fields::{LayoutFault, byte_of, counted_of, ends_right, known, name_of, number_of, wanted};
 use std::alloc::Global;
+
+// The announcement of these fields, with copies of its mask and of its description.
+fn announced(
+    alloc: Global,
+    timer: u8,
+    incarnation: u16,
+    mask: &[u8],
+    node: Name,
+    text: &[u8],
+    services: Services,
+) -> Result<Notice, Memory>
+    ensures { IfOk result (λ n. n ≡ announcement timer incarnation mask.now node text.now services) }
+{
+    Ok(Notice::Announcement(Announcement {
+        timer,
+        incarnation,
+        groups: Bytes::copy(alloc, mask)?,
+        node,
+        description: Bytes::copy(alloc, text)?,
+        services,
+    }))
+}
 
 // Each of these reads the fields of a type, from place 1 on, and gives the place behind them.
 #[tactic(auto, unfolding(crate::specs::Reading::announcement_at))]
@@ -35,14 +58,7 @@ fn announcement_of(alloc: Global, bytes: &[u8]) -> Result<(Notice, usize), Layou
     let (text, at) = counted_of(Field::Description, at, bytes, at)?;
     let (count, at) = byte_of(Field::ServiceCount, at, bytes, at)?;
     let (services, behind) = services_of(alloc, count, bytes, at)?;
-    let notice = Notice::Announcement(Announcement {
-        timer,
-        incarnation,
-        groups: Bytes::copy(alloc, mask)?,
-        node,
-        description: Bytes::copy(alloc, text)?,
-        services,
-    });
+    let notice = announced(alloc, timer, incarnation, mask, node, text, services)?;
     Ok((notice, behind))
 }
 
