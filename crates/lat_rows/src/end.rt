@@ -28,6 +28,13 @@ fn setting_of(bytes: &[u8]) -> Option<[u8; 5]> {
     }
 }
 
+// What a take answers that gave these items.
+fn took_onto(alloc: Global, text: &mut String, items: &[Item]) -> Result<(), AllocError> {
+    let count = items.len();
+    write!(text, "took {count}")?;
+    items_onto(alloc, text, items)
+}
+
 impl End {
     /// Gives it a moment.
     pub fn time(
@@ -110,18 +117,14 @@ impl End {
     }
 
     fn take(&mut self, alloc: Global, id: u8, most: u16, text: &mut String) -> Result<(), Memory> {
-        let mut items = vec![in alloc; Item::Byte(0); usize::from(most)]?;
         if !self.circuit.lives() {
             return Ok(text.push_str(NOT_NOW)?);
         }
+        let mut items = vec![in alloc; Item::Byte(0); usize::from(most)]?;
         match self.circuit.take(id, &mut items) {
-            Ok(count) => {
-                write!(text, "took {count}")?;
-                items_onto(alloc, text, &items[..count])?;
-            }
-            Err(fault) => text.push_str(fault_word(fault))?,
+            Ok(count) => Ok(took_onto(alloc, text, &items[..count])?),
+            Err(fault) => Ok(text.push_str(fault_word(fault))?),
         }
-        Ok(())
     }
 
     fn attend(&mut self, id: u8, flag: u8, text: &mut String) -> Result<(), AllocError> {
@@ -170,39 +173,61 @@ impl End {
         text: &mut String,
     ) -> Result<(), ScriptFault> {
         match word(line, 0) {
-            "put" => self.put(byte(line, 2)?, &bytes(alloc, line, 3)?, text)?,
-            "fill" => {
-                let (id, count) = (byte(line, 2)?, short(line, 3)?);
-                let filling = vec![in alloc; 0x61; usize::from(count)]?;
-                self.put(id, &filling, text)?;
-            }
-            "set" => self.set(byte(line, 2)?, &bytes(alloc, line, 3)?, text)?,
+            "put" | "fill" | "set" => self.put_call(alloc, line, text)?,
             "attend" => self.attend(byte(line, 2)?, byte(line, 3)?, text)?,
             "take" => self.take(alloc, byte(line, 2)?, short(line, 3)?, text)?,
             "close" => self.close(byte(line, 2)?, text)?,
-            "held" => maybe_onto(text, Some(self.circuit.held()))?,
-            "lives" => life_onto(text, self.circuit.ended_by())?,
+            "state" | "waiting" | "totals" => self.tell_session(line, text)?,
             _ => self.tell(line, text)?,
         }
         Ok(())
     }
 
-    // What it tells of a session.
-    fn tell(&self, line: &str, text: &mut String) -> Result<(), ScriptFault> {
+    // What it answers to a command that puts items.
+    fn put_call(
+        &mut self,
+        alloc: Global,
+        line: &str,
+        text: &mut String,
+    ) -> Result<(), ScriptFault> {
+        let id = byte(line, 2)?;
+        match word(line, 0) {
+            "put" => self.put(id, &bytes(alloc, line, 3)?, text)?,
+            "set" => self.set(id, &bytes(alloc, line, 3)?, text)?,
+            _ => {
+                let filling = vec![in alloc; 0x61; usize::from(short(line, 3)?)]?;
+                self.put(id, &filling, text)?;
+            }
+        }
+        Ok(())
+    }
+
+    // How a session stands, what waits there, and its totals.
+    fn tell_session(&self, line: &str, text: &mut String) -> Result<(), ScriptFault> {
+        let id = byte(line, 2)?;
         match word(line, 0) {
             "state" => {
-                let state = state_word(self.circuit.state(byte(line, 2)?));
+                let state = state_word(self.circuit.state(id));
                 write!(text, "{state}\n")?;
             }
-            "mark" => maybe_onto(text, self.circuit.mark(byte(line, 2)?))?,
             "waiting" => {
-                let waiting = self.circuit.waiting(byte(line, 2)?);
+                let waiting = self.circuit.waiting(id);
                 write!(text, "{waiting}\n")?;
             }
-            "totals" => {
-                let (given, used) = self.circuit.totals(byte(line, 2)?);
+            _ => {
+                let (given, used) = self.circuit.totals(id);
                 write!(text, "given {given} used {used}\n")?;
             }
+        }
+        Ok(())
+    }
+
+    // What else it tells.
+    fn tell(&self, line: &str, text: &mut String) -> Result<(), ScriptFault> {
+        match word(line, 0) {
+            "held" => maybe_onto(text, Some(self.circuit.held()))?,
+            "lives" => life_onto(text, self.circuit.ended_by())?,
+            "mark" => maybe_onto(text, self.circuit.mark(byte(line, 2)?))?,
             "ended" => ended_onto(text, self.circuit.ended(byte(line, 2)?))?,
             "peer" => maybe_onto(text, Some(self.circuit.peer(byte(line, 2)?)))?,
             _ => text.push_str("no command\n")?,

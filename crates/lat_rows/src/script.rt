@@ -260,15 +260,27 @@ fn line_onto(
     }
 }
 
+fn command_onto(
+    alloc: Global,
+    play: &mut Option<Play>,
+    number: u64,
+    line: &str,
+    text: &mut String,
+) -> Result<(), Memory> {
+    if is_command(line, text)? {
+        let done = line_onto(alloc, play, line, text);
+        refused_onto(text, number, done)?;
+    }
+    Ok(())
+}
+
 /// What is printed of a script.
 pub fn played(alloc: Global, script: &str) -> Result<String, Memory> {
     let mut text = String::new(alloc);
     let mut play = None;
     for (at, line) in script.lines().enumerate() {
-        if is_command(line, &mut text)? {
-            let done = line_onto(alloc, &mut play, line, &mut text);
-            refused_onto(&mut text, (at as u64).saturating_add(1), done)?;
-        }
+        let number = (at as u64).saturating_add(1);
+        command_onto(alloc, &mut play, number, line, &mut text)?;
     }
     Ok(text)
 }
