@@ -1,6 +1,6 @@
 //! The events that a line tells a core.
 
-use lat_base::{Addr, Bytes, Event};
+use lat_base::{Addr, Bytes, Event, Memory};
 use lat_script::{ScriptFault, address, byte, bytes, name, number, short, word};
 use std::alloc::Global;
 
@@ -10,23 +10,8 @@ pub fn event_of(alloc: Global, line: &str, server: Addr) -> Result<Option<Event>
         "time" => Some(Event::Time {
             now: number(line, 2)?,
         }),
-        "put" => Some(Event::Put {
-            line: byte(line, 2)?,
-            bytes: Bytes::copy(alloc, &bytes(alloc, line, 3)?)?,
-        }),
-        "fill" => Some(filling(alloc, line)?),
-        "set" => setting(alloc, line)?,
-        "take" => Some(Event::Take {
-            line: byte(line, 2)?,
-            n: short(line, 3)?,
-        }),
-        "attend" => Some(Event::Attend {
-            line: byte(line, 2)?,
-            flag: byte(line, 3)?,
-        }),
-        "close" => Some(Event::Close {
-            line: byte(line, 2)?,
-        }),
+        "put" | "fill" | "set" => put_of(alloc, line)?,
+        "take" | "attend" | "close" => Some(call_of(line)?),
         "cancel" => Some(Event::Cancel {
             id: short(line, 2)?,
         }),
@@ -54,23 +39,49 @@ fn named(line: &str, server: Addr) -> Result<Option<Event>, ScriptFault> {
     })
 }
 
-fn filling(alloc: Global, line: &str) -> Result<Event, ScriptFault> {
+// The events that put items.
+fn put_of(alloc: Global, line: &str) -> Result<Option<Event>, ScriptFault> {
     let place = byte(line, 2)?;
-    let filling = vec![in alloc; 0x61; usize::from(short(line, 3)?)]?;
+    match word(line, 1) {
+        "put" => Ok(Some(put(alloc, place, &bytes(alloc, line, 3)?)?)),
+        "set" => Ok(set(place, &bytes(alloc, line, 3)?)),
+        _ => {
+            let filling = vec![in alloc; 0x61; usize::from(short(line, 3)?)]?;
+            Ok(Some(put(alloc, place, &filling)?))
+        }
+    }
+}
+
+fn put(alloc: Global, line: u8, bytes: &[u8]) -> Result<Event, Memory> {
     Ok(Event::Put {
-        line: place,
-        bytes: Bytes::copy(alloc, &filling)?,
+        line,
+        bytes: Bytes::copy(alloc, bytes)?,
     })
 }
 
-fn setting(alloc: Global, line: &str) -> Result<Option<Event>, ScriptFault> {
-    let place = byte(line, 2)?;
-    let bytes = bytes(alloc, line, 3)?;
+// The setting that these bytes are.
+fn set(line: u8, bytes: &[u8]) -> Option<Event> {
     let [flag, a, b, c, d] = *bytes else {
-        return Ok(None);
+        return None;
     };
-    Ok(Some(Event::Set {
-        line: place,
+    Some(Event::Set {
+        line,
         setting: [flag, a, b, c, d],
-    }))
+    })
+}
+
+// The other calls of a line.
+fn call_of(line: &str) -> Result<Event, ScriptFault> {
+    let place = byte(line, 2)?;
+    Ok(match word(line, 1) {
+        "take" => Event::Take {
+            line: place,
+            n: short(line, 3)?,
+        },
+        "attend" => Event::Attend {
+            line: place,
+            flag: byte(line, 3)?,
+        },
+        _ => Event::Close { line: place },
+    })
 }

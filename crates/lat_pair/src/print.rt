@@ -84,33 +84,35 @@ pub fn yes_word(yes: bool) -> &'static str {
     if yes { "yes\n" } else { "no\n" }
 }
 
-fn session_onto(
+// Adds the ids of a session's circuit, and of the session, at both ends.
+fn ids_onto(text: &mut String, session: &LineSession) -> Result<(), AllocError> {
+    let (circuit, id) = (session.circuit, session.session);
+    write!(text, " circuit {circuit} session {id}")?;
+    let (circuit, id) = (session.peer_circuit, session.peer_session);
+    write!(text, " at the peer {circuit} {id}")
+}
+
+fn session_onto(alloc: Global, text: &mut String, session: &LineSession) -> Result<(), Memory> {
+    let number = session.number;
+    write!(text, "number {number} peer ")?;
+    address_onto(alloc, text, session.peer)?;
+    ids_onto(text, session)?;
+    let (given, used) = (session.given, session.used);
+    write!(text, " given {given} used {used} end ")?;
+    match session.end {
+        Some(end) => Ok(end_onto(text, end)?),
+        None => Ok(text.push_str("open\n")?),
+    }
+}
+
+fn maybe_session_onto(
     alloc: Global,
     text: &mut String,
     session: Option<LineSession>,
 ) -> Result<(), Memory> {
-    let Some(session) = session else {
-        return Ok(text.push_str("none\n")?);
-    };
-    let LineSession {
-        number,
-        peer,
-        circuit,
-        session,
-        peer_circuit,
-        peer_session,
-        given,
-        used,
-        end,
-    } = session;
-    write!(text, "number {number} peer ")?;
-    address_onto(alloc, text, peer)?;
-    write!(text, " circuit {circuit} session {session}")?;
-    write!(text, " at the peer {peer_circuit} {peer_session}")?;
-    write!(text, " given {given} used {used} end ")?;
-    match end {
-        Some(end) => Ok(end_onto(text, end)?),
-        None => Ok(text.push_str("open\n")?),
+    match session {
+        Some(session) => session_onto(alloc, text, &session),
+        None => Ok(text.push_str("none\n")?),
     }
 }
 
@@ -120,9 +122,9 @@ pub fn book_onto(alloc: Global, text: &mut String, book: Option<LineBook>) -> Re
         return Ok(text.push_str("no-line\n")?);
     };
     text.push_str("present ")?;
-    session_onto(alloc, text, book.present)?;
+    maybe_session_onto(alloc, text, book.present)?;
     text.push_str("last ")?;
-    session_onto(alloc, text, book.last)
+    maybe_session_onto(alloc, text, book.last)
 }
 
 /// Adds a request's record to the text.

@@ -35,13 +35,25 @@ fn tell_onto<C: Station>(
     text: &mut String,
 ) -> Result<(), ScriptFault> {
     match word(line, 0) {
-        "book" => Ok(book_onto(alloc, text, post.book(byte(line, 2)?))?),
-        "state" => state_onto(post, line, text),
-        "waiting" => waiting_onto(post, line, text),
         "moment" => Ok(number_onto(text, post.moment())?),
         "finished" => Ok(number_onto(text, u64::from(post.finished()))?),
         "span" => Ok(text.push_str(span_word(post.span(short(line, 2)?)))?),
         "names" => Ok(text.push_str(yes_word(names(post, line)?))?),
+        _ => tell_line_onto(alloc, post, line, text),
+    }
+}
+
+// What a core tells of a line.
+fn tell_line_onto<C: Station>(
+    alloc: Global,
+    post: &Post<C>,
+    line: &str,
+    text: &mut String,
+) -> Result<(), ScriptFault> {
+    match word(line, 0) {
+        "book" => Ok(book_onto(alloc, text, post.book(byte(line, 2)?))?),
+        "state" => state_onto(post, line, text),
+        "waiting" => waiting_onto(post, line, text),
         _ => Ok(text.push_str("no command\n")?),
     }
 }
