@@ -1,6 +1,6 @@
 //! The events that a line tells a core.
 
-use lat_base::{Addr, Bytes, Event, Memory};
+use lat_base::{Addr, Bytes, Event};
 use lat_script::{ScriptFault, address, byte, bytes, name, number, short, word};
 use std::alloc::Global;
 
@@ -10,7 +10,8 @@ pub fn event_of(alloc: Global, line: &str, server: Addr) -> Result<Option<Event>
         "time" => Some(Event::Time {
             now: number(line, 2)?,
         }),
-        "put" | "fill" | "set" => put_of(alloc, line)?,
+        "put" | "fill" => Some(put_of(alloc, line)?),
+        "set" => set_of(alloc, line)?,
         "take" | "attend" | "close" => Some(call_of(line)?),
         "cancel" => Some(Event::Cancel {
             id: short(line, 2)?,
@@ -39,35 +40,40 @@ fn named(line: &str, server: Addr) -> Result<Option<Event>, ScriptFault> {
     })
 }
 
-// The events that put items.
-fn put_of(alloc: Global, line: &str) -> Result<Option<Event>, ScriptFault> {
-    let place = byte(line, 2)?;
-    match word(line, 1) {
-        "put" => Ok(Some(put(alloc, place, &bytes(alloc, line, 3)?)?)),
-        "set" => Ok(set(place, &bytes(alloc, line, 3)?)),
-        _ => {
-            let filling = vec![in alloc; 0x61; usize::from(short(line, 3)?)]?;
-            Ok(Some(put(alloc, place, &filling)?))
-        }
+// The bytes that a line puts: those that it says, or so many of the same.
+fn put_bytes(alloc: Global, line: &str) -> Result<Vec<u8>, ScriptFault> {
+    if word(line, 1) == "put" {
+        bytes(alloc, line, 3)
+    } else {
+        Ok(vec![in alloc; 0x61; usize::from(short(line, 3)?)]?)
     }
 }
 
-fn put(alloc: Global, line: u8, bytes: &[u8]) -> Result<Event, Memory> {
+// The events that put bytes.
+fn put_of(alloc: Global, line: &str) -> Result<Event, ScriptFault> {
+    let place = byte(line, 2)?;
     Ok(Event::Put {
-        line,
-        bytes: Bytes::copy(alloc, bytes)?,
+        line: place,
+        bytes: Bytes::copy(alloc, &put_bytes(alloc, line)?)?,
     })
 }
 
 // The setting that these bytes are.
-fn set(line: u8, bytes: &[u8]) -> Option<Event> {
-    let [flag, a, b, c, d] = *bytes else {
-        return None;
-    };
-    Some(Event::Set {
-        line,
-        setting: [flag, a, b, c, d],
-    })
+fn setting_of(bytes: &[u8]) -> Option<[u8; 5]> {
+    match *bytes {
+        [flag, a, b, c, d] => Some([flag, a, b, c, d]),
+        _ => None,
+    }
+}
+
+// The event that puts a setting, where five bytes are given.
+fn set_of(alloc: Global, line: &str) -> Result<Option<Event>, ScriptFault> {
+    let place = byte(line, 2)?;
+    let setting = setting_of(&bytes(alloc, line, 3)?);
+    Ok(setting.map(|setting| Event::Set {
+        line: place,
+        setting,
+    }))
 }
 
 // The other calls of a line.

@@ -1,35 +1,38 @@
 //! Answers, frames and books in words.
 
-use lat_base::{Answer, Item, Kept, LineBook, LineSession, Memory, OutFrame};
+use lat_base::{Answer, Bad, Kept, LineBook, LineSession, Memory, OutFrame};
 use lat_queue::Record;
-use lat_script::{answer_word, end_onto, heard_onto, items_onto, mark_onto};
+use lat_script::{answer_word, end_onto, heard_onto, mark_onto, took_onto};
 use lat_seq::Span;
 use lat_show::show;
 use lat_text::{address_onto, name_onto};
 use std::alloc::{AllocError, Global};
 
 /// Adds what a core answers to the text.
-pub fn answer_onto(alloc: Global, text: &mut String, answer: &Answer) -> Result<(), Memory> {
+pub fn answer_onto(alloc: Global, text: &mut String, answer: &Answer) -> Result<(), AllocError> {
     match answer {
-        Answer::Circuit(heard) => heard_onto(text, *heard)?,
-        Answer::Started(id) => write!(text, "started {id}\n")?,
-        Answer::Kept(kept) => {
-            text.push_str("kept ")?;
-            kept_onto(text, *kept)?;
-            text.push_str("\n")?;
-        }
-        Answer::Bad(bad) => {
-            let (field, at) = (bad.field.word(), bad.at);
-            write!(text, "bad {field} {at}\n")?;
-        }
+        Answer::Circuit(heard) => heard_onto(text, *heard),
+        Answer::Started(id) => write!(text, "started {id}\n"),
+        Answer::Kept(kept) => kept_line_onto(text, *kept),
+        Answer::Bad(bad) => bad_onto(text, *bad),
         Answer::Connected { circuit, session } => {
-            write!(text, "connected circuit {circuit} session {session}\n")?;
+            write!(text, "connected circuit {circuit} session {session}\n")
         }
-        Answer::Put(count) => write!(text, "put {count}\n")?,
-        Answer::Took(items) => took_onto(alloc, text, items.as_slice())?,
-        _ => text.push_str(answer_word(answer))?,
+        Answer::Put(count) => write!(text, "put {count}\n"),
+        Answer::Took(items) => took_onto(alloc, text, items.as_slice()),
+        _ => text.push_str(answer_word(answer)),
     }
-    Ok(())
+}
+
+fn bad_onto(text: &mut String, bad: Bad) -> Result<(), AllocError> {
+    let (field, at) = (bad.field.word(), bad.at);
+    write!(text, "bad {field} {at}\n")
+}
+
+fn kept_line_onto(text: &mut String, kept: Kept) -> Result<(), AllocError> {
+    text.push_str("kept ")?;
+    kept_onto(text, kept)?;
+    text.push_str("\n")
 }
 
 fn kept_onto(text: &mut String, kept: Kept) -> Result<(), AllocError> {
@@ -42,12 +45,6 @@ fn kept_onto(text: &mut String, kept: Kept) -> Result<(), AllocError> {
         Kept::RecordsFull => text.push_str("records-full"),
         Kept::Done => text.push_str("done"),
     }
-}
-
-fn took_onto(alloc: Global, text: &mut String, items: &[Item]) -> Result<(), AllocError> {
-    let count = items.len();
-    write!(text, "took {count}")?;
-    items_onto(alloc, text, items)
 }
 
 /// Adds a frame of this number to the text: its mark, where it goes, its circuit, and what is shown of it.
@@ -63,11 +60,15 @@ pub fn frame_onto(
     address_onto(alloc, text, frame.to)?;
     let circuit = frame.circuit;
     write!(text, " circuit {circuit}\n")?;
-    let mut line = hex::encode(alloc, frame.payload.bytes())?;
+    shown_onto(alloc, text, frame.payload.bytes())
+}
+
+// Adds what is shown of a payload.
+fn shown_onto(alloc: Global, text: &mut String, payload: &[u8]) -> Result<(), Memory> {
+    let mut line = hex::encode(alloc, payload)?;
     line.push_str("\n")?;
     let (_, shown) = show(alloc, line.as_bytes())?;
-    text.push_str(&shown)?;
-    Ok(())
+    Ok(text.push_str(&shown)?)
 }
 
 /// The word of a circuit's span.

@@ -165,25 +165,36 @@ impl Play {
         Ok(())
     }
 
-    // What one line of the file does.
-    fn act(&mut self, alloc: Global, line: &str, text: &mut String) -> Result<(), ScriptFault> {
+    // A line that puts something in the place of the words or of the input; else false.
+    fn changes(&mut self, alloc: Global, line: &str) -> Result<bool, ScriptFault> {
         match word(line, 0) {
             "command" => *self = Play::of(alloc, behind(line, "command"))?,
             "words" => self.rename(alloc, behind(line, "words"))?,
             "lines" => self.input.keep(number(line, 1)?),
-            "line" => self
-                .input
-                .replace(alloc, number(line, 1)?, behind_two(line))?,
+            "line" => self.exchange(alloc, line)?,
             "pipe" => self.pipe(alloc, behind(line, "pipe"))?,
-            "run" => self.run(alloc, SOUND, text)?,
-            "measure" => self.measure(alloc, text)?,
-            "outside" => self.outside(alloc, line, text)?,
-            "reads" => self.reads(alloc, line, text)?,
-            "writes" => self.writes(alloc, line, text)?,
-            "cuts" => cuts(alloc, &bytes(alloc, line, 1)?, text)?,
-            _ => text.push_str("wrong\n")?,
+            _ => return Ok(false),
         }
-        Ok(())
+        Ok(true)
+    }
+
+    // Puts a text in the place of a line of the input.
+    fn exchange(&mut self, alloc: Global, line: &str) -> Result<(), ScriptFault> {
+        let at = number(line, 1)?;
+        Ok(self.input.replace(alloc, at, behind_two(line))?)
+    }
+
+    // A line that runs the program.
+    fn runs(&mut self, alloc: Global, line: &str, text: &mut String) -> Result<(), ScriptFault> {
+        match word(line, 0) {
+            "run" => Ok(self.run(alloc, SOUND, text)?),
+            "measure" => Ok(self.measure(alloc, text)?),
+            "outside" => self.outside(alloc, line, text),
+            "reads" => self.reads(alloc, line, text),
+            "writes" => self.writes(alloc, line, text),
+            "cuts" => cuts(alloc, line, text),
+            _ => Ok(text.push_str("wrong\n")?),
+        }
     }
 
     // A line that puts something behind the input, which isn't printed; else false.
@@ -203,7 +214,10 @@ impl Play {
         if self.takes(line)? || !is_command(line, text)? {
             return Ok(());
         }
-        self.act(alloc, line, text)
+        if self.changes(alloc, line)? {
+            return Ok(());
+        }
+        self.runs(alloc, line, text)
     }
 }
 
@@ -215,8 +229,9 @@ fn cut(alloc: Global, bytes: &[u8], text: &mut String) -> Result<(), Memory> {
     play.run(alloc, SOUND, text)
 }
 
-// That of each number of bytes but all.
-fn cuts(alloc: Global, bytes: &[u8], text: &mut String) -> Result<(), Memory> {
+// That of each number of bytes but all, of the payload that a line says.
+fn cuts(alloc: Global, line: &str, text: &mut String) -> Result<(), ScriptFault> {
+    let bytes = bytes(alloc, line, 1)?;
     for count in 0..bytes.len() {
         write!(text, "{count} bytes, ")?;
         cut(alloc, &bytes[..count], text)?;

@@ -8,7 +8,7 @@ use crate::print::{
 use lat_base::{Item, Memory, OutBox, SessionState};
 use lat_circuit::Circuit;
 use lat_frames::{Message, message_ok};
-use lat_script::{ScriptFault, byte, bytes, heard_onto, items_onto, name, short, state_word, word};
+use lat_script::{ScriptFault, byte, bytes, heard_onto, name, short, state_word, took_onto, word};
 use std::alloc::{AllocError, Global};
 
 /// A circuit whose sessions are on its own side.
@@ -26,13 +26,6 @@ fn setting_of(bytes: &[u8]) -> Option<[u8; 5]> {
         [flag, a, b, c, d] => Some([flag, a, b, c, d]),
         _ => None,
     }
-}
-
-// What a take answers that gave these items.
-fn took_onto(alloc: Global, text: &mut String, items: &[Item]) -> Result<(), AllocError> {
-    let count = items.len();
-    write!(text, "took {count}")?;
-    items_onto(alloc, text, items)
 }
 
 impl End {

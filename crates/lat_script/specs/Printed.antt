@@ -1,5 +1,5 @@
 -- Answers in print.
-use Rattle.std.specs.Prelude.{ℕ, List, [], ◌∷◌, ◌++◌, codes, decimal}
+use Rattle.std.specs.Prelude.{ℕ, List, [], ◌∷◌, ◌++◌, codes, decimal, length}
 use Rattle.std.specs.List.{flat_map}
 use Rattle.lat_base.specs.declared.answer.Answer.{Answer}
 use Rattle.lat_base.specs.declared.answer.Answer.TheVariants as answers
@@ -73,3 +73,6 @@ item_text (Set setting) = codes " set " ++ hex_text setting
 
 abbrev pub items_text : List Item → List ℕ
 items_text items = flat_map item_text items ++ codes "\n"
+
+abbrev pub took_text : List Item → List ℕ
+took_text items = codes "took " ++ decimal (length items) ++ items_text items

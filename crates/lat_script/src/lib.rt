@@ -16,6 +16,6 @@ mod words;
 
 pub use fault::{ScriptFault, refused_onto};
 pub use lines::{Part, is_command, line_behind};
-pub use print::{answer_word, end_onto, heard_onto, items_onto, mark_onto, state_word};
+pub use print::{answer_word, end_onto, heard_onto, items_onto, mark_onto, state_word, took_onto};
 pub use program::{INPUT_BYTES, run};
 pub use words::{address, byte, bytes, name, number, short, word};

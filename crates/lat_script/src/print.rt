@@ -1,7 +1,7 @@
 //! Answers in print.
 
 ghost use Rattle.std.specs.Prelude.{◌≡◌, ◌++◌, OnOk, string_bytes};
-ghost use Rattle.lat_script.specs.Printed.{answer_text, end_text, heard_text, item_text, items_text, mark_text, state_text};
+ghost use Rattle.lat_script.specs.Printed.{answer_text, end_text, heard_text, item_text, items_text, mark_text, state_text, took_text};
 
 use lat_base::{Answer, Heard, Item, Mark, SessionEnd, SessionState};
 use lat_text::{byte_onto, hex_onto};
@@ -110,4 +110,13 @@ pub fn items_onto(alloc: Global, text: &mut String, items: &[Item]) -> Result<()
         item_onto(alloc, text, *item)?;
     }
     text.push_str("\n")
+}
+
+/// Adds the line of a take that gave these items.
+pub fn took_onto(alloc: Global, text: &mut String, items: &[Item]) -> Result<(), AllocError>
+    ensures { OnOk result (string_bytes text.new ≡ string_bytes text.old ++ took_text items.now) }
+{
+    let count = items.len();
+    write!(text, "took {count}")?;
+    items_onto(alloc, text, items)
 }
