@@ -7,14 +7,14 @@ use Rattle.lat_machines.specs.values.Messages as model
 use Rattle.lat_machines.specs.values.Frames.{Value, OfCircuit, OfNotice, Whole, OutFrame}
 use Rattle.lat_machines.specs.world.Machines.{Setups, Posted, Move, run, open_machines}
 use Rattle.lat_machines.specs.world.Safe.{Fit}
-use Rattle.lat_link.specs.Payloads.{slots_as_text}
+use Rattle.lat_circuit.specs.Payloads.{slots_as_text}
 use Rattle.lat_captures.specs.Entries as captures
 use Rattle.lat_captures.specs.Audit.{IsLegal, audit, run_count}
 use Rattle.lat_captures.specs.Captured.{RunHead, first_up, is_between, entry_of, entries_of, capture_from}
 use Rattle.lat_captures.proofs.Audits.{verdict_of_legal}
 use Rattle.lat_captures.proofs.Machines.{every_capture}
-use Rattle.lat_entries.specs.Written.{IsTitle, IsEntry}
-use Rattle.lat_entries.proofs.WrittenRead.{capture_read}
+use Rattle.lat_audit.specs.Written.{IsTitle, IsEntry}
+use Rattle.lat_audit.proofs.WrittenRead.{capture_read}
 use Rattle.lat_audit.specs.Shown.{entry_shown}
 use Rattle.lat_audit.specs.AuditOf.{verdict_text, answer_of, audit_of}
 use Rattle.lat_audit.specs.Printed.{written_of, title_of, printed, GoesOut}

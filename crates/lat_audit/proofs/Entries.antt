@@ -29,13 +29,13 @@ use Rattle.lat_captures.specs.Entries.{Title}
 use Rattle.lat_captures.specs.Legal as legal
 use Rattle.lat_captures.specs.Audit.{Place, Tested, Passes, Fails, passed, passed_over, frame_of, run_test}
 use Rattle.lat_slots.specs.declared.slot.Slot.{Slot as ReadSlot}
-use Rattle.lat_checker.specs.declared.head.RunHead.{RunHead}
-use Rattle.lat_checker.specs.declared.rule.Rule.{Rule}
-use Rattle.lat_checker.specs.declared.rule.Rule.TheVariants as rules
-use Rattle.lat_checker.specs.declared.checker.Checker.{Checker}
-use Rattle.lat_checker.specs.Rules.{title_shown}
-use Rattle.lat_checker.specs.Answers.{title_of}
-use Rattle.lat_entries.specs.declared.entry.Entry.{Entry}
+use Rattle.lat_captures.specs.declared.head.RunHead.{RunHead}
+use Rattle.lat_captures.specs.declared.rule.Rule.{Rule}
+use Rattle.lat_captures.specs.declared.rule.Rule.TheVariants as rules
+use Rattle.lat_captures.specs.declared.checker.Checker.{Checker}
+use Rattle.lat_captures.specs.Rules.{title_shown}
+use Rattle.lat_captures.specs.Answers.{title_of}
+use Rattle.lat_audit.specs.declared.entry.Entry.{Entry}
 use Rattle.lat_audit.specs.Shown.{slots_read, entry_shown, message_entry, narrow_head, wide_head, head_of, slots_of}
 use Rattle.lat_audit.specs.Steps.{after_test, entry_outcome, Knows, Checks, ChecksRun}
 

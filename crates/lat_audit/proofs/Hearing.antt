@@ -3,11 +3,11 @@ use Rattle.std.proofs.Common.{◌≡◌, ℕ, ◌+◌, ◌≤◌, true, false, s
 use Rattle.std.specs.Prelude.{Option, Some, None, Ok, is_some, option_map}
 use Rattle.lat_captures.specs.Entries as captures
 use Rattle.lat_captures.specs.Audit.{Place}
-use Rattle.lat_checker.specs.declared.head.Title.{Title}
-use Rattle.lat_checker.specs.declared.rule.Rule.{Rule}
-use Rattle.lat_checker.specs.declared.checker.Checker.{Checker}
-use Rattle.lat_checker.specs.Rules.{title_shown}
-use Rattle.lat_checker.specs.Answers.{runs_of, title_of}
+use Rattle.lat_captures.specs.declared.head.Title.{Title}
+use Rattle.lat_captures.specs.declared.rule.Rule.{Rule}
+use Rattle.lat_captures.specs.declared.checker.Checker.{Checker}
+use Rattle.lat_captures.specs.Rules.{title_shown}
+use Rattle.lat_captures.specs.Answers.{runs_of, title_of}
 use Rattle.lat_audit.specs.declared.auditor.Broken.{Broken}
 use Rattle.lat_audit.specs.declared.auditor.Auditor.{Auditor}
 use Rattle.lat_audit.specs.Steps as steps

@@ -1,3 +1,11 @@
+pub mod Posts
+pub mod Lines
+pub mod Texts
+pub mod Legal
+pub mod Words
+pub mod Titles
+pub mod Payloads
+pub mod WrittenRead
 pub mod Telling
 pub mod Runs
 pub mod Entries

@@ -13,14 +13,14 @@ use Rattle.lat_machines.specs.values.Frames.{Reading}
 use Rattle.lat_captures.specs.Entries.{Entry}
 use Rattle.lat_captures.specs.Seen.{Both, Texts}
 use Rattle.lat_captures.specs.Audit.{Place, passed, frame_of}
-use Rattle.lat_checker.specs.declared.head.Title.{Title}
-use Rattle.lat_checker.specs.declared.head.RunHead.{RunHead}
-use Rattle.lat_checker.specs.declared.slot.SlotFacts.{SlotFacts}
-use Rattle.lat_checker.specs.declared.rule.Rule.{Rule}
-use Rattle.lat_checker.specs.declared.checker.Checker.{Checker}
-use Rattle.lat_checker.specs.Rules.{title_shown, head_shown}
-use Rattle.lat_checker.specs.Stands.{Stands}
-use Rattle.lat_checker.specs.Answers.{runs_of, title_of, IsRun, AnswersRun}
+use Rattle.lat_captures.specs.declared.head.Title.{Title}
+use Rattle.lat_captures.specs.declared.head.RunHead.{RunHead}
+use Rattle.lat_captures.specs.declared.slot.SlotFacts.{SlotFacts}
+use Rattle.lat_captures.specs.declared.rule.Rule.{Rule}
+use Rattle.lat_captures.specs.declared.checker.Checker.{Checker}
+use Rattle.lat_captures.specs.Rules.{title_shown, head_shown}
+use Rattle.lat_captures.specs.Stands.{Stands}
+use Rattle.lat_captures.specs.Answers.{runs_of, title_of, IsRun, AnswersRun}
 use Rattle.lat_audit.specs.Tells.{tell, facts_in}
 use Rattle.lat_audit.specs.Steps.{after_test, run_outcome, Knows, OutcomeIs, ChecksRun}
 use Rattle.lat_audit.proofs.Telling.{is_run}

@@ -6,11 +6,11 @@ use Rattle.std.specs.Result.{result_map_both}
 use Rattle.lat_text.specs.Lines.{Lines, End, Cut, Line, lines_of, no_line}
 use Rattle.lat_text.specs.WrongLine.{wrong_line}
 use Rattle.lat_captures.specs.Audit.{Verdict}
-use Rattle.lat_checker.specs.declared.head.Title.{Title}
-use Rattle.lat_checker.specs.Rules.{title_shown}
-use Rattle.lat_entries.specs.declared.entry.Entry.{Entry}
-use Rattle.lat_entries.specs.Lines.{title_of, entry_of}
-use Rattle.lat_entries.specs.CaptureText.{◌>>=◌, entries_of}
+use Rattle.lat_captures.specs.declared.head.Title.{Title}
+use Rattle.lat_captures.specs.Rules.{title_shown}
+use Rattle.lat_audit.specs.declared.entry.Entry.{Entry}
+use Rattle.lat_audit.specs.Lines.{title_of, entry_of}
+use Rattle.lat_audit.specs.CaptureText.{◌>>=◌, entries_of}
 use Rattle.lat_audit.specs.declared.auditor.Auditor.{Auditor}
 use Rattle.lat_audit.specs.Shown.{entry_shown}
 use Rattle.lat_audit.specs.Steps.{Progress, start, progressed, progressed_all, verdict_of}

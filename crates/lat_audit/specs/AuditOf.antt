@@ -3,8 +3,8 @@ use Rattle.std.specs.Prelude.{ℕ, List, [], ◌∷◌, Result, Ok, Err, codes, 
 use Rattle.lat_text.specs.Line.{line}
 use Rattle.lat_text.specs.WrongLine.{wrong_line}
 use Rattle.lat_captures.specs.Audit.{Verdict, IsLegal, IsBroken, audit}
-use Rattle.lat_checker.specs.Rules.{rule_text}
-use Rattle.lat_entries.specs.CaptureText.{Capture, capture_of}
+use Rattle.lat_captures.specs.Rules.{rule_text}
+use Rattle.lat_audit.specs.CaptureText.{Capture, capture_of}
 use Rattle.lat_audit.specs.Shown.{capture_shown}
 
 -- legal, with the number of RUNs; or the first broken entry, counted from 1 over all entries, with the first rule that it breaks

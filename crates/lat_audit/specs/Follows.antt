@@ -1,11 +1,11 @@
 -- What an audit under way stands for.
 use Rattle.std.specs.Prelude.{◌≡◌, ℕ, ◌≤◌, Option, Some, None}
 use Rattle.lat_captures.specs.Audit.{Place}
-use Rattle.lat_checker.specs.declared.head.Title.{Title}
-use Rattle.lat_checker.specs.declared.rule.Rule.{Rule}
-use Rattle.lat_checker.specs.Rules.{title_shown, rule_shown}
-use Rattle.lat_checker.specs.Answers.{runs_of, title_of}
-use Rattle.lat_entries.specs.declared.entry.Entry.{Entry}
+use Rattle.lat_captures.specs.declared.head.Title.{Title}
+use Rattle.lat_captures.specs.declared.rule.Rule.{Rule}
+use Rattle.lat_captures.specs.Rules.{title_shown, rule_shown}
+use Rattle.lat_captures.specs.Answers.{runs_of, title_of}
+use Rattle.lat_audit.specs.declared.entry.Entry.{Entry}
 use Rattle.lat_audit.specs.declared.auditor.Broken.{Broken}
 use Rattle.lat_audit.specs.declared.auditor.Auditor.{Auditor}
 use Rattle.lat_audit.specs.Shown.{entry_shown}

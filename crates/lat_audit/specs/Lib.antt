@@ -1,3 +1,9 @@
+pub mod Runs
+pub mod Tapped
+pub mod CapturedText
+pub mod Written
+pub mod Lines
+pub mod CaptureText
 pub mod Shown
 pub mod Tells
 pub mod Steps

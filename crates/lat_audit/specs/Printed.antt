@@ -5,12 +5,12 @@ use Rattle.lat_machines.specs.values.Frames.{Reading, Whole, Malformed, OutFrame
 use Rattle.lat_machines.specs.world.Machines.{Setups, Machines}
 use Rattle.lat_payload.specs.Frames.{payload_of}
 use Rattle.lat_payload.specs.Reads.{reading_of}
-use Rattle.lat_link.specs.Payloads.{slots_as_text}
+use Rattle.lat_circuit.specs.Payloads.{slots_as_text}
 use Rattle.lat_captures.specs.Entries as captures
 use Rattle.lat_captures.specs.Captured.{captured}
-use Rattle.lat_checker.specs.declared.head.Title.{Title}
-use Rattle.lat_entries.specs.declared.entry.Entry.{Entry}
-use Rattle.lat_entries.specs.Written.{capture_text}
+use Rattle.lat_captures.specs.declared.head.Title.{Title}
+use Rattle.lat_audit.specs.declared.entry.Entry.{Entry}
+use Rattle.lat_audit.specs.Written.{capture_text}
 
 -- the payload that is written of what was captured
 abbrev pub payload_in : Reading → List ℕ

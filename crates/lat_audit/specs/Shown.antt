@@ -12,10 +12,10 @@ use Rattle.lat_machines.specs.values.Frames.{Whole, OfCircuit}
 use Rattle.lat_circuit.specs.Frames.{message_shown}
 use Rattle.lat_payload.specs.Reads.{reading_of}
 use Rattle.lat_captures.specs.Entries as captures
-use Rattle.lat_checker.specs.declared.head.RunHead.{RunHead}
-use Rattle.lat_checker.specs.Rules.{title_shown}
-use Rattle.lat_entries.specs.declared.entry.Entry.{Entry}
-use Rattle.lat_entries.specs.CaptureText.{Capture}
+use Rattle.lat_captures.specs.declared.head.RunHead.{RunHead}
+use Rattle.lat_captures.specs.Rules.{title_shown}
+use Rattle.lat_audit.specs.declared.entry.Entry.{Entry}
+use Rattle.lat_audit.specs.CaptureText.{Capture}
 
 -- the text that is written of a RUN's slots
 abbrev pub slots_written : Message → List ℕ

@@ -11,12 +11,12 @@ use Rattle.lat_captures.specs.Entries.{Title, Entry}
 use Rattle.lat_captures.specs.Seen.{nothing, no_texts}
 use Rattle.lat_captures.specs.Legal as legal
 use Rattle.lat_captures.specs.Audit.{Place, Tested, Passes, Fails, Verdict, IsLegal, IsBroken, passed, passed_over, frame_of, run_test}
-use Rattle.lat_checker.specs.declared.head.RunHead.{RunHead}
-use Rattle.lat_checker.specs.declared.rule.Rule.{Rule}
-use Rattle.lat_checker.specs.declared.checker.Checker.{Checker}
-use Rattle.lat_checker.specs.Rules.{title_shown, head_shown, rule_shown}
-use Rattle.lat_checker.specs.Answers.{runs_of, title_of}
-use Rattle.lat_checker.specs.Stands.{Stands}
+use Rattle.lat_captures.specs.declared.head.RunHead.{RunHead}
+use Rattle.lat_captures.specs.declared.rule.Rule.{Rule}
+use Rattle.lat_captures.specs.declared.checker.Checker.{Checker}
+use Rattle.lat_captures.specs.Rules.{title_shown, head_shown, rule_shown}
+use Rattle.lat_captures.specs.Answers.{runs_of, title_of}
+use Rattle.lat_captures.specs.Stands.{Stands}
 use Rattle.lat_audit.specs.Tells.{tell}
 
 -- what is known behind a RUN that passes

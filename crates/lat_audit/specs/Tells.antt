@@ -5,8 +5,8 @@ use Rattle.lat_model.specs.sessions.Slots as sessions
 use Rattle.lat_slots.specs.declared.slot.Slot.{Slot}
 use Rattle.lat_slots.specs.Reading.{slot_at}
 use Rattle.lat_stream.specs.Wire.{slot_heard}
-use Rattle.lat_checker.specs.declared.slot.SlotFacts.{SlotFacts}
-use Rattle.lat_checker.specs.Facts.{facts_of}
+use Rattle.lat_captures.specs.declared.slot.SlotFacts.{SlotFacts}
+use Rattle.lat_captures.specs.Facts.{facts_of}
 
 abbrev pub first_heard : Result (Slot × ℕ × List ℕ) Bad → (List ℕ → List sessions.Slot) → List sessions.Slot
 first_heard (Ok read) behind = slot_heard read.0 ∷ behind read.2

@@ -1,15 +1,15 @@
 //! An audit under way.
 
 ghost use Rattle.std.specs.Prelude.{◌≡◌, ◌+◌, ◌^◌, ◌<◌, ◌≤◌, OnOk, IfOk, option_map, string_bytes};
-ghost use Rattle.lat_checker.specs.declared.head.Title.{Title};
+ghost use Rattle.lat_captures.specs.declared.head.Title.{Title};
 ghost use Rattle.lat_audit.specs.Steps.{Progress, start, verdict_of};
 ghost use Rattle.lat_audit.specs.Follows.{Follows, Counted, after_entry, broken_at};
 ghost use Rattle.lat_audit.specs.AuditOf.{verdict_text};
 
-use crate::entry::entry_checked;
+use crate::entry::Entry;
+use crate::entry_check::entry_checked;
 use lat_base::Memory;
-use lat_checker::{Checker, Rule, Title};
-use lat_entries::Entry;
+use lat_captures::{Checker, Rule, Title};
 use std::alloc::{AllocError, Global};
 
 /// The first broken entry, counted from 1 over all entries, and the first rule that it breaks.

@@ -4,8 +4,8 @@ ghost use Rattle.std.specs.Prelude.{◌≡◌, Err, IfOk, string_bytes};
 ghost use Rattle.lat_audit.specs.AuditOf.{answer_of, audit_of};
 
 use crate::auditor::Auditor;
+use crate::read::{entry_of, title_of};
 use lat_base::Memory;
-use lat_entries::{entry_of, title_of};
 use lat_text::{LineFault, first_line, wrong_line};
 use std::alloc::Global;
 

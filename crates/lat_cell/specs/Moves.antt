@@ -3,9 +3,9 @@ use Rattle.std.specs.Prelude.{ℕ, ◌+◌, List, slice_range, Bool, true, false
 use Rattle.lat_base.specs.declared.event.Event.{Event}
 use Rattle.lat_base.specs.declared.event.Event.TheVariants as events
 use Rattle.lat_base.specs.declared.name.Name.{Name}
-use Rattle.lat_mind.specs.Minds.{left_of}
-use Rattle.lat_mind.specs.declared.mind.Move.{Move}
-use Rattle.lat_mind.specs.declared.mind.Move.TheVariants as moves
+use Rattle.lat_cell.specs.Minds.{left_of}
+use Rattle.lat_cell.specs.declared.mind.Move.{Move}
+use Rattle.lat_cell.specs.declared.mind.Move.TheVariants as moves
 use Rattle.lat_cell.specs.declared.desk.Desk.{Desk}
 
 -- the bytes that were read and not yet put

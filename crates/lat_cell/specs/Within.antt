@@ -1,7 +1,7 @@
 -- What a worker may have put, by what its line gave.
 use Rattle.std.specs.Prelude.{ℕ, ◌+◌, ◌≤◌, List, length, Option, Some, None, Result, Ok, Err, Bool, true, false}
 use Rattle.lat_outside.specs.declared.line_end.LineGot.{LineGot}
-use Rattle.lat_mind.specs.Minds.{left_of}
+use Rattle.lat_cell.specs.Minds.{left_of}
 use Rattle.lat_history.specs.CellView.{SeatView}
 use Rattle.lat_cell.specs.declared.desk.Desk.{Desk}
 use Rattle.lat_cell.specs.declared.hold.HoldDone.{HoldDone}

@@ -1,9 +1,9 @@
 //! What a line's worker has before it.
 
 ghost use Rattle.std.specs.Prelude.{◌≡◌, ◌+◌, ◌≤◌};
-ghost use Rattle.lat_mind.specs.Minds.{left_of};
+ghost use Rattle.lat_cell.specs.Minds.{left_of};
 
-use lat_mind::LineMind;
+use crate::mind::LineMind;
 
 /// The mind, and the bytes that it speaks of: from `at` on, as many as it has left, were read and not yet put.
 #[derive(Drop)]

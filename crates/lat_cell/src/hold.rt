@@ -1,15 +1,15 @@
 //! What a line's worker does under the lock.
 
 ghost use Rattle.std.specs.Prelude.{◌≡◌, ◌+◌, ◌≤◌, IfSome, IfOk, true, false};
-ghost use Rattle.lat_mind.specs.Minds.{left_of};
+ghost use Rattle.lat_cell.specs.Minds.{left_of};
 ghost use Rattle.lat_history.specs.Counts.{seat_of, put_by, put_of};
 ghost use Rattle.lat_cell.specs.Moves.{is_put, move_event, unput};
 ghost use Rattle.lat_cell.specs.Within.{in_hand, is_read};
 
 use crate::desk::Desk;
+use crate::mind::{Fact, Move};
 use lat_base::{Answer, Bytes, Core, Event, Items, Memory, Name, SessionState};
 use lat_history::{Cell, CellFault, LineShare, Receipt};
-use lat_mind::{Fact, Move};
 use lat_outside::Tx;
 use std::alloc::Global;
 use std::sync::ledger::Ledger;

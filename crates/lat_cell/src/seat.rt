@@ -1,16 +1,16 @@
 //! A line's worker.
 
 ghost use Rattle.std.specs.Prelude.{◌≡◌, ◌+◌, ◌≤◌, Some, OnErr, true, ℕ};
-ghost use Rattle.lat_mind.specs.Minds.{left_of};
+ghost use Rattle.lat_cell.specs.Minds.{left_of};
 ghost use Rattle.lat_outside.specs.Causes.{Rose};
 ghost use Rattle.lat_cell.specs.Within.{Within, in_hand};
 
 use crate::desk::Desk;
 use crate::hold::{HoldDone, hold};
+use crate::mind::Fact;
 use crate::write::write_items;
 use lat_base::{Core, Event, Name};
 use lat_history::{Cell, LineShare};
-use lat_mind::Fact;
 use lat_outside::{Failed, Gate, LineEnd, LineGot, Tx};
 use std::alloc::Global;
 use std::sync::ledger::Ledger;

@@ -13,8 +13,8 @@ use Rattle.lat_model.specs.ends.Starting.{Agreed, make_slave, no_sessions}
 use Rattle.lat_machines.specs.cores.Cores.{setup_of}
 use Rattle.lat_machines.specs.values.Messages.{StartInfo}
 use Rattle.lat_machines.specs.values.Timing.{agreed_by}
-use Rattle.lat_link.specs.Links as link
-use Rattle.lat_link.specs.Payloads.{message_of, is_wide}
+use Rattle.lat_circuit.specs.Links as link
+use Rattle.lat_circuit.specs.Payloads.{message_of, is_wide}
 use Rattle.lat_session.specs.Stands as sessions
 use Rattle.lat_session.specs.Table.{Table}
 use Rattle.lat_circuit.specs.declared.agreed.Agreed.{Agreed as OwnAgreed}

@@ -14,8 +14,8 @@ use Rattle.lat_machines.specs.values.Answers.{Heard, Taken, Again, AckOnly, Fore
 use Rattle.lat_machines.specs.cores.Hearing.{fits_kind, numbers_at, run_frame}
 use Rattle.lat_slots.specs.declared.slot.Slot.{Slot}
 use Rattle.lat_stream.specs.Wire.{slot_heard}
-use Rattle.lat_link.specs.Links as link
-use Rattle.lat_link.specs.Payloads.{is_wide}
+use Rattle.lat_circuit.specs.Links as link
+use Rattle.lat_circuit.specs.Payloads.{is_wide}
 use Rattle.lat_session.specs.Stands as sessions
 use Rattle.lat_session.specs.Table.{Table}
 use Rattle.lat_circuit.specs.declared.circuit.Circuit.TheInside.{Inside}

@@ -25,8 +25,8 @@ use Rattle.lat_seq.specs.declared.sending.AckFact.{AckFact}
 use Rattle.lat_seq.specs.declared.sending.AckFact.TheVariants.{New, Old, Unsent}
 use Rattle.lat_seq.specs.declared.span.Span.{Span}
 use Rattle.lat_seq.specs.declared.span.Span.TheVariants.{Byte, Word}
-use Rattle.lat_link.specs.Links as link
-use Rattle.lat_link.specs.Payloads.{is_wide}
+use Rattle.lat_circuit.specs.Links as link
+use Rattle.lat_circuit.specs.Payloads.{is_wide}
 use Rattle.lat_circuit.specs.declared.circuit.Circuit.TheInside.{Inside}
 use Rattle.lat_circuit.specs.Shown.{shown}
 use Rattle.lat_circuit.specs.Stands.{Stands}

@@ -14,8 +14,8 @@ use Rattle.lat_model.specs.ends.Starting.{Agreed, again_start, hear_reply, hear_
 use Rattle.lat_machines.specs.values.Messages.{Message, StartInfo}
 use Rattle.lat_machines.specs.values.Timing.{Timing, agreed_by}
 use Rattle.lat_machines.specs.values.Answers.{Running, Again, Ended}
-use Rattle.lat_link.specs.Links as link
-use Rattle.lat_link.specs.Payloads.{message_of, is_wide}
+use Rattle.lat_circuit.specs.Links as link
+use Rattle.lat_circuit.specs.Payloads.{message_of, is_wide}
 use Rattle.lat_session.specs.Stands as sessions
 use Rattle.lat_session.specs.Table.{Table}
 use Rattle.lat_circuit.specs.declared.agreed.Agreed.{Agreed as OwnAgreed}

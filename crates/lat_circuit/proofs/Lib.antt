@@ -1,3 +1,7 @@
+mod Numbers
+mod Texts
+mod Runs
+mod LinkSteps
 pub mod Dids
 pub mod Messages
 pub mod Sending

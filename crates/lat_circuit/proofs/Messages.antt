@@ -21,8 +21,8 @@ use Rattle.lat_stream.specs.Wire.{slot_heard, formed_as}
 use Rattle.lat_stream.specs.Wire.{IsFormed as SlotIsFormed}
 use Rattle.lat_seq.specs.declared.span.Span.{Span}
 use Rattle.lat_seq.specs.declared.span.Span.TheVariants.{Byte, Word}
-use Rattle.lat_link.specs.Links.{IsMessage}
-use Rattle.lat_link.specs.Payloads.{message_of, param_of, is_wide}
+use Rattle.lat_circuit.specs.Links.{IsMessage}
+use Rattle.lat_circuit.specs.Payloads.{message_of, param_of, is_wide}
 use Rattle.lat_circuit.specs.Agrees.{IsTiming}
 use Rattle.lat_circuit.specs.Kept.{Facts}
 use Rattle.lat_circuit.specs.Frames.{IsFormed, AreFormed, message_sent, param_shown, timing_shown}

@@ -12,11 +12,11 @@ use Rattle.lat_model.specs.sessions.Sessions.{Sessions}
 use Rattle.lat_model.specs.sessions.Offers.{Offer, Nothing, Unfit, Offers, offer}
 use Rattle.lat_model.specs.sessions.Packing.{TaggedSlot, Packing, turn, turn_by, turn_all, turns, pack}
 use Rattle.lat_model.specs.ends.End.{End, Run, Again, wire_of, marked}
-use Rattle.lat_link.specs.Links as link
+use Rattle.lat_circuit.specs.Links as link
 use Rattle.std.specs.List.{flat_map}
 use Rattle.lat_slots.specs.Layout.{slot_text}
 use Rattle.lat_stream.specs.Wire.{formed_as}
-use Rattle.lat_link.specs.Payloads.{run_payload, slots_as_text}
+use Rattle.lat_circuit.specs.Payloads.{run_payload, slots_as_text}
 use Rattle.lat_circuit.specs.declared.circuit.Circuit.TheInside.{Inside}
 use Rattle.lat_circuit.specs.Kept.{Facts, Kept}
 use Rattle.lat_circuit.specs.Shown.{shown}

@@ -10,8 +10,8 @@ use Rattle.lat_model.specs.numbers.Link.{Link, showing, bare_frame, again_frames
 use Rattle.lat_model.specs.sessions.Slots.{Slot}
 use Rattle.lat_model.specs.ends.End.{End, CallStart, ReplyStart, marked, send_bare, send_again, send_start}
 use Rattle.lat_machines.specs.values.Messages.{Message, StartMessage, RunMessage, WideMessage, StopMessage}
-use Rattle.lat_link.specs.Links as link
-use Rattle.lat_link.specs.Payloads.{message_of, run_payload}
+use Rattle.lat_circuit.specs.Links as link
+use Rattle.lat_circuit.specs.Payloads.{message_of, run_payload}
 use Rattle.lat_circuit.specs.declared.circuit.Circuit.TheInside.{Inside}
 use Rattle.lat_circuit.specs.declared.start.Start.{Start}
 use Rattle.lat_circuit.specs.Kept.{Knows}

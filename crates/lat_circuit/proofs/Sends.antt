@@ -10,8 +10,8 @@ use Rattle.lat_model.specs.sessions.Sessions.{Sessions, held}
 use Rattle.lat_model.specs.sessions.Packing.{Packing, pack}
 use Rattle.lat_model.specs.ends.End.{End, Step, still, wire_of, all_known, acknowledge, send_message, form_packed, occasion}
 use Rattle.lat_model.specs.ends.Timers.{note_empty}
-use Rattle.lat_link.specs.Links as link
-use Rattle.lat_link.specs.Payloads.{is_wide, run_payload}
+use Rattle.lat_circuit.specs.Links as link
+use Rattle.lat_circuit.specs.Payloads.{is_wide, run_payload}
 use Rattle.lat_session.specs.Stands as sessions
 use Rattle.lat_session.specs.Table.{Table}
 use Rattle.lat_circuit.specs.declared.circuit.Circuit.TheInside.{Inside}

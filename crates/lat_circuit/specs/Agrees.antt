@@ -3,7 +3,7 @@ use Rattle.std.specs.Prelude.{◌+◌, ◌≤◌, Bool, true, false}
 use Rattle.lat_model.specs.ends.Starting.{Agreed}
 use Rattle.lat_seq.specs.declared.span.Span.{Span}
 use Rattle.lat_seq.specs.declared.span.Span.TheVariants.{Byte, Word}
-use Rattle.lat_link.specs.Payloads.{head_size}
+use Rattle.lat_circuit.specs.Payloads.{head_size}
 use Rattle.lat_circuit.specs.declared.agreed.Agreed.{Agreed as OwnAgreed}
 use Rattle.lat_circuit.specs.declared.config.Timing.{Timing as OwnTiming}
 

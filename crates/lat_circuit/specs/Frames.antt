@@ -17,7 +17,7 @@ use Rattle.lat_model.specs.ends.End.{Mark, Fresh, Again, Bare, Sent, Run, CallSt
 use Rattle.lat_machines.specs.values.Messages.{Param, Head, StartInfo, Message, RunMessage, WideMessage, StartMessage, StopMessage}
 use Rattle.lat_machines.specs.values.Runs.{run_message}
 use Rattle.lat_machines.specs.values.Timing.{Timing, wide_params, call_info, reply_info}
-use Rattle.lat_link.specs.Payloads.{message_of}
+use Rattle.lat_circuit.specs.Payloads.{message_of}
 use Rattle.lat_circuit.specs.declared.config.Timing.{Timing as OwnTiming}
 use Rattle.lat_circuit.specs.declared.start.Start.{Start}
 use Rattle.lat_circuit.specs.Kept.{Facts}

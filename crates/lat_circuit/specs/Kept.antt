@@ -3,9 +3,9 @@ use Rattle.std.specs.Prelude.{◌≡◌, ℕ, ◌+◌, ◌<◌, ◌≤◌, Bool,
 use Rattle.lat_circuit.specs.declared.config.CircuitConfig.{CircuitConfig}
 use Rattle.lat_circuit.specs.declared.moments.Moments.{Moments}
 use Rattle.lat_seq.specs.declared.span.Span.{Span}
-use Rattle.lat_link.specs.Links as link
-use Rattle.lat_link.specs.declared.ids.Ids.{Ids}
-use Rattle.lat_link.specs.Payloads.{head_size}
+use Rattle.lat_circuit.specs.Links as link
+use Rattle.lat_circuit.specs.declared.ids.Ids.{Ids}
+use Rattle.lat_circuit.specs.Payloads.{head_size}
 use Rattle.lat_session.specs.Table.{Table}
 use Rattle.lat_circuit.specs.Agrees.{IsTiming}
 

@@ -1,3 +1,6 @@
+pub mod Payloads
+pub mod Links
+pub mod Laws
 pub mod Kept
 pub mod Frames
 pub mod Stands

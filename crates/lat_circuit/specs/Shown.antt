@@ -1,6 +1,6 @@
 -- What is kept, from the fields of a circuit: its ids, the width of its numbers and its window are those of its link.
 use Rattle.std.specs.Prelude.{cond}
-use Rattle.lat_link.specs.Payloads.{is_wide}
+use Rattle.lat_circuit.specs.Payloads.{is_wide}
 use Rattle.lat_circuit.specs.declared.circuit.Circuit.TheInside.{Inside}
 use Rattle.lat_circuit.specs.Kept.{Kept, Holds, Knows}
 

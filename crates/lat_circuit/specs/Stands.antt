@@ -3,7 +3,7 @@ use Rattle.std.specs.Prelude.{◌≡◌, true, false, List, ◌++◌, map}
 use Rattle.lat_base.specs.declared.outbox.OutFrame.{OutFrame}
 use Rattle.lat_model.specs.numbers.Link.{fresh}
 use Rattle.lat_model.specs.ends.End.{End, Step}
-use Rattle.lat_link.specs.Links as link
+use Rattle.lat_circuit.specs.Links as link
 use Rattle.lat_session.specs.Stands as sessions
 use Rattle.lat_circuit.specs.declared.moments.Moments.{Moments}
 use Rattle.lat_circuit.specs.Kept.{Kept}

@@ -5,9 +5,9 @@ ghost use Rattle.std.specs.Borrow.{sem};
 ghost use Rattle.lat_base.specs.Lending.{LendsPayload};
 
 use crate::config::CircuitConfig;
+use crate::link::Link;
 use crate::moments::Moments;
 use lat_base::{Mark, OutBox, Payload};
-use lat_link::Link;
 use lat_session::Sessions;
 use std::marker::Model;
 

@@ -12,9 +12,9 @@ ghost use Rattle.lat_circuit.specs.Stands.{Stands, Simulates};
 
 use crate::agreed::{agree_sessions, agreed_by, span_of};
 use crate::circuit::Circuit;
+use crate::ids::Ids;
 use lat_base::{Heard, OutBox};
 use lat_frames::{Head, Message, StartInfo, WideHead};
-use lat_link::Ids;
 
 impl Circuit {
     /// Hears a message from the peer's address, at a moment that isn't before the latest: does what it asks for, and answers what

@@ -1,16 +1,25 @@
-//! One end of a circuit: its timers, its frames, and the sessions that it carries.
+//! One end of a circuit: its timers, its frames, and the sessions that it carries; and its numbered messages, as
+//! docs/PROTOCOL.md says under "Messages and numbers": their numbers in both directions, and the messages that the peer isn't
+//! known to have taken, each kept as the payload that was written once.
 #![tactic(auto)]
 
 mod agreed;
 mod calls;
 mod circuit;
 mod config;
+mod forming;
 mod getters;
+mod head;
 mod heard;
 mod heard_run;
+mod hearing;
+mod ids;
+pub mod laws;
+mod link;
 mod making;
 mod moments;
 mod named;
+mod patch;
 mod room;
 mod start;
 mod steps;

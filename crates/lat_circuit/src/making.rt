@@ -9,11 +9,11 @@ ghost use Rattle.lat_circuit.specs.Frames.{info_shown};
 use crate::agreed::{agree_sessions, agreed_by, span_of};
 use crate::circuit::Circuit;
 use crate::config::CircuitConfig;
+use crate::ids::Ids;
 use crate::moments::Moments;
 use crate::room::CircuitRoom;
 use lat_base::{Memory, OutBox};
 use lat_frames::StartInfo;
-use lat_link::Ids;
 use lat_seq::Span;
 use std::alloc::Global;
 

@@ -2,8 +2,8 @@
 
 ghost use Rattle.std.specs.Prelude.{◌≡◌, ◌≤◌, IfOk};
 
+use crate::link::Link;
 use lat_base::Memory;
-use lat_link::Link;
 use lat_session::Sessions;
 use std::alloc::Global;
 use std::marker::Model;

@@ -18,7 +18,7 @@ use Rattle.lat_machines.specs.values.Timing.{agreed_by}
 use Rattle.lat_machines.specs.cores.Acts.{put_at}
 use Rattle.lat_machines.specs.cores.Cores.{Core, Doing, acts, setup_of}
 use Rattle.lat_machines.specs.cores.Hearing.{Makes, Refuses}
-use Rattle.lat_link.specs.Payloads.{message_of}
+use Rattle.lat_circuit.specs.Payloads.{message_of}
 use Rattle.lat_payload.specs.Frames.{Emits, frame_view}
 use Rattle.lat_payload.proofs.Frames.{adds_one}
 use Rattle.lat_payload.proofs.Readable.{message_readable}

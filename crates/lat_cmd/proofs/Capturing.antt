@@ -8,7 +8,7 @@ use Rattle.lat_machines.specs.world.Machines.{Setups, Machines}
 use Rattle.lat_captures.specs.Entries.{Capture}
 use Rattle.lat_captures.specs.Audit.{run_count}
 use Rattle.lat_audit.specs.Printed as printing
-use Rattle.lat_tap.specs.CapturedText.{captured_text, AuditIsLegal}
+use Rattle.lat_audit.specs.CapturedText.{captured_text, AuditIsLegal}
 use Rattle.lat_replay.specs.Kept.{Kept, setups_of}
 use Rattle.lat_replay.specs.Played.{State, StandsAt}
 use Rattle.lat_cmd.specs.declared.command.Command.TheVariants as commands

@@ -3,8 +3,8 @@ use Rattle.std.proofs.Common.{◌≡◌, ◌≢◌, inl, inr, ℕ, ◌<◌, ◌�
 use Rattle.std.specs.Prelude.{IfOk, string_bytes}
 use Rattle.lat_machines.specs.world.Machines.{Setups}
 use Rattle.lat_machines.specs.world.Reports.{report}
-use Rattle.lat_rounds.specs.Lossless.{Lossless}
-use Rattle.lat_rounds.specs.Settles.{Enough, Settled}
+use Rattle.lat_laws.specs.rounds.Lossless.{Lossless}
+use Rattle.lat_laws.specs.rounds.Settles.{Enough, Settled}
 use Rattle.lat_settle.specs.Rounds as rounds
 use Rattle.lat_settle.specs.Laws.{BeginsAt, IsFullOrMemory}
 use Rattle.lat_settle.specs.Texts.{rounds_text, Prints}

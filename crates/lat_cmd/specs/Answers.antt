@@ -5,10 +5,10 @@ use Rattle.lat_machines.specs.world.Reports.{report}
 use Rattle.lat_show.specs.ShowOf.{show_of}
 use Rattle.lat_choose.specs.ChooseOf.{choose_of}
 use Rattle.lat_audit.specs.AuditOf.{audit_of}
-use Rattle.lat_tap.specs.CapturedText.{captured_text}
+use Rattle.lat_audit.specs.CapturedText.{captured_text}
 use Rattle.lat_settle.specs.Rounds as rounds
 use Rattle.lat_settle.specs.Texts as texts
-use Rattle.lat_growth.specs.Grown as gen
+use Rattle.lat_gen.specs.Grown as gen
 use Rattle.lat_replay.specs.Kept.{Kept, setups_of}
 use Rattle.lat_replay.specs.Setups.{setups_shown}
 use Rattle.lat_replay.specs.Played.{State, open_state, Played, Through, Refused, played, StandsAt}

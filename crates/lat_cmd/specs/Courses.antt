@@ -1,7 +1,7 @@
 -- Where a schedule leads.
 use Rattle.std.specs.Prelude.{◌≡◌, ℕ, ◌<◌, ◌≤◌, ◌^◌, None}
 use Rattle.lat_machines.specs.world.Machines.{Setups}
-use Rattle.lat_rounds.specs.Lossless.{Lossless}
+use Rattle.lat_laws.specs.rounds.Lossless.{Lossless}
 use Rattle.lat_settle.specs.Laws.{BeginsAt}
 use Rattle.lat_settle.specs.Rounds.{rounds_moment}
 use Rattle.lat_replay.specs.Kept.{setups_of}

@@ -6,8 +6,8 @@ use Rattle.lat_machines.specs.world.Reports.{report}
 use Rattle.lat_machines.specs.world.Safe.{Safe}
 use Rattle.lat_captures.specs.Audit.{IsLegal}
 use Rattle.lat_audit.specs.AuditOf.{verdict_text}
-use Rattle.lat_rounds.specs.Lossless.{Lossless}
-use Rattle.lat_rounds.specs.Settles.{Enough, Settled}
+use Rattle.lat_laws.specs.rounds.Lossless.{Lossless}
+use Rattle.lat_laws.specs.rounds.Settles.{Enough, Settled}
 use Rattle.lat_replay.specs.Kept.{Kept, setups_of}
 use Rattle.lat_replay.specs.Stands.{Stands}
 use Rattle.lat_replay.specs.Promises.{Promises}

@@ -1,7 +1,7 @@
 //! What `capture` comes to.
 
 ghost use Rattle.std.specs.Prelude.{IfOk};
-ghost use Rattle.lat_tap.specs.CapturedText.{AuditIsLegal};
+ghost use Rattle.lat_audit.specs.CapturedText.{AuditIsLegal};
 ghost use Rattle.lat_wire.specs.Rates.{RatesWhatIsLeft};
 ghost use Rattle.lat_replay.specs.Kept.{setups_of};
 ghost use Rattle.lat_replay.specs.Played.{State, StandsAt};
@@ -27,7 +27,7 @@ fn captured<H: RatingRule>(
     ensures legal { IfOk result (λ o.
         (t : State) → StandsAt world t → AuditIsLegal (setups_of world) t.machines circuit) }
 {
-    let text = lat_tap::captured(alloc, world.wire(), circuit)?;
+    let text = lat_audit::captured(alloc, world.wire(), circuit)?;
     Ok(Outcome::done(text, world))
 }
 

@@ -7,7 +7,7 @@ ghost use Rattle.lat_cmd.specs.Outcomes.{IsOutcome};
 
 use crate::outcome::Outcome;
 use lat_base::Memory;
-use lat_growth::{benched, generated};
+use lat_gen::{benched, generated};
 use lat_node::RatingRule;
 use std::alloc::Global;
 

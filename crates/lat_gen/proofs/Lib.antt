@@ -1,2 +1,4 @@
+pub mod Playing
+pub mod Growing
 pub mod Bytes
 pub mod Telling

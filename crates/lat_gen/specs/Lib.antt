@@ -1,3 +1,5 @@
+pub mod Grown
+pub mod Growths
 pub mod Draws
 pub mod Turns
 pub mod Front

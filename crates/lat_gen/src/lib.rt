@@ -1,10 +1,12 @@
-//! Generated schedules: the draws, the event of each turn, and what both cores are made of. `docs/FORMATS.md`, "Generated
-//! schedules", has the draws and the turns.
+//! Generated schedules: the draws, the event of each turn, and what both cores are made of; the text as it grows beside the
+//! world of its events, and what it comes to in one line. `docs/FORMATS.md`, "Generated schedules", has the draws, the turns
+//! and the line.
 #![tactic(auto)]
 
 mod front;
 mod generator;
+mod growth;
+mod texts;
 mod turn;
 
-pub use front::{END, FRONT, setup};
-pub use generator::Generator;
+pub use texts::{benched, generated};

@@ -10,9 +10,9 @@ ghost use Rattle.lat_history.specs.Seats.{all_seats};
 
 use crate::fault::FullAt;
 use crate::past::Past;
+use crate::seen::Seen;
 use crate::shares::{Blanks, Shares, opened};
 use lat_base::{Core, Memory, OutBox};
-use lat_mind::Seen;
 use lat_outside::Tx;
 use std::alloc::Global;
 use std::marker::Model;

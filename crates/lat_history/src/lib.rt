@@ -10,6 +10,7 @@ mod fault;
 mod gather;
 pub mod laws;
 mod past;
+mod seen;
 mod share;
 mod shares;
 
@@ -17,5 +18,6 @@ pub use audit::{past_bytes, past_events};
 pub use cell::{BYTES, Cell, MOST};
 pub use fault::{CellFault, FullAt, Receipt, SeatFault};
 pub use past::{Past, put, seat};
+pub use seen::Seen;
 pub use share::LineShare;
 pub use shares::{Blanks, Shares};

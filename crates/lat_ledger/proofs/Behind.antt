@@ -2,7 +2,7 @@
 use Rattle.std.proofs.Common.{◌≡◌, ℕ, ◌+◌, ◌∙◌, refl, arith, Bool, true, false, cond, ◌&&◌, ◌||◌, List, [], ◌∷◌, nat_eq}
 use Rattle.lat_machines.specs.values.Frames.{OutFrame}
 use Rattle.lat_machines.specs.world.Tally.{new_messages, new_of, is_run, sends_run}
-use Rattle.lat_posts.specs.declared.tallies.Tally.{Tally}
+use Rattle.lat_ledger.specs.declared.tallies.Tally.{Tally}
 use Rattle.lat_ledger.specs.Books.{Counts, behind, behind_all, Tells}
 
 pub behind_formed : (fs : List OutFrame) (n : Counts) (x : ℕ) → (behind_all fs n).formed x ≡ n.formed x + new_of x fs

@@ -8,11 +8,11 @@ use Rattle.lat_machines.specs.values.Frames.{FrameMark, OfRun, Plain, OutFrame}
 use Rattle.lat_machines.specs.world.Machines.{Setups, Posted, post_all}
 use Rattle.lat_machines.specs.world.Tally.{new_messages, is_run, Tallied, TalliedBy}
 use Rattle.lat_payload.specs.Frames.{frame_view, expected}
-use Rattle.lat_posts.specs.declared.post.Post.{Post}
-use Rattle.lat_posts.specs.declared.tallies.Tally.{Tally}
-use Rattle.lat_posts.specs.Ways.{Log}
-use Rattle.lat_posts.specs.Logs.{IsLog}
-use Rattle.lat_posts.specs.Tallies.{tally_at}
+use Rattle.lat_ledger.specs.declared.post.Post.{Post}
+use Rattle.lat_ledger.specs.declared.tallies.Tally.{Tally}
+use Rattle.lat_ledger.specs.Ways.{Log}
+use Rattle.lat_ledger.specs.Logs.{IsLog}
+use Rattle.lat_ledger.specs.Tallies.{tally_at}
 use Rattle.lat_ledger.specs.Books.{Book, Counts, ArePosts, IsBook, IsPost, IsReadable, Tells, behind, behind_all, number_by, tallies_of, tally_of, tally_by, with_side}
 
 pub are_more : (ss : List Post) (ps : List Posted) (s : Post) (p : Posted) → ArePosts ss ps → IsPost s p → ArePosts (ss ++ s ∷ []) (ps ++ p ∷ [])

@@ -6,11 +6,11 @@ use Rattle.lat_machines.specs.world.Machines.{Setups, Posted, Machines, core_of}
 use Rattle.lat_machines.specs.world.Tally.{formed_in, taken_in, shown_in, new_messages, number_of, is_run}
 use Rattle.lat_payload.specs.Reads.{reading_of}
 use Rattle.lat_payload.specs.Frames.{frame_view, expected, payload_of}
-use Rattle.lat_posts.specs.declared.post.Post.{Post}
-use Rattle.lat_posts.specs.declared.tallies.Tally.{Tally}
-use Rattle.lat_posts.specs.Ways.{Log}
-use Rattle.lat_posts.specs.Logs.{IsLog}
-use Rattle.lat_posts.specs.Tallies.{tally_at}
+use Rattle.lat_ledger.specs.declared.post.Post.{Post}
+use Rattle.lat_ledger.specs.declared.tallies.Tally.{Tally}
+use Rattle.lat_ledger.specs.Ways.{Log}
+use Rattle.lat_ledger.specs.Logs.{IsLog}
+use Rattle.lat_ledger.specs.Tallies.{tally_at}
 
 -- the frames that were sent, and the tallies of both ends' circuits
 pub record Book : Type 0 where

@@ -7,14 +7,16 @@ ghost use Rattle.lat_machines.specs.world.Machines.{Setups, Posted, own_of, post
 ghost use Rattle.lat_machines.specs.world.Tally.{Tallied, TalliedBy};
 ghost use Rattle.lat_model.specs.Lists.{Each};
 ghost use Rattle.lat_payload.specs.Frames.{frame_view, expected, mark_of};
-ghost use Rattle.lat_posts.specs.Tallies.{nothing, tally_at};
-ghost use Rattle.lat_posts.specs.Ways.{CameAtMost};
+ghost use Rattle.lat_ledger.specs.Tallies.{nothing, tally_at};
+ghost use Rattle.lat_ledger.specs.Ways.{CameAtMost};
 ghost use Rattle.lat_ledger.specs.Books.{Counts, IsBook, IsPost, IsReadable, no_counts, with_side};
 ghost use Rattle.lat_ledger.specs.Books.{behind, behind_all, number_by, tallies_of, tally_by, took_one};
 
+use crate::post::Post;
+use crate::posts::Posts;
 use crate::stations::is_for;
+use crate::tallies::{Tallies, Tally};
 use lat_base::{Addr, Mark, Memory, OutFrame};
-use lat_posts::{Post, Posts, Tallies, Tally};
 use std::alloc::Global;
 use std::marker::Model;
 

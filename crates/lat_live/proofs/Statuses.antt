@@ -6,7 +6,7 @@ use Rattle.lat_history.specs.declared.fault.SeatFault.{SeatFault}
 use Rattle.lat_history.specs.CellView.{SeatView}
 use Rattle.lat_history.specs.Audits.{audit_of}
 use Rattle.lat_cell.specs.declared.seat.LineDone.{LineDone}
-use Rattle.lat_ending.specs.EndText.{Ended, status_of}
+use Rattle.lat_cell.specs.EndText.{Ended, status_of}
 use Rattle.lat_live.specs.Printed.{IsOwn}
 
 own_status : (audit : Option SeatFault) (full : Option FullAt) → IsOwn (status_of audit full)

@@ -6,7 +6,7 @@ use Rattle.lat_history.specs.declared.past.Past.{Past}
 use Rattle.lat_history.specs.declared.fault.FullAt.{FullAt}
 use Rattle.lat_history.specs.CellView.{CellView, SeatView}
 use Rattle.lat_cell.specs.declared.seat.LineDone.{LineDone}
-use Rattle.lat_ending.specs.EndText.{Ended}
+use Rattle.lat_cell.specs.EndText.{Ended}
 
 -- what a cell tells at its end: its history, and what it refused for want of room
 pub record Printed : Type 0 where

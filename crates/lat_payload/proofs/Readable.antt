@@ -16,7 +16,7 @@ use Rattle.lat_notices.specs.Texts.{notice_text, IsWritable}
 use Rattle.lat_notices.proofs.Exact as notices
 use Rattle.lat_machines.specs.values.Frames.{Whole, OfCircuit, OfNotice}
 use Rattle.lat_machines.specs.values.Messages as machines
-use Rattle.lat_link.specs.Payloads.{message_of}
+use Rattle.lat_circuit.specs.Payloads.{message_of}
 use Rattle.lat_circuit.specs.Frames.{message_shown}
 use Rattle.lat_value.specs.declared.value.Value.{Value}
 use Rattle.lat_value.specs.declared.value.Value.TheVariants as values

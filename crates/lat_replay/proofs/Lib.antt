@@ -1,3 +1,13 @@
+pub mod Granted
+pub mod Placed
+pub mod Rows
+pub mod Newest
+pub mod Texts
+pub mod Noted
+pub mod Counted
+pub mod Telling
+pub mod Reported
+pub mod Asked
 pub mod Stepping
 pub mod Promising
 pub mod Playable

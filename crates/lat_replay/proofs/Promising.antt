@@ -15,10 +15,10 @@ use Rattle.lat_machines.specs.world.Safe.{StreamsInOrder, SlotsCredited, Safe}
 use Rattle.lat_machines.proofs.frames.Refused.{server_no_layout, node_no_layout}
 use Rattle.lat_machines.proofs.runs.Own.{histories_of}
 use Rattle.lat_machines.proofs.runs.Safety.{every_safe, every_stream, every_credit}
-use Rattle.lat_promises.specs.Circuits.{RunningIsShared}
-use Rattle.lat_promises.specs.Rows.{RowsInOrder, RowsWithinCredit}
-use Rattle.lat_promises.proofs.Rows.{rows_in_order, rows_in_credit}
-use Rattle.lat_promises.proofs.Circuits.{running_shared, standing}
+use Rattle.lat_laws.specs.promises.Circuits.{RunningIsShared}
+use Rattle.lat_laws.specs.promises.Rows.{RowsInOrder, RowsWithinCredit}
+use Rattle.lat_laws.proofs.promises.Rows.{rows_in_order, rows_in_credit}
+use Rattle.lat_laws.proofs.promises.Circuits.{running_shared, standing}
 use Rattle.lat_replay.specs.Kept.{Kept, setups_of}
 use Rattle.lat_replay.specs.Promises.{OnlyNotes, NoLayoutChangesNothing, Promises}
 use Rattle.lat_replay.specs.Stands.{Stands}

@@ -9,11 +9,11 @@ use Rattle.lat_machines.specs.values.Events.{Event, is_heard}
 use Rattle.lat_machines.specs.values.Frames.{Reading}
 use Rattle.lat_machines.specs.world.Machines.{Setups, Posted, Machines, Move, Does, HearsFrame, HearsForeign, core_of, is_for_other, is_own, heard_as, happens, run}
 use Rattle.lat_machines.specs.world.Safe.{answer_by}
-use Rattle.lat_tales.specs.Books.{lines_at}
-use Rattle.lat_tales.specs.Items.{line_of, put_by, taken_by}
-use Rattle.lat_tales.specs.Rows.{RowsAfter, Keeps}
-use Rattle.lat_tales.specs.Keeping.{adds, rows_after, rows_at_frame, rows_at}
-use Rattle.lat_tales.proofs.rows.Runs.{next_keeps}
+use Rattle.lat_laws.specs.tales.Books.{lines_at}
+use Rattle.lat_laws.specs.tales.Items.{line_of, put_by, taken_by}
+use Rattle.lat_laws.specs.tales.Rows.{RowsAfter, Keeps}
+use Rattle.lat_laws.specs.tales.Keeping.{adds, rows_after, rows_at_frame, rows_at}
+use Rattle.lat_laws.proofs.tales.rows.Runs.{next_keeps}
 use Rattle.lat_lines.specs.Back.{answer_of}
 use Rattle.lat_lines.specs.Events.{event_shown}
 use Rattle.lat_roster.specs.Roster as rosters
@@ -24,8 +24,8 @@ use Rattle.lat_wire.specs.Rates.{rates}
 use Rattle.lat_wire.specs.Refusals.{RefusedAs, first_of, full, inject_refusal}
 use Rattle.lat_wire.specs.Stands as wire_stands
 use Rattle.lat_wire.specs.Told.{answered, answered_to, ShowsPost}
-use Rattle.lat_follow.specs.Moves.{IsReached, end_told, hearer, items_added}
-use Rattle.lat_follow.specs.Reserved.{FitsIn}
+use Rattle.lat_roster.specs.Moves.{IsReached, end_told, hearer, items_added}
+use Rattle.lat_roster.specs.Reserved.{FitsIn}
 use Rattle.lat_schedule.specs.declared.event.WorldEvent.{WorldEvent}
 use Rattle.lat_replay.specs.Moves.{move_of, refusal_of}
 use Rattle.lat_replay.specs.Kept.{Kept, setups_of, moment_of}

@@ -1,3 +1,9 @@
+pub mod Counts
+pub mod Standing
+pub mod Requests
+pub mod Places
+pub mod Rows
+pub mod Notes
 pub mod Kept
 pub mod Setups
 pub mod Stands

@@ -7,8 +7,8 @@ use Rattle.lat_machines.specs.server.Queue.{LegalQueue}
 use Rattle.lat_machines.specs.world.Machines.{Setups, Machines, tell}
 use Rattle.lat_machines.specs.world.Refusals.{server_moved, node_moved}
 use Rattle.lat_machines.specs.world.Safe.{StreamsInOrder, SlotsCredited, NoGrant, Safe}
-use Rattle.lat_promises.specs.Circuits.{RunningIsShared}
-use Rattle.lat_promises.specs.Rows.{RowsInOrder, RowsWithinCredit}
+use Rattle.lat_laws.specs.promises.Circuits.{RunningIsShared}
+use Rattle.lat_laws.specs.promises.Rows.{RowsInOrder, RowsWithinCredit}
 use Rattle.lat_replay.specs.Kept.{Kept, setups_of}
 use Rattle.lat_replay.specs.Stands.{Stands}
 

@@ -1,8 +1,8 @@
 -- Which worlds of the two machines a world stands for.
 use Rattle.std.specs.Prelude.{◌≡◌, ℕ, true, false}
 use Rattle.lat_machines.specs.world.Machines.{Machines}
-use Rattle.lat_tales.specs.Books.{lines_at}
-use Rattle.lat_tales.specs.Rows.{RowsAfter, Keeps}
+use Rattle.lat_laws.specs.tales.Books.{lines_at}
+use Rattle.lat_laws.specs.tales.Rows.{RowsAfter, Keeps}
 use Rattle.lat_roster.specs.Roster as rosters
 use Rattle.lat_wire.specs.Stands as wires
 use Rattle.lat_replay.specs.Kept.{Kept, setups_of}

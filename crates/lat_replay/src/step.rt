@@ -14,8 +14,8 @@ ghost use Rattle.lat_replay.specs.Stands.{Stands};
 
 use crate::world::World;
 use lat_base::{Addr, Event};
-use lat_follow::{add_items, follow, reserve_for, reserve_new};
 use lat_node::RatingRule;
+use lat_roster::{add_items, follow, reserve_for, reserve_new};
 use lat_schedule::WorldEvent;
 use lat_wire::EventFault;
 use std::alloc::Global;

@@ -3,9 +3,9 @@ use Rattle.std.proofs.Common.{◌≡◌, ℕ, suc, refl, ap₂, ap, ◌∙◌, c
 use Rattle.lat_model.specs.sessions.Slots.{Item}
 use Rattle.lat_machines.specs.cores.Cores.{Seat}
 use Rattle.lat_machines.specs.world.Machines.{Setups, Machines}
-use Rattle.lat_tales.specs.Mates.{last_named}
-use Rattle.lat_tales.specs.Rows.{Figures, RowAfter, RowsAfter, KeepsRow, Pairs, Keeps}
-use Rattle.lat_tales.specs.Keeping.{change, with_items, lines_of, adds, accepts}
+use Rattle.lat_laws.specs.tales.Mates.{last_named}
+use Rattle.lat_laws.specs.tales.Rows.{Figures, RowAfter, RowsAfter, KeepsRow, Pairs, Keeps}
+use Rattle.lat_laws.specs.tales.Keeping.{change, with_items, lines_of, adds, accepts}
 use Rattle.lat_roster.specs.Roster.{last_row}
 use Rattle.lat_roster.proofs.Rows.{last_changed}
 

@@ -8,12 +8,12 @@ use Rattle.lat_base.specs.declared.item.Item.TheVariants.{Byte}
 use Rattle.lat_model.specs.sessions.Slots as slots
 use Rattle.lat_roster.specs.Shown.{item_shown}
 use Rattle.lat_roster.specs.declared.row.Flow.{Flow}
-use Rattle.lat_tales.specs.Keeping.{with_items, adds, lines_of}
-use Rattle.lat_tales.specs.Rows as rows
-use Rattle.lat_tales.specs.Rows.{RowAfter}
+use Rattle.lat_laws.specs.tales.Keeping.{with_items, adds, lines_of}
+use Rattle.lat_laws.specs.tales.Rows as rows
+use Rattle.lat_laws.specs.tales.Rows.{RowAfter}
 use Rattle.lat_roster.specs.declared.figures.Figures.{Figures}
 use Rattle.lat_machines.specs.cores.Cores.{Seat}
-use Rattle.lat_tales.specs.Keeping.{change, no_rows, new_row, connects, accepts}
+use Rattle.lat_laws.specs.tales.Keeping.{change, no_rows, new_row, connects, accepts}
 use Rattle.lat_roster.specs.declared.row.Row.{Row}
 use Rattle.lat_roster.specs.Rows.{ShowsFigures, ShowsRow, IsSeat, HasReserved}
 use Rattle.lat_roster.specs.Roster.{Kept, ShowsRows, Shows, Holds, last_row}

@@ -1,3 +1,8 @@
+pub mod Moves
+pub mod Reserved
+pub mod Adding
+pub mod Present
+pub mod Following
 pub mod Shown
 pub mod Names
 pub mod Rows

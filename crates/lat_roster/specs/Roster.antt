@@ -1,7 +1,7 @@
 -- Which kept rows a roster shows.
 use Rattle.std.specs.Prelude.{◌≡◌, ℕ, suc, ◌<◌, ◌≤◌, ◌&&◌, Bool, cond, List, [], ◌∷◌, length, slice_index, slice_get, Some, nat_eq}
-use Rattle.lat_tales.specs.Rows as rows
-use Rattle.lat_tales.specs.Keeping.{change}
+use Rattle.lat_laws.specs.tales.Rows as rows
+use Rattle.lat_laws.specs.tales.Keeping.{change}
 use Rattle.lat_roster.specs.declared.row.Row.{Row}
 use Rattle.lat_roster.specs.Names.{Names, key_of, place_of}
 use Rattle.lat_roster.specs.Rows.{ShowsRow, HasReserved}

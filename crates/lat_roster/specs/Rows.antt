@@ -2,7 +2,7 @@
 use Rattle.std.specs.Prelude.{◌≡◌, ℕ, ◌+◌, ◌≤◌, Bool, true, false, map, option_map, vec_len, vec_capacity}
 use Rattle.lat_roster.specs.Shown.{item_shown, end_shown, saturated}
 use Rattle.lat_machines.specs.cores.Cores.{Seat}
-use Rattle.lat_tales.specs.Rows as rows
+use Rattle.lat_laws.specs.tales.Rows as rows
 use Rattle.lat_roster.specs.declared.figures.Figures.{Figures}
 use Rattle.lat_roster.specs.declared.row.Row.{Row}
 

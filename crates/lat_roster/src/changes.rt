@@ -2,8 +2,8 @@
 
 ghost use Rattle.std.specs.Prelude.{◌≡◌, ◌≢◌, ◌+◌, ◌-◌, ◌≤◌, [], ◌++◌, ℕ, List, length, map, OnOk};
 ghost use Rattle.lat_model.specs.sessions.Slots as slots;
-ghost use Rattle.lat_tales.specs.Rows as rows;
-ghost use Rattle.lat_tales.specs.Keeping.{change, with_items};
+ghost use Rattle.lat_laws.specs.tales.Rows as rows;
+ghost use Rattle.lat_laws.specs.tales.Keeping.{change, with_items};
 ghost use Rattle.lat_roster.specs.Rows.{ShowsFigures, HasReserved};
 ghost use Rattle.lat_roster.specs.Shown.{item_shown};
 ghost use Rattle.lat_roster.specs.Roster.{ShowsRows, Changes, ReservedAt};

@@ -3,9 +3,9 @@
 ghost use Rattle.std.specs.Prelude.{◌≡◌, ℕ, Bool, List};
 ghost use Rattle.lat_model.specs.sessions.Slots.{Item};
 ghost use Rattle.lat_machines.specs.world.Machines.{Setups, Machines};
-ghost use Rattle.lat_tales.specs.Mates.{last_named};
-ghost use Rattle.lat_tales.specs.Rows.{Figures, RowsAfter, Keeps};
-ghost use Rattle.lat_tales.specs.Keeping.{adds, accepts};
+ghost use Rattle.lat_laws.specs.tales.Mates.{last_named};
+ghost use Rattle.lat_laws.specs.tales.Rows.{Figures, RowsAfter, Keeps};
+ghost use Rattle.lat_laws.specs.tales.Keeping.{adds, accepts};
 ghost use Rattle.lat_roster.specs.Roster.{last_row};
 
 /// The last row with these ids is that of the server's last session with them (`last`), which is the one that a new session of

@@ -3,8 +3,8 @@
 ghost use Rattle.std.specs.Prelude.{◌≡◌, ◌≢◌, ◌+◌, ◌<◌, ◌≤◌, ℕ, List, [], map, length, slice_index, IfOk, OnOk};
 ghost use Rattle.lat_machines.specs.cores.Cores.{Seat};
 ghost use Rattle.lat_model.specs.sessions.Slots as slots;
-ghost use Rattle.lat_tales.specs.Rows as rows;
-ghost use Rattle.lat_tales.specs.Keeping.{no_rows, adds, connects, accepts};
+ghost use Rattle.lat_laws.specs.tales.Rows as rows;
+ghost use Rattle.lat_laws.specs.tales.Keeping.{no_rows, adds, connects, accepts};
 ghost use Rattle.lat_roster.specs.Names.{key_of, place_of};
 ghost use Rattle.lat_roster.specs.Shown.{item_shown};
 ghost use Rattle.lat_roster.specs.Rows.{ShowsFigures, IsSeat};

@@ -4,8 +4,8 @@ ghost use Rattle.std.specs.Prelude.{◌≡◌, ◌+◌, ◌≤◌, ◌++◌, [],
 ghost use Rattle.lat_model.specs.sessions.Slots as slots;
 ghost use Rattle.lat_base.specs.declared.item.Item.TheVariants.{Byte};
 ghost use Rattle.lat_machines.specs.cores.Cores.{Seat};
-ghost use Rattle.lat_tales.specs.Rows as rows;
-ghost use Rattle.lat_tales.specs.Keeping.{new_row, with_items};
+ghost use Rattle.lat_laws.specs.tales.Rows as rows;
+ghost use Rattle.lat_laws.specs.tales.Keeping.{new_row, with_items};
 ghost use Rattle.lat_roster.specs.Shown.{item_shown};
 ghost use Rattle.lat_roster.specs.Rows.{IsSeat, ShowsRow, HasReserved};
 

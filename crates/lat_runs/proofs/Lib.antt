@@ -1,3 +1,5 @@
+pub mod Answers
+pub mod Whole
 pub mod Servers
 pub mod Nodes
 pub mod Switches

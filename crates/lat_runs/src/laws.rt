@@ -1,5 +1,6 @@
-//! What holds of the histories of cells, as contracts of functions that take nothing.
+//! What holds of the histories of cells, and of a server and a node together, as contracts of functions that take nothing.
 
+ghost use Rattle.lat_runs.specs.Heard.{ServerHearsWhole, NodeHearsWhole};
 ghost use Rattle.lat_runs.specs.Laws.{ServersRun, NodesRun, TariffsRun, SwitchesRun};
 ghost use Rattle.lat_runs.specs.Laws.{ServerCellsRun, NodeCellsRun, TariffCellsRun, SwitchCellsRun};
 ghost use Rattle.lat_runs.specs.Laws.{ServerQueuesAreLegal, SwitchQueuesAreLegal, CellsAreAWorld};
@@ -52,4 +53,15 @@ pub fn queues_are_legal()
 /// cells.
 pub fn cells_are_a_world<H: RatingRule>()
     ensures { CellsAreAWorld H }
+{}
+
+/// Whatever a node sends at any event, by any rule of rating: no server answers the payload `Bad`, whoever hands it on, and
+/// whenever.
+pub fn server_hears_node<H: RatingRule>()
+    ensures { ServerHearsWhole H.may }
+{}
+
+/// The same of what a server sends, at any node.
+pub fn node_hears_server<H: RatingRule>()
+    ensures { NodeHearsWhole H }
 {}

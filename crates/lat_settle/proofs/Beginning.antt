@@ -12,8 +12,8 @@ use Rattle.lat_model.specs.Lists.{Each}
 use Rattle.lat_replay.specs.Moves.{move_of, moment_behind}
 use Rattle.lat_replay.specs.Played.{State, open_state, next, refusal}
 use Rattle.lat_replay.specs.Setups.{setups_shown}
-use Rattle.lat_rounds.specs.Settles.{Usual, ShortMove}
-use Rattle.lat_rounds.proofs.ready.Moments.{BothUntil, tell_until}
+use Rattle.lat_laws.specs.rounds.Settles.{Usual, ShortMove}
+use Rattle.lat_laws.proofs.rounds.ready.Moments.{BothUntil, tell_until}
 use Rattle.lat_payload.specs.Reads.{reading_of}
 use Rattle.lat_lines.specs.Events.{event_shown}
 use Rattle.lat_schedule.specs.Events.{IsEvent}

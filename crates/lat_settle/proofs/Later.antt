@@ -5,9 +5,9 @@ use Rattle.lat_machines.specs.values.Events.{Event}
 use Rattle.lat_machines.specs.server.Server.{server_step}
 use Rattle.lat_machines.specs.node.Node.{node_step}
 use Rattle.lat_machines.specs.world.Machines.{Setups, Posted, Machines, HearsFrame, post_all, tell, is_for_other, heard_as, counted, marked_delivered, comes, happens}
-use Rattle.lat_rounds.specs.Lossless.{is_in}
-use Rattle.lat_rounds.specs.Rounds.{undelivered, undelivered_from}
-use Rattle.lat_rounds.proofs.rounds.Nexts.{in_middle, NextOf, next_of}
+use Rattle.lat_laws.specs.rounds.Lossless.{is_in}
+use Rattle.lat_laws.specs.rounds.Rounds.{undelivered, undelivered_from}
+use Rattle.lat_laws.proofs.rounds.rounds.Nexts.{in_middle, NextOf, next_of}
 
 abbrev pub LowAt : Setups → ℕ → Machines → Type 0
 LowAt u n x = (i : ℕ) → undelivered u x ≡ Some i → n ≤ i

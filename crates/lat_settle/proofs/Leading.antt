@@ -6,7 +6,7 @@ use Rattle.lat_machines.specs.cores.Lines.{has_session}
 use Rattle.lat_machines.specs.world.Machines.{Setups, Machines, core_of, tell}
 use Rattle.lat_model.specs.Lists.{upwards}
 use Rattle.lat_replay.specs.Played.{State, next, Played, Through, Refused, played}
-use Rattle.lat_rounds.specs.Rounds.{undelivered, deliver_one, deliveries, time_both, take_lines, delivered_by, round, rounds, next_moment, Whole}
+use Rattle.lat_laws.specs.rounds.Rounds.{undelivered, deliver_one, deliveries, time_both, take_lines, delivered_by, round, rounds, next_moment, Whole}
 use Rattle.lat_schedule.specs.declared.event.WorldEvent.{WorldEvent}
 use Rattle.lat_schedule.specs.declared.event.WorldEvent.TheVariants.{Deliver}
 use Rattle.lat_wire.specs.declared.fault.EventFault.{EventFault}

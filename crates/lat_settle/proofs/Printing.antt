@@ -12,7 +12,7 @@ use Rattle.lat_report.specs.RefusedText.{status}
 use Rattle.lat_report.specs.ReportText.{report_text}
 use Rattle.lat_report.specs.declared.refused.Refused.{Refused as Line}
 use Rattle.lat_report.specs.declared.refused.Refused.TheVariants as lines
-use Rattle.lat_rounds.specs.Lossless.{Lossless, sent_from, came_first}
+use Rattle.lat_laws.specs.rounds.Lossless.{Lossless, sent_from, came_first}
 use Rattle.lat_wire.specs.declared.fault.EventFault.{EventFault}
 use Rattle.lat_wire.specs.declared.fault.EventFault.TheVariants.{FramesFull, Backward, OwnAddress, NoFrame, Old, Memory}
 use Rattle.lat_settle.specs.Rounds.{settled, StopsIn}

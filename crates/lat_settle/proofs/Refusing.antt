@@ -13,14 +13,14 @@ use Rattle.lat_machines.specs.world.Young.{head_of, YoungOf, IsYoung}
 use Rattle.lat_model.specs.Lists.{upwards}
 use Rattle.lat_replay.specs.Kept.{Kept}
 use Rattle.lat_replay.specs.Played.{State, next, refusal, Played, Through, Refused, unless, played_from, played}
-use Rattle.lat_rounds.proofs.rounds.Moves.{Reached, rounds_reach}
-use Rattle.lat_rounds.proofs.rounds.Nexts.{NextOf, next_of}
-use Rattle.lat_rounds.proofs.rounds.Youngs.{rounds_young}
-use Rattle.lat_rounds.proofs.ready.Moments.{BothUntil, round_until}
-use Rattle.lat_rounds.proofs.settle.All.{all_settle}
-use Rattle.lat_rounds.specs.Lossless.{Lossless}
-use Rattle.lat_rounds.specs.Rounds.{undelivered, deliver_one, time_both, round, rounds, next_moment, YoungNext, YoungDeliveries}
-use Rattle.lat_rounds.specs.Settles.{Enough, Settled}
+use Rattle.lat_laws.proofs.rounds.rounds.Moves.{Reached, rounds_reach}
+use Rattle.lat_laws.proofs.rounds.rounds.Nexts.{NextOf, next_of}
+use Rattle.lat_laws.proofs.rounds.rounds.Youngs.{rounds_young}
+use Rattle.lat_laws.proofs.rounds.ready.Moments.{BothUntil, round_until}
+use Rattle.lat_laws.proofs.rounds.settle.All.{all_settle}
+use Rattle.lat_laws.specs.rounds.Lossless.{Lossless}
+use Rattle.lat_laws.specs.rounds.Rounds.{undelivered, deliver_one, time_both, round, rounds, next_moment, YoungNext, YoungDeliveries}
+use Rattle.lat_laws.specs.rounds.Settles.{Enough, Settled}
 use Rattle.lat_schedule.specs.declared.event.WorldEvent.{WorldEvent}
 use Rattle.lat_schedule.specs.declared.event.WorldEvent.TheVariants.{Deliver}
 use Rattle.lat_wire.specs.declared.fault.EventFault.{EventFault}

@@ -3,7 +3,7 @@ use Rattle.std.proofs.Common.{◌≡◌, ℕ, zero, suc, ◌+◌, ◌*◌, ◌<�
 use Rattle.lat_machines.specs.world.Machines.{Setups}
 use Rattle.lat_replay.specs.Kept.{Kept}
 use Rattle.lat_replay.specs.Played.{State, refusal, Played, Through, Refused, played, StandsAt}
-use Rattle.lat_rounds.specs.Rounds.{next_moment}
+use Rattle.lat_laws.specs.rounds.Rounds.{next_moment}
 use Rattle.lat_wire.specs.declared.fault.EventFault.{EventFault}
 use Rattle.lat_wire.specs.declared.fault.EventFault.TheVariants.{FramesFull, Backward, OwnAddress, NoFrame, Old, Memory}
 use Rattle.lat_settle.specs.Events.{behind, round_events}

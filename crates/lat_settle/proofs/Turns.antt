@@ -6,7 +6,7 @@ use Rattle.lat_model.specs.Lists.{upwards}
 use Rattle.lat_replay.specs.Kept.{Kept}
 use Rattle.lat_replay.specs.Played.{State, next, StandsAt}
 use Rattle.lat_replay.specs.Stands.{Stands}
-use Rattle.lat_rounds.specs.Rounds.{undelivered, next_moment}
+use Rattle.lat_laws.specs.rounds.Rounds.{undelivered, next_moment}
 use Rattle.lat_schedule.specs.declared.event.WorldEvent.{WorldEvent}
 use Rattle.lat_schedule.specs.declared.event.WorldEvent.TheVariants.{Deliver}
 use Rattle.lat_wire.specs.declared.fault.EventFault.{EventFault}

@@ -5,7 +5,7 @@ use Rattle.lat_machines.specs.cores.Lines.{has_session}
 use Rattle.lat_machines.specs.world.Machines.{Setups, core_of}
 use Rattle.lat_model.specs.Lists.{upwards}
 use Rattle.lat_replay.specs.Played.{State, next}
-use Rattle.lat_rounds.specs.Rounds.{undelivered, next_moment}
+use Rattle.lat_laws.specs.rounds.Rounds.{undelivered, next_moment}
 use Rattle.lat_schedule.specs.declared.event.WorldEvent.{WorldEvent}
 use Rattle.lat_schedule.specs.declared.event.WorldEvent.TheVariants.{Local, Deliver}
 

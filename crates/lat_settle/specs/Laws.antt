@@ -6,9 +6,9 @@ use Rattle.lat_model.specs.Lists.{Each}
 use Rattle.lat_replay.specs.Kept.{Kept}
 use Rattle.lat_replay.specs.Played.{State, Through, open_state, played, StandsAt}
 use Rattle.lat_replay.specs.Setups.{setups_shown}
-use Rattle.lat_rounds.specs.Lossless.{Lossless}
-use Rattle.lat_rounds.specs.Rounds.{rounds, Whole}
-use Rattle.lat_rounds.specs.Settles.{Begins, Enough, Settled}
+use Rattle.lat_laws.specs.rounds.Lossless.{Lossless}
+use Rattle.lat_laws.specs.rounds.Rounds.{rounds, Whole}
+use Rattle.lat_laws.specs.rounds.Settles.{Begins, Enough, Settled}
 use Rattle.lat_schedule.specs.Events.{IsEvent}
 use Rattle.lat_schedule.specs.Setups.{IsSetup}
 use Rattle.lat_schedule.specs.declared.event.WorldEvent.{WorldEvent}

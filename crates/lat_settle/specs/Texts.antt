@@ -8,7 +8,7 @@ use Rattle.lat_replay.specs.Refusals.{refused_of}
 use Rattle.lat_report.specs.RefusedText.{status, why_text}
 use Rattle.lat_report.specs.ReportText.{report_text}
 use Rattle.lat_report.specs.declared.refused.Refused.{Refused as Line}
-use Rattle.lat_rounds.specs.Lossless.{sent_from, came_first}
+use Rattle.lat_laws.specs.rounds.Lossless.{sent_from, came_first}
 use Rattle.lat_text.specs.FlagText.{flag_text}
 use Rattle.lat_text.specs.Line.{line}
 use Rattle.lat_settle.specs.Rounds.{settled}

@@ -2,7 +2,7 @@
 
 ghost use Rattle.lat_settle.specs.Laws.{EnoughSettle, SchedulesBegin, SchedulesLeaveRoom, SettledIsLed};
 
-/// What so many rounds come to, where no event of theirs is refused, is behind whole rounds as `lat_rounds` has them, with the
+/// What so many rounds come to, where no event of theirs is refused, is behind whole rounds as `lat_laws` has them, with the
 /// ratings of the node's rule. So its laws speak of it.
 pub fn settled_is_led()
     ensures { SettledIsLed }

@@ -5,8 +5,8 @@ ghost use Rattle.lat_model.specs.Lists.{upwards};
 ghost use Rattle.lat_replay.specs.Kept.{moment_of, setups_of};
 ghost use Rattle.lat_replay.specs.Moves.{IsPlayable, moment_behind};
 ghost use Rattle.lat_replay.specs.Played.{State, StandsAt};
-ghost use Rattle.lat_rounds.specs.Rounds.{next_moment};
-ghost use Rattle.lat_tales.specs.Books.{lines_at};
+ghost use Rattle.lat_laws.specs.rounds.Rounds.{next_moment};
+ghost use Rattle.lat_laws.specs.tales.Books.{lines_at};
 ghost use Rattle.lat_settle.specs.Events.{deliver_events, round_events, take_events, time_events};
 ghost use Rattle.lat_settle.specs.Told.{TellsAs};
 

@@ -9,8 +9,8 @@ use Rattle.lat_base.specs.declared.item.Item.{Item}
 use Rattle.lat_model.specs.sessions.Slots as model
 use Rattle.lat_machines.specs.cores.Cores.{Seat}
 use Rattle.lat_machines.specs.cores.Lines.{session_of, seat_at}
-use Rattle.lat_rounds.specs.Seated.{IsSeat}
-use Rattle.lat_tales.specs.Items.{taken_of}
+use Rattle.lat_laws.specs.rounds.Seated.{IsSeat}
+use Rattle.lat_laws.specs.tales.Items.{taken_of}
 use Rattle.lat_stream.specs.Kept.{item_shown}
 use Rattle.lat_switch.specs.declared.config.SwitchConfig.{SwitchConfig}
 use Rattle.lat_switch.specs.Switch.{Switch, line_on}

@@ -1,4 +1,4 @@
-//! Each module tests one crate: `lat_mind`, `lat_base`, `lat_outside`, `lat_words`, `lat_udp` and `lat_cell` (without threads).
+//! Each module tests one crate: `lat_base`, `lat_outside`, `lat_words`, `lat_udp` and `lat_cell` (without threads).
 
 mod cell;
 mod moves;

@@ -15,8 +15,8 @@ use Rattle.lat_wire.specs.Kept.{Holds, Kept, setups_of}
 use Rattle.lat_wire.specs.Notes.{note_shown}
 use Rattle.lat_wire.specs.Stands.{Stands}
 use Rattle.lat_ledger.specs.Books.{Book, IsBook, IsBookOf, counts_at, no_counts, tallies_of}
-use Rattle.lat_posts.specs.declared.tallies.Tally.{Tally}
-use Rattle.lat_posts.specs.Tallies.{nothing, tally_at}
+use Rattle.lat_ledger.specs.declared.tallies.Tally.{Tally}
+use Rattle.lat_ledger.specs.Tallies.{nothing, tally_at}
 use Rattle.lat_wire.proofs.Refusing.{posts_length}
 use Rattle.lat_ledger.proofs.Behind.{tells_same}
 

@@ -11,13 +11,13 @@ use Rattle.lat_machines.specs.world.Tally.{formed_in, shown_in}
 use Rattle.lat_machines.specs.world.Young.{head_of}
 use Rattle.lat_payload.specs.Reads.{reading_of}
 use Rattle.lat_payload.specs.Frames.{FrameView}
-use Rattle.lat_posts.specs.declared.post.Post.{Post}
-use Rattle.lat_rounds.specs.Lossless.{sent_from}
-use Rattle.lat_posts.specs.declared.post.Sent.{Sent}
-use Rattle.lat_posts.specs.Logs.{IsAt, IsMarked}
-use Rattle.lat_posts.specs.Ways.{mark_of}
-use Rattle.lat_posts.specs.declared.tallies.Tally.{Tally}
-use Rattle.lat_posts.specs.Tallies.{tally_at}
+use Rattle.lat_ledger.specs.declared.post.Post.{Post}
+use Rattle.lat_laws.specs.rounds.Lossless.{sent_from}
+use Rattle.lat_ledger.specs.declared.post.Sent.{Sent}
+use Rattle.lat_ledger.specs.Logs.{IsAt, IsMarked}
+use Rattle.lat_ledger.specs.Ways.{mark_of}
+use Rattle.lat_ledger.specs.declared.tallies.Tally.{Tally}
+use Rattle.lat_ledger.specs.Tallies.{tally_at}
 use Rattle.lat_ledger.specs.declared.heading.Heading.{Heading}
 use Rattle.lat_ledger.specs.Headings.{heading, heading_of}
 use Rattle.lat_ledger.specs.Books.{ArePosts, Book, IsBookOf, IsPost, Numbered, counts_at, tallies_of, tally_of}

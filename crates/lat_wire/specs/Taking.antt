@@ -7,8 +7,8 @@ use Rattle.lat_base.specs.declared.event.Event.{Event}
 use Rattle.lat_base.specs.declared.event.Event.TheVariants as events
 use Rattle.lat_machines.specs.values.Frames.{Value, Whole}
 use Rattle.lat_payload.specs.Reads.{reading_of}
-use Rattle.lat_posts.specs.declared.tallies.Tally.{Tally}
-use Rattle.lat_posts.specs.Tallies.{tally_at}
+use Rattle.lat_ledger.specs.declared.tallies.Tally.{Tally}
+use Rattle.lat_ledger.specs.Tallies.{tally_at}
 use Rattle.lat_ledger.specs.Books.{took_one}
 use Rattle.lat_ledger.specs.declared.heading.Heading.{Heading}
 use Rattle.lat_ledger.specs.Headings.{heading_in, heading_of}

@@ -33,8 +33,8 @@ ghost use Rattle.lat_machines.specs.world.Machines.{Setups, Posted, Machines, co
 ghost use Rattle.lat_machines.specs.world.Tally.{RunTallies};
 ghost use Rattle.lat_machines.specs.world.Young.{head_of};
 ghost use Rattle.lat_lines.specs.Events.{event_shown};
-ghost use Rattle.lat_posts.specs.Tallies.{tally_at};
-ghost use Rattle.lat_posts.specs.Ways.{CameAtMost};
+ghost use Rattle.lat_ledger.specs.Tallies.{tally_at};
+ghost use Rattle.lat_ledger.specs.Ways.{CameAtMost};
 ghost use Rattle.lat_ledger.specs.Books.{IsBookOf, IsPost, tallies_of};
 ghost use Rattle.lat_wire.specs.Kept.{CameLess, setups_of};
 ghost use Rattle.lat_wire.specs.Notes.{NotesOn, note_shown};
@@ -48,10 +48,9 @@ use crate::fault::{EventFault, FRAMES};
 use crate::notes::Note;
 use crate::wire::Wire;
 use lat_base::{Addr, Answer, Bytes, Event, Heard, Memory};
-use lat_ledger::{Ledger, heading_of};
+use lat_ledger::{Ledger, Post, Sent, Tally, heading_of};
 use lat_node::RatingRule;
 use lat_payload::is_same;
-use lat_posts::{Post, Sent, Tally};
 use lat_report::Noted;
 use std::alloc::Global;
 

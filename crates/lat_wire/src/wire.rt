@@ -7,8 +7,8 @@ ghost use Rattle.lat_machines.specs.world.Machines.{Machines, core_of, open_mach
 ghost use Rattle.lat_server.specs.Config as servers;
 ghost use Rattle.lat_node.specs.Config as nodes;
 ghost use Rattle.lat_wire.specs.Kept.{setups_of};
-ghost use Rattle.lat_rounds.specs.Lossless.{Lossless};
-ghost use Rattle.lat_rounds.specs.Rounds.{undelivered};
+ghost use Rattle.lat_laws.specs.rounds.Lossless.{Lossless};
+ghost use Rattle.lat_laws.specs.rounds.Rounds.{undelivered};
 ghost use Rattle.lat_wire.specs.Notes.{note_shown, noted_info};
 ghost use Rattle.lat_wire.specs.Rates.{RatesWhatIsLeft};
 ghost use Rattle.lat_wire.specs.Stands.{Stands};

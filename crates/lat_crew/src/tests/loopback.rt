@@ -1,6 +1,6 @@
 //! A server and a node at once, over the loopback address.
 
-ghost use Rattle.std.specs.Prelude.{◌≡◌, ◌<◌};
+ghost use Rattle.std.specs.Prelude.{◌≡◌};
 ghost use Rattle.lat_history.specs.Ledgers.{AreBlanks};
 
 use super::daemon::daemon;
@@ -81,11 +81,11 @@ fn gives_hi(one: &mut TcpStream, two: &mut TcpStream) -> bool {
 fn passed<R: Net<Listener = TcpListener, Stream = TcpStream> + Clock>(
     rt: &R,
     line: u16,
-) -> io::Result<bool>
-    requires { line < 60000 }
-{
-    let (mut first, mut second) = (connected(rt, line + 2)?, connected(rt, line + 3)?);
-    let (mut one, mut two) = (connected(rt, line)?, connected(rt, line + 1)?);
+) -> io::Result<bool> {
+    let mut first = connected(rt, line.saturating_add(2))?;
+    let mut second = connected(rt, line.saturating_add(3))?;
+    let mut one = connected(rt, line)?;
+    let mut two = connected(rt, line.saturating_add(1))?;
     two.write_all(b"hi")?;
     let two_passed = gives_hi(&mut first, &mut second);
     one.write_all(b"hi")?;
@@ -183,7 +183,6 @@ fn session<
         + Send
         + Sync,
 >(rt: &R, alloc: Global, case: Case, blanks: Blanks, others: Blanks) -> Ended
-    requires lines { case.first < 60000 }
     requires blanks { AreBlanks blanks E.name E.parts B.name B.parts F.name F.parts }
     requires others { AreBlanks others P.name P.parts Q.name Q.parts S.name S.parts }
 {
@@ -193,9 +192,7 @@ fn session<
             requires { AreBlanks blanks E.name E.parts B.name B.parts F.name F.parts
                 × AreBlanks others P.name P.parts Q.name Q.parts S.name S.parts }
         { pair::<E, B, F, P, Q, S, R>(rt, alloc, case, blanks, others) },
-        move ||
-            requires { case.first < 60000 }
-        { passed(rt, case.first) },
+        move || passed(rt, case.first),
     );
     Ended {
         server,
@@ -206,11 +203,11 @@ fn session<
 
 #[test]
 fn two_lines_at_once(rt: HostRuntime) -> Result<(), Fail> {
-    for case in CASES {
+    for case in CASES.iter() {
         let ended = session::<Brand, Brand, Brand, Brand, Brand, Brand, HostRuntime>(
             &rt,
             rt.alloc(),
-            case,
+            *case,
             Blanks::new(),
             Blanks::new(),
         );

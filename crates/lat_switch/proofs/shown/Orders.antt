@@ -12,11 +12,11 @@ use Rattle.lat_model.specs.sessions.Slots.{Item}
 use Rattle.lat_machines.specs.cores.Cores.{Seat}
 use Rattle.lat_machines.specs.cores.Lines.{session_of, has_session, line_exists}
 use Rattle.lat_machines.specs.server.Server.{ServerConfig, Server, open_server}
-use Rattle.lat_rounds.specs.Seated.{IsSeat}
+use Rattle.lat_laws.specs.rounds.Seated.{IsSeat}
 use Rattle.lat_stream.specs.Kept.{item_shown}
-use Rattle.lat_tales.specs.Items.{taken_of}
-use Rattle.lat_tales.proofs.steps.Goes.{void_good}
-use Rattle.lat_tales.proofs.seats.Sound.{Sound}
+use Rattle.lat_laws.specs.tales.Items.{taken_of}
+use Rattle.lat_laws.proofs.tales.steps.Goes.{void_good}
+use Rattle.lat_laws.proofs.tales.seats.Sound.{Sound}
 use Rattle.lat_server.specs.Stands as server
 use Rattle.lat_switch.specs.declared.piece.Piece.{Piece}
 use Rattle.lat_switch.specs.declared.piece.Piece.TheVariants as pieces

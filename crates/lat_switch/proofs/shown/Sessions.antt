@@ -9,15 +9,15 @@ use Rattle.lat_machines.specs.values.Answers.{Answer}
 use Rattle.lat_machines.specs.cores.Cores.{Seat, Core}
 use Rattle.lat_machines.specs.cores.Lines.{session_of, seat_at}
 use Rattle.lat_machines.specs.server.Server.{ServerConfig, Server, server_step}
-use Rattle.lat_rounds.specs.Seated.{IsSeat}
+use Rattle.lat_laws.specs.rounds.Seated.{IsSeat}
 use Rattle.lat_switch.specs.Shown.{is_same}
-use Rattle.lat_tales.specs.Items.{taken_of, line_of, put_by, taken_by}
-use Rattle.lat_tales.proofs.steps.Goes.{Untouched}
-use Rattle.lat_tales.proofs.seats.Sound.{Apart, Distinct, Sound, IsNew, seat_behind, seat_before}
-use Rattle.lat_tales.proofs.seats.Follows.{Follows}
-use Rattle.lat_tales.proofs.seats.Calls.{seat_or_none, distinct_is}
-use Rattle.lat_tales.proofs.seats.Told.{Tale, server_tale}
-use Rattle.lat_tales.proofs.rows.By.{none_taken, distinct_apart, append_nil}
+use Rattle.lat_laws.specs.tales.Items.{taken_of, line_of, put_by, taken_by}
+use Rattle.lat_laws.proofs.tales.steps.Goes.{Untouched}
+use Rattle.lat_laws.proofs.tales.seats.Sound.{Apart, Distinct, Sound, IsNew, seat_behind, seat_before}
+use Rattle.lat_laws.proofs.tales.seats.Follows.{Follows}
+use Rattle.lat_laws.proofs.tales.seats.Calls.{seat_or_none, distinct_is}
+use Rattle.lat_laws.proofs.tales.seats.Told.{Tale, server_tale}
+use Rattle.lat_laws.proofs.tales.rows.By.{none_taken, distinct_apart, append_nil}
 
 same_self : (s : Seat) → is_same s s ≡ true
 same_self s = ap₂ (λ a b. a && b) (eq-eqb s.circuit s.circuit refl) (eq-eqb s.serial s.serial refl)

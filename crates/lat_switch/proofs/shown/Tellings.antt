@@ -11,10 +11,10 @@ use Rattle.lat_machines.specs.cores.Cores.{Seat}
 use Rattle.lat_machines.specs.cores.Lines.{seat_at}
 use Rattle.lat_machines.specs.server.Server.{ServerConfig, Server, server_step}
 use Rattle.lat_stream.specs.Kept.{item_shown}
-use Rattle.lat_tales.specs.Items.{line_of, put_by, taken_by, accepted_bytes, accepted_setting, taken_items}
-use Rattle.lat_tales.proofs.seats.Sound.{Sound}
-use Rattle.lat_tales.proofs.seats.Told.{server_tale}
-use Rattle.lat_tales.proofs.rows.By.{append_nil}
+use Rattle.lat_laws.specs.tales.Items.{line_of, put_by, taken_by, accepted_bytes, accepted_setting, taken_items}
+use Rattle.lat_laws.proofs.tales.seats.Sound.{Sound}
+use Rattle.lat_laws.proofs.tales.seats.Told.{server_tale}
+use Rattle.lat_laws.proofs.tales.rows.By.{append_nil}
 use Rattle.lat_server.specs.Stands.{Machine, stepped}
 use Rattle.lat_lines.specs.Back.{answer_of}
 use Rattle.lat_lines.specs.Events.{event_shown}

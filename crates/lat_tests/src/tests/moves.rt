@@ -1,7 +1,7 @@
 //! A table of moves: each of them once, and where a mind that was refused waits.
 
 use lat_base::SessionState;
-use lat_mind::{Fact, LineMind, Move, Seen};
+use lat_cell::{Fact, LineMind, Move, Seen};
 
 // What it does next where the cell isn't stopping.
 fn next(mind: &LineMind, state: SessionState, waiting: u16, moment: u64) -> Move {

@@ -1,7 +1,7 @@
 use Rattle.std.proofs.Common.{◌≡◌, ℕ, List, length, string_bytes, subst, rules, true, false}
 use Rattle.std.specs.Prelude.{None, Some, IfOk, ◌==◌}
 use Rattle.lat_text.specs.Lines.{Line, lines_of, no_line}
-use Rattle.lat_entries.specs.Lines.{title_of, entry_of}
+use Rattle.lat_audit.specs.Lines.{title_of, entry_of}
 use Rattle.lat_audit.proofs.Walks.{walks_start, walks_on, line_is_wrong, cut_is_wrong, end_is_right}
 use Rattle.lat_audit.proofs.input.audit.Goals as goal
 

@@ -1,4 +1,4 @@
-use Rattle.lat_tales.specs.Keeping.{with_items}
+use Rattle.lat_laws.specs.tales.Keeping.{with_items}
 use Rattle.lat_roster.proofs.Rows.{shows_changed}
 use Rattle.lat_roster.proofs.changes.add_at.Goals as goal
 

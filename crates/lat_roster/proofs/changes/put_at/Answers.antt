@@ -1,6 +1,6 @@
 use Rattle.std.specs.Prelude.{[], map}
 use Rattle.lat_model.specs.sessions.Slots as slots
-use Rattle.lat_tales.specs.Keeping.{with_items}
+use Rattle.lat_laws.specs.tales.Keeping.{with_items}
 use Rattle.lat_roster.proofs.Rows.{shows_changed}
 use Rattle.lat_roster.proofs.changes.put_at.Goals as goal
 

@@ -1,7 +1,7 @@
 use Rattle.std.proofs.Common.{◌+◌, ◌∷◌, [], ◌∙◌, ap, Err, false}
 use Rattle.std.proofs.lemmas.Result.{err_from_is_err_and}
 use Rattle.lat_replay.specs.Kept.{moment_of, setups_of}
-use Rattle.lat_rounds.specs.Rounds.{next_moment}
+use Rattle.lat_laws.specs.rounds.Rounds.{next_moment}
 use Rattle.lat_settle.specs.Events.{tell_time, time_events}
 use Rattle.lat_settle.proofs.Along.{stops_so}
 use Rattle.lat_settle.proofs.Turns.{now_is, setups_same, time_stops, time_tells}

@@ -1,5 +1,5 @@
 use Rattle.std.proofs.Common.{◌≡◌, ◌≤◌, ◌+◌}
-use Rattle.lat_mind.specs.Minds.{left_of}
+use Rattle.lat_cell.specs.Minds.{left_of}
 use Rattle.lat_cell.specs.Within.{Within}
 use Rattle.lat_cell.proofs.seat.Seat.work.Given as goal
 

@@ -1,5 +1,5 @@
 use Rattle.std.proofs.Common.{false, ap, ◌∙◌}
-use Rattle.lat_link.specs.Links.{fresh_kept}
+use Rattle.lat_circuit.specs.Links.{fresh_kept}
 use Rattle.lat_model.specs.ends.Starting.{no_sessions}
 use Rattle.lat_seq.specs.declared.span.Span.{Span}
 use Rattle.lat_circuit.specs.Frames.{info_shown}

@@ -1,8 +1,8 @@
 use Rattle.std.proofs.Common.{◌≡◌, ◌++◌, [], ◌∷◌, false, refl, sym, ap, subst, ◌∙◌}
 use Rattle.lat_base.specs.declared.outbox.Mark.TheVariants as marks
 use Rattle.lat_model.specs.numbers.Link.{formed_frame}
-use Rattle.lat_link.specs.Links.{IsMessage}
-use Rattle.lat_link.specs.Payloads.{frame_head, slots_as_text}
+use Rattle.lat_circuit.specs.Links.{IsMessage}
+use Rattle.lat_circuit.specs.Payloads.{frame_head, slots_as_text}
 use Rattle.lat_circuit.specs.Kept.{Kept}
 use Rattle.lat_circuit.specs.Stands.{Stands}
 use Rattle.lat_circuit.proofs.Messages.{run_formed}

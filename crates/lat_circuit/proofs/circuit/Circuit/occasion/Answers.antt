@@ -5,7 +5,7 @@ use Rattle.lat_base.specs.declared.outbox.OutFrame.{OutFrame}
 use Rattle.lat_base.specs.Lending.{frame_of}
 use Rattle.lat_model.specs.ends.End.{wire_of, acknowledge, occasion}
 use Rattle.lat_model.specs.sessions.Packing.{pack}
-use Rattle.lat_link.specs.Payloads.{head_size, slots_as_text}
+use Rattle.lat_circuit.specs.Payloads.{head_size, slots_as_text}
 use Rattle.lat_circuit.specs.Kept.{Facts, Kept}
 use Rattle.lat_circuit.specs.Shown.{shown}
 use Rattle.lat_circuit.specs.Stands.{Simulates}

@@ -1,7 +1,7 @@
 use Rattle.std.proofs.Common.{◌≡◌, ◌+◌, ◌-◌, ◌++◌, [], ◌∷◌, refl, sym, ap, subst, ◌∙◌, arith, length-append}
 use Rattle.lat_base.specs.declared.outbox.Mark.TheVariants as marks
 use Rattle.lat_base.specs.Lending.{frame_of}
-use Rattle.lat_link.specs.Links as link
+use Rattle.lat_circuit.specs.Links as link
 use Rattle.lat_circuit.specs.Kept.{Kept}
 use Rattle.lat_circuit.proofs.Packs.{RoundIs, round_step, round_whole}
 use Rattle.lat_circuit.proofs.circuit.Circuit.repeat_all.Goals as goal

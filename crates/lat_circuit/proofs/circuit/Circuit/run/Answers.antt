@@ -4,9 +4,9 @@ use Rattle.lat_machines.specs.values.Timing.{agreed_by}
 use Rattle.lat_model.specs.ends.End.{End}
 use Rattle.lat_model.specs.ends.Starting.{Agreed, reply_end}
 use Rattle.lat_seq.specs.declared.span.Span.{Span}
-use Rattle.lat_link.specs.declared.ids.Ids.{Ids}
-use Rattle.lat_link.specs.Links.{fresh_kept, Kept as LinkKept}
-use Rattle.lat_link.specs.Payloads.{head_size}
+use Rattle.lat_circuit.specs.declared.ids.Ids.{Ids}
+use Rattle.lat_circuit.specs.Links.{fresh_kept, Kept as LinkKept}
+use Rattle.lat_circuit.specs.Payloads.{head_size}
 use Rattle.lat_circuit.specs.Frames.{timing_shown, info_shown}
 use Rattle.lat_circuit.specs.Kept.{Kept}
 use Rattle.lat_circuit.specs.Shown.{shown}

@@ -3,7 +3,7 @@ use Rattle.lat_machines.specs.values.Addresses.{address, everyone}
 use Rattle.lat_machines.specs.world.Machines.{is_for_other}
 use Rattle.lat_machines.specs.world.Tally.{TalliedBy}
 use Rattle.lat_payload.specs.Frames.{FrameView, mark_of}
-use Rattle.lat_posts.specs.Tallies.{tally_at}
+use Rattle.lat_ledger.specs.Tallies.{tally_at}
 use Rattle.lat_ledger.specs.Books.{IsBook, IsPost, tallies_of, tally_of, tally_by}
 use Rattle.lat_ledger.proofs.Entered.{entered_all}
 use Rattle.lat_ledger.proofs.ledger.Ledger.enter.Goals as goal

@@ -1,5 +1,5 @@
 use Rattle.std.proofs.Common.{◌↔◌, IsTrue, subst}
-use Rattle.lat_rounds.specs.Lossless.{Lossless}
+use Rattle.lat_laws.specs.rounds.Lossless.{Lossless}
 use Rattle.lat_wire.specs.Stands as wires
 use Rattle.lat_replay.specs.Kept.{Kept, setups_of}
 use Rattle.lat_replay.proofs.world.World.lossless.Goals as goal

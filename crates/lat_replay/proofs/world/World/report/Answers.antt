@@ -4,7 +4,7 @@ use Rattle.lat_machines.specs.world.Machines.{Machines}
 use Rattle.lat_machines.specs.world.Reports.{report}
 use Rattle.lat_report.specs.ReportText.{report_text}
 use Rattle.lat_roster.specs.Roster as rosters
-use Rattle.lat_tales.specs.Rows.{RowsAfter, Keeps}
+use Rattle.lat_laws.specs.tales.Rows.{RowsAfter, Keeps}
 use Rattle.lat_wire.specs.Stands as wires
 use Rattle.lat_replay.specs.Kept.{Kept, setups_of}
 use Rattle.lat_replay.specs.Stands.{Stands}

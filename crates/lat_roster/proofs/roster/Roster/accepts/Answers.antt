@@ -1,7 +1,7 @@
 use Rattle.std.proofs.Common.{◌≡◌, ◌<◌, ap, ap₂, sym, ◌∙◌, subst, arith, length, slice_set}
 use Rattle.std.proofs.lemmas.List.{with_items_is}
 use Rattle.std.proofs.lemmas.Grind.{common_steps, elements}
-use Rattle.lat_tales.specs.Keeping.{change}
+use Rattle.lat_laws.specs.tales.Keeping.{change}
 use Rattle.lat_roster.specs.Roster.{Kept, ShowsRows}
 use Rattle.lat_roster.proofs.Rows.{accepted, read_at}
 use Rattle.lat_roster.proofs.roster.Roster.accepts.Goals as goal

@@ -1,7 +1,7 @@
 use Rattle.std.proofs.Common.{ap, sym, ◌∙◌, subst, arith}
 use Rattle.std.proofs.lemmas.List.{with_items_is}
 use Rattle.std.proofs.lemmas.Grind.{common_steps}
-use Rattle.lat_tales.specs.Keeping.{change, with_items}
+use Rattle.lat_laws.specs.tales.Keeping.{change, with_items}
 use Rattle.lat_roster.specs.Roster.{Kept, ShowsRows}
 use Rattle.lat_roster.proofs.Rows.{added}
 use Rattle.lat_roster.proofs.roster.Roster.adds.Goals as goal

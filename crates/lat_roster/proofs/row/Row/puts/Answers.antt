@@ -1,6 +1,6 @@
 use Rattle.std.proofs.Common.{refl, sym, subst, [], map}
 use Rattle.lat_model.specs.sessions.Slots as slots
-use Rattle.lat_tales.specs.Keeping.{with_items}
+use Rattle.lat_laws.specs.tales.Keeping.{with_items}
 use Rattle.lat_roster.specs.declared.row.Row.{Row}
 use Rattle.lat_roster.specs.Rows.{ShowsRow}
 use Rattle.lat_roster.proofs.Rows.{puts_up, puts_down}

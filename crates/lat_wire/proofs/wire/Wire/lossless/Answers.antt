@@ -1,5 +1,5 @@
 use Rattle.std.proofs.Common.{◌≡◌, ◌∙◌, ◌↔◌, IsTrue, ap, sym, subst}
-use Rattle.lat_rounds.specs.Lossless.{Lossless}
+use Rattle.lat_laws.specs.rounds.Lossless.{Lossless}
 use Rattle.lat_wire.specs.Kept.{setups_of}
 use Rattle.lat_wire.proofs.wire.Wire.lossless.Goals as goal
 

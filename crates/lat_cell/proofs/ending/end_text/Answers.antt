@@ -1,0 +1,12 @@
+use Rattle.std.proofs.Common.{arith}
+use Rattle.std.proofs.lemmas.Grind.{common_steps}
+use Rattle.lat_cell.proofs.ending.end_text.Goals as goal
+
+pub loop-done-init : goal.loop-done-init
+loop-done-init c = grind (arith, common_steps)
+
+pub loop-done-preserved : goal.loop-done-preserved
+loop-done-preserved c = grind (arith, common_steps)
+
+pub returns : goal.returns
+returns c = grind (arith, common_steps)

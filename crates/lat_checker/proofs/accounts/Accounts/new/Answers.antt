@@ -1,5 +1,0 @@
-use Rattle.lat_checker.proofs.Arrays.{empty_sums}
-use Rattle.lat_checker.proofs.accounts.Accounts.new.Goals as goal
-
-pub returns : goal.returns
-returns c = empty_sums

@@ -1,4 +1,0 @@
-pub mod Words
-pub mod Titles
-pub mod Payloads
-pub mod WrittenRead

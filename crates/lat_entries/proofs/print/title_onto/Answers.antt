@@ -1,5 +1,0 @@
-use Rattle.std.proofs.Common.{rules}
-use Rattle.lat_entries.proofs.print.title_onto.Goals as goal
-
-pub returns : goal.returns
-returns c = search rules

@@ -1,5 +1,0 @@
-use Rattle.lat_habits.proofs.Chosen.{chosen, none_willing, unwilling}
-use Rattle.lat_habits.proofs.laws.chosen_nodes_are_willing.Goals as goal
-
-pub returns : goal.returns
-returns c = record { chosen = chosen; none = none_willing; unwilling = unwilling }

@@ -1,5 +1,0 @@
-use Rattle.lat_habits.proofs.Fullness.{tells_fullness, full_not_chosen}
-use Rattle.lat_habits.proofs.laws.full_nodes_are_not_chosen.Goals as goal
-
-pub returns : goal.returns
-returns c = record { told = tells_fullness; full = full_not_chosen }

@@ -1,6 +1,0 @@
-pub mod Refused
-pub mod Chosen
-pub mod Fullness
-pub mod Living
-pub mod Accepted
-pub mod Kinds

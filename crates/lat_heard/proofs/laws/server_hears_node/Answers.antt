@@ -1,5 +1,0 @@
-use Rattle.lat_heard.proofs.Whole.{server_hears}
-use Rattle.lat_heard.proofs.laws.server_hears_node.Goals as goal
-
-pub returns : goal.returns
-returns g c = server_hears _

@@ -1,4 +1,0 @@
-//! What one core sends, the other hears whole: laws over both cores and the bytes between them.
-#![tactic(auto)]
-
-pub mod laws;

@@ -1,0 +1,4 @@
+pub mod rounds
+pub mod tales
+pub mod promises
+pub mod habits

@@ -1,0 +1,3 @@
+-- What both ends are promised in every run.
+pub mod Circuits
+pub mod Rows

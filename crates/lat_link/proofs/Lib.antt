@@ -1,4 +1,0 @@
-mod Numbers
-mod Texts
-mod Runs
-mod Steps

@@ -1,4 +1,0 @@
-pub mod Lossless
-pub mod Tallies
-pub mod Ways
-pub mod Logs

@@ -1,5 +1,0 @@
-pub mod Sessions
-pub mod Circuits
-pub mod Rows
-pub mod Mates
-pub mod Examples

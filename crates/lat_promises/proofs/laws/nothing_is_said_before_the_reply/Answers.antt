@@ -1,5 +1,0 @@
-use Rattle.lat_promises.proofs.Circuits.{standing}
-use Rattle.lat_promises.proofs.laws.nothing_is_said_before_the_reply.Goals as goal
-
-pub returns : goal.returns
-returns c = λ u moves f. (standing u f moves).before

@@ -1,5 +1,0 @@
-use Rattle.lat_promises.proofs.Rows.{rows_in_order}
-use Rattle.lat_promises.proofs.laws.rows_are_in_order.Goals as goal
-
-pub returns : goal.returns
-returns c = rows_in_order

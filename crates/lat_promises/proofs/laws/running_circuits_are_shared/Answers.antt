@@ -1,5 +1,0 @@
-use Rattle.lat_promises.proofs.Circuits.{running_shared, standing}
-use Rattle.lat_promises.proofs.laws.running_circuits_are_shared.Goals as goal
-
-pub returns : goal.returns
-returns c = λ u moves f. running_shared u _ (standing u f moves)

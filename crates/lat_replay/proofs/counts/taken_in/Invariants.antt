@@ -1,0 +1,8 @@
+use Rattle.std.proofs.Common.{◌≡◌, take}
+use Rattle.std.specs.List.{sum_by}
+use Rattle.lat_roster.specs.Shown.{saturated}
+use Rattle.lat_replay.specs.Counts.{taken_in_row}
+use Rattle.lat_replay.proofs.counts.taken_in.Given as goal
+
+abbrev pub invariant-loop-row : goal.invariant-loop-row
+invariant-loop-row l = l.sum ≡ saturated (sum_by taken_in_row (take l.row-index l.rows))

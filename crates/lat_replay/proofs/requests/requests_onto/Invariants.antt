@@ -1,0 +1,10 @@
+use Rattle.std.proofs.Common.{◌≡◌, ◌++◌, string_bytes, take}
+use Rattle.std.specs.List.{flat_map}
+use Rattle.lat_machines.specs.server.Server.{Server}
+use Rattle.lat_server.specs.Stands.{Stands}
+use Rattle.lat_report.specs.ReportText.{request_text}
+use Rattle.lat_replay.specs.Requests.{request_rows}
+use Rattle.lat_replay.proofs.requests.requests_onto.Given as goal
+
+abbrev pub invariant-loop-place : goal.invariant-loop-place
+invariant-loop-place l = (s : Server) → Stands l.server s → string_bytes l.out ≡ string_bytes l.initial.out ++ flat_map request_text (take l.place (request_rows s.queue))

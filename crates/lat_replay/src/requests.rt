@@ -1,0 +1,33 @@
+//! The lines of the requests.
+
+ghost use Rattle.std.specs.Prelude.{◌≡◌, ◌++◌, OnOk, string_bytes};
+ghost use Rattle.std.specs.List.{flat_map};
+ghost use Rattle.lat_machines.specs.server.Server.{Server};
+ghost use Rattle.lat_server.specs.Stands.{Stands};
+ghost use Rattle.lat_report.specs.ReportText.{request_text};
+ghost use Rattle.lat_replay.specs.Requests.{request_rows};
+
+use lat_base::Memory;
+use lat_report::request_onto;
+use lat_server::ServerCore;
+use std::alloc::Global;
+
+/// Appends what became of each request, in the order of their first commands.
+pub(crate) fn requests_onto(
+    alloc: Global,
+    server: &ServerCore,
+    out: &mut String,
+) -> Result<(), Memory>
+    ensures { OnOk result ((s : Server) →
+        Stands server.now s →
+        string_bytes out.new
+        ≡ string_bytes out.old ++ flat_map request_text (request_rows s.queue)) }
+{
+    for place in 0..usize::MAX {
+        match server.record_at(place) {
+            Some(request) => request_onto(alloc, out, &request)?,
+            None => return Ok(()),
+        }
+    }
+    Err(Memory)
+}

@@ -1,8 +1,0 @@
-use Rattle.std.proofs.Common.{◌≡◌, take}
-use Rattle.std.specs.List.{sum_by}
-use Rattle.lat_roster.specs.Shown.{saturated}
-use Rattle.lat_summary.specs.Counts.{taken_in_row}
-use Rattle.lat_summary.proofs.counts.taken_in.Given as goal
-
-abbrev pub invariant-loop-row : goal.invariant-loop-row
-invariant-loop-row l = l.sum ≡ saturated (sum_by taken_in_row (take l.row-index l.rows))

@@ -1,9 +1,0 @@
-use Rattle.std.proofs.Common.{◌≡◌, ◌+◌, vec_len}
-use Rattle.lat_summary.specs.Places.{SameKeys}
-use Rattle.lat_summary.proofs.grants.grow.Given as goal
-
-abbrev pub invariant-loop : goal.invariant-loop
-invariant-loop l = record {
-  same : SameKeys l.initial.places.items l.places.items;
-  len : vec_len l.places ≡ vec_len l.initial.places + l.counter;
-}

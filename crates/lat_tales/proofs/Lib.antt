@@ -1,4 +1,0 @@
-pub mod steps
-pub mod seats
-pub mod mates
-pub mod rows

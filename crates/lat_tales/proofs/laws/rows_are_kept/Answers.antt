@@ -1,5 +1,0 @@
-use Rattle.lat_tales.proofs.rows.Runs.{run_keeps, next_keeps}
-use Rattle.lat_tales.proofs.laws.rows_are_kept.Goals as goal
-
-pub returns : goal.returns
-returns c = record { all = run_keeps; next = next_keeps }

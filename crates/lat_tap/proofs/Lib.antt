@@ -1,4 +1,0 @@
-pub mod Posts
-pub mod Lines
-pub mod Texts
-pub mod Legal
