@@ -1,6 +1,6 @@
 //! The call that does all that a daemon does once its words are read and its core is made.
 
-ghost use Rattle.std.specs.Prelude.{◌≡◌, ◌≢◌, ◌⊎◌, ◌+◌, ◌≤◌, length, IfOk, None, Err};
+ghost use Rattle.std.specs.Prelude.{◌≡◌, ◌≢◌, ◌⊎◌, ◌+◌, ◌≤◌, length, IfOk, None, Err, vec_len};
 ghost use Rattle.lat_history.specs.Ledgers.{AreBlanks};
 ghost use Rattle.lat_outside.specs.Causes.{Rose};
 ghost use Rattle.lat_live.specs.Printed.{printed, IsOwn, IsPrinted, RoseIn};
@@ -56,6 +56,58 @@ struct Start<C: Core, T: Tx, X: Rx, L: LineEnd, E: Ledger, B: Ledger, F: Ledger>
     given: Given<L, E, B, F>,
 }
 
+// The carrier's two halves, and the lines by rising number.
+#[derive(Drop)]
+struct Outside<T: Tx, X: Rx, L: LineEnd> {
+    tx: T,
+    rx: X,
+    lines: Vec<L>,
+}
+
+// Opens the carrier and the lines.
+fn open_outside<O: Opener>(
+    alloc: Global,
+    plan: &Plan,
+    opener: &mut O,
+) -> Result<Outside<O::T, O::R, O::L>, StartFault>
+    requires { plan.now.line_port + plan.now.lines ≤ 65536 }
+    ensures count { IfOk result (λ o. vec_len o.lines ≡ plan.now.lines) }
+    ensures fault { result ≡ Err StartFault.Failed →
+        Rose (O.faults opener.old) (O.faults opener.new) }
+{
+    let (tx, rx) = opener.open_carrier(plan.own, plan.port, plan.peers)?;
+    let lines = open_lines(alloc, opener, plan.line_port, plan.lines)?;
+    Ok(Outside { tx, rx, lines })
+}
+
+// Takes all memory for a core and what was opened for it.
+fn started<C: Core, T: Tx, X: Rx, L: LineEnd, E: Ledger, B: Ledger, F: Ledger>(
+    alloc: Global,
+    plan: &Plan,
+    core: C,
+    blanks: Blanks,
+    outside: Outside<T, X, L>,
+) -> Result<Start<C, T, X, L, E, B, F>, Memory>
+    requires made { C.made (C.opening core) }
+    requires stands { C.stands core (C.opening core) }
+    requires valid { C.valid core }
+    requires lines { (1 ≤ plan.now.lines) × (plan.now.lines ≤ 64) }
+    requires count { vec_len outside.lines ≡ plan.now.lines }
+    requires blanks { AreBlanks blanks E.name E.parts B.name B.parts F.name F.parts }
+    ensures { IfOk result (λ s. AreFresh plan.now.lines s.seated s.given) }
+{
+    let Outside { tx, rx, lines } = outside;
+    let given = Given::room(alloc, lines.len())?;
+    let (cell, shares) = Cell::make(alloc, core, tx, plan.lines, blanks)?;
+    let seated = take_seats(alloc, shares, lines, &plan.service)?;
+    Ok(Start {
+        cell,
+        rx,
+        seated,
+        given,
+    })
+}
+
 // Opens all, and takes all memory, where it was found for the core.
 fn opened<O: Opener, C: Core, E: Ledger, B: Ledger, F: Ledger>(
     alloc: Global,
@@ -75,17 +127,8 @@ fn opened<O: Opener, C: Core, E: Ledger, B: Ledger, F: Ledger>(
         Rose (O.faults opener.old) (O.faults opener.new) }
 {
     let core = core?;
-    let (tx, rx) = opener.open_carrier(plan.own, plan.port, plan.peers)?;
-    let lines = open_lines(alloc, opener, plan.line_port, plan.lines)?;
-    let given = Given::room(alloc, lines.len())?;
-    let (cell, shares) = Cell::make(alloc, core, tx, plan.lines, blanks)?;
-    let seated = take_seats(alloc, shares, lines, &plan.service)?;
-    Ok(Start {
-        cell,
-        rx,
-        seated,
-        given,
-    })
+    let outside = open_outside(alloc, plan, opener)?;
+    Ok(started(alloc, plan, core, blanks, outside)?)
 }
 
 // Nothing ran.
