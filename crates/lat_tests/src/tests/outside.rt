@@ -50,8 +50,8 @@ fn carrier(rt: HostRuntime) {
         from: EVERYONE,
         len: 1,
     };
-    for answer in [Err(Failed), Ok(got), Err(Failed), Ok(Got::Quiet)] {
-        assert!(rt; rx.recv(&mut buf) == answer);
+    for answer in [Err(Failed), Ok(got), Err(Failed), Ok(Got::Quiet)].iter() {
+        assert!(rt; rx.recv(&mut buf) == *answer);
     }
     assert_eq!(rt; buf.first(), Some(&b'x'));
 }
@@ -62,8 +62,8 @@ fn line(rt: HostRuntime) -> Result<(), Fail> {
     let mut opener = MemOpener::new(rt.alloc(), &[], slice::from_ref(&bytes), 2, &[2]);
     let mut line = opener.open_line(1)?;
     let mut buf = [0; 3];
-    for answer in [LineGot::Bytes(2), LineGot::Bytes(1), LineGot::End] {
-        assert_eq!(rt; line.read(&mut buf), Ok(answer));
+    for answer in [LineGot::Bytes(2), LineGot::Bytes(1), LineGot::End].iter() {
+        assert_eq!(rt; line.read(&mut buf), Ok(*answer));
     }
     assert_eq!(rt; opener.open_line(2).err(), Some(Failed));
     let mut empty = opener.open_line(3)?;
@@ -94,8 +94,8 @@ fn standard_ends(rt: HostRuntime) -> Result<(), Fail> {
         broke: false,
     });
     let mut buf = [9; 2];
-    for answer in [Ok(1), Err(Failed), Ok(1)] {
-        assert_eq!(rt; flaky.read(&mut buf), answer);
+    for answer in [Ok(1), Err(Failed), Ok(1)].iter() {
+        assert_eq!(rt; flaky.read(&mut buf), *answer);
     }
     assert_eq!(rt; buf, [1, 9]);
     let mut written = Vec::new(rt.alloc());
