@@ -3,7 +3,7 @@ use Rattle.std.proofs.Common.{◌≡◌, ℕ, inl, inr, Bool, true, false, ◌&&
 use Rattle.std.specs.Prelude.{is_some, nat_eq, nat_lt, if◌then◌else◌}
 use Rattle.lat_machines.specs.world.Machines.{Setups}
 use Rattle.lat_show.specs.ShowOf as shows
-use Rattle.lat_choose.specs.ChooseOf as chooses
+use Rattle.lat_show.specs.choice.ChooseOf as chooses
 use Rattle.lat_audit.specs.AuditOf as audits
 use Rattle.lat_audit.specs.CaptureText.{Capture as CaptureText, capture_of}
 use Rattle.lat_settle.specs.Rounds as rounds
@@ -15,7 +15,7 @@ use Rattle.lat_wire.specs.declared.fault.EventFault.TheVariants as faults
 use Rattle.lat_replay.specs.Kept.{Kept}
 use Rattle.lat_replay.specs.Setups.{setups_shown}
 use Rattle.lat_replay.specs.Played.{State, Played, Through, Refused, open_state, played}
-use Rattle.lat_gen.specs.Grown as gen
+use Rattle.lat_cmd.specs.generate.Grown as gen
 use Rattle.lat_cmd.specs.declared.command.Command.{Command}
 use Rattle.lat_cmd.specs.declared.command.Command.TheVariants.{Show, Choose, Replay, Capture, Settle, Audit, Gen, Bench}
 use Rattle.lat_cmd.specs.Answers.{Ended, Answer, Tale, plain, with_world, told_to, answered_of, told_at, answered_behind, reported, captured, settled}

@@ -4,8 +4,8 @@ use Rattle.std.specs.Prelude.{IfOk, string_bytes}
 use Rattle.lat_base.specs.declared.memory.Memory.{Memory}
 use Rattle.lat_machines.specs.world.Machines.{Setups, Machines}
 use Rattle.lat_machines.specs.world.Reports.{report}
-use Rattle.lat_report.specs.ReportText.{report_text}
-use Rattle.lat_gen.specs.Grown as gen
+use Rattle.lat_wire.specs.report.ReportText.{report_text}
+use Rattle.lat_cmd.specs.generate.Grown as gen
 use Rattle.lat_audit.specs.CapturedText.{captured_text, AuditIsLegal}
 use Rattle.lat_wire.specs.Kept as wires
 use Rattle.lat_wire.specs.Stands as wired

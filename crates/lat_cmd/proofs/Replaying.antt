@@ -5,8 +5,8 @@ use Rattle.std.specs.Prelude.{IfOk}
 use Rattle.lat_base.specs.declared.memory.Memory as memory
 use Rattle.lat_model.specs.Lists.{Each}
 use Rattle.lat_machines.specs.world.Machines.{Setups, open_machines}
-use Rattle.lat_report.specs.RefusedText.{refused_text, status}
-use Rattle.lat_report.specs.declared.refused.Refused.{Refused}
+use Rattle.lat_wire.specs.report.RefusedText.{refused_text, status}
+use Rattle.lat_wire.specs.declared.report.refused.Refused.{Refused}
 use Rattle.lat_schedule.specs.Events.{IsEvent}
 use Rattle.lat_schedule.specs.Setups.{IsSetup}
 use Rattle.lat_schedule.specs.ScheduleText.{schedule_of, ReadsSchedule}

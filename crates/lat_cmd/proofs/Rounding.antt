@@ -9,7 +9,7 @@ use Rattle.lat_settle.specs.Rounds as rounds
 use Rattle.lat_settle.specs.Laws.{BeginsAt, IsFullOrMemory}
 use Rattle.lat_settle.specs.Texts.{rounds_text, Prints}
 use Rattle.lat_settle.proofs.Refusing.{enough_settle, full_or_memory}
-use Rattle.lat_report.specs.RefusedText.{status}
+use Rattle.lat_wire.specs.report.RefusedText.{status}
 use Rattle.lat_wire.specs.declared.fault.EventFault.{EventFault}
 use Rattle.lat_wire.specs.declared.fault.EventFault.TheVariants as faults
 use Rattle.lat_replay.specs.Kept.{Kept, setups_of, moment_of}

@@ -3,18 +3,18 @@ use Rattle.std.specs.Prelude.{◌≡◌, ℕ, ◌+◌, List, [], length, Option,
 use Rattle.lat_machines.specs.world.Machines.{Setups}
 use Rattle.lat_machines.specs.world.Reports.{report}
 use Rattle.lat_show.specs.ShowOf.{show_of}
-use Rattle.lat_choose.specs.ChooseOf.{choose_of}
+use Rattle.lat_show.specs.choice.ChooseOf.{choose_of}
 use Rattle.lat_audit.specs.AuditOf.{audit_of}
 use Rattle.lat_audit.specs.CapturedText.{captured_text}
 use Rattle.lat_settle.specs.Rounds as rounds
 use Rattle.lat_settle.specs.Texts as texts
-use Rattle.lat_gen.specs.Grown as gen
+use Rattle.lat_cmd.specs.generate.Grown as gen
 use Rattle.lat_replay.specs.Kept.{Kept, setups_of}
 use Rattle.lat_replay.specs.Setups.{setups_shown}
 use Rattle.lat_replay.specs.Played.{State, open_state, Played, Through, Refused, played, StandsAt}
-use Rattle.lat_report.specs.ReportText.{report_text}
-use Rattle.lat_report.specs.RefusedText.{refused_text, status}
-use Rattle.lat_report.specs.declared.refused.Refused.TheVariants as lines
+use Rattle.lat_wire.specs.report.ReportText.{report_text}
+use Rattle.lat_wire.specs.report.RefusedText.{refused_text, status}
+use Rattle.lat_wire.specs.declared.report.refused.Refused.TheVariants as lines
 use Rattle.lat_schedule.specs.ScheduleText.{schedule_of}
 use Rattle.lat_schedule.specs.declared.schedule.Schedule.{Schedule}
 use Rattle.lat_schedule.specs.declared.schedule.ScheduleFault.{ScheduleFault}

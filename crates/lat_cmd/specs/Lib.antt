@@ -1,3 +1,4 @@
+pub mod generate
 pub mod Commands
 pub mod Answers
 pub mod Outcomes

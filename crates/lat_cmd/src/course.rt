@@ -2,7 +2,7 @@
 
 ghost use Rattle.std.specs.Prelude.{◌≡◌, ◌≢◌, ◌≤◌, IfOk, length};
 ghost use Rattle.lat_model.specs.Lists.{Each};
-ghost use Rattle.lat_report.specs.RefusedText.{refused_text, status};
+ghost use Rattle.lat_wire.specs.report.RefusedText.{refused_text, status};
 ghost use Rattle.lat_schedule.specs.Events.{IsEvent};
 ghost use Rattle.lat_schedule.specs.Setups.{IsSetup};
 ghost use Rattle.lat_schedule.specs.declared.schedule.ScheduleFault.TheVariants as reading;
@@ -15,8 +15,8 @@ use crate::outcome::Outcome;
 use lat_base::Memory;
 use lat_node::RatingRule;
 use lat_replay::{Schedule, ScheduleFault, World, read_schedule, refused_of};
-use lat_report::{Refused, refused_onto};
 use lat_text::wrong_line;
+use lat_wire::{Refused, refused_onto};
 use std::alloc::Global;
 
 /// The course of a schedule: the world behind its last event; or what is answered where it has none, whatever the command.

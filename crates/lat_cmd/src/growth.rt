@@ -5,9 +5,9 @@ ghost use Rattle.lat_wire.specs.Rates.{RatesWhatIsLeft};
 ghost use Rattle.lat_cmd.specs.Answers.{gen_of, bench_of};
 ghost use Rattle.lat_cmd.specs.Outcomes.{IsOutcome};
 
+use crate::generate::{benched, generated};
 use crate::outcome::Outcome;
 use lat_base::Memory;
-use lat_gen::{benched, generated};
 use lat_node::RatingRule;
 use std::alloc::Global;
 

@@ -6,6 +6,7 @@ mod capture;
 mod command;
 mod course;
 mod end;
+mod generate;
 mod growth;
 mod outcome;
 mod replay;

@@ -3,16 +3,15 @@
 ghost use Rattle.std.specs.Prelude.{IfOk};
 ghost use Rattle.lat_show.specs.ShowOf.{show_of};
 ghost use Rattle.lat_audit.specs.AuditOf.{audit_of};
-ghost use Rattle.lat_choose.specs.ChooseOf.{choose_of};
+ghost use Rattle.lat_show.specs.choice.ChooseOf.{choose_of};
 ghost use Rattle.lat_cmd.specs.Answers.{plain};
 ghost use Rattle.lat_cmd.specs.Outcomes.{IsOutcome};
 
 use crate::outcome::Outcome;
 use lat_audit::audit;
 use lat_base::Memory;
-use lat_choose::choose;
 use lat_node::RatingRule;
-use lat_show::show;
+use lat_show::{choose, show};
 use std::alloc::Global;
 
 /// Prints payloads.

@@ -11,9 +11,9 @@ use Rattle.lat_model.proofs.sessions.Words.{upd_same}
 use Rattle.lat_machines.specs.cores.Acts.{steps_at, idle}
 use Rattle.lat_machines.specs.cores.Cores.{Seat, no_seat, Core, Side}
 use Rattle.lat_machines.specs.cores.Lines.{session_of, over, last_on, seat_at, has_session}
-use Rattle.lat_circuits.specs.Kept as circuits
-use Rattle.lat_circuits.specs.Stands as stands
-use Rattle.lat_circuits.specs.Stands.{calling}
+use Rattle.lat_lines.specs.circuits.Kept as circuits
+use Rattle.lat_lines.specs.circuits.Stands as stands
+use Rattle.lat_lines.specs.circuits.Stands.{calling}
 use Rattle.lat_lines.specs.Kept.{Kept}
 use Rattle.lat_lines.specs.Later.{Leads}
 use Rattle.lat_lines.specs.Cores.{CoreLater}

@@ -4,8 +4,8 @@ use Rattle.std.specs.List.{list_any}
 use Rattle.lat_model.specs.ends.End.{lives}
 use Rattle.lat_machines.specs.cores.Cores.{Core}
 use Rattle.lat_queue.specs.Histories.{key_in}
-use Rattle.lat_circuits.specs.Kept as circuits
-use Rattle.lat_circuits.specs.Stands as stands
+use Rattle.lat_lines.specs.circuits.Kept as circuits
+use Rattle.lat_lines.specs.circuits.Stands as stands
 use Rattle.lat_lines.specs.Kept.{Kept}
 use Rattle.lat_lines.specs.Calm.{CoreCalm}
 use Rattle.lat_lines.specs.Cores.{CoreLater, Covers}

@@ -23,8 +23,8 @@ use Rattle.lat_stream.specs.declared.calls.SessionFault.TheVariants.{Full, Close
 use Rattle.lat_session.specs.declared.call.SessionCall.{SessionCall}
 use Rattle.lat_session.specs.declared.call.SessionCall.TheVariants.{Put, Set, Attend, Close}
 use Rattle.lat_session.specs.Calls.{call_of, answer_of, is_taken}
-use Rattle.lat_circuits.specs.Stands.{calling}
-use Rattle.lat_circuits.specs.Info.{answer_at}
+use Rattle.lat_lines.specs.circuits.Stands.{calling}
+use Rattle.lat_lines.specs.circuits.Info.{answer_at}
 use Rattle.lat_lines.specs.Answers.{answer_shown, item_in, took_answer}
 use Rattle.lat_lines.specs.Calls.{call_on, call_answer, done_answer}
 use Rattle.lat_lines.proofs.HeldSeats.{IsHeld}

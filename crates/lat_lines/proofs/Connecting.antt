@@ -11,9 +11,9 @@ use Rattle.lat_machines.specs.cores.Cores.{Core, Side}
 use Rattle.lat_machines.specs.server.Server.{has_room}
 use Rattle.lat_circuit.specs.declared.config.Timing.{Timing}
 use Rattle.lat_circuit.specs.Frames.{timing_shown}
-use Rattle.lat_circuits.specs.Kept as circuits
-use Rattle.lat_circuits.specs.Stands.{calling}
-use Rattle.lat_circuits.proofs.Held.{eqb_self}
+use Rattle.lat_lines.specs.circuits.Kept as circuits
+use Rattle.lat_lines.specs.circuits.Stands.{calling}
+use Rattle.lat_lines.proofs.CircuitsHeld.{eqb_self}
 use Rattle.lat_lines.specs.Later.{Leads}
 use Rattle.lat_lines.proofs.later.Calls.{connected}
 use Rattle.lat_lines.proofs.Calling.{becomes}

@@ -20,11 +20,11 @@ use Rattle.lat_machines.specs.cores.Hearing.{HeardAct, foreign, names, fits_kind
 use Rattle.lat_machines.specs.cores.Cores.{Core, Side, Doing, setup_of, with_circuits, acts, at_moment, then_doing, time_each, passes_time}
 use Rattle.lat_machines.specs.node.Node.{names_for}
 use Rattle.lat_machines.proofs.queue.Rooms.{least_true}
-use Rattle.lat_circuits.specs.Kept as circuits
-use Rattle.lat_circuits.specs.Stands as stands
-use Rattle.lat_circuits.specs.Stands.{calling}
-use Rattle.lat_circuits.specs.Hears.{HeardCore, of_act, untouched, start_core, heard_core}
-use Rattle.lat_circuits.specs.Opens.{called_core}
+use Rattle.lat_lines.specs.circuits.Kept as circuits
+use Rattle.lat_lines.specs.circuits.Stands as stands
+use Rattle.lat_lines.specs.circuits.Stands.{calling}
+use Rattle.lat_lines.specs.circuits.Hears.{HeardCore, of_act, untouched, start_core, heard_core}
+use Rattle.lat_lines.specs.circuits.Opens.{called_core}
 use Rattle.lat_lines.specs.Later.{EndLater, Unheard}
 use Rattle.lat_lines.specs.Cores.{CoreLater}
 use Rattle.lat_lines.proofs.later.Known.{end_later_refl}

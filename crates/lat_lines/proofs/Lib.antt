@@ -1,3 +1,5 @@
+pub mod CircuitsHeld
+pub mod CircuitFound
 pub mod Back
 pub mod later
 pub mod Lists

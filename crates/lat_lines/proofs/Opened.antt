@@ -13,9 +13,9 @@ use Rattle.lat_machines.specs.values.Keys as keys
 use Rattle.lat_machines.specs.cores.Acts.{called, local_at, steps_at, idle}
 use Rattle.lat_machines.specs.cores.Cores.{Core, Side, Doing, rests, then_doing, circuit_to, setup_of, sent_frame}
 use Rattle.lat_machines.specs.server.Server.{ServerConfig, server_side, has_room, calls_to, connects_on, opens}
-use Rattle.lat_circuits.specs.Stands.{calling}
-use Rattle.lat_circuits.specs.Opens.{called_core}
-use Rattle.lat_circuits.proofs.Held.{eqb_self}
+use Rattle.lat_lines.specs.circuits.Stands.{calling}
+use Rattle.lat_lines.specs.circuits.Opens.{called_core}
+use Rattle.lat_lines.proofs.CircuitsHeld.{eqb_self}
 use Rattle.lat_lines.specs.declared.opening.OpenFault.{OpenFault}
 use Rattle.lat_lines.specs.declared.opening.OpenFault.TheVariants.{SessionsFull, CircuitsFull, IdsOut}
 use Rattle.lat_lines.specs.Cores.{CoreLater}

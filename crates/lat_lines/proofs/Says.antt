@@ -9,8 +9,8 @@ use Rattle.lat_machines.specs.values.Answers.{NoLine, Closed}
 use Rattle.lat_machines.specs.cores.Cores.{Seat, Core}
 use Rattle.lat_machines.specs.cores.Lines.{over, seat_at, has_session, line_exists}
 use Rattle.lat_machines.specs.cores.LineCalls.{Said, says, on_line}
-use Rattle.lat_circuits.specs.Kept as circuits
-use Rattle.lat_circuits.specs.Stands as stands
+use Rattle.lat_lines.specs.circuits.Kept as circuits
+use Rattle.lat_lines.specs.circuits.Stands as stands
 use Rattle.lat_lines.specs.declared.seat.Seat as own
 use Rattle.lat_lines.specs.Kept.{Kept, side_of}
 use Rattle.lat_lines.specs.Calm.{CoreCalm}

@@ -16,16 +16,16 @@ use Rattle.lat_machines.specs.cores.Cores.{Seat, no_seat, Core}
 use Rattle.lat_machines.specs.cores.Lines.{end_of, sessions_of, session_of, over, last_on, seat_at, has_session, saturated_count}
 use Rattle.lat_machines.specs.cores.Books.{SessionEnd, EndedClosed, EndedRejected, EndedCircuit, reject_reason, end_reason, seat_end, LineSession, line_session, line_history, book_of, book}
 use Rattle.lat_circuit.specs.Kept as circuit
-use Rattle.lat_circuits.specs.Kept as circuits
-use Rattle.lat_circuits.specs.Stands as stands
-use Rattle.lat_circuits.proofs.Held.{each_push}
+use Rattle.lat_lines.specs.circuits.Kept as circuits
+use Rattle.lat_lines.specs.circuits.Stands as stands
+use Rattle.lat_lines.proofs.CircuitsHeld.{each_push}
 use Rattle.lat_stream.specs.Kept.{saturated}
 use Rattle.lat_lines.specs.declared.seat.Seat as own
 use Rattle.lat_lines.specs.Kept.{Kept, Holds, Apart, IsLine}
 use Rattle.lat_lines.specs.Stands.{Present, IsSeat, NoneOn, Latest, Stands, present, seat_shown, seat_info, session_shown, session_info}
 use Rattle.lat_lines.specs.Opens.{seated_core, session_begun}
 use Rattle.lat_lines.specs.Later.{Leads}
-use Rattle.lat_circuits.specs.Info.{telling_of}
+use Rattle.lat_lines.specs.circuits.Info.{telling_of}
 use Rattle.lat_lines.proofs.OnLines.{none_last}
 
 abbrev with_seats : Core → List Seat → Core

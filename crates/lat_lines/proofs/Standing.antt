@@ -4,8 +4,8 @@ use Rattle.std.proofs.lemmas.List.{take_all}
 use Rattle.lat_base.specs.declared.book.LineSession as base
 use Rattle.lat_queue.specs.declared.key.Key.{Key}
 use Rattle.lat_machines.specs.cores.Cores.{Core, open_core}
-use Rattle.lat_circuits.specs.Kept as circuits
-use Rattle.lat_circuits.specs.Stands as stands
+use Rattle.lat_lines.specs.circuits.Kept as circuits
+use Rattle.lat_lines.specs.circuits.Stands as stands
 use Rattle.lat_lines.specs.declared.seat.Seat.{Seat}
 use Rattle.lat_lines.specs.Kept.{Kept}
 use Rattle.lat_lines.specs.Stands.{Seated, Stands, seat_shown, last_shown}

@@ -3,7 +3,7 @@ use Rattle.std.proofs.Common.{◌≡◌, ℕ, zero, suc, ◌+◌, ◌-◌, Bool,
 use Rattle.std.specs.Option.{option_map}
 use Rattle.std.specs.List.{range_with_len}
 use Rattle.lat_model.specs.Lists.{least, upwards}
-use Rattle.lat_circuits.specs.Opens.{id_or_zero}
+use Rattle.lat_lines.specs.circuits.Opens.{id_or_zero}
 use Rattle.lat_base.specs.declared.book.LineSession as base
 use Rattle.lat_base.specs.declared.state.SessionState.TheVariants as states
 use Rattle.lat_model.specs.sessions.Session.{Session, Free, state, take_open}

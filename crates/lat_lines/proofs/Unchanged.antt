@@ -1,6 +1,6 @@
 -- What stays of the lines, where the circuits did something of their own.
 use Rattle.std.proofs.Common.{◌≡◌, ◌∙◌, sym, ap, subst}
-use Rattle.lat_circuits.specs.Kept as circuits
+use Rattle.lat_lines.specs.circuits.Kept as circuits
 use Rattle.lat_lines.specs.Kept.{Kept, SameLines}
 
 -- The circuits Q are those of NEW

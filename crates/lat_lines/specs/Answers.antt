@@ -15,7 +15,7 @@ use Rattle.lat_queue.specs.Histories.{kept_in}
 use Rattle.lat_stream.specs.declared.calls.SessionFault.{SessionFault}
 use Rattle.lat_stream.specs.declared.calls.SessionFault.TheVariants as faults
 use Rattle.lat_circuit.specs.Hears.{heard_shown}
-use Rattle.lat_circuits.specs.Info as circuits
+use Rattle.lat_lines.specs.circuits.Info as circuits
 use Rattle.lat_lines.specs.declared.seat.Seat.{Seat}
 use Rattle.lat_lines.specs.Kept.{Kept}
 use Rattle.lat_lines.specs.Stands.{Stands, freed_between}

@@ -4,7 +4,7 @@ use Rattle.lat_base.specs.declared.book.LineSession.{LineSession}
 use Rattle.lat_model.specs.Lists.{Each}
 use Rattle.lat_machines.specs.cores.Cores.{Side}
 use Rattle.lat_queue.specs.declared.key.Key.{Key}
-use Rattle.lat_circuits.specs.Kept as circuits
+use Rattle.lat_lines.specs.circuits.Kept as circuits
 use Rattle.lat_lines.specs.declared.seat.Seat.{Seat}
 
 pub record Kept : Type 0 where

@@ -1,3 +1,4 @@
+pub mod circuits
 pub mod Later
 pub mod Kept
 pub mod Stands

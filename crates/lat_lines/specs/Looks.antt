@@ -6,9 +6,9 @@ use Rattle.lat_machines.specs.cores.Books.{LineSession, EndedClosed}
 use Rattle.lat_machines.specs.cores.Cores.{Core}
 use Rattle.lat_machines.specs.cores.Lines.{saturated_count}
 use Rattle.lat_queue.specs.declared.key.Key.{Key}
-use Rattle.lat_circuits.specs.Kept as circuits
-use Rattle.lat_circuits.specs.Stands as stands
-use Rattle.lat_circuits.specs.Info.{Telling, telling_of}
+use Rattle.lat_lines.specs.circuits.Kept as circuits
+use Rattle.lat_lines.specs.circuits.Stands as stands
+use Rattle.lat_lines.specs.circuits.Info.{Telling, telling_of}
 use Rattle.lat_lines.specs.declared.seat.Seat.{Seat}
 use Rattle.lat_lines.specs.Stands.{Present, end_shown, seat_shown}
 

@@ -8,10 +8,10 @@ use Rattle.lat_machines.specs.cores.Cores.{Seat, Core, Side, Doing, rests, circu
 use Rattle.lat_machines.specs.cores.Books.{LineSession}
 use Rattle.lat_machines.specs.server.Server.{has_room}
 use Rattle.lat_queue.specs.declared.key.Key.{Key}
-use Rattle.lat_circuits.specs.Kept as circuits
-use Rattle.lat_circuits.specs.Stands.{calling}
-use Rattle.lat_circuits.specs.Opens.{called_core}
-use Rattle.lat_circuits.specs.Info.{Telling}
+use Rattle.lat_lines.specs.circuits.Kept as circuits
+use Rattle.lat_lines.specs.circuits.Stands.{calling}
+use Rattle.lat_lines.specs.circuits.Opens.{called_core}
+use Rattle.lat_lines.specs.circuits.Info.{Telling}
 use Rattle.lat_lines.specs.declared.opening.OpenFault.{OpenFault}
 use Rattle.lat_lines.specs.declared.opening.OpenFault.TheVariants.{SessionsFull, CircuitsFull, IdsOut}
 

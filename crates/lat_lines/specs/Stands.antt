@@ -15,7 +15,7 @@ use Rattle.lat_machines.specs.cores.Lines.{sessions_of, session_of, over, ended,
 use Rattle.lat_queue.specs.Histories.{key_in, some_key}
 use Rattle.lat_stream.specs.Kept.{saturated}
 use Rattle.lat_payload.specs.Frames.{Emits}
-use Rattle.lat_circuits.specs.Stands as circuits
+use Rattle.lat_lines.specs.circuits.Stands as circuits
 use Rattle.lat_lines.specs.declared.seat.Seat as own
 use Rattle.lat_lines.specs.Kept.{Kept, IsLine}
 use Rattle.lat_lines.specs.Later.{IsAccepted, Unheard}

@@ -7,15 +7,15 @@ ghost use Rattle.lat_machines.specs.values.Addresses.{address};
 ghost use Rattle.lat_machines.specs.cores.Cores.{Core, passes_time};
 ghost use Rattle.lat_circuit.specs.Frames.{message_shown};
 ghost use Rattle.lat_circuit.specs.Kept.{Kept};
-ghost use Rattle.lat_circuits.specs.Kept.{IsClear, has_id};
-ghost use Rattle.lat_circuits.specs.Hears.{heard_core, hearing_shown};
+ghost use Rattle.lat_lines.specs.circuits.Kept.{IsClear, has_id};
+ghost use Rattle.lat_lines.specs.circuits.Hears.{heard_core, hearing_shown};
 ghost use Rattle.lat_lines.specs.Calm.{takes_nothing};
 ghost use Rattle.lat_lines.specs.Kept.{side_of, SameLines};
 ghost use Rattle.lat_lines.specs.Stands.{Stands, Simulates};
 
+use crate::circuits::Hearing;
 use crate::lines::Lines;
 use lat_base::{Addr, Heard, OutBox};
-use lat_circuits::Hearing;
 use lat_frames::Message;
 
 impl Lines {

@@ -1,11 +1,11 @@
 //! What a core answers to what its circuits heard.
 
 ghost use Rattle.std.specs.Prelude.{◌≡◌};
-ghost use Rattle.lat_circuits.specs.Hears.{hearing_shown};
+ghost use Rattle.lat_lines.specs.circuits.Hears.{hearing_shown};
 ghost use Rattle.lat_lines.specs.Answers.{answer_shown, IsPlain};
 
+use crate::circuits::Hearing;
 use lat_base::Answer;
-use lat_circuits::Hearing;
 
 /// What a core answers to a circuit message, by what became of it at its circuits.
 pub fn hearing_answer(hearing: Hearing) -> Answer

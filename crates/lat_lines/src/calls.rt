@@ -6,7 +6,7 @@ ghost use Rattle.lat_base.specs.Answers.{PutFits, TookFits};
 ghost use Rattle.lat_base.specs.declared.event.Event.TheVariants as events;
 ghost use Rattle.lat_machines.specs.cores.LineCalls.{take_on, on_line};
 ghost use Rattle.lat_session.specs.States.{is_free};
-ghost use Rattle.lat_circuits.specs.Kept.{IsClear};
+ghost use Rattle.lat_lines.specs.circuits.Kept.{IsClear};
 ghost use Rattle.lat_lines.specs.Kept.{side_of, SameLines};
 ghost use Rattle.lat_lines.specs.Calls.{call_on, event_of, call_answer, done_answer};
 ghost use Rattle.lat_lines.specs.Answers.{SimulatesCall, ready, seat_or, fault_answer, took_answer};
@@ -15,7 +15,7 @@ use crate::getters::seat_of;
 use crate::lines::Lines;
 use crate::seat::Seat;
 use lat_base::{Answer, Item, Items, Memory, SessionState};
-use lat_circuits::{SessionCall, SessionFault};
+use lat_circuit::{SessionCall, SessionFault};
 use std::alloc::Global;
 
 /// No put takes more bytes: so many items of a session wait to be framed at most.

@@ -4,7 +4,7 @@ ghost use Rattle.std.specs.Prelude.{◌≡◌, MatchOption};
 ghost use Rattle.lat_lines.specs.Calls.{event_of, IsNoCall};
 
 use lat_base::Event;
-use lat_circuits::SessionCall;
+use lat_circuit::SessionCall;
 
 /// The line and the call, where the event is one on a line's session: `Put`, `Set`, `Attend` or `Close`.
 pub fn line_call(event: &Event) -> Option<(u8, SessionCall<'_>)>

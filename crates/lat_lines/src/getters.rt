@@ -12,9 +12,9 @@ ghost use Rattle.lat_machines.specs.cores.Hearing.{names};
 ghost use Rattle.lat_machines.specs.cores.Lines.{has_session, used, ended, saturated_count, line_exists, line_state, waiting_at};
 ghost use Rattle.lat_session.specs.States.{asked_at};
 ghost use Rattle.lat_stream.specs.Kept.{state_shown, saturated};
-ghost use Rattle.lat_circuits.specs.Kept.{has_id};
-ghost use Rattle.lat_circuits.specs.Info.{sessions_at, session_at, some_span};
-ghost use Rattle.lat_circuits.specs.Opens.{id_or_zero};
+ghost use Rattle.lat_lines.specs.circuits.Kept.{has_id};
+ghost use Rattle.lat_lines.specs.circuits.Info.{sessions_at, session_at, some_span};
+ghost use Rattle.lat_lines.specs.circuits.Opens.{id_or_zero};
 ghost use Rattle.lat_lines.specs.Kept.{side_of, IsLine};
 ghost use Rattle.lat_lines.specs.Answers.{ready};
 ghost use Rattle.lat_lines.specs.Stands.{Stands, book_shown, book_info};
@@ -23,7 +23,7 @@ ghost use Rattle.lat_lines.specs.declared.seat.Seat.{Seat};
 use crate::lines::Lines;
 use crate::seat::Seat;
 use lat_base::{Addr, LineBook, Name, SessionState};
-use lat_circuits::Asked;
+use lat_circuit::Asked;
 use lat_seq::Span;
 
 impl Lines {

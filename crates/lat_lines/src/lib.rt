@@ -1,9 +1,10 @@
-//! The lines of one core, and the sessions that they have on its circuits.
+//! The circuits of one core, its lines, and the sessions that they have on them.
 #![tactic(auto)]
 
 mod acts;
 mod answers;
 mod calls;
+mod circuits;
 mod events;
 mod getters;
 mod lines;
@@ -12,7 +13,8 @@ mod reap;
 mod seat;
 
 pub use answers::hearing_answer;
+pub use circuits::{Circuits, Hearing, Info};
 pub use events::line_call;
-pub use lat_circuits::{Asked, Hearing, SessionCall, Timing};
+pub use lat_circuit::{Asked, SessionCall, Timing};
 pub use lines::Lines;
 pub use opening::OpenFault;

@@ -4,13 +4,14 @@ ghost use Rattle.std.specs.Prelude.{◌≡◌, ◌≤◌, [], length, replicate,
 ghost use Rattle.lat_machines.specs.values.Addresses.{address};
 ghost use Rattle.lat_machines.specs.cores.Cores.{open_core, Core, at_moment};
 ghost use Rattle.lat_circuit.specs.Agrees.{IsTiming};
-ghost use Rattle.lat_circuits.specs.Kept.{IsClear};
+ghost use Rattle.lat_lines.specs.circuits.Kept.{IsClear};
 ghost use Rattle.lat_lines.specs.Kept.{side_of, SameLines};
 ghost use Rattle.lat_lines.specs.Stands.{Stands};
 
+use crate::circuits::Circuits;
 use crate::seat::Seat;
 use lat_base::{Addr, LineSession, Memory, Name};
-use lat_circuits::{Circuits, Timing};
+use lat_circuit::Timing;
 use lat_queue::Key;
 use std::alloc::Global;
 use std::marker::Model;

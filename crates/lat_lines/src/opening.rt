@@ -12,19 +12,19 @@ ghost use Rattle.lat_machines.specs.server.Server.{ServerConfig, server_side, ha
 ghost use Rattle.lat_queue.specs.Histories.{key_in, some_key};
 ghost use Rattle.lat_payload.specs.Frames.{Emits};
 ghost use Rattle.lat_circuit.specs.Agrees.{IsTiming};
-ghost use Rattle.lat_circuits.specs.Kept.{side_of as circuits_side, IsClear, SameCore, SameCircuits, has_id};
-ghost use Rattle.lat_circuits.specs.Stands.{calling, Simulates, Stands as CircuitsStand};
-ghost use Rattle.lat_circuits.specs.Info.{telling};
+ghost use Rattle.lat_lines.specs.circuits.Kept.{side_of as circuits_side, IsClear, SameCore, SameCircuits, has_id};
+ghost use Rattle.lat_lines.specs.circuits.Stands.{calling, Simulates, Stands as CircuitsStand};
+ghost use Rattle.lat_lines.specs.circuits.Info.{telling};
 ghost use Rattle.lat_lines.specs.Later.{Leads};
 ghost use Rattle.lat_lines.specs.Kept.{side_of, SameLines, IsLine};
 ghost use Rattle.lat_lines.specs.Stands.{Stands, freed_between, session_shown};
 ghost use Rattle.lat_lines.specs.Opens.{opening, way, MayCall, reaches, reached, seated_core, session_begun, accepted_core, request_of};
 
+use crate::circuits::{Circuits, Info};
 use crate::getters::seat_of;
 use crate::lines::Lines;
 use crate::seat::Seat;
 use lat_base::{Addr, LineSession, Name, OutBox};
-use lat_circuits::{Circuits, Info};
 use lat_queue::Key;
 
 /// Why no session can be had with a station.

@@ -5,20 +5,20 @@ ghost use Rattle.std.specs.List.{AllZip};
 ghost use Rattle.lat_model.specs.Lists.{Each};
 ghost use Rattle.lat_model.specs.ends.End.{lives};
 ghost use Rattle.lat_machines.specs.cores.Cores.{Core};
-ghost use Rattle.lat_circuits.specs.Stands as circuits;
+ghost use Rattle.lat_lines.specs.circuits.Stands as circuits;
 ghost use Rattle.lat_lines.specs.Kept.{SameLines, IsLine};
 ghost use Rattle.lat_lines.specs.Stands.{Seated, freed_between, session_shown};
 ghost use Rattle.lat_lines.specs.Calm.{CoreCalm};
 ghost use Rattle.lat_lines.specs.Cores.{CoreLater, Covers};
 ghost use Rattle.lat_lines.specs.Looks.{Looks, session_closed, session_reviewed, last_after, finished_after, freed_after};
-ghost use Rattle.lat_circuits.specs.Info.{telling};
+ghost use Rattle.lat_lines.specs.circuits.Info.{telling};
 ghost use Rattle.lat_queue.specs.Histories.{key_in};
 ghost use Rattle.lat_lines.specs.declared.seat.Seat.{Seat};
 
+use crate::circuits::{Circuits, Info};
 use crate::lines::Lines;
 use crate::seat::Seat;
 use lat_base::{LineSession, SessionEnd};
-use lat_circuits::{Circuits, Info};
 use lat_queue::Key;
 
 impl Lines {

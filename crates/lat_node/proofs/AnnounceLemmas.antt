@@ -21,7 +21,7 @@ use Rattle.lat_dir.specs.Stands.{service_shown}
 use Rattle.lat_payload.specs.Shown.{notice_shown}
 use Rattle.lat_payload.specs.Frames.{GoesOutAs, Emits}
 use Rattle.lat_payload.proofs.Frames.{adds_none, adds_one, adds_then}
-use Rattle.lat_circuits.proofs.Found.{finds_at}
+use Rattle.lat_lines.proofs.CircuitFound.{finds_at}
 use Rattle.lat_node.specs.Announced.{ratings, IsAnnounced}
 use Rattle.lat_node.specs.Events.{Rated, announces, ratings_for}
 use Rattle.lat_node.specs.Kept.{Kept, config_of}

@@ -16,7 +16,7 @@ use Rattle.lat_machines.specs.node.Node.{NodeConfig, Node, Requested, Verdict, A
 use Rattle.lat_session.specs.declared.getters.Asked.{Asked}
 use Rattle.lat_session.specs.States.{asked_at as told_at}
 use Rattle.lat_session.proofs.Runs.{upwards_split}
-use Rattle.lat_circuits.proofs.Held.{eqb_self}
+use Rattle.lat_lines.proofs.CircuitsHeld.{eqb_self}
 use Rattle.lat_node.specs.Stands.{was_made}
 use Rattle.lat_node.specs.Answering.{Asks, judged_by, IsOfRequest}
 

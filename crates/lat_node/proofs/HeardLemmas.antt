@@ -10,8 +10,8 @@ use Rattle.lat_machines.specs.cores.Hearing.{names, hear_run}
 use Rattle.lat_machines.specs.cores.Cores.{Side, Core, at_moment}
 use Rattle.lat_machines.specs.node.Node.{NodeConfig, Node, NodeStep, node_side, with_core, does, then_answers, heard_at, hears_message, answers_asked}
 use Rattle.lat_payload.specs.Frames.{Emits}
-use Rattle.lat_circuits.specs.Hears.{HeardCore, heard_core}
-use Rattle.lat_circuits.specs.Kept.{has_id}
+use Rattle.lat_lines.specs.circuits.Hears.{HeardCore, heard_core}
+use Rattle.lat_lines.specs.circuits.Kept.{has_id}
 use Rattle.lat_lines.specs.Kept as lines
 use Rattle.lat_lines.specs.Stands as line_stands
 use Rattle.lat_lines.specs.Answers.{answer_shown}

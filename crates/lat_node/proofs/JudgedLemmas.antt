@@ -4,7 +4,7 @@ use Rattle.lat_model.specs.sessions.Calls.{Refuse}
 use Rattle.lat_machines.specs.cores.Cores.{Side}
 use Rattle.lat_machines.specs.cores.Lines.{saturated_count}
 use Rattle.lat_machines.specs.node.Node.{Node, Accepts, Rejects, judged, node_side}
-use Rattle.lat_circuits.specs.Stands.{calling}
+use Rattle.lat_lines.specs.circuits.Stands.{calling}
 use Rattle.lat_lines.specs.Kept as lines
 use Rattle.lat_lines.specs.Opens.{accepted_core}
 use Rattle.lat_lines.specs.Stands as line_stands

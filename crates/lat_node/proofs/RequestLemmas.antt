@@ -19,7 +19,7 @@ use Rattle.lat_machines.specs.node.Node.{Node, Requested, request_of, was_reques
 use Rattle.lat_node.specs.declared.requests.Request.{Request}
 use Rattle.lat_node.specs.Kept.{Kept}
 use Rattle.lat_node.specs.Stands.{Noted, request_shown, request_in, was_made, Stands}
-use Rattle.lat_circuits.proofs.Held.{each_weaker, each_push}
+use Rattle.lat_lines.proofs.CircuitsHeld.{each_weaker, each_push}
 
 -- two names are one for both
 pub same_is : (b : Bool) (x y : Name) → (IsTrue b ↔ (base.folded x ≡ base.folded y)) → b ≡ same x y

@@ -8,7 +8,7 @@ use Rattle.lat_machines.specs.values.Names.{Name, same}
 use Rattle.lat_machines.specs.cores.Cores.{Core}
 use Rattle.lat_machines.specs.node.Node.{NodeConfig, Node, Rejects, Accepts, Verdict, request_of, was_requested, verdict, free_line, on_free_line}
 use Rattle.lat_slots.specs.declared.reason.RejectReason.TheVariants.{NoRoom}
-use Rattle.lat_circuits.specs.Opens.{id_or_zero}
+use Rattle.lat_lines.specs.circuits.Opens.{id_or_zero}
 use Rattle.lat_lines.specs.Kept.{IsLine}
 use Rattle.lat_node.specs.Answering.{verdict_shown}
 

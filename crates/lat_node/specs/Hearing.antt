@@ -4,7 +4,7 @@ use Rattle.lat_model.specs.circuits.World.{Table}
 use Rattle.lat_machines.specs.values.Messages.{Message, RunMessage, WideMessage, StartMessage, StopMessage}
 use Rattle.lat_machines.specs.cores.Hearing.{names}
 use Rattle.lat_machines.specs.node.Node.{NodeConfig, Node, NodeStep, answers_asked}
-use Rattle.lat_circuits.specs.Kept.{has_id}
+use Rattle.lat_lines.specs.circuits.Kept.{has_id}
 use Rattle.lat_node.specs.Kept.{Kept, config_of}
 use Rattle.lat_node.specs.Stands.{Stands}
 

@@ -3,7 +3,7 @@ use Rattle.std.specs.Prelude.{◌≡◌, ℕ, ◌≤◌, false, List, [], length
 use Rattle.lat_machines.specs.values.Addresses.{address}
 use Rattle.lat_machines.specs.node.Node as machine
 use Rattle.lat_circuit.specs.Frames.{timing_shown}
-use Rattle.lat_circuits.specs.Kept.{IsClear}
+use Rattle.lat_lines.specs.circuits.Kept.{IsClear}
 use Rattle.lat_lines.specs.Kept as lines
 use Rattle.lat_node.specs.declared.requests.Request.{Request}
 

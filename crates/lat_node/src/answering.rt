@@ -5,7 +5,7 @@ ghost use Rattle.lat_model.specs.ends.End.{lives};
 ghost use Rattle.lat_model.specs.Lists.{upwards};
 ghost use Rattle.lat_machines.specs.cores.Lines.{has_session};
 ghost use Rattle.lat_machines.specs.node.Node as machine;
-ghost use Rattle.lat_circuits.specs.Kept.{has_id};
+ghost use Rattle.lat_lines.specs.circuits.Kept.{has_id};
 ghost use Rattle.lat_lines.specs.Kept.{IsLine};
 ghost use Rattle.lat_node.specs.Answering.{verdict_shown, judged_by, Asks, IsOfRequest};
 ghost use Rattle.lat_node.specs.Kept.{config_of, SameConfig};

@@ -15,8 +15,8 @@ use Rattle.lat_laws.specs.tales.Reported.{report_row, report_rows, report_rows_f
 use Rattle.lat_roster.specs.declared.row.Row.{Row}
 use Rattle.lat_roster.specs.Rows.{ShowsRow}
 use Rattle.lat_roster.specs.Roster.{ShowsRows}
-use Rattle.lat_report.specs.ReportText.{frames_text, row_text, rows_text, request_text, grant_text, event_text, report_text}
-use Rattle.lat_report.specs.Rows.{record_in}
+use Rattle.lat_wire.specs.report.ReportText.{frames_text, row_text, rows_text, request_text, grant_text, event_text, report_text}
+use Rattle.lat_wire.specs.report.Rows.{record_in}
 use Rattle.lat_wire.specs.Kept.{Kept, setups_of}
 use Rattle.lat_wire.specs.Notes.{note_shown, noted_info}
 use Rattle.lat_wire.specs.Stands.{Stands}

@@ -7,10 +7,10 @@ use Rattle.lat_machines.specs.values.Answers.{Heard, Running, Taken, Again, AckO
 use Rattle.lat_machines.specs.world.Machines.{NotedEvent}
 use Rattle.lat_lines.specs.Answers.{answer_shown}
 use Rattle.lat_lines.specs.Back.{answer_of, field_of}
-use Rattle.lat_report.specs.NoteText.{note_text}
-use Rattle.lat_report.specs.ReportText.{event_text}
+use Rattle.lat_wire.specs.report.NoteText.{note_text}
+use Rattle.lat_wire.specs.report.ReportText.{event_text}
 use Rattle.lat_text.specs.Line.{line}
-use Rattle.lat_report.proofs.Words.{word_found}
+use Rattle.lat_wire.proofs.ReportWords.{word_found}
 use Rattle.lat_wire.specs.Notes.{NoteInfo, note_shown, noted_info}
 use Rattle.lat_wire.specs.declared.notes.Note.{Note}
 use Rattle.lat_replay.specs.Notes.{note_line}

@@ -1,8 +1,8 @@
 -- How a refused event of a schedule is told.
 use Rattle.lat_wire.specs.declared.fault.EventFault.{EventFault}
 use Rattle.lat_wire.specs.declared.fault.EventFault.TheVariants as faults
-use Rattle.lat_report.specs.declared.refused.Refused.{Refused}
-use Rattle.lat_report.specs.declared.refused.Refused.TheVariants as lines
+use Rattle.lat_wire.specs.declared.report.refused.Refused.{Refused}
+use Rattle.lat_wire.specs.declared.report.refused.Refused.TheVariants as lines
 
 -- what the line says; want of memory has no line
 abbrev pub refused_of : EventFault → Refused

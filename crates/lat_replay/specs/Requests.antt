@@ -5,7 +5,7 @@ use Rattle.lat_machines.specs.server.Records.{kept_now}
 use Rattle.lat_machines.specs.world.Reports.{RecordRow}
 use Rattle.lat_queue.specs.Histories.{key_in}
 use Rattle.lat_queue.specs.declared.key.Key.{Key}
-use Rattle.lat_report.specs.ReportText.{grant_text}
+use Rattle.lat_wire.specs.report.ReportText.{grant_text}
 
 abbrev pub request_row : List QueueEvent → Request → RecordRow
 request_row q r = record { key = r.key; service = r.service; kept = kept_now q r }

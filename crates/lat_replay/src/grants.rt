@@ -8,14 +8,14 @@ ghost use Rattle.lat_machines.specs.server.Records.{grants_of};
 ghost use Rattle.lat_machines.specs.server.Server.{Server};
 ghost use Rattle.lat_queue.specs.Histories.{record_in};
 ghost use Rattle.lat_server.specs.Stands.{Stands};
-ghost use Rattle.lat_report.specs.ReportText.{grant_text};
+ghost use Rattle.lat_wire.specs.report.ReportText.{grant_text};
 ghost use Rattle.lat_replay.specs.Places.{SameKeys, IsPut, Places};
 ghost use Rattle.lat_replay.specs.Requests.{place_text};
 
 use lat_base::Memory;
 use lat_queue::{Key, Record};
-use lat_report::grant_onto;
 use lat_server::ServerCore;
+use lat_wire::grant_onto;
 use std::alloc::Global;
 
 // At least so many places; those that are new are empty.

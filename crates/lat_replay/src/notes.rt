@@ -5,8 +5,7 @@ ghost use Rattle.std.specs.List.{flat_map};
 ghost use Rattle.lat_replay.specs.Notes.{note_line};
 
 use lat_base::Memory;
-use lat_report::noted_onto;
-use lat_wire::Note;
+use lat_wire::{Note, noted_onto};
 
 /// Appends the lines of these events, in order.
 pub(crate) fn notes_onto(out: &mut String, notes: &[Note]) -> Result<(), Memory>

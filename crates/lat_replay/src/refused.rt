@@ -5,8 +5,7 @@ ghost use Rattle.lat_wire.specs.declared.fault.EventFault.TheVariants as faults;
 ghost use Rattle.lat_replay.specs.Refusals.{refused_of};
 
 use lat_base::Memory;
-use lat_report::Refused;
-use lat_wire::EventFault;
+use lat_wire::{EventFault, Refused};
 
 /// How the line of a refused event says why. Want of memory has no line.
 pub fn refused_of(fault: EventFault) -> Result<Refused, Memory>

@@ -4,12 +4,12 @@ ghost use Rattle.std.specs.Prelude.{◌≡◌, ◌++◌, OnOk, string_bytes};
 ghost use Rattle.std.specs.List.{flat_map};
 ghost use Rattle.lat_machines.specs.server.Server.{Server};
 ghost use Rattle.lat_server.specs.Stands.{Stands};
-ghost use Rattle.lat_report.specs.ReportText.{request_text};
+ghost use Rattle.lat_wire.specs.report.ReportText.{request_text};
 ghost use Rattle.lat_replay.specs.Requests.{request_rows};
 
 use lat_base::Memory;
-use lat_report::request_onto;
 use lat_server::ServerCore;
+use lat_wire::request_onto;
 use std::alloc::Global;
 
 /// Appends what became of each request, in the order of their first commands.

@@ -2,8 +2,8 @@
 
 ghost use Rattle.std.specs.Prelude.{◌≡◌, ◌<◌, ◌++◌, OnOk, cond, Some, None, nat_eq, string_bytes};
 ghost use Rattle.lat_machines.specs.world.Machines.{Machines};
-ghost use Rattle.lat_report.specs.ReportText.{row_text, rows_text};
-ghost use Rattle.lat_report.specs.Rows.{row_in};
+ghost use Rattle.lat_wire.specs.report.ReportText.{row_text, rows_text};
+ghost use Rattle.lat_wire.specs.report.Rows.{row_in};
 ghost use Rattle.lat_laws.specs.tales.Rows as rows;
 ghost use Rattle.lat_laws.specs.tales.Reported.{report_row, report_rows};
 ghost use Rattle.lat_roster.specs.Rows.{ShowsRow};
@@ -12,9 +12,8 @@ ghost use Rattle.lat_replay.specs.Standing.{StandsFor, RowAt};
 
 use crate::figures::{exact, node_figures, server_figures};
 use lat_base::Memory;
-use lat_report::{Flow, SessionRow, session_onto};
 use lat_roster::{Figures, Roster, Row};
-use lat_wire::{RatingRule, Wire};
+use lat_wire::{Flow, RatingRule, SessionRow, Wire, session_onto};
 use std::alloc::Global;
 
 // The node's line as it is told; none for 0.

@@ -9,7 +9,7 @@ ghost use Rattle.lat_machines.specs.world.Reports.{report};
 ghost use Rattle.lat_server.specs.Stands as servers;
 ghost use Rattle.lat_laws.specs.tales.Rows.{RowsAfter, Keeps};
 ghost use Rattle.lat_roster.specs.Roster.{Shows};
-ghost use Rattle.lat_report.specs.ReportText.{request_text, grant_text, report_text};
+ghost use Rattle.lat_wire.specs.report.ReportText.{request_text, grant_text, report_text};
 ghost use Rattle.lat_wire.specs.Kept.{setups_of};
 ghost use Rattle.lat_wire.specs.Stands.{Stands};
 ghost use Rattle.lat_replay.specs.Requests.{request_rows};
@@ -19,10 +19,9 @@ use crate::notes::notes_onto;
 use crate::requests::requests_onto;
 use crate::sessions::sessions_onto;
 use lat_base::Memory;
-use lat_report::{done_onto, frames_onto};
 use lat_roster::Roster;
 use lat_server::ServerCore;
-use lat_wire::{RatingRule, Wire};
+use lat_wire::{RatingRule, Wire, done_onto, frames_onto};
 use std::alloc::Global;
 
 // Appends what became of the requests, and the grants in their order.

@@ -6,7 +6,7 @@ ghost use Rattle.lat_machines.specs.cores.Lines.{has_session};
 ghost use Rattle.lat_machines.specs.world.Machines.{Machines, core_of, open_machines};
 ghost use Rattle.lat_machines.specs.world.Reports.{report};
 ghost use Rattle.lat_node.specs.Config as nodes;
-ghost use Rattle.lat_report.specs.ReportText.{report_text};
+ghost use Rattle.lat_wire.specs.report.ReportText.{report_text};
 ghost use Rattle.lat_laws.specs.rounds.Lossless.{Lossless};
 ghost use Rattle.lat_laws.specs.rounds.Rounds.{undelivered};
 ghost use Rattle.lat_server.specs.Config as servers;

@@ -28,7 +28,7 @@ use Rattle.lat_queue.specs.Tables.{Table, HasPlace}
 use Rattle.lat_queue.specs.Histories.{key_in, some_kept}
 use Rattle.lat_queue.proofs.RecordLemmas.{map_twice}
 use Rattle.lat_circuit.specs.Frames.{timing_shown}
-use Rattle.lat_circuits.specs.Hears.{HeardCore, heard_core}
+use Rattle.lat_lines.specs.circuits.Hears.{HeardCore, heard_core}
 use Rattle.lat_lines.specs.Answers.{answer_shown, HasAnswered}
 use Rattle.lat_lines.specs.Kept as lines
 use Rattle.lat_lines.specs.Stands as stands

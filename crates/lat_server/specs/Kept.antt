@@ -3,7 +3,7 @@ use Rattle.std.specs.Prelude.{◌≡◌, ℕ, ◌≤◌, true, List, [], map, le
 use Rattle.lat_machines.specs.values.Addresses.{address}
 use Rattle.lat_machines.specs.server.Server as machine
 use Rattle.lat_circuit.specs.Frames.{timing_shown}
-use Rattle.lat_circuits.specs.Kept.{IsClear}
+use Rattle.lat_lines.specs.circuits.Kept.{IsClear}
 use Rattle.lat_dir.specs.Stands as dir
 use Rattle.lat_queue.specs.Tables as queue
 use Rattle.lat_lines.specs.Kept as lines

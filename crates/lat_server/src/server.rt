@@ -8,7 +8,7 @@ ghost use Rattle.lat_machines.specs.server.Records.{record_at};
 ghost use Rattle.lat_machines.specs.server.Server.{Server};
 ghost use Rattle.lat_machines.specs.values.Addresses.{address};
 ghost use Rattle.lat_stream.specs.Kept.{saturated};
-ghost use Rattle.lat_circuits.specs.Info.{some_span};
+ghost use Rattle.lat_lines.specs.circuits.Info.{some_span};
 ghost use Rattle.lat_lines.specs.Kept.{IsLine};
 ghost use Rattle.lat_lines.specs.Stands.{book_shown, book_info};
 ghost use Rattle.lat_queue.specs.Histories.{some_record};

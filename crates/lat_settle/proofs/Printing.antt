@@ -8,10 +8,10 @@ use Rattle.lat_replay.specs.Kept.{Kept}
 use Rattle.lat_replay.specs.Played.{State, Through, Refused, StandsAt}
 use Rattle.lat_replay.specs.Refusals.{refused_of}
 use Rattle.lat_replay.specs.Stands.{Stands}
-use Rattle.lat_report.specs.RefusedText.{status}
-use Rattle.lat_report.specs.ReportText.{report_text}
-use Rattle.lat_report.specs.declared.refused.Refused.{Refused as Line}
-use Rattle.lat_report.specs.declared.refused.Refused.TheVariants as lines
+use Rattle.lat_wire.specs.report.RefusedText.{status}
+use Rattle.lat_wire.specs.report.ReportText.{report_text}
+use Rattle.lat_wire.specs.declared.report.refused.Refused.{Refused as Line}
+use Rattle.lat_wire.specs.declared.report.refused.Refused.TheVariants as lines
 use Rattle.lat_laws.specs.rounds.Lossless.{Lossless, sent_from, came_first}
 use Rattle.lat_wire.specs.declared.fault.EventFault.{EventFault}
 use Rattle.lat_wire.specs.declared.fault.EventFault.TheVariants.{FramesFull, Backward, OwnAddress, NoFrame, Old, Memory}

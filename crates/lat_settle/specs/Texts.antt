@@ -5,9 +5,9 @@ use Rattle.lat_machines.specs.world.Reports.{report}
 use Rattle.lat_replay.specs.Kept.{Kept}
 use Rattle.lat_replay.specs.Played.{State, Played, Through, Refused, StandsAt}
 use Rattle.lat_replay.specs.Refusals.{refused_of}
-use Rattle.lat_report.specs.RefusedText.{status, why_text}
-use Rattle.lat_report.specs.ReportText.{report_text}
-use Rattle.lat_report.specs.declared.refused.Refused.{Refused as Line}
+use Rattle.lat_wire.specs.report.RefusedText.{status, why_text}
+use Rattle.lat_wire.specs.report.ReportText.{report_text}
+use Rattle.lat_wire.specs.declared.report.refused.Refused.{Refused as Line}
 use Rattle.lat_laws.specs.rounds.Lossless.{sent_from, came_first}
 use Rattle.lat_text.specs.FlagText.{flag_text}
 use Rattle.lat_text.specs.Line.{line}

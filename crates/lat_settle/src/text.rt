@@ -9,8 +9,8 @@ ghost use Rattle.lat_settle.specs.Texts.{Prints, lossless_text, round_text};
 use crate::settling::{Unsettled, run_rounds};
 use lat_base::Memory;
 use lat_replay::{RatingRule, World, refused_of};
-use lat_report::{Refused, why_onto};
 use lat_text::flag_text;
+use lat_wire::{Refused, why_onto};
 use std::alloc::{AllocError, Global};
 
 // Adds the line that says whether nothing was lost.

@@ -1,3 +1,4 @@
+pub mod choice
 pub mod ParamsShown
 pub mod SlotShown
 pub mod MessageShown

@@ -22,7 +22,7 @@ use Rattle.lat_model.specs.Lists.{Each}
 use Rattle.lat_payload.specs.Frames.{Emits, GoesOutAs, expected, IsReadable}
 use Rattle.lat_payload.proofs.Frames.{adds_one, adds_then}
 use Rattle.lat_payload.specs.Reads.{reading_of}
-use Rattle.lat_circuits.proofs.Found.{finds_at, finds_none}
+use Rattle.lat_lines.proofs.CircuitFound.{finds_at, finds_none}
 use Rattle.lat_lines.specs.Events.{event_shown}
 use Rattle.lat_node.specs.Kept.{config_of}
 use Rattle.lat_node.specs.Stands as stands

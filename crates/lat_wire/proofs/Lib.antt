@@ -1,3 +1,4 @@
+pub mod ReportWords
 pub mod Rating
 pub mod Noting
 pub mod Taking

@@ -11,7 +11,7 @@ use Rattle.lat_machines.specs.cores.Hearing.{names}
 use Rattle.lat_machines.specs.cores.Lines.{end_of, session_of, seat_at, has_session, line_state}
 use Rattle.lat_seq.specs.declared.span.Span.{Span}
 use Rattle.lat_stream.specs.Kept.{state_shown}
-use Rattle.lat_circuits.specs.Info.{some_span}
+use Rattle.lat_lines.specs.circuits.Info.{some_span}
 use Rattle.lat_ledger.specs.declared.heading.Heading.{Heading}
 use Rattle.lat_wire.specs.Ends.{half_at, half_named, half_span, is_held}
 

@@ -1,3 +1,4 @@
+pub mod report
 pub mod Rates
 pub mod Notes
 pub mod Ends

@@ -1,6 +1,6 @@
 //! The events that the report notes.
 
-use lat_report::Noted;
+use crate::report::Noted;
 
 /// An event that was noted, counted from 1.
 #[derive(Clone, Copy)]

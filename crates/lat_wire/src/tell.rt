@@ -46,12 +46,12 @@ ghost use Rattle.lat_wire.specs.Told.{IsSent, answered, moment_after};
 
 use crate::fault::{EventFault, FRAMES};
 use crate::notes::Note;
+use crate::report::Noted;
 use crate::wire::Wire;
 use lat_base::{Addr, Answer, Bytes, Event, Heard, Memory};
 use lat_ledger::{Ledger, Post, Sent, Tally, heading_of};
 use lat_node::RatingRule;
 use lat_payload::is_same;
-use lat_report::Noted;
 use std::alloc::Global;
 
 impl<H: RatingRule> Wire<H> {

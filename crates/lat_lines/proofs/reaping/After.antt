@@ -6,8 +6,8 @@ use Rattle.lat_base.specs.declared.state.SessionEnd as base_end
 use Rattle.lat_model.specs.Lists.{Each}
 use Rattle.lat_machines.specs.cores.Cores.{Seat, Core}
 use Rattle.lat_machines.specs.cores.Lines.{over}
-use Rattle.lat_circuits.specs.Kept as circuits
-use Rattle.lat_circuits.specs.Stands as stands
+use Rattle.lat_lines.specs.circuits.Kept as circuits
+use Rattle.lat_lines.specs.circuits.Stands as stands
 use Rattle.lat_lines.specs.declared.seat.Seat as own
 use Rattle.lat_lines.specs.Stands.{Present, IsSeat, NoneOn, Latest, end_shown, seat_shown, seat_info, present}
 use Rattle.lat_lines.specs.Looks.{Looks, present_after}

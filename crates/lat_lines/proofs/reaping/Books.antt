@@ -7,7 +7,7 @@ use Rattle.lat_model.specs.Lists.{Each}
 use Rattle.lat_machines.specs.cores.Books.{LineSession, line_session, line_history, book_of, book}
 use Rattle.lat_machines.specs.cores.Cores.{Seat, no_seat, Core}
 use Rattle.lat_machines.specs.cores.Lines.{over, last_on, has_session}
-use Rattle.lat_circuits.specs.Kept as circuits
+use Rattle.lat_lines.specs.circuits.Kept as circuits
 use Rattle.lat_lines.specs.declared.seat.Seat as own
 use Rattle.lat_lines.specs.Kept.{IsLine}
 use Rattle.lat_lines.specs.Stands.{Present, IsSeat, NoneOn, Latest, session_shown, session_info, seat_shown, seat_info, last_shown}

@@ -9,8 +9,8 @@ use Rattle.lat_session.specs.Stands.{AllBegun}
 use Rattle.lat_circuit.specs.Kept as circuit
 use Rattle.lat_circuit.specs.Stands as circuit_stands
 use Rattle.lat_machines.specs.cores.Cores.{Core}
-use Rattle.lat_circuits.specs.Kept.{Kept, has_id}
-use Rattle.lat_circuits.specs.Stands.{Stands, IsCircuit}
+use Rattle.lat_lines.specs.circuits.Kept.{Kept, has_id}
+use Rattle.lat_lines.specs.circuits.Stands.{Stands, IsCircuit}
 
 -- what is known of an end that a circuit stands for
 pub record IsStood (e : End) : Type 0 where

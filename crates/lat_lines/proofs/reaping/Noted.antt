@@ -9,7 +9,7 @@ use Rattle.lat_machines.specs.cores.Cores.{Seat, Core}
 use Rattle.lat_machines.specs.cores.Lines.{over, saturated_count}
 use Rattle.lat_queue.specs.declared.key.Key.{Key}
 use Rattle.lat_queue.specs.Histories.{key_in, some_key}
-use Rattle.lat_circuits.specs.Kept as circuits
+use Rattle.lat_lines.specs.circuits.Kept as circuits
 use Rattle.lat_lines.specs.declared.seat.Seat as own
 use Rattle.lat_lines.specs.Stands.{Present, IsSeat, end_shown, seat_shown, seat_info, freed_key, freed_from}
 use Rattle.lat_lines.specs.Looks.{is_over, finished_after, key_after, freed_after}

@@ -9,9 +9,9 @@ use Rattle.lat_machines.specs.cores.Books.{SessionEnd, EndedClosed, LineSession,
 use Rattle.lat_machines.specs.cores.Cores.{Seat, Core}
 use Rattle.lat_machines.specs.cores.Lines.{end_of, sessions_of, session_of, over}
 use Rattle.lat_stream.specs.Kept.{saturated}
-use Rattle.lat_circuits.specs.Kept as circuits
-use Rattle.lat_circuits.specs.Stands as stands
-use Rattle.lat_circuits.specs.Info.{telling_of, asks}
+use Rattle.lat_lines.specs.circuits.Kept as circuits
+use Rattle.lat_lines.specs.circuits.Stands as stands
+use Rattle.lat_lines.specs.circuits.Info.{telling_of, asks}
 use Rattle.lat_lines.specs.Later.{IsAccepted, Replaced, SessionLater, Unheard}
 use Rattle.lat_lines.specs.Cores.{CoreLater}
 use Rattle.lat_lines.specs.Stands.{Present, IsSeat, session_info, seat_info}

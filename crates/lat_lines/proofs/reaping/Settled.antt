@@ -9,8 +9,8 @@ use Rattle.lat_machines.specs.cores.Lines.{over, saturated_count}
 use Rattle.lat_queue.specs.declared.key.Key.{Key}
 use Rattle.lat_queue.specs.Histories.{key_in}
 use Rattle.lat_stream.specs.Kept.{saturated}
-use Rattle.lat_circuits.specs.Kept as circuits
-use Rattle.lat_circuits.specs.Stands as stands
+use Rattle.lat_lines.specs.circuits.Kept as circuits
+use Rattle.lat_lines.specs.circuits.Stands as stands
 use Rattle.lat_lines.specs.declared.seat.Seat as own
 use Rattle.lat_lines.specs.Kept.{Kept, Holds, Apart, IsLine}
 use Rattle.lat_lines.specs.Cores.{CoreLater, Covers}

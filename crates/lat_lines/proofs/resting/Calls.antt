@@ -17,8 +17,8 @@ use Rattle.lat_session.specs.declared.call.SessionCall.{SessionCall}
 use Rattle.lat_session.specs.declared.call.SessionCall.TheVariants as calls
 use Rattle.lat_session.specs.Calls.{call_of}
 use Rattle.lat_session.specs.States.{is_free}
-use Rattle.lat_circuits.specs.Stands.{calling}
-use Rattle.lat_circuits.proofs.Held.{eqb_self}
+use Rattle.lat_lines.specs.circuits.Stands.{calling}
+use Rattle.lat_lines.proofs.CircuitsHeld.{eqb_self}
 use Rattle.lat_lines.proofs.CoresLater.{updated_at}
 use Rattle.lat_lines.specs.Calm.{look, IsCalm, CoreCalm}
 use Rattle.lat_lines.proofs.resting.Ends.{calm_refl}

@@ -13,9 +13,9 @@ use Rattle.lat_payload.specs.Frames.{Emits, frame_view, expected}
 use Rattle.lat_machines.specs.cores.Acts.{Acted, idle, steps_at, time_at}
 use Rattle.lat_machines.specs.cores.Cores.{Core, Side, Doing, with_circuits, acts, rests, then_doing, sent_frame, time_each, passes_time}
 use Rattle.lat_circuit.specs.Kept as circuit
-use Rattle.lat_circuits.specs.Kept.{Kept, has_id}
-use Rattle.lat_circuits.specs.Stands.{Stands, IsCircuit}
-use Rattle.lat_circuits.proofs.Held.{eqb_self}
+use Rattle.lat_lines.specs.circuits.Kept.{Kept, has_id}
+use Rattle.lat_lines.specs.circuits.Stands.{Stands, IsCircuit}
+use Rattle.lat_lines.proofs.CircuitsHeld.{eqb_self}
 use Rattle.lat_lines.specs.Calm.{IsCalm, CoreCalm}
 use Rattle.lat_lines.proofs.CoresLater.{updated_at}
 use Rattle.lat_lines.proofs.resting.Ends.{calm_refl}

@@ -14,7 +14,7 @@ use Rattle.lat_machines.specs.values.Answers.{Circuit, Running, Again, Foreign, 
 use Rattle.lat_machines.specs.cores.Acts.{Acted, idle, steps_at, move_at}
 use Rattle.lat_machines.specs.cores.Hearing.{HeardAct, foreign, names, fits_kind, numbers_at, run_frame, answer_of, run_at, hear_run, hear_stop_at, hear_reply_at, StartFact, Repeats, Makes, Refuses, start_fact}
 use Rattle.lat_machines.specs.cores.Cores.{Core, Side, with_circuits, sent_frame}
-use Rattle.lat_circuits.specs.Hears.{HeardCore, of_act, untouched, start_core, heard_core}
+use Rattle.lat_lines.specs.circuits.Hears.{HeardCore, of_act, untouched, start_core, heard_core}
 use Rattle.lat_lines.specs.Calm.{CoreCalm, takes_nothing}
 use Rattle.lat_lines.proofs.resting.Quiet.{IsQuiet, quiet_refl, run_quiet}
 use Rattle.lat_lines.proofs.resting.Cores.{core_refl, step_calm, map_nil, wire_nil}

@@ -8,8 +8,8 @@ use Rattle.lat_machines.specs.cores.Cores.{no_seat, Core}
 use Rattle.lat_machines.specs.cores.Lines.{over, session_of, saturated_count}
 use Rattle.lat_queue.specs.Histories.{key_in}
 use Rattle.lat_stream.specs.Kept.{saturated}
-use Rattle.lat_circuits.specs.Kept as circuits
-use Rattle.lat_circuits.specs.Stands as stands
+use Rattle.lat_lines.specs.circuits.Kept as circuits
+use Rattle.lat_lines.specs.circuits.Stands as stands
 use Rattle.lat_lines.specs.Kept.{Kept}
 use Rattle.lat_lines.specs.Calm.{CoreCalm}
 use Rattle.lat_lines.specs.Cores.{CoreLater}

@@ -1,5 +1,5 @@
 use Rattle.std.proofs.Common.{◌++◌, ◌∙◌, ap, refl, sym, subst}
-use Rattle.lat_report.specs.RefusedText.{refused_text, status}
+use Rattle.lat_wire.specs.report.RefusedText.{refused_text, status}
 use Rattle.lat_cmd.specs.Answers.{plain}
 use Rattle.lat_cmd.specs.Outcomes.{IsOutcome}
 use Rattle.lat_cmd.proofs.Forming.{is_plain}

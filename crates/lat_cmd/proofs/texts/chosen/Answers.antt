@@ -1,5 +1,5 @@
 use Rattle.std.proofs.Common.{refl}
-use Rattle.lat_choose.specs.ChooseOf.{choose_of}
+use Rattle.lat_show.specs.choice.ChooseOf.{choose_of}
 use Rattle.lat_cmd.proofs.Forming.{is_given}
 use Rattle.lat_cmd.proofs.texts.chosen.Goals as goal
 

@@ -1,8 +1,8 @@
 use Rattle.std.proofs.Common.{sym, subst}
 use Rattle.lat_machines.specs.values.Addresses.{address}
 use Rattle.lat_payload.specs.Frames.{Emits}
-use Rattle.lat_circuits.specs.Kept.{side_of}
-use Rattle.lat_circuits.specs.Stands.{Stands}
+use Rattle.lat_lines.specs.circuits.Kept.{side_of}
+use Rattle.lat_lines.specs.circuits.Stands.{Stands}
 use Rattle.lat_lines.specs.Opens.{reaches}
 use Rattle.lat_lines.proofs.opening.reach.Goals as goal
 

@@ -1,7 +1,7 @@
 use Rattle.std.proofs.Common.{sym, ap, ◌∙◌, refl}
 use Rattle.lat_machines.specs.server.Records.{grants_of}
 use Rattle.lat_queue.specs.Histories.{some_record}
-use Rattle.lat_report.specs.ReportText.{grant_text}
+use Rattle.lat_wire.specs.report.ReportText.{grant_text}
 use Rattle.lat_replay.specs.Requests.{place_text}
 use Rattle.lat_replay.proofs.Placed.{all_placed, texts_placed}
 use Rattle.lat_replay.proofs.grants.places_of.Goals as goal

@@ -2,7 +2,7 @@ use Rattle.std.proofs.Common.{sym, ap, ◌∙◌, take, arith}
 use Rattle.std.specs.List.{flat_map}
 use Rattle.std.proofs.lemmas.Grind.{elements}
 use Rattle.lat_queue.specs.Histories.{some_record}
-use Rattle.lat_report.specs.ReportText.{request_text}
+use Rattle.lat_wire.specs.report.ReportText.{request_text}
 use Rattle.lat_replay.specs.Requests.{request_rows}
 use Rattle.lat_replay.proofs.Asked.{requests_next}
 use Rattle.lat_replay.proofs.Texts.{more_text}

@@ -2,7 +2,7 @@ use Rattle.std.proofs.Common.{◌≡◌, ◌++◌, string_bytes, take}
 use Rattle.std.specs.List.{flat_map}
 use Rattle.lat_machines.specs.server.Server.{Server}
 use Rattle.lat_server.specs.Stands.{Stands}
-use Rattle.lat_report.specs.ReportText.{request_text}
+use Rattle.lat_wire.specs.report.ReportText.{request_text}
 use Rattle.lat_replay.specs.Requests.{request_rows}
 use Rattle.lat_replay.proofs.requests.requests_onto.Given as goal
 

@@ -1,5 +1,5 @@
 use Rattle.std.proofs.Common.{sym}
-use Rattle.lat_report.specs.Rows.{row_in}
+use Rattle.lat_wire.specs.report.Rows.{row_in}
 use Rattle.lat_laws.specs.tales.Reported.{server_figures, node_figures}
 use Rattle.lat_replay.specs.Rows.{figures_shown}
 use Rattle.lat_replay.proofs.Telling.{row_is}

@@ -2,7 +2,7 @@ use Rattle.std.proofs.Common.{◌≡◌, ◌++◌, string_bytes, take}
 use Rattle.lat_machines.specs.world.Machines.{Machines}
 use Rattle.lat_laws.specs.tales.Rows.{RowsAfter}
 use Rattle.lat_laws.specs.tales.Reported.{report_rows_from}
-use Rattle.lat_report.specs.ReportText.{rows_text}
+use Rattle.lat_wire.specs.report.ReportText.{rows_text}
 use Rattle.lat_replay.specs.Standing.{StandsFor}
 use Rattle.lat_replay.proofs.sessions.sessions_onto.Given as goal
 

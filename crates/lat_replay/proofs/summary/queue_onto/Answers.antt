@@ -1,7 +1,7 @@
 use Rattle.std.proofs.Common.{ap, ◌∙◌, ◌++◌}
 use Rattle.std.specs.List.{flat_map}
 use Rattle.lat_machines.specs.server.Records.{grants_of}
-use Rattle.lat_report.specs.ReportText.{grant_text}
+use Rattle.lat_wire.specs.report.ReportText.{grant_text}
 use Rattle.lat_replay.proofs.summary.queue_onto.Goals as goal
 
 pub returns : goal.returns

@@ -2,7 +2,7 @@ use Rattle.std.proofs.Common.{◌∙◌, ◌++◌, ap}
 use Rattle.std.specs.Prelude.{string_bytes}
 use Rattle.lat_machines.specs.world.Reports.{report}
 use Rattle.lat_replay.specs.Kept.{setups_of}
-use Rattle.lat_report.specs.ReportText.{report_text}
+use Rattle.lat_wire.specs.report.ReportText.{report_text}
 use Rattle.lat_settle.proofs.Printing.{lossless_so, prints_refused, prints_through}
 use Rattle.lat_settle.proofs.text.settle_onto.Goals as goal
 

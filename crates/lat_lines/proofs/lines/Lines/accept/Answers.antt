@@ -3,7 +3,7 @@ use Rattle.lat_model.specs.sessions.Calls.{Answer}
 use Rattle.lat_model.specs.ends.End.{lives}
 use Rattle.lat_machines.specs.cores.Cores.{Core}
 use Rattle.lat_queue.specs.Histories.{key_in}
-use Rattle.lat_circuits.specs.Stands.{calling}
+use Rattle.lat_lines.specs.circuits.Stands.{calling}
 use Rattle.lat_lines.specs.Kept.{Kept, side_of}
 use Rattle.lat_lines.specs.Stands.{Stands, freed_between}
 use Rattle.lat_lines.specs.Opens.{accepted_core}

@@ -9,8 +9,8 @@ use Rattle.lat_session.specs.declared.call.SessionCall.{SessionCall}
 use Rattle.lat_session.specs.declared.call.SessionCall.TheVariants.{Put, Set, Attend, Close}
 use Rattle.lat_session.specs.States.{is_free}
 use Rattle.lat_session.specs.Calls.{call_of, bytes_in}
-use Rattle.lat_circuits.specs.Stands.{calling}
-use Rattle.lat_circuits.specs.Info.{answer_at}
+use Rattle.lat_lines.specs.circuits.Stands.{calling}
+use Rattle.lat_lines.specs.circuits.Info.{answer_at}
 use Rattle.lat_lines.specs.Kept.{Kept, side_of}
 use Rattle.lat_lines.specs.Answers.{SimulatesCall, answer_shown, seat_or, ready}
 use Rattle.lat_lines.specs.Calls.{call_on, event_of, call_answer}

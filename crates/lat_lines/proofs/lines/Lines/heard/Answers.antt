@@ -3,8 +3,8 @@ use Rattle.std.proofs.lemmas.Bool.{and_parts}
 use Rattle.lat_machines.specs.values.Addresses.{address}
 use Rattle.lat_machines.specs.cores.Cores.{Core}
 use Rattle.lat_circuit.specs.Frames.{message_shown}
-use Rattle.lat_circuits.specs.Hears.{heard_core, hearing_shown}
-use Rattle.lat_circuits.specs.Kept.{has_id}
+use Rattle.lat_lines.specs.circuits.Hears.{heard_core, hearing_shown}
+use Rattle.lat_lines.specs.circuits.Kept.{has_id}
 use Rattle.lat_lines.specs.Calm.{CoreCalm, takes_nothing}
 use Rattle.lat_lines.specs.Kept.{Kept, side_of}
 use Rattle.lat_lines.specs.Shown.{shown}

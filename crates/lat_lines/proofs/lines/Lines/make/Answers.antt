@@ -4,8 +4,8 @@ use Rattle.lat_model.specs.Lists.{Each}
 use Rattle.lat_machines.specs.values.Addresses.{address}
 use Rattle.lat_machines.specs.cores.Cores.{open_core}
 use Rattle.lat_circuit.specs.Kept as circuit
-use Rattle.lat_circuits.specs.Kept.{Kept, side_of}
-use Rattle.lat_circuits.specs.Stands as stands
+use Rattle.lat_lines.specs.circuits.Kept.{Kept, side_of}
+use Rattle.lat_lines.specs.circuits.Stands as stands
 use Rattle.lat_lines.proofs.Standing.{stands_new}
 use Rattle.lat_lines.proofs.lines.Lines.make.Goals as goal
 

@@ -8,8 +8,8 @@ use Rattle.lat_machines.specs.cores.Cores.{Core, Side, Doing}
 use Rattle.lat_machines.specs.server.Server.{server_side, has_room, opens}
 use Rattle.lat_queue.specs.Histories.{some_key}
 use Rattle.lat_payload.specs.Frames.{Emits}
-use Rattle.lat_circuits.specs.Stands.{calling}
-use Rattle.lat_circuits.specs.Stands as stands
+use Rattle.lat_lines.specs.circuits.Stands.{calling}
+use Rattle.lat_lines.specs.circuits.Stands as stands
 use Rattle.lat_lines.specs.Kept.{Kept, side_of}
 use Rattle.lat_lines.specs.Later.{Leads}
 use Rattle.lat_lines.specs.Stands.{Stands}

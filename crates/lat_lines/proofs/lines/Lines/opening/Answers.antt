@@ -5,7 +5,7 @@ use Rattle.lat_model.specs.ends.End.{lives}
 use Rattle.lat_machines.specs.values.Addresses.{address}
 use Rattle.lat_machines.specs.cores.Cores.{circuit_to}
 use Rattle.lat_machines.specs.server.Server.{has_room}
-use Rattle.lat_circuits.specs.Opens.{id_or_zero}
+use Rattle.lat_lines.specs.circuits.Opens.{id_or_zero}
 use Rattle.lat_lines.specs.Stands.{Stands}
 use Rattle.lat_lines.specs.Shown.{shown}
 use Rattle.lat_lines.specs.declared.opening.OpenFault.TheVariants.{SessionsFull, CircuitsFull, IdsOut}

@@ -4,7 +4,7 @@ use Rattle.std.specs.Vec.{with_items}
 use Rattle.std.proofs.lemmas.List.{with_items_is}
 use Rattle.lat_model.specs.Lists.{Each}
 use Rattle.lat_queue.specs.Histories.{key_in}
-use Rattle.lat_circuits.specs.Stands as stands
+use Rattle.lat_lines.specs.circuits.Stands as stands
 use Rattle.lat_lines.specs.Cores.{Covers}
 use Rattle.lat_lines.specs.Kept.{Kept, Holds, IsLine}
 use Rattle.lat_lines.specs.Looks.{Looks, last_after, finished_after, freed_after}

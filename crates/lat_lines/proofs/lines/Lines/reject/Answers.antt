@@ -1,7 +1,7 @@
 use Rattle.std.proofs.Common.{◌≡◌, map, sym, subst}
 use Rattle.lat_model.specs.sessions.Calls.{Refuse}
 use Rattle.lat_queue.specs.Histories.{key_in}
-use Rattle.lat_circuits.specs.Stands.{calling}
+use Rattle.lat_lines.specs.circuits.Stands.{calling}
 use Rattle.lat_lines.specs.Kept.{Kept, side_of}
 use Rattle.lat_lines.specs.Stands.{Stands, freed_between}
 use Rattle.lat_lines.specs.Shown.{shown}

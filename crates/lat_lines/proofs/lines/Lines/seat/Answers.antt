@@ -3,7 +3,7 @@ use Rattle.std.specs.Option.{IfSome}
 use Rattle.std.proofs.lemmas.Bool.{true≢false}
 use Rattle.lat_queue.specs.Histories.{some_key}
 use Rattle.lat_stream.specs.Kept.{saturated}
-use Rattle.lat_circuits.specs.Info.{telling, telling_of}
+use Rattle.lat_lines.specs.circuits.Info.{telling, telling_of}
 use Rattle.lat_machines.specs.cores.Cores.{Seat}
 use Rattle.lat_lines.specs.declared.seat.Seat as own
 use Rattle.lat_lines.specs.Kept.{Kept, Holds, IsLine}

@@ -2,7 +2,7 @@ use Rattle.std.proofs.Common.{◌≡◌, [], length, min, sym, ap, ap₂, subst,
 use Rattle.std.proofs.lemmas.Grind.{common_steps}
 use Rattle.lat_model.specs.sessions.Calls.{Take}
 use Rattle.lat_machines.specs.cores.LineCalls.{take_on, on_line}
-use Rattle.lat_circuits.specs.Stands.{calling}
+use Rattle.lat_lines.specs.circuits.Stands.{calling}
 use Rattle.std.proofs.lemmas.Bool.{not-true}
 use Rattle.lat_session.specs.States.{is_free}
 use Rattle.lat_lines.specs.Kept.{Kept, side_of}

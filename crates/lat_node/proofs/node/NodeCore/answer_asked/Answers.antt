@@ -1,6 +1,6 @@
 use Rattle.std.proofs.Common.{◌≡◌, ◌∙◌, true, sym, subst}
 use Rattle.lat_machines.specs.node.Node.{asked_on}
-use Rattle.lat_circuits.specs.Kept.{has_id}
+use Rattle.lat_lines.specs.circuits.Kept.{has_id}
 use Rattle.lat_node.specs.Kept.{Kept, config_of}
 use Rattle.lat_node.specs.Shown.{shown}
 use Rattle.lat_node.specs.Stands.{Stands}

@@ -2,7 +2,7 @@ use Rattle.std.proofs.Common.{◌≡◌, sym, ap, ◌∙◌, subst, [], position
 use Rattle.lat_machines.specs.values.Addresses.{address}
 use Rattle.lat_machines.specs.values.Names.{Name, same}
 use Rattle.lat_machines.specs.node.Node as machine
-use Rattle.lat_circuits.proofs.Found.{finds_none}
+use Rattle.lat_lines.proofs.CircuitFound.{finds_none}
 use Rattle.lat_lines.specs.Answers.{answer_shown}
 use Rattle.lat_node.specs.Events.{Rated, ratings_for}
 use Rattle.lat_node.specs.Kept.{Kept, config_of}

@@ -1,6 +1,0 @@
-use Rattle.std.proofs.Common.{◌*◌, ◌^◌}
-use Rattle.std.proofs.Math.Nat.{mod-add-mod}
-use Rattle.lat_gen.proofs.generator.next.Goals as goal
-
-pub returns : goal.returns
-returns c = mod-add-mod (c.args.drawn * 6364136223846793005) (2 ^ 64) 1442695040888963407

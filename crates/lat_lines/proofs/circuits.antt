@@ -1,0 +1,14 @@
+pub mod Wires
+pub mod Places
+pub mod Ids
+pub mod Passing
+pub mod Begun
+pub mod Pushed
+pub mod Messages
+pub mod Calling
+pub mod Cleared
+pub mod Heard
+pub mod Called
+pub mod Named
+pub mod Answered
+pub mod Starts

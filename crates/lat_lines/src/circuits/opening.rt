@@ -1,0 +1,153 @@
+//! Circuits that a server calls.
+
+ghost use Rattle.std.specs.Prelude.{◌≡◌, ℕ, ◌≤◌, ◌<◌, ◌+◌, ◌&&◌, if◌then◌else◌, true, suc, cond, nat_eq, nat_lt};
+ghost use Rattle.std.specs.Prelude.{length, count_by, is_none, Ok, Err, IfSome};
+ghost use Rattle.std.specs.List.{find};
+ghost use Rattle.std.specs.Option.{option_map};
+ghost use Rattle.lat_model.specs.circuits.Arriving.{living};
+ghost use Rattle.lat_model.specs.sessions.Calls.{Connect};
+ghost use Rattle.lat_model.specs.sessions.Sessions.{held, least_free};
+ghost use Rattle.lat_model.specs.ends.End.{End, lives};
+ghost use Rattle.lat_machines.specs.values.Addresses.{address};
+ghost use Rattle.lat_machines.specs.cores.Cores.{Core, circuit_to};
+ghost use Rattle.lat_machines.specs.server.Server.{has_room};
+ghost use Rattle.lat_circuit.specs.Agrees.{IsTiming};
+ghost use Rattle.lat_circuit.specs.Kept.{Kept};
+ghost use Rattle.lat_circuit.specs.Stands as circuit_stands;
+ghost use Rattle.lat_lines.specs.circuits.Kept.{side_of, SameCore, SameCircuits, has_id, IsClear};
+ghost use Rattle.lat_lines.specs.circuits.Stands.{Stands, Simulates, calling};
+ghost use Rattle.lat_lines.specs.circuits.Info.{sessions_at};
+ghost use Rattle.lat_lines.specs.circuits.Opens.{id_or_zero, called_core};
+
+use crate::circuits::Circuits;
+use crate::circuits::hearing::is_to;
+use lat_base::{Addr, Name, OutBox};
+use lat_circuit::{Circuit, SessionFault};
+
+impl Circuits {
+    /// The id of the living circuit to a station, `None` where none lives.
+    pub fn to(&self, peer: Addr) -> Option<u16>
+        ensures model { (c : Core) → Stands self.now c →
+            id_or_zero result ≡ circuit_to c (address peer.0) }
+        ensures lives { (c : Core) → Stands self.now c →
+            IfSome result (λ id. lives (c.circuits.circuit_at id).end ≡ true) }
+    {
+        id_to(&self.held, peer)
+    }
+
+    /// How many circuits live, at most 8.
+    pub fn living(&self) -> usize
+        ensures model { (c : Core) → Stands self.now c → result ≡ living c.circuits }
+        ensures value { IsClear self.now → result ≡ length self.now.held }
+        ensures most { result ≤ 8 }
+    {
+        count_living(&self.held)
+    }
+
+    /// The last id drawn, 0 before the first. Ids end at 65,535.
+    pub fn drawn(&self) -> u16
+        ensures value { result ≡ self.now.drawn }
+        ensures model { (c : Core) → Stands self.now c → result ≡ c.circuits.drawn }
+    {
+        self.drawn
+    }
+
+    /// Whether a living circuit holds fewer sessions than were agreed. False where no circuit of this id lives.
+    pub fn has_room(&self, circuit: u16) -> bool
+        ensures { (c : Core) →
+            Stands self.now c →
+            result ≡ (lives (c.circuits.circuit_at circuit).end && has_room c circuit) }
+    {
+        match self.circuit(circuit) {
+            Some(held) => held.lives() && has_room(held),
+            None => false,
+        }
+    }
+
+    /// Calls a circuit to a station whose node has this name, and gives its id. Fewer than 8 must live, none that has ended may
+    /// be held, and fewer than 65,535 ids may be drawn. START is put into `out`. See "Calling" in docs/PROTOCOL.md.
+    pub fn call(&mut self, peer: Addr, node: &Name, out: &mut OutBox) -> u16
+        requires server { self.old.server ≡ true }
+        requires few { length self.old.held < 8 }
+        requires ids { self.old.drawn < 65535 }
+        requires room { length out.old + 16 ≤ 256 }
+        ensures did { Simulates (called_core (side_of self.old)
+            (address peer.0) node.now) self.old self.new out.old out.new }
+        ensures id { result ≡ suc self.old.drawn }
+        ensures drawn { self.new.drawn ≡ suc self.old.drawn }
+        ensures core { SameCore self.old self.new }
+        ensures moment { self.new.moment ≡ self.old.moment }
+        ensures clear { IsClear self.old → IsClear self.new }
+        ensures held { length self.new.held ≡ suc (length self.old.held) }
+        ensures ids { (x : ℕ) → has_id x self.old ≡ true → has_id x self.new ≡ true }
+        ensures timing { IsTiming self.old.timing }
+        ensures most { length out.new ≤ length out.old + 1 }
+    {
+        let config = self.config_to(peer, *node);
+        let id = self.drawn + 1;
+        let Some(room) = self.rooms.pop() else {
+            unreachable!()
+        };
+        let circuit = Circuit::call_in(room, &config, id, self.moment, out);
+        self.held.push_reserved(circuit);
+        self.drawn = id;
+        id
+    }
+
+    /// Asks for a session with a service on a living circuit, which may answer a request, and gives its id. `Full` exactly where
+    /// no such circuit lives or `has_room` is false. At a server alone.
+    pub fn connect(
+        &mut self,
+        circuit: u16,
+        service: &Name,
+        request: Option<u16>,
+    ) -> Result<u8, SessionFault>
+        requires server { self.old.server ≡ true }
+        ensures answer { (c : Core) →
+            Stands self.old c →
+            result ≡ (if lives (c.circuits.circuit_at circuit).end && has_room c circuit
+            then Ok (least_free (sessions_at c circuit))
+            else Err SessionFault.Full) }
+        ensures state { (c : Core) →
+            Stands self.old c →
+            Stands self.new (calling (side_of self.old) circuit (Connect service.now request) c) }
+        ensures same { SameCircuits self.old self.new }
+        ensures clear { IsClear self.old → IsClear self.new }
+    {
+        let at = self.living_at(circuit).ok_or(SessionFault::Full)?;
+        let circuit = &mut self.held[at];
+        circuit.connect(service, request)
+    }
+}
+
+// The id of the living circuit to a station.
+fn id_to(held: &[Circuit], peer: Addr) -> Option<u16>
+    ensures { result ≡ option_map (λ (q : Kept). q.facts.id)
+        (find (λ (q : Kept). is_none q.ended
+        && nat_eq (address q.facts.config.peer.0) (address peer.0)) held.now) }
+{
+    let found = held
+        .iter()
+        .find(|circuit| is_alive(circuit) && is_to(circuit, peer))?;
+    Some(found.id())
+}
+
+fn count_living(held: &[Circuit]) -> usize
+    ensures { result ≡ count_by (λ (q : Kept). is_none q.ended) held.now }
+{
+    held.iter().filter(|circuit| is_alive(circuit)).count()
+}
+
+fn is_alive(circuit: &Circuit) -> bool
+    ensures { result ≡ is_none circuit.now.ended }
+{
+    circuit.lives()
+}
+
+fn has_room(circuit: &Circuit) -> bool
+    ensures { (e : End) →
+        circuit_stands.Stands circuit.now e →
+        result ≡ nat_lt (held e.half.sessions) e.half.sessions.agreed }
+{
+    circuit.held() < circuit.agreed()
+}

@@ -1,8 +1,0 @@
-use Rattle.lat_rates.specs.Ratings.{flat}
-use Rattle.lat_tariff.specs.Rules.{IsKnown}
-use Rattle.lat_tariff.specs.Tariffs.{AreKnown}
-use Rattle.lat_rates.specs.declared.rules.Flat.{Flat}
-use Rattle.lat_rates.proofs.script.play_many.Given as goal
-
-abbrev pub invariant-loop-rating : goal.invariant-loop-rating
-invariant-loop-rating l = AreKnown (λ (r : Flat). IsKnown (Unit {0}) (flat r.rating)) l.rules.items

@@ -1,6 +1,0 @@
-use Rattle.std.proofs.Common.{arith}
-use Rattle.std.proofs.lemmas.Grind.{common_steps}
-use Rattle.lat_report.proofs.rows.item_onto.Goals as goal
-
-pub returns-in_ok-hex_onto-in-Set : goal.returns-in_ok-hex_onto-in-Set
-returns-in_ok-hex_onto-in-Set c = grind (arith, common_steps)

@@ -1,0 +1,47 @@
+//! Plays written scripts over what takes a role besides the server's and the node's: a node with a tariff, and a switch with a
+//! node. Its stored run (`stdin`, `stdout`) is how the worked examples of tariffs and of a switch are seen to hold: what stands in
+//! `stdout` was worked out by hand from the rules in docs/PROTOCOL.md, "Tariffs", and docs/FORMATS.md, "Notices" and "Schedules".
+//!
+//! A script is a list of blocks with a line `---` between them. Each begins anew.
+//!
+//! A block whose first line isn't a title has a node `VAX1` at aa0004000204 in its incarnation 1, with an announcement timer of 30
+//! and no groups. Each of its lines is printed behind `> `, and then what it makes: of each frame that belongs to no circuit the
+//! address that it goes to and its payload, in hex. An empty line is printed behind it.
+//!
+//! | First line of a block | Makes |
+//! |---|---|
+//! | `two LINES` | a node of so many lines, 1 to 64, whose tariff has a rule of its own type for each of two services: `LOGIN` is rated 20 for each line that is free, at most 255, and `PRINT` 9 where a line is free |
+//! | `many LINES` | a node with 32 services, `N01` to `N32`, each rated by its number where a line is free |
+//!
+//! | Other line | Does |
+//! |---|---|
+//! | `announce` | announces |
+//! | `hear HEX` | hears a payload from aa0004000104 at moment 0 |
+//!
+//! LINES is a number in decimal, 255 at most, without a sign or a needless 0. A block with another word there is not played, and of a
+//! line `hear` with an odd number of hex digits nothing is done: `line N word M isn't a number up to 255` or
+//! `line N word M isn't hex digits` is printed, with the numbers of the line in the script and of its word, both counted from 1.
+//!
+//! A title begins with `#` and is printed as it is. What follows it is a schedule: the switch is made of the server's line, with at
+//! most 8 lines and without its offers. Of each event that one of the two is told the line itself is printed behind `> `, then what
+//! it is answered, and for an event of a line of the switch the inner line that the line shows, the state of its session, and how
+//! many items wait. Other events do nothing. All frames are delivered at once, in the order in which they are made, at the latest
+//! moment so far; what is answered to them isn't printed. A block whose schedule isn't one is not played: `line N form` is printed,
+//! N the first wrong line of the schedule, counted from 1, or `line N limit events`.
+#![tactic(auto)]
+
+mod script;
+mod switch;
+mod tariff;
+
+use lat_outside::{StdSink, StdSource};
+use lat_script::run;
+use script::played;
+use std::io;
+use std::process::ExitCode;
+
+fn main(rt: HostRuntime) -> ExitCode {
+    let mut source = StdSource::new(rt.stdin());
+    let mut sink = StdSink::new(io::writer(&rt));
+    ExitCode::from(run(rt.alloc(), played, &mut source, &mut sink))
+}

@@ -1,0 +1,117 @@
+//! Blocks over a node with a tariff.
+
+mod play;
+mod rules;
+
+ghost use Rattle.std.specs.Prelude.{◌≡◌, true, is_ok};
+ghost use Rattle.lat_base.specs.Names.{name_read};
+ghost use Rattle.lat_tariff.specs.Tariffs.{AreKnown};
+
+use crate::tariff::play::Play;
+use crate::tariff::rules::{ByRoom, Flat, Unseen};
+use lat_base::{Addr, Bytes, Memory, Name};
+use lat_lines::Timing;
+use lat_script::{Part, ScriptFault, byte, refused_onto, word};
+use lat_tariff::{NodeConfig, Rule, SteadyRule, Tariff, TariffCore, are_apart};
+use std::alloc::Global;
+
+const NODE: Addr = Addr([0xaa, 0x00, 0x04, 0x00, 0x02, 0x04]);
+
+const USUAL: Timing = Timing {
+    timer: 8,
+    keepalive: 20,
+    sessions: 8,
+    extra: 7,
+    ceiling: 4,
+    wide: false,
+};
+
+// The name that these bytes are.
+fn name(bytes: &[u8]) -> Name
+    requires { is_ok (name_read bytes.now) ≡ true }
+{
+    let Ok(name) = Name::read(bytes) else {
+        unreachable!()
+    };
+    name
+}
+
+// One rule more.
+fn add<R: SteadyRule>(rules: &mut Vec<Rule<R>>, service: &[u8], rule: R) -> Result<(), Memory>
+    requires known { AreKnown R.fact rules.old.items }
+    requires fact { R.fact rule }
+    requires named { is_ok (name_read service.now) ≡ true }
+    ensures known { AreKnown R.fact rules.new.items }
+{
+    rules.push(Rule {
+        name: name(service),
+        rule,
+    })?;
+    Ok(())
+}
+
+// A node of so many lines with these rules, and what is done at it.
+fn play_rules<R: SteadyRule>(
+    alloc: Global,
+    rules: Vec<Rule<R>>,
+    lines: u8,
+    block: Part,
+    text: &mut String,
+) -> Result<(), Memory>
+    requires { AreKnown R.fact rules.items }
+{
+    if rules.is_empty() || rules.len() > 32 || !are_apart(rules.as_slice()) {
+        write!(text, "no tariff\n")?;
+        return Ok(());
+    }
+    let tariff = Tariff::make(rules);
+    let config = NodeConfig {
+        own: NODE,
+        name: name(b"VAX1"),
+        incarnation: 1,
+        lines: lines.clamp(1, 64),
+        services: tariff.names(alloc)?,
+        timer: 30,
+        groups: Bytes::copy(alloc, &[])?,
+        timing: USUAL,
+    };
+    let core = TariffCore::make(alloc, &config, Unseen, tariff)?;
+    Play::new(core).act_all(alloc, block, text)
+}
+
+// Two services, by rules of two types.
+fn play_two(alloc: Global, lines: u8, block: Part, text: &mut String) -> Result<(), Memory> {
+    let login: Box<dyn SteadyRule + Send> = Box::new(alloc, ByRoom)?;
+    let print: Box<dyn SteadyRule + Send> = Box::new(alloc, Flat { rating: 9 })?;
+    let mut rules = Vec::new(alloc);
+    add(&mut rules, b"LOGIN", login)?;
+    add(&mut rules, b"PRINT", print)?;
+    play_rules(alloc, rules, lines, block, text)
+}
+
+// 32 services.
+fn play_many(alloc: Global, lines: u8, block: Part, text: &mut String) -> Result<(), Memory> {
+    let mut rules = Vec::new(alloc);
+    for rating in 1..33_u8 {
+        let service = [b'N', b'0' + rating / 10, b'0' + rating % 10];
+        add(&mut rules, &service, Flat { rating })?;
+    }
+    play_rules(alloc, rules, lines, block, text)
+}
+
+// What one block does.
+fn play_block(alloc: Global, block: Part, text: &mut String) -> Result<(), ScriptFault> {
+    let first = block.text.lines().next().unwrap_or("");
+    match word(first, 0) {
+        "two" => Ok(play_two(alloc, byte(first, 1)?, block, text)?),
+        "many" => Ok(play_many(alloc, byte(first, 1)?, block, text)?),
+        _ => Ok(()),
+    }
+}
+
+/// What a block does, printed.
+pub fn block_onto(alloc: Global, block: Part, text: &mut String) -> Result<(), Memory> {
+    let done = play_block(alloc, block, text);
+    refused_onto(text, block.first, done)?;
+    Ok(text.push_str("\n")?)
+}
