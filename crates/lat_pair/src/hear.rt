@@ -7,6 +7,7 @@ use crate::station::Station;
 use lat_base::{Addr, Answer, Bytes, EVERYONE, Event, Memory, Name, OutBox, Payload};
 use lat_script::{ScriptFault, address, bytes, name, number, short, word};
 use std::alloc::Global;
+use std::ops::Range;
 
 /// Where the announcements of `announcers` and the commands of `askers` come from.
 const ANNOUNCERS: Addr = Addr([0x02, 0x00, 0x00, 0x00, 0x00, 0x0a]);
@@ -101,6 +102,18 @@ impl<S: Station, N: Station> Play<S, N> {
         Ok(self.hear(alloc, side_at(line, 1), from, &payload, now, text)?)
     }
 
+    // Hands the server the announcements of so many nodes; its last answer.
+    fn announce_all(&mut self, alloc: Global, nodes: u16) -> Result<Answer, Memory> {
+        let mut out = OutBox::make(alloc)?;
+        let mut last = Answer::Done;
+        for number in 0..nodes {
+            let payload = announcement(alloc, number)?;
+            let (server, now) = (&mut self.server, self.latest);
+            last = hand(alloc, server, ANNOUNCERS, &payload, now, &mut out)?;
+        }
+        Ok(last)
+    }
+
     /// Hands the server the announcements of nodes N1, N2 and so on.
     pub fn announcers(
         &mut self,
@@ -108,21 +121,25 @@ impl<S: Station, N: Station> Play<S, N> {
         line: &str,
         text: &mut String,
     ) -> Result<(), ScriptFault> {
-        let nodes = short(line, 1)?;
+        let last = self.announce_all(alloc, short(line, 1)?)?;
+        Ok(answer_onto(alloc, text, &last)?)
+    }
+
+    // Hands the server the commands of these requests below 65,536, all of one service; its last answer.
+    fn ask_all(
+        &mut self,
+        alloc: Global,
+        requests: Range<u64>,
+        service: &Name,
+    ) -> Result<Answer, Memory> {
         let mut out = OutBox::make(alloc)?;
         let mut last = Answer::Done;
-        for number in 0..nodes {
-            let payload = announcement(alloc, number)?;
-            last = hand(
-                alloc,
-                &mut self.server,
-                ANNOUNCERS,
-                &payload,
-                self.latest,
-                &mut out,
-            )?;
+        for request in requests.start..requests.end.min(65_536) {
+            let payload = command(alloc, request as u16, service)?;
+            let (server, now) = (&mut self.server, self.latest);
+            last = hand(alloc, server, ANNOUNCERS, &payload, now, &mut out)?;
         }
-        Ok(answer_onto(alloc, text, &last)?)
+        Ok(last)
     }
 
     /// Hands the server the commands of a node's requests from one number up to another, all of one service.
@@ -132,23 +149,11 @@ impl<S: Station, N: Station> Play<S, N> {
         line: &str,
         text: &mut String,
     ) -> Result<(), ScriptFault> {
-        let (first, end) = (number(line, 1)?, number(line, 2)?.min(65_536));
+        let requests = number(line, 1)?..number(line, 2)?;
         let Some(service) = name(line, 3) else {
             return Ok(text.push_str("no name\n")?);
         };
-        let mut out = OutBox::make(alloc)?;
-        let mut last = Answer::Done;
-        for request in first..end {
-            let payload = command(alloc, request as u16, &service)?;
-            last = hand(
-                alloc,
-                &mut self.server,
-                ANNOUNCERS,
-                &payload,
-                self.latest,
-                &mut out,
-            )?;
-        }
+        let last = self.ask_all(alloc, requests, &service)?;
         Ok(answer_onto(alloc, text, &last)?)
     }
 }

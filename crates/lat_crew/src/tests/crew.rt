@@ -1,6 +1,6 @@
 //! The workers of a cell in threads.
 
-ghost use Rattle.std.specs.Prelude.{◌≡◌};
+ghost use Rattle.std.specs.Prelude.{◌≡◌, IfSome};
 ghost use Rattle.lat_history.specs.Ledgers.{AreBlanks};
 
 use super::cores::LINES;
@@ -128,6 +128,41 @@ struct AllBack<'a, E: Ledger, B: Ledger, F: Ledger, R: Clock> {
     two: Back<'a, E, B, F, R>,
 }
 
+// The shares of the seats of a cell of two lines.
+#[derive(Drop)]
+struct Seats<E: Ledger, B: Ledger, F: Ledger> {
+    wire: LineShare<E, B, F>,
+    one: LineShare<E, B, F>,
+    two: LineShare<E, B, F>,
+    clock: LineShare<E, B, F>,
+}
+
+// Takes the last two shares out, in order.
+fn last_two<E: Ledger, B: Ledger, F: Ledger>(
+    shares: &mut Vec<LineShare<E, B, F>>,
+) -> Option<(LineShare<E, B, F>, LineShare<E, B, F>)> {
+    let last = shares.pop()?;
+    Some((shares.pop()?, last))
+}
+
+// Each share at its seat, where there are four and they stand in order.
+fn seats_of<E: Ledger, B: Ledger, F: Ledger>(shares: Shares<E, B, F>) -> Option<Seats<E, B, F>>
+    ensures { IfSome result (λ s. (s.wire.seat ≡ 0) × (s.clock.seat ≡ 65)) }
+{
+    let mut shares = shares.into_vec();
+    let (two, clock) = last_two(&mut shares)?;
+    let (wire, one) = last_two(&mut shares)?;
+    if wire.seat() != 0 || clock.seat() != 65 {
+        return None;
+    }
+    Some(Seats {
+        wire,
+        one,
+        two,
+        clock,
+    })
+}
+
 // All workers at once.
 fn at_once<
     'a,
@@ -141,13 +176,16 @@ fn at_once<
 >(
     place: &Place<'a, N, R>,
     cell: &Mutex<Cell<C, T, E, B, F>>,
-    wire: LineShare<E, B, F>,
-    one: LineShare<E, B, F>,
-    two: LineShare<E, B, F>,
-    clock: LineShare<E, B, F>,
+    seats: Seats<E, B, F>,
 ) -> AllBack<'a, E, B, F, R>
-    requires { (wire.seat ≡ 0) × (clock.seat ≡ 65) }
+    requires { (seats.wire.seat ≡ 0) × (seats.clock.seat ≡ 65) }
 {
+    let Seats {
+        wire,
+        one,
+        two,
+        clock,
+    } = seats;
     let ((wire, clock), (one, two)) = thread::join(
         place.rt,
         move ||
@@ -169,6 +207,28 @@ fn at_once<
     }
 }
 
+// Whether what came back is right: of each line, of the shares, and of both together.
+fn came_of<C: Core, T: Tx, E: Ledger, B: Ledger, F: Ledger, R: Clock>(
+    cell: &Cell<C, T, E, B, F>,
+    all: AllBack<'_, E, B, F, R>,
+) -> Came {
+    let AllBack {
+        wire,
+        clock,
+        one,
+        two,
+    } = all;
+    let back = one.line.is_back() && two.line.is_back();
+    let ended = one.done == LineDone::End && two.done == LineDone::End;
+    let shares = [wire, one.share, two.share, clock];
+    Came {
+        back,
+        ended,
+        audited: cell.audit(&shares).is_ok(),
+        summed: events_of(&shares) == cell.history().len() as u64,
+    }
+}
+
 // Works a cell of two lines with all its shares, and looks at what came back.
 fn work<
     'a,
@@ -180,30 +240,10 @@ fn work<
     F: Ledger + Sync,
     R: Threads + Wait + Clock + Sync,
 >(place: &Place<'a, N, R>, cell: Cell<C, T, E, B, F>, shares: Shares<E, B, F>) -> Option<Came> {
-    let mut shares = shares.into_vec();
-    let (clock, two, one, wire) = (shares.pop()?, shares.pop()?, shares.pop()?, shares.pop()?);
-    if wire.seat() != 0 || clock.seat() != 65 {
-        return None;
-    }
+    let seats = seats_of(shares)?;
     let cell = Mutex::new(cell);
-    let AllBack {
-        wire,
-        clock,
-        one,
-        two,
-    } = at_once(place, &cell, wire, one, two, clock);
-    let back = one.line.is_back() && two.line.is_back();
-    let ended = one.done == LineDone::End && two.done == LineDone::End;
-    for share in [wire, one.share, two.share, clock] {
-        shares.push(share).ok()?;
-    }
-    let cell = cell.into_inner();
-    Some(Came {
-        back,
-        ended,
-        audited: cell.audit(shares.as_slice()).is_ok(),
-        summed: events_of(shares.as_slice()) == cell.history().len() as u64,
-    })
+    let all = at_once(place, &cell, seats);
+    Some(came_of(&cell.into_inner(), all))
 }
 
 // How many events the shares say.

@@ -133,13 +133,11 @@ fn real<
     Ok(came.status)
 }
 
-fn pair<
+// The node, and what the lines pass on meanwhile.
+fn node_and_lines<
     E: Ledger + Sync,
     B: Ledger + Sync,
     F: Ledger + Sync,
-    P: Ledger + Sync,
-    Q: Ledger + Sync,
-    S: Ledger + Sync,
     R: Threads
         + Wait
         + Net<Listener = TcpListener, Stream = TcpStream>
@@ -147,24 +145,15 @@ fn pair<
         + Copy
         + Send
         + Sync,
->(
-    rt: &R,
-    alloc: Global,
-    case: Case,
-    blanks: Blanks,
-    others: Blanks,
-) -> (Result<u8, Memory>, Result<u8, Memory>)
-    requires blanks { AreBlanks blanks E.name E.parts B.name B.parts F.name F.parts }
-    requires others { AreBlanks others P.name P.parts Q.name Q.parts S.name S.parts }
+>(rt: &R, alloc: Global, case: Case, blanks: Blanks) -> (Result<u8, Memory>, io::Result<bool>)
+    requires { AreBlanks blanks E.name E.parts B.name B.parts F.name F.parts }
 {
     thread::join(
         rt,
         move ||
             requires { AreBlanks blanks E.name E.parts B.name B.parts F.name F.parts }
-        { real::<E, B, F, R>(rt, alloc, case.server, blanks) },
-        move ||
-            requires { AreBlanks others P.name P.parts Q.name Q.parts S.name S.parts }
-        { real::<P, Q, S, R>(rt, alloc, case.node, others) },
+        { real::<E, B, F, R>(rt, alloc, case.node, blanks) },
+        move || passed(rt, case.first),
     )
 }
 
@@ -186,13 +175,14 @@ fn session<
     requires blanks { AreBlanks blanks E.name E.parts B.name B.parts F.name F.parts }
     requires others { AreBlanks others P.name P.parts Q.name Q.parts S.name S.parts }
 {
-    let ((server, node), is_passed) = thread::join(
+    let (server, (node, is_passed)) = thread::join(
         rt,
         move ||
-            requires { AreBlanks blanks E.name E.parts B.name B.parts F.name F.parts
-                × AreBlanks others P.name P.parts Q.name Q.parts S.name S.parts }
-        { pair::<E, B, F, P, Q, S, R>(rt, alloc, case, blanks, others) },
-        move || passed(rt, case.first),
+            requires { AreBlanks blanks E.name E.parts B.name B.parts F.name F.parts }
+        { real::<E, B, F, R>(rt, alloc, case.server, blanks) },
+        move ||
+            requires { AreBlanks others P.name P.parts Q.name Q.parts S.name S.parts }
+        { node_and_lines::<P, Q, S, R>(rt, alloc, case, others) },
     );
     Ended {
         server,
