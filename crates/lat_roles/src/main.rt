@@ -1,8 +1,10 @@
 //! Plays written scripts over what takes a role besides the server's and the node's: a node with a tariff, and a switch with a
 //! node. Its stored run (`stdin`, `stdout`) is how the worked examples of tariffs and of a switch are seen to hold: what stands in
-//! `stdout` was worked out by hand from the rules in docs/PROTOCOL.md, "Tariffs", and docs/FORMATS.md, "Notices" and "Schedules".
+//! `stdout` was worked out from the rules in docs/PROTOCOL.md, "Tariffs" and "Several sessions on one line", and docs/FORMATS.md,
+//! "Slots, notices, circuit messages" and "Schedules".
 //!
-//! A script is a list of blocks with a line `---` between them. Each begins anew.
+//! A script is a list of blocks with a line `---` between them. Each begins anew. A block whose first line is none of those below
+//! is not played: `no block` is printed.
 //!
 //! A block whose first line isn't a title has a node `VAX1` at aa0004000204 in its incarnation 1, with an announcement timer of 30
 //! and no groups. Each of its lines is printed behind `> `, and then what it makes: of each frame that belongs to no circuit the

@@ -105,7 +105,7 @@ fn play_block(alloc: Global, block: Part, text: &mut String) -> Result<(), Scrip
     match word(first, 0) {
         "two" => Ok(play_two(alloc, byte(first, 1)?, block, text)?),
         "many" => Ok(play_many(alloc, byte(first, 1)?, block, text)?),
-        _ => Ok(()),
+        _ => Ok(text.push_str("no block\n")?),
     }
 }
 
