@@ -1,6 +1,7 @@
 //! One event, under one hold of the lock.
 
-ghost use Rattle.std.specs.Prelude.{◌≡◌, ◌≢◌, ◌+◌, ◌<◌, ◌++◌, ◌≤◌, ◌∷◌, [], length, vec_len, vec_capacity, true, Some, Err, IfOk, OnOk, OnErr};
+ghost use Rattle.std.specs.Prelude.{◌≡◌, ◌≢◌, ◌+◌, ◌<◌, ◌++◌, ◌≤◌, ◌∷◌, [], length, vec_len, vec_capacity, true, Some, None, Err, IfOk, IfSome, OnOk, OnErr};
+ghost use Rattle.lat_base.specs.Answers.{items_asked};
 ghost use Rattle.lat_history.specs.CellView.{AreFull, IsRefused, SameFull, with_event};
 ghost use Rattle.lat_history.specs.Counts.{seat_of, bytes_in, put_of, put_by, past, ShowsLimit, IsFullAt, MayAdd};
 ghost use Rattle.lat_history.specs.History.{Grew, SameBefore, state_of};
@@ -9,7 +10,7 @@ use crate::cell::{BYTES, Cell, MOST};
 use crate::fault::{CellFault, FullAt, Receipt};
 use crate::past::{Past, bytes, put};
 use crate::share::LineShare;
-use lat_base::{Core, Event, ItemsMemory, Memory, OutFrame};
+use lat_base::{Answer, Core, Event, ItemsMemory, Memory, OutFrame};
 use lat_outside::Tx;
 use std::alloc::Global;
 use std::sync::ledger::Ledger;
@@ -25,6 +26,73 @@ impl<C: Core, T: Tx, E: Ledger, B: Ledger, F: Ledger> Cell<C, T, E, B, F> {
         let Cell { full, fulls, .. } = self;
         share.refused(fulls);
         *full = full.or(Some(at));
+    }
+
+    // What the history keeps, where an event finds no room.
+    fn no_room(&self, event: &Event) -> Option<FullAt>
+        ensures none { result ≡ None → MayAdd self.now.history event.now }
+        ensures some { IfSome result (IsFullAt self.now.history event.now) }
+    {
+        let more = bytes(event);
+        let place = self.history.len();
+        if place < MOST && more <= BYTES - self.kept {
+            return None;
+        }
+        Some(FullAt {
+            events: place as u64,
+            bytes: self.kept,
+            more,
+        })
+    }
+
+    // Applies an event for which there is room.
+    fn apply_with_room(
+        &mut self,
+        alloc: Global,
+        event: Event,
+        share: &mut LineShare<E, B, F>,
+    ) -> Result<Receipt, Memory>
+        requires { MayAdd self.old.history event }
+        ensures history { IfOk result (λ r.
+            self.new.history ≡ self.old.history ++ past event r.answer ∷ []) }
+        ensures place { IfOk result (λ r. r.place ≡ length self.old.history) }
+        ensures answer { IfOk result (λ r.
+            r.answer ≡ C.answer (state_of C.opening C.next self.old) event) }
+        ensures opening { C.opening self.new.core ≡ C.opening self.old.core }
+        ensures before { SameBefore (T.tried self.old.tx) self.old.sent (T.tried self.new.tx) self.new.sent }
+        ensures share { IfOk result (λ r. share.new ≡ with_event share.old (put_of r.answer)) }
+        ensures put { IfOk result (λ r. put_of r.answer ≤ put_by event) }
+        ensures stopping { self.new.stopping ≡ self.old.stopping }
+        ensures room_left { SameFull self.old self.new }
+        ensures memory { OnErr result ((share.new ≡ share.old) × (self.new ≡ self.old)) }
+    {
+        let more = bytes(&event);
+        let place = self.history.len();
+        let Cell {
+            core,
+            tx,
+            sent,
+            history,
+            kept,
+            out,
+            events,
+            bytes,
+            ..
+        } = self;
+        let room = room_for(alloc, &event, history)?;
+        let answer = core.step(alloc, &event, out)?;
+        let frames = out.frames();
+        *sent += frames.len() as u64;
+        send_all(tx, frames);
+        out.clear();
+        let copy = answer.copy_in(room);
+        share.count(events, bytes, put(&answer));
+        keep(history, event, copy);
+        *kept += more;
+        Ok(Receipt {
+            place: place as u64,
+            answer,
+        })
     }
 
     /// Applies an event of the share's seat, hands its frames to the carrier (a send that fails is a lost frame), and keeps
@@ -65,46 +133,11 @@ impl<C: Core, T: Tx, E: Ledger, B: Ledger, F: Ledger> Cell<C, T, E, B, F> {
         ensures err { OnErr result ((self.new.core ≡ self.old.core)
             × (self.new.history ≡ self.old.history)) }
     {
-        let more = bytes(&event);
-        let place = self.history.len();
-        if place >= MOST || more > BYTES - self.kept {
-            let at = FullAt {
-                events: place as u64,
-                bytes: self.kept,
-                more,
-            };
+        if let Some(at) = self.no_room(&event) {
             self.refuse(at, share);
             return Err(CellFault::Full(at));
         }
-        let Cell {
-            core,
-            tx,
-            sent,
-            history,
-            kept,
-            out,
-            events,
-            bytes,
-            ..
-        } = self;
-        let room = ItemsMemory::take(alloc, event.asked())?;
-        reserved(history)?;
-        let answer = core.step(alloc, &event, out)?;
-        let frames = out.frames();
-        *sent += frames.len() as u64;
-        send_all(tx, frames);
-        out.clear();
-        let copy = answer.copy_in(room);
-        share.count(events, bytes, put(&answer));
-        history.push_reserved(Past {
-            event,
-            answer: copy,
-        });
-        *kept += more;
-        Ok(Receipt {
-            place: place as u64,
-            answer,
-        })
+        Ok(self.apply_with_room(alloc, event, share)?)
     }
 }
 
@@ -117,12 +150,20 @@ fn send_all<T: Tx>(tx: &mut T, frames: &[OutFrame])
     }
 }
 
-// Makes room for one more.
-fn reserved(history: &mut Vec<Past>) -> Result<(), Memory>
-    ensures items { history.new.items ≡ history.old.items }
-    ensures len { vec_len history.new ≡ vec_len history.old }
-    ensures ok { OnOk result (vec_len history.new < vec_capacity history.new) }
+// Makes room for an event, and gives that for the items that its answer may have.
+fn room_for(alloc: Global, event: &Event, history: &mut Vec<Past>) -> Result<ItemsMemory, Memory>
+    ensures history { history.new.items ≡ history.old.items }
+    ensures more { OnOk result (vec_len history.new < vec_capacity history.new) }
+    ensures items { IfOk result (λ room. items_asked event.now ≤ room) }
 {
     history.reserve(1)?;
-    Ok(())
+    ItemsMemory::take(alloc, event.asked())
+}
+
+// Keeps an event with its answer, behind all others.
+fn keep(history: &mut Vec<Past>, event: Event, answer: Answer)
+    requires { vec_len history.old < vec_capacity history.old }
+    ensures { history.new.items ≡ history.old.items ++ past event answer ∷ [] }
+{
+    history.push_reserved(Past { event, answer });
 }

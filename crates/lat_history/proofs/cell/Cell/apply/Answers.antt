@@ -1,51 +1,6 @@
-use Rattle.std.proofs.Common.{◌∙◌, ap, refl, ◌++◌, ◌∷◌, [], ◌≡◌, ◌+◌, length, length-append, arith}
-use Rattle.std.proofs.lemmas.List.Sums.{sum_by_push}
-use Rattle.std.proofs.lemmas.Grind.{common_steps}
-use Rattle.lat_history.specs.Counts.{past, put_in, bytes_in, bytes_put, history_bytes}
-use Rattle.lat_history.specs.History.{FramesOf, run_of}
-use Rattle.lat_history.proofs.OneMore.{one_more, last_more, frames_of-push}
+use Rattle.std.proofs.Common.{refl}
 use Rattle.lat_history.proofs.cell.Cell.apply.Goals as goal
 
-pub invariant_of-self-2 : goal.invariant_of-self-2
-invariant_of-self-2 g c =
-    let m = g.C.Core in
-    let told = g.T.Tx.tried in
-    let old = c.self.inside in
-    let step = c.in_ok-answer.ensures in
-    let s = m.opening old.core in
-    let h = old.history.items in
-    let p = past c.args.event c.in_ok-answer.answer in
-    let now = c.push_reserved.ensures.items ∙ (λ i. c.reserved.ensures.items i ++ past c.args.event (c.copy_in-copy.ensures i) ∷ []) in
-    let more : length c.push_reserved.new.self.items ≡ length h + 1 = ap length now ∙ length-append h (p ∷ []) in (
-      one_more m.made m.opening m.stands m.next m.answer old.core c.step.new.self h c.args.event c.in_ok-answer.answer c.push_reserved.new.self.items
-          c.self.invariant.0 step.opening step.state step.answer now,
-      rw (step.opening, now) (last_more (told old.tx) (told c.send_all.new.tx) old.sent c.frames-frames.result.now (FramesOf m.next m.frames s h) (FramesOf m.next m.frames s (h ++ p ∷ []))
-          c.self.invariant.1 c.send_all.ensures
-          (λ xs q.
-          let f : m.frames (run_of m.next s h) c.args.event c.frames-frames.result.now = rw c.frames-frames.ensures.value (step.frames (run_of m.next s h) c.self.invariant.0.run) in
-          frames_of-push m.next m.frames s h p xs c.frames-frames.result.now q f)),
-      step.valid,
-      record {
-        events = omega (arith, c.count.ensures.books.0, c.self.invariant.3.events, more);
-        bytes = omega (arith, c.count.ensures.books.1, c.self.invariant.3.bytes, c.put.ensures, ap bytes_put now ∙ sum_by_push put_in h p);
-        most = omega (arith, c.count.ensures.books.1, c.self.invariant.3.most, c.put.ensures, c.put.type_inv, more);
-      },
-      record {
-        events = omega (arith, c.len-place.ensures, c.if-place-ge-MOST.false, more);
-        bytes = omega (arith, c.self.invariant.4.bytes, c.bytes-more.ensures, ap history_bytes now ∙ sum_by_push (λ q. bytes_in q.event) h p);
-        most = omega (arith, c.self.invariant.4.most, c.if-more-self.false);
-        frames = omega (arith, c.self.invariant.4.frames, c.frames-frames.ensures.most, ap length c.frames-frames.ensures.value, more);
-      },
-      c.self.invariant.5,
-      c.clear.ensures,
-    )
-
 -- it was refused so
-pub returns-then-place-ge-MOST-clause-no_room : goal.returns-then-place-ge-MOST-clause-no_room
-returns-then-place-ge-MOST-clause-no_room g c = λ no. absurd (no _ refl)
-
-pub push_reserved-requires : goal.push_reserved-requires
-push_reserved-requires c = grind (arith, common_steps)
-
-pub returns-clause-before : goal.returns-clause-before
-returns-clause-before c = grind (arith, common_steps)
+pub returns-in-Some-clause-no_room : goal.returns-in-Some-clause-no_room
+returns-in-Some-clause-no_room g c = λ no. absurd (no _ refl)
