@@ -1,3 +1,4 @@
+use Rattle.std.proofs.Common.{rules}
 use Rattle.lat_live.specs.Seating.{done_of, line_of}
 use Rattle.lat_live.proofs.Seating.{all_back, counted_back, many_back}
 use Rattle.lat_live.proofs.serving.run_started.Goals as goal
@@ -14,3 +15,6 @@ returns-clause-back g c =
       each_line = many_back faults _ line_of _ _ _ opened.shares ran.lines given.lines;
       counted = counted_back faults _ _ _ _ ran.lines given.ends given.lines;
     }
+
+pub returns-clause-ended : goal.returns-clause-ended
+returns-clause-ended g c = search rules
