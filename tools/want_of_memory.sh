@@ -123,7 +123,8 @@ if [ $# -eq 3 ]; then
 fi
 
 # a cell that is told a hundred events
-each_allocation lat_hundred "" -
+echo "cell 100" > "$work/cell"
+each_allocation lat_roles "" "$work/cell"
 # the printed form of a message, a choice, a schedule played whole, one with a lost frame, its capture, and generated schedules
 each_allocation lat show "$top/examples/run.hex"
 each_allocation lat choose "$top/examples/choices.txt"

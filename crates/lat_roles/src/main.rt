@@ -1,7 +1,7 @@
-//! Plays written scripts over what takes a role besides the server's and the node's: a node with a tariff, and a switch with a
-//! node. Its stored run (`stdin`, `stdout`) is how the worked examples of tariffs and of a switch are seen to hold: what stands in
-//! `stdout` was worked out from the rules in docs/PROTOCOL.md, "Tariffs" and "Several sessions on one line", and docs/FORMATS.md,
-//! "Slots, notices, circuit messages" and "Schedules".
+//! Plays written scripts over what takes a role besides the server's and the node's (a node with a tariff, and a switch with a
+//! node), and over the cell of a server. Its stored run (`stdin`, `stdout`) is how the worked examples of tariffs, of a switch and
+//! of a cell's history are seen to hold: what stands in `stdout` was worked out from the rules in docs/PROTOCOL.md, "Tariffs",
+//! "Several sessions on one line" and "Cells", and docs/FORMATS.md, "Slots, notices, circuit messages" and "Schedules".
 //!
 //! A script is a list of blocks with a line `---` between them. Each begins anew. A block whose first line is none of those below
 //! is not played: `no block` is printed.
@@ -30,8 +30,19 @@
 //! many items wait. Other events do nothing. All frames are delivered at once, in the order in which they are made, at the latest
 //! moment so far; what is answered to them isn't printed. A block whose schedule isn't one is not played: `line N form` is printed,
 //! N the first wrong line of the schedule, counted from 1, or `line N limit events`.
+//!
+//! A block whose first line is `cell EVENTS` tells the cell of a server with two lines so many events, without threads: the same
+//! ten again and again, 80 ms later each time. They are an announcement of a node that offers VAX, then of line 1 a connect to VAX,
+//! five bytes put, a setting, an attention, then the time, a take of line 1, of line 2 a connect to NONE and a byte put, and an
+//! announce. Of each event that the cell keeps its seat is printed and what it was answered, and of each share its seat, its events
+//! and the bytes that were put. An event for which no memory is found is told once more, behind a look whether anything has
+//! changed; `the cell isn't right` is printed where something has, or where the cell, its shares and the events differ. So where
+//! one request for memory is refused (tools/want_of_memory.sh refuses each in turn) the block prints what it prints with ample
+//! memory, or the program ends with status 9 and prints nothing.
 #![tactic(auto)]
 
+mod cell;
+mod print;
 mod script;
 mod switch;
 mod tariff;

@@ -1,14 +1,16 @@
 //! The blocks of a script, in order.
 
-use crate::{switch, tariff};
+use crate::{cell, switch, tariff};
 use lat_base::Memory;
 use lat_script::{Part, line_behind};
 use std::alloc::Global;
 
-// A block with a title is a schedule over a switch, and any other a node's with a tariff.
+// A block with a title is a schedule over a switch, one that begins with `cell` a cell's, and any other a node's with a tariff.
 fn block_onto(alloc: Global, block: Part, text: &mut String) -> Result<(), Memory> {
     if block.text.starts_with("#") {
         switch::block_onto(alloc, block.text, text)
+    } else if block.text.starts_with("cell ") {
+        cell::block_onto(alloc, block, text)
     } else {
         tariff::block_onto(alloc, block, text)
     }

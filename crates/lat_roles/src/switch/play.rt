@@ -2,7 +2,8 @@
 
 ghost use Rattle.std.specs.Prelude.{◌≡◌, []};
 
-use crate::switch::print::{answer_onto, shown_onto};
+use crate::print::answer_onto;
+use crate::switch::print::shown_onto;
 use lat_base::{Addr, Answer, Bytes, Core, EVERYONE, Event, Memory, OutBox, Payload};
 use lat_node::{NodeCore, RatingRule};
 use lat_schedule::{WorldEvent, event_onto};

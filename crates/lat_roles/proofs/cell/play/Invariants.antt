@@ -1,4 +1,4 @@
-use Rattle.lat_hundred.proofs.main.Given as goal
+use Rattle.lat_roles.proofs.cell.play.Given as goal
 
 abbrev pub ghosts-played-E-Ledger : goal.ghosts-played-E-Ledger
 ghosts-played-E-Ledger a = record { name = a.blanks.events.name; parts = a.blanks.events.parts }

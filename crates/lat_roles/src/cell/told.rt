@@ -1,6 +1,6 @@
 //! A cell that is told one event after another.
 
-use crate::events::event_of;
+use crate::cell::events::event_of;
 use lat_base::{Core, Memory};
 use lat_history::{Cell, CellFault, LineShare, seat};
 use lat_outside::Tx;
@@ -18,7 +18,7 @@ pub enum Wrong {
 
 impl From<Memory> for Wrong {
     ghost use Rattle.std.specs.Prelude.{◌≡◌};
-    ghost use Rattle.lat_hundred.specs.declared.told.Wrong.TheVariants as wrongs;
+    ghost use Rattle.lat_roles.specs.declared.cell.told.Wrong.TheVariants as wrongs;
 
     ghost from_gives = { λ _ e. e ≡ wrongs.Memory };
 

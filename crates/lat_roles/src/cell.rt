@@ -1,0 +1,107 @@
+//! Blocks over a server's cell.
+
+mod events;
+mod told;
+
+ghost use Rattle.lat_history.specs.Ledgers.{AreBlanks};
+ghost use Rattle.lat_server.specs.Config.{IsConfig};
+
+use crate::cell::events::name;
+use crate::cell::told::{Told, Wrong};
+use crate::print::answer_onto;
+use lat_base::{Addr, Memory};
+use lat_history::{Blanks, Cell, LineShare, Past, seat};
+use lat_outside::MemTx;
+use lat_script::{Part, ScriptFault, byte, refused_onto};
+use lat_server::{Offers, ServerConfig, ServerCore, Timing};
+use std::alloc::Global;
+use std::marker::Brand;
+use std::sync::ledger::Ledger;
+
+fn config(alloc: Global) -> ServerConfig
+    ensures { IsConfig result }
+{
+    ServerConfig {
+        own: Addr([0xaa, 0x00, 0x04, 0x00, 0x01, 0x04]),
+        name: name(b"TS1"),
+        lines: 2,
+        offers: Offers::new(alloc),
+        groups: [0xff; 32],
+        timing: Timing {
+            timer: 8,
+            keepalive: 20,
+            sessions: 8,
+            extra: 7,
+            ceiling: 4,
+            wide: false,
+        },
+    }
+}
+
+// The seat of each event, and its answer.
+fn events_onto(alloc: Global, text: &mut String, history: &[Past]) -> Result<(), Memory> {
+    for past in history {
+        let at = seat(&past.event);
+        write!(text, "seat {at} ")?;
+        answer_onto(alloc, text, &past.answer)?;
+    }
+    Ok(())
+}
+
+// What each share says.
+fn shares_onto<E: Ledger, B: Ledger, F: Ledger>(
+    text: &mut String,
+    shares: &[LineShare<E, B, F>],
+) -> Result<(), Memory> {
+    for share in shares {
+        let (at, events, bytes) = (share.seat(), share.events(), share.bytes());
+        write!(text, "seat {at} events {events} bytes {bytes}\n")?;
+    }
+    Ok(())
+}
+
+// Tells a cell so many events, and prints what it keeps of them.
+fn played<E: Ledger, B: Ledger, F: Ledger>(
+    alloc: Global,
+    events: u8,
+    blanks: Blanks,
+    text: &mut String,
+) -> Result<(), Wrong>
+    requires blanks { AreBlanks blanks E.name E.parts B.name B.parts F.name F.parts }
+{
+    let core = ServerCore::make(alloc, &config(alloc))?;
+    let tx = MemTx::new(alloc, &[]);
+    let (cell, shares) = Cell::<ServerCore, MemTx, E, B, F>::make(alloc, core, tx, 2, blanks)?;
+    let mut told = Told {
+        cell,
+        shares: shares.into_vec(),
+    };
+    for number in 0..events {
+        told.tell(alloc, number as u64)?;
+    }
+    events_onto(alloc, text, told.cell.history())?;
+    shares_onto(text, told.shares.as_slice())?;
+    Ok(())
+}
+
+// What a block of so many events does, printed.
+fn play(alloc: Global, events: u8, text: &mut String) -> Result<(), Memory> {
+    match played::<Brand, Brand, Brand>(alloc, events, Blanks::new(), text) {
+        Ok(()) => Ok(()),
+        Err(Wrong::Memory) => Err(Memory),
+        Err(Wrong::Changed) => Ok(text.push_str("the cell isn't right\n")?),
+    }
+}
+
+fn play_block(alloc: Global, block: Part, text: &mut String) -> Result<(), ScriptFault> {
+    let first = block.text.lines().next().unwrap_or("");
+    let events = byte(first, 1)?;
+    Ok(play(alloc, events, text)?)
+}
+
+/// What a block does, printed.
+pub fn block_onto(alloc: Global, block: Part, text: &mut String) -> Result<(), Memory> {
+    let done = play_block(alloc, block, text);
+    refused_onto(text, block.first, done)?;
+    Ok(text.push_str("\n")?)
+}
