@@ -101,7 +101,7 @@ fn obeyed<S: Source, K: Sink, H: RatingRule>(
 /// - 0: the whole output of the command was written;
 /// - 1: the words are no command; nothing was read, and `words` was written;
 /// - 2: the input isn't of the command's form; `line N form` was written, N the first wrong line, counted from 1;
-/// - 3: an event of the schedule is refused; the line that says why was written;
+/// - 3: an event of the schedule, or of a round, is refused; the line that says why was written;
 /// - 4: a read failed; nothing was written;
 /// - 5: a write failed; a prefix of the output was written;
 /// - 6: the input has more than 16,777,216 bytes, the schedule more than 100,000 events, or its world sent too many frames;

@@ -11,6 +11,7 @@ use lat_base::{
 use std::alloc::Global;
 use std::marker::Model;
 
+/// A core of two lines, with the byte that waits at each: 0 where none does.
 #[derive(Drop)]
 pub struct Echo {
     one: u8,
@@ -28,6 +29,7 @@ impl Model for Echo {
 }
 
 impl Echo {
+    /// One that was told nothing yet.
     pub fn new() -> Echo
         ensures { result ≡ fresh_echoes }
     {
