@@ -6,8 +6,8 @@ mod told;
 ghost use Rattle.lat_history.specs.Ledgers.{AreBlanks};
 ghost use Rattle.lat_server.specs.Config.{IsConfig};
 
-use crate::cell::events::name;
 use crate::cell::told::{Told, Wrong};
+use crate::names::name;
 use crate::print::answer_onto;
 use lat_base::{Addr, Memory};
 use lat_history::{Blanks, Cell, LineShare, Past, seat};

@@ -42,6 +42,7 @@
 #![tactic(auto)]
 
 mod cell;
+mod names;
 mod print;
 mod script;
 mod switch;

@@ -7,15 +7,14 @@ ghost use Rattle.std.specs.Prelude.{◌≡◌, true, is_ok};
 ghost use Rattle.lat_base.specs.Names.{name_read};
 ghost use Rattle.lat_tariff.specs.Tariffs.{AreKnown};
 
+use crate::names::{NODE, name};
 use crate::tariff::play::Play;
 use crate::tariff::rules::{ByRoom, Flat, Unseen};
-use lat_base::{Addr, Bytes, Memory, Name};
+use lat_base::{Bytes, Memory};
 use lat_lines::Timing;
 use lat_script::{Part, ScriptFault, byte, refused_onto, word};
 use lat_tariff::{NodeConfig, Rule, SteadyRule, Tariff, TariffCore, are_apart};
 use std::alloc::Global;
-
-const NODE: Addr = Addr([0xaa, 0x00, 0x04, 0x00, 0x02, 0x04]);
 
 const USUAL: Timing = Timing {
     timer: 8,
@@ -25,16 +24,6 @@ const USUAL: Timing = Timing {
     ceiling: 4,
     wide: false,
 };
-
-// The name that these bytes are.
-fn name(bytes: &[u8]) -> Name
-    requires { is_ok (name_read bytes.now) ≡ true }
-{
-    let Ok(name) = Name::read(bytes) else {
-        unreachable!()
-    };
-    name
-}
 
 // One rule more.
 fn add<R: SteadyRule>(rules: &mut Vec<Rule<R>>, service: &[u8], rule: R) -> Result<(), Memory>

@@ -3,24 +3,12 @@
 ghost use Rattle.std.specs.Prelude.{◌≡◌, true, is_ok};
 ghost use Rattle.lat_base.specs.Names.{name_read};
 
-use lat_base::{Addr, Bytes, Event, Memory, Name};
+use crate::names::{NODE, name};
+use lat_base::{Bytes, Event, Memory};
 use std::alloc::Global;
-
-/// Where the node is.
-pub const NODE: Addr = Addr([0xaa, 0x00, 0x04, 0x00, 0x02, 0x04]);
 
 /// Node VAX1 offers VAX, rated 200.
 const ANNOUNCEMENT: [u8; 19] = *b"\x28\x1e\x05\x01\x00\x00\x04VAX1\x00\x01\xc8\x03VAX\x00";
-
-/// The name that these bytes are.
-pub fn name(bytes: &[u8]) -> Name
-    requires { is_ok (name_read bytes.now) ≡ true }
-{
-    let Ok(name) = Name::read(bytes) else {
-        unreachable!()
-    };
-    name
-}
 
 fn connect(line: u8, service: &[u8]) -> Event
     requires { is_ok (name_read service.now) ≡ true }
