@@ -7,13 +7,13 @@ ghost use Rattle.lat_history.specs.Ledgers.{AreBlanks};
 ghost use Rattle.lat_server.specs.Config.{IsConfig};
 
 use crate::cell::told::{Told, Wrong};
-use crate::names::name;
+use crate::names::{USUAL, name};
 use crate::print::answer_onto;
 use lat_base::{Addr, Memory};
 use lat_history::{Blanks, Cell, LineShare, Past, seat};
 use lat_outside::MemTx;
 use lat_script::{Part, ScriptFault, byte, refused_onto};
-use lat_server::{Offers, ServerConfig, ServerCore, Timing};
+use lat_server::{Offers, ServerConfig, ServerCore};
 use std::alloc::Global;
 use std::marker::Brand;
 use std::sync::ledger::Ledger;
@@ -27,14 +27,7 @@ fn config(alloc: Global) -> ServerConfig
         lines: 2,
         offers: Offers::new(alloc),
         groups: [0xff; 32],
-        timing: Timing {
-            timer: 8,
-            keepalive: 20,
-            sessions: 8,
-            extra: 7,
-            ceiling: 4,
-            wide: false,
-        },
+        timing: USUAL,
     }
 }
 

@@ -7,23 +7,13 @@ ghost use Rattle.std.specs.Prelude.{◌≡◌, true, is_ok};
 ghost use Rattle.lat_base.specs.Names.{name_read};
 ghost use Rattle.lat_tariff.specs.Tariffs.{AreKnown};
 
-use crate::names::{NODE, name};
+use crate::names::{NODE, USUAL, name};
 use crate::tariff::play::Play;
 use crate::tariff::rules::{ByRoom, Flat, Unseen};
 use lat_base::{Bytes, Memory};
-use lat_lines::Timing;
 use lat_script::{Part, ScriptFault, byte, refused_onto, word};
 use lat_tariff::{NodeConfig, Rule, SteadyRule, Tariff, TariffCore, are_apart};
 use std::alloc::Global;
-
-const USUAL: Timing = Timing {
-    timer: 8,
-    keepalive: 20,
-    sessions: 8,
-    extra: 7,
-    ceiling: 4,
-    wide: false,
-};
 
 // One rule more.
 fn add<R: SteadyRule>(rules: &mut Vec<Rule<R>>, service: &[u8], rule: R) -> Result<(), Memory>
