@@ -117,7 +117,7 @@ fn writable(m: &Message) -> bool
     }
 }
 
-/// Whether the message has a text of at most 1,500 bytes: whether its fields meet the conditions of `docs/FORMATS.md`,
+/// Whether the message has a text of at most 1,500 bytes: whether its fields meet the conditions of `docs/FRAMES.md`,
 /// part Circuit messages, and its text fits.
 pub fn message_ok(m: &Message) -> bool
     ensures text { IsTrue result ↔ HasText m.now }

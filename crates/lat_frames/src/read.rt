@@ -78,7 +78,7 @@ fn message_of(alloc: Global, payload: &[u8]) -> Result<Message, LayoutFault>
 }
 
 /// Reads a payload, of any length, as a circuit message with the bytes that trail it. Refused with the first bad field,
-/// in the order of the tables in `docs/FORMATS.md`, part Circuit messages. Takes memory for the lists that the message
+/// in the order of the tables in `docs/FRAMES.md`, part Circuit messages. Takes memory for the lists that the message
 /// keeps.
 pub fn read_message(alloc: Global, payload: &[u8]) -> Result<Message, LayoutFault>
     // What is read has the payload as a text.

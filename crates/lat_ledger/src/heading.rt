@@ -23,7 +23,7 @@ fn number_at(payload: &[u8], place: usize) -> u16
 }
 
 /// The circuits that the payload of a RUN names; `None` of any other payload that has a reading. See "Circuit messages" in
-/// docs/FORMATS.md.
+/// docs/FRAMES.md.
 pub fn heading_of(payload: &[u8]) -> Option<Heading>
     ensures bytes { result ≡ heading_in payload.now }
     ensures value { (v : Value) → reading_of payload.now ≡ Whole v → result ≡ heading_of v }

@@ -1,4 +1,4 @@
-//! The notices that stand outside circuits: read, tested and written as whole payloads. `docs/FORMATS.md`, part
+//! The notices that stand outside circuits: read, tested and written as whole payloads. `docs/FRAMES.md`, part
 //! Notices, has their layouts.
 #![tactic(auto)]
 

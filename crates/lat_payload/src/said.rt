@@ -1,4 +1,4 @@
-//! Notices as frames. `docs/FORMATS.md`, part Notices, has their layouts.
+//! Notices as frames. `docs/FRAMES.md`, part Notices, has their layouts.
 
 ghost use Rattle.std.specs.Prelude.{◌≡◌, ◌<◌};
 ghost use Rattle.lat_base.specs.declared.outbox.Mark.TheVariants as marks;

@@ -201,7 +201,7 @@ fn slot_of(alloc: Global, payload: &[u8], at: usize) -> Result<(Slot, usize), La
 }
 
 /// The slot that stands at the place, and the place behind it with its pad. Refused with the first bad field, in the
-/// order of the tables in `docs/FORMATS.md`, part Slots. Takes memory for the bytes that the slot keeps.
+/// order of the tables in `docs/FRAMES.md`, part Slots. Takes memory for the bytes that the slot keeps.
 pub fn read_slot(alloc: Global, payload: &[u8], at: usize) -> Result<(Slot, usize), LayoutFault>
     requires { (at ≤ length payload.now) × (length payload.now ≤ 1500) }
     // What is read stands there.

@@ -4,7 +4,7 @@ use lat_base::{Bytes, Name};
 use lat_fields::Params;
 
 /// A slot of a circuit message: what one end of a session tells the other. `to` is the id of the session at the end
-/// that hears it, `from` the id at the end that sends it. `docs/FORMATS.md` has the layouts.
+/// that hears it, `from` the id at the end that sends it. `docs/FRAMES.md` has the layouts.
 #[derive(Drop)]
 pub enum Slot {
     /// Asks for a session, where `to` is 0, or replies to one that asked.

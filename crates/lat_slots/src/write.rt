@@ -159,7 +159,7 @@ fn writable(slot: &Slot) -> bool
     fits(slot) && low(slot) < 16
 }
 
-/// Whether the slot has a text: whether its fields meet the conditions of `docs/FORMATS.md`, part Slots, its credits or
+/// Whether the slot has a text: whether its fields meet the conditions of `docs/FRAMES.md`, part Slots, its credits or
 /// reason are at most 15, and its body has at most 255 bytes.
 pub fn slot_ok(slot: &Slot) -> bool
     ensures text { IsTrue result ↔ ((b : List ℕ) × SlotText slot.now b) }
