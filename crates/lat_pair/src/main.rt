@@ -29,7 +29,7 @@
 //! | `announcers N` | hands the server the announcements of N nodes, and prints the last answer |
 //! | `askers FROM TO NAME` | hands the server the commands by which node N1 at 02000000000a asks for the service under each request id from FROM to one less than TO, and prints the last answer |
 //! | `draw N NAME` | so many times connects the server's line 1 to the service and ends its circuit by a STOP from the node's address; prints the last answer |
-//! | `pump PATTERN` | puts 1,000 bytes at line 1 of both, then gives both a moment 80 ms on, delivers each frame, and takes at both, until all have come or 20,000 rounds have passed. The digits of PATTERN say in turn how often a frame is delivered. Prints the rounds, the frames made and delivered, and whether the items are the bytes that were put, in order |
+//! | `pump PATTERN` | puts 1,000 bytes at line 1 of both, then gives both a moment 80 ms on, delivers each frame, and takes at both, until all have come or 20,000 rounds have passed. PATTERN is a number, whose digits say in turn how often a frame is delivered. Prints the rounds, the frames made and delivered, and whether the items are the bytes that were put, in order |
 //!
 //! | Question | Tells |
 //! |---|---|

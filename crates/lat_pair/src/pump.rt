@@ -5,7 +5,7 @@ use crate::play::Play;
 use crate::post::Post;
 use crate::station::Station;
 use lat_base::{Addr, Answer, Bytes, Event, Item, Memory, OutBox, Payload};
-use lat_script::word;
+use lat_script::{ScriptFault, number, word};
 use std::alloc::Global;
 
 /// How many bytes are put at each end.
@@ -37,7 +37,7 @@ struct Way {
 // How frames are delivered, and what became of them.
 #[derive(Drop)]
 struct Pump<'x> {
-    // Digits, which say in turn how often a frame is delivered.
+    // The digits of a number, which say in turn how often a frame is delivered.
     pattern: &'x [u8],
     turns: usize,
     made: u64,
@@ -212,8 +212,14 @@ impl<S: Station, N: Station> Play<S, N> {
         Ok(ROUNDS)
     }
 
-    /// Pumps bytes both ways.
-    pub fn pump(&mut self, alloc: Global, line: &str, text: &mut String) -> Result<(), Memory> {
+    /// Pumps bytes both ways. The word behind the command is a number, whose digits are the pattern.
+    pub fn pump(
+        &mut self,
+        alloc: Global,
+        line: &str,
+        text: &mut String,
+    ) -> Result<(), ScriptFault> {
+        number(line, 1)?;
         let none = Came { items: 0, wrong: 0 };
         let mut pump = Pump {
             pattern: word(line, 1).as_bytes(),
@@ -233,7 +239,7 @@ impl<S: Station, N: Station> Play<S, N> {
         let rounds = self.rounds(alloc, &mut pump, &mut under)?;
         let (made, delivered) = (pump.made, pump.delivered);
         write!(text, "rounds {rounds} frames {made} delivered {delivered}")?;
-        came_onto(text, &under)
+        Ok(came_onto(text, &under)?)
     }
 }
 

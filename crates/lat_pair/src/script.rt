@@ -23,7 +23,7 @@ impl<S: Station, N: Station> Play<S, N> {
             "announcers" => self.announcers(alloc, line, text),
             "askers" => self.askers(alloc, line, text),
             "draw" => self.draw(alloc, line, text),
-            "pump" => Ok(self.pump(alloc, line, text)?),
+            "pump" => self.pump(alloc, line, text),
             _ => self.tell(alloc, line, text),
         }
     }
