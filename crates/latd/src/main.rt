@@ -38,7 +38,7 @@ fn words_of(alloc: Global, all: Args<Global>) -> Result<Vec<String>, AllocError>
     Ok(words)
 }
 
-// The status alone. All else that a daemon hands back is dropped here, since the proof of that is long.
+// The status alone; all else that a daemon hands back is dropped.
 fn status_of<H: RatingRule, P: SteadyRule, T: Tx, L: LineEnd, E: Ledger, B: Ledger, F: Ledger>(
     served: Served<H, P, T, L, E, B, F>,
 ) -> u8

@@ -32,7 +32,7 @@ fn words_of(alloc: Global, text: &str) -> Result<Vec<String>, AllocError> {
     Ok(words)
 }
 
-// The status, and the lines that are handed back. The cell and the shares are dropped here alone, since the proof of that is long.
+// The status, and the lines that are handed back; the cell and the shares are dropped.
 fn kept<H: RatingRule, P: SteadyRule, T: Tx, L: LineEnd, E: Ledger, B: Ledger, F: Ledger>(
     served: Served<H, P, T, L, E, B, F>,
 ) -> (u8, Lines<L>) {
@@ -40,7 +40,7 @@ fn kept<H: RatingRule, P: SteadyRule, T: Tx, L: LineEnd, E: Ledger, B: Ledger, F
     (status, lines)
 }
 
-// What is kept of what a daemon hands back. Nothing else stands here: what comes behind this call is proved with all that it says.
+// The status and the lines of a daemon with these words.
 fn served<
     O: Opener,
     K: Clock + Send,
