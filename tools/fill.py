@@ -11,11 +11,10 @@ and takes about twenty seconds.
 """
 
 import socket
-import subprocess
 import sys
 import time
 
-from pair import client, counts, free_ports
+from pair import client, counts, ended, free_ports, start
 
 LISTENER = bytes.fromhex("020000000009")
 EVERYONE = bytes.fromhex("09002b00000f")
@@ -33,9 +32,9 @@ def announcement(login, print_):
     return text.ljust(46, b"\0")
 
 
-def solicit(id_):
-    """The payload by which a server asks for PRINT."""
-    return (bytes([0x38, 5, id_, 0, 3]) + b"TS9" + bytes([5]) + b"PRINT").ljust(46, b"\0")
+def solicit(id_, service):
+    """The payload by which a server asks for a service."""
+    return (bytes([0x38, 5, id_, 0, 3]) + b"TS9" + bytes([len(service)]) + service).ljust(46, b"\0")
 
 
 def response(id_, rating):
@@ -68,21 +67,15 @@ class Station:
                 return datagram[14:]
 
     def now(self, id_):
-        """What VAX1 answers to a Solicit now, and announces behind it."""
+        """What VAX1 answers to a Solicit for PRINT now, and announces behind it."""
         self.s.setblocking(False)
         try:
             while self.s.recv(2000):
                 pass
         except BlockingIOError:
             pass
-        self.ask(solicit(id_))
+        self.ask(solicit(id_, b"PRINT"))
         return self.hear("VAX1", LISTENER), self.hear("VAX1", EVERYONE)
-
-
-def start(latd, role, name, address, port, lines, line_port, service, sessions, peers):
-    words = [latd, "--role", role, "--name", name, "--address", address, "--port", port, "--lines", lines, "--line-port", line_port,
-             "--service", service, "--sessions", sessions, *peers]
-    return subprocess.Popen([str(word) for word in words], stdout=subprocess.PIPE)
 
 
 def one_of(lines):
@@ -142,14 +135,10 @@ def main():
     for daemon, s in terminals:
         s.shutdown(socket.SHUT_WR)
     for name, daemon in [(f"TS{k + 1}", d) for k, (d, _) in enumerate(terminals)] + list(nodes.items()):
-        try:
-            text = daemon.communicate(timeout=60)[0].decode()
-        except subprocess.TimeoutExpired:
-            daemon.kill()
-            text = ""
+        status, text = ended(daemon, 60)
         words = [word for _, _, word in counts(text)]
-        check(f"{name}: status {daemon.returncode}, {text.splitlines()[0] if text else 'no text'}, lines {' '.join(words)}",
-              daemon.returncode == 0 and set(words) == {"end"})
+        check(f"{name}: status {status}, {text.splitlines()[0] if text else 'no text'}, lines {' '.join(words)}",
+              status == 0 and set(words) == {"end"})
     print("as the ratings say" if right else "WRONG")
     return 0 if right else 1
 

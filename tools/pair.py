@@ -1,11 +1,41 @@
-"""A server and a node of `latd` on the loopback address, with a client at each of their lines. Used by the scripts beside it."""
+"""Daemons of `latd` on the loopback address, and clients at their lines: one by one, or a server and a node. Used by the scripts beside it."""
 
+import atexit
 import re
 import socket
 import subprocess
 import time
 
 SERVER, NODE = "aa0004000104", "aa0004000204"
+STARTED = []
+
+
+@atexit.register
+def kill_what_runs():
+    """No daemon outlives the script that started it, however the script ends."""
+    for daemon in STARTED:
+        if daemon.poll() is None:
+            daemon.kill()
+            daemon.wait()
+
+
+def start(latd, role, name, address, port, lines, line_port, service, sessions, peers):
+    """A daemon with these words."""
+    words = [latd, "--role", role, "--name", name, "--address", address, "--port", port, "--lines", lines, "--line-port", line_port,
+             "--service", service, "--sessions", sessions, *peers]
+    daemon = subprocess.Popen([str(word) for word in words], stdout=subprocess.PIPE)
+    STARTED.append(daemon)
+    return daemon
+
+
+def ended(daemon, seconds=120):
+    """Waits for a daemon's end, and gives its status and its last text. One that doesn't end is killed, and the text says so."""
+    try:
+        text = daemon.communicate(timeout=seconds)[0].decode()
+    except subprocess.TimeoutExpired:
+        daemon.kill()
+        text = "killed: it didn't end\n" + daemon.communicate()[0].decode()
+    return daemon.returncode, text
 
 
 def free_ports(count):
@@ -43,27 +73,14 @@ class Pair:
         self.lines = lines
         server_port, node_port = base, base + 1
         server_lines, node_lines = base + 10, base + 10 + lines
-        words = lambda *more: [str(word) for word in (latd, *more)]
-        self.node = subprocess.Popen(
-            words("--role", "node", "--name", "VAX1", "--address", NODE, "--port", node_port, "--lines", lines, "--line-port", node_lines,
-                  "--service", "VAX", "--sessions", lines, node_peer or server_port), stdout=subprocess.PIPE)
-        self.server = subprocess.Popen(
-            words("--role", "server", "--name", "TS1", "--address", SERVER, "--port", server_port, "--lines", lines, "--line-port", server_lines,
-                  "--service", "VAX", "--sessions", 1, server_peer or node_port), stdout=subprocess.PIPE)
+        self.node = start(latd, "node", "VAX1", NODE, node_port, lines, node_lines, "VAX", lines, [node_peer or server_port])
+        self.server = start(latd, "server", "TS1", SERVER, server_port, lines, server_lines, "VAX", 1, [server_peer or node_port])
         self.at_node = [client(node_lines + k) for k in range(lines)]
         self.at_server = [client(server_lines + k) for k in range(lines)]
 
     def ended(self, seconds=120):
         """Waits for both to end, and gives the status and the last text of each, the server's first."""
-        told = []
-        for daemon in (self.server, self.node):
-            try:
-                text = daemon.communicate(timeout=seconds)[0].decode()
-            except subprocess.TimeoutExpired:
-                daemon.kill()
-                text = "killed: it didn't end\n" + daemon.communicate()[0].decode()
-            told.append((daemon.returncode, text))
-        return told
+        return [ended(daemon, seconds) for daemon in (self.server, self.node)]
 
     def processor_seconds(self):
         """How much processor time both have taken so far."""

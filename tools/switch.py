@@ -15,22 +15,17 @@ import socket
 import sys
 import time
 
-from fill import EVERYONE, NODES, Station, start
-from pair import client, counts, free_ports
+from fill import EVERYONE, NODES, Station, solicit
+from pair import client, counts, ended, free_ports, start
 
 CONNECT, NEXT = b"\x1c", b"\x1d"
 TURNS = 200
 
 
-def solicit(id_):
-    """The payload by which a server asks for VAX."""
-    return (bytes([0x38, 5, id_, 0, 3]) + b"TS9" + bytes([3]) + b"VAX").ljust(46, b"\0")
-
-
 def is_full(station, node, id_):
     """Whether this node, asked for VAX, announces it with the rating 0 within some seconds."""
     for _ in range(5):
-        station.ask(solicit(id_))
+        station.ask(solicit(id_, b"VAX"))
         announced = station.hear(node, EVERYONE, 1)
         if announced and announced[13] == 0:
             return True
@@ -114,13 +109,8 @@ def main():
     sizes = {first: 6 + len(texts[first]) + 5, second: 6 + len(texts[second])}
     wanted = {first: (9, sizes[first], "end"), second: (9, sizes[second], "end"), "TS1": (sum(sizes.values()) + TURNS + 3, 18, "end")}
     for name, daemon in daemons.items():
-        try:
-            text = daemon.communicate(timeout=60)[0].decode()
-        except Exception:
-            daemon.kill()
-            text = ""
-        check(f"{name}: status {daemon.returncode}, {', '.join(text.splitlines()) or 'no text'}",
-              daemon.returncode == 0 and counts(text) == [wanted[name]])
+        status, text = ended(daemon, 60)
+        check(f"{name}: status {status}, {', '.join(text.splitlines()) or 'no text'}", status == 0 and counts(text) == [wanted[name]])
     print("each byte at its own node, in order" if right else "WRONG")
     return 0 if right else 1
 
