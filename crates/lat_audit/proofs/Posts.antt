@@ -6,8 +6,8 @@ use Rattle.lat_machines.specs.values.Messages as model
 use Rattle.lat_machines.specs.values.Frames as machines
 use Rattle.lat_machines.specs.world.Machines.{Setups, Posted, Machines}
 use Rattle.lat_captures.specs.Captured.{RunHead, first_up}
-use Rattle.lat_ledger.specs.declared.post.Post.{Post}
-use Rattle.lat_ledger.specs.Books.{ArePosts, IsReadable}
+use Rattle.lat_wire.specs.declared.ledger.post.Post.{Post}
+use Rattle.lat_wire.specs.ledger.Books.{ArePosts, IsReadable}
 use Rattle.lat_wire.specs.Kept.{Kept}
 use Rattle.lat_wire.specs.Stands.{Stands}
 use Rattle.lat_wire.specs.Told.{ShowsPost}

@@ -8,7 +8,7 @@ ghost use Rattle.lat_payload.specs.Reads.{reading_of};
 ghost use Rattle.lat_audit.specs.Runs.{is_wide, run_seen};
 
 use lat_frames::MessageKind;
-use lat_ledger::heading_of;
+use lat_wire::heading_of;
 
 /// What a RUN says of its circuit.
 #[derive(Clone, Copy)]

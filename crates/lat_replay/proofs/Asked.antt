@@ -12,9 +12,9 @@ use Rattle.lat_queue.specs.Histories as queues
 use Rattle.lat_queue.specs.declared.record.Record.{Record}
 use Rattle.lat_laws.specs.tales.Rows.{RowAfter, RowsAfter, Keeps}
 use Rattle.lat_laws.specs.tales.Reported.{report_row, report_rows, report_rows_from}
-use Rattle.lat_roster.specs.declared.row.Row.{Row}
-use Rattle.lat_roster.specs.Rows.{ShowsRow}
-use Rattle.lat_roster.specs.Roster.{ShowsRows}
+use Rattle.lat_replay.specs.declared.roster.row.Row.{Row}
+use Rattle.lat_replay.specs.roster.Rows.{ShowsRow}
+use Rattle.lat_replay.specs.roster.Roster.{ShowsRows}
 use Rattle.lat_wire.specs.report.ReportText.{frames_text, row_text, rows_text, request_text, grant_text, event_text, report_text}
 use Rattle.lat_wire.specs.report.Rows.{record_in}
 use Rattle.lat_wire.specs.Kept.{Kept, setups_of}

@@ -6,9 +6,9 @@ use Rattle.lat_model.specs.sessions.Slots.{Item}
 use Rattle.lat_machines.specs.world.Machines.{Machines}
 use Rattle.lat_laws.specs.tales.Rows.{RowAfter, RowsAfter}
 use Rattle.lat_laws.specs.tales.Reported.{report_rows_from}
-use Rattle.lat_roster.specs.Shown.{item_shown}
-use Rattle.lat_roster.specs.declared.row.Row.{Row}
-use Rattle.lat_roster.specs.Roster.{ShowsRows}
+use Rattle.lat_replay.specs.roster.Shown.{item_shown}
+use Rattle.lat_replay.specs.declared.roster.row.Row.{Row}
+use Rattle.lat_replay.specs.roster.Roster.{ShowsRows}
 use Rattle.lat_replay.specs.Counts.{put_of, taken_of, put_in_row, taken_in_row}
 
 map_length : {A B : Type 0} → (f : A → B) (xs : List A) → length (map f xs) ≡ length xs

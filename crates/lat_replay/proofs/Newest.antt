@@ -18,9 +18,9 @@ use Rattle.lat_laws.specs.tales.Books.{newest_info}
 use Rattle.lat_laws.specs.tales.Rows.{figures_of, newest_place}
 use Rattle.lat_laws.specs.tales.Rows as rows
 use Rattle.lat_laws.proofs.tales.rows.Books.{book_newest}
-use Rattle.lat_roster.specs.Shown as rosters
-use Rattle.lat_roster.specs.declared.figures.Figures.{Figures}
-use Rattle.lat_roster.specs.Rows.{ShowsFigures}
+use Rattle.lat_replay.specs.roster.Shown as rosters
+use Rattle.lat_replay.specs.declared.roster.figures.Figures.{Figures}
+use Rattle.lat_replay.specs.roster.Rows.{ShowsFigures}
 use Rattle.lat_replay.specs.Rows.{figures_shown}
 use Rattle.lat_replay.specs.Standing.{HasHad}
 use Rattle.lat_replay.proofs.Rows.{had_line}

@@ -6,10 +6,10 @@ use Rattle.lat_machines.specs.world.Reports.{Report, report}
 use Rattle.lat_laws.specs.tales.Rows.{RowsAfter, Keeps}
 use Rattle.lat_laws.specs.tales.Reported.{report_rows}
 use Rattle.lat_laws.proofs.tales.rows.Told.{run_told}
-use Rattle.lat_roster.specs.Shown.{saturated}
-use Rattle.lat_roster.specs.declared.row.Row.{Row}
-use Rattle.lat_roster.specs.Roster.{ShowsRows}
-use Rattle.lat_roster.proofs.Rows.{shows_length}
+use Rattle.lat_replay.specs.roster.Shown.{saturated}
+use Rattle.lat_replay.specs.declared.roster.row.Row.{Row}
+use Rattle.lat_replay.specs.roster.Roster.{ShowsRows}
+use Rattle.lat_replay.proofs.roster.Rows.{shows_length}
 use Rattle.lat_wire.specs.Kept.{Kept, setups_of}
 use Rattle.lat_wire.specs.Stands.{Stands}
 use Rattle.lat_replay.specs.declared.counts.Counts.{Counts}

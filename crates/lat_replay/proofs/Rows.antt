@@ -10,10 +10,10 @@ use Rattle.lat_laws.specs.tales.Keeping.{no_figures}
 use Rattle.lat_laws.specs.tales.Rows as rows
 use Rattle.lat_laws.specs.tales.Rows.{RowAfter, RowsAfter, Keeps, KeepsRow, Pairs, figures_of, newest_place}
 use Rattle.lat_laws.specs.tales.Reported.{server_figures, node_figures, report_row, report_rows_from}
-use Rattle.lat_roster.specs.declared.figures.Figures.{Figures}
-use Rattle.lat_roster.specs.declared.row.Row as own
-use Rattle.lat_roster.specs.Rows.{ShowsFigures, ShowsRow}
-use Rattle.lat_roster.specs.Roster.{ShowsRows}
+use Rattle.lat_replay.specs.declared.roster.figures.Figures.{Figures}
+use Rattle.lat_replay.specs.declared.roster.row.Row as own
+use Rattle.lat_replay.specs.roster.Rows.{ShowsFigures, ShowsRow}
+use Rattle.lat_replay.specs.roster.Roster.{ShowsRows}
 
 -- rows in order
 

@@ -16,7 +16,7 @@ use Rattle.lat_laws.specs.tales.Keeping.{adds, rows_after, rows_at_frame, rows_a
 use Rattle.lat_laws.proofs.tales.rows.Runs.{next_keeps}
 use Rattle.lat_lines.specs.Back.{answer_of}
 use Rattle.lat_lines.specs.Events.{event_shown}
-use Rattle.lat_roster.specs.Roster as rosters
+use Rattle.lat_replay.specs.roster.Roster as rosters
 use Rattle.lat_wire.specs.declared.fault.EventFault.{EventFault}
 use Rattle.lat_wire.specs.declared.fault.EventFault.TheVariants.{OwnAddress}
 use Rattle.lat_wire.specs.Kept as wires
@@ -24,8 +24,8 @@ use Rattle.lat_wire.specs.Rates.{rates}
 use Rattle.lat_wire.specs.Refusals.{RefusedAs, first_of, full, inject_refusal}
 use Rattle.lat_wire.specs.Stands as wire_stands
 use Rattle.lat_wire.specs.Told.{answered, answered_to, ShowsPost}
-use Rattle.lat_roster.specs.Moves.{IsReached, end_told, hearer, items_added}
-use Rattle.lat_roster.specs.Reserved.{FitsIn}
+use Rattle.lat_replay.specs.roster.Moves.{IsReached, end_told, hearer, items_added}
+use Rattle.lat_replay.specs.roster.Reserved.{FitsIn}
 use Rattle.lat_schedule.specs.declared.event.WorldEvent.{WorldEvent}
 use Rattle.lat_replay.specs.Moves.{move_of, refusal_of}
 use Rattle.lat_replay.specs.Kept.{Kept, setups_of, moment_of}

@@ -9,7 +9,7 @@ use Rattle.lat_machines.specs.world.Reports.{Row}
 use Rattle.lat_lines.specs.Answers.{item_in}
 use Rattle.lat_laws.specs.tales.Rows.{RowAfter, RowsAfter}
 use Rattle.lat_laws.specs.tales.Reported.{report_row, report_rows_from}
-use Rattle.lat_roster.specs.Shown.{item_shown}
+use Rattle.lat_replay.specs.roster.Shown.{item_shown}
 use Rattle.lat_wire.specs.report.ReportText.{row_text, rows_text}
 use Rattle.lat_wire.specs.report.Rows.{items_in}
 use Rattle.lat_replay.proofs.Rows.{told_more, take_length, told_length}

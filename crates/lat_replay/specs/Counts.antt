@@ -3,8 +3,8 @@ use Rattle.std.specs.Prelude.{ℕ, ◌+◌, length}
 use Rattle.std.specs.List.{sum_by}
 use Rattle.lat_machines.specs.world.Reports as reports
 use Rattle.lat_machines.specs.world.Reports.{Report}
-use Rattle.lat_roster.specs.Shown.{saturated}
-use Rattle.lat_roster.specs.declared.row.Row.{Row}
+use Rattle.lat_replay.specs.roster.Shown.{saturated}
+use Rattle.lat_replay.specs.declared.roster.row.Row.{Row}
 use Rattle.lat_replay.specs.declared.counts.Counts.{Counts}
 
 -- the items of a session, both ways

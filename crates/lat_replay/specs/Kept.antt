@@ -1,7 +1,7 @@
 -- What is kept of a world.
 use Rattle.std.specs.Prelude.{ℕ}
 use Rattle.lat_machines.specs.world.Machines.{Setups}
-use Rattle.lat_roster.specs.Roster as rosters
+use Rattle.lat_replay.specs.roster.Roster as rosters
 use Rattle.lat_wire.specs.Kept as wires
 
 -- H is the rule by which the node rates its services

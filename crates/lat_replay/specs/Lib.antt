@@ -1,3 +1,4 @@
+pub mod roster
 pub mod Counts
 pub mod Standing
 pub mod Requests

@@ -3,7 +3,7 @@ use Rattle.std.specs.Prelude.{cond, Some, None, nat_eq, option_map}
 use Rattle.lat_machines.specs.world.Reports as reports
 use Rattle.lat_laws.specs.tales.Rows.{Figures, RowAfter}
 use Rattle.lat_lines.specs.Stands.{end_shown}
-use Rattle.lat_roster.specs.declared.figures.Figures as own
+use Rattle.lat_replay.specs.declared.roster.figures.Figures as own
 
 -- figures, as the machines know them
 abbrev pub figures_shown : own.Figures → Figures

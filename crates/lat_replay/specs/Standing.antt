@@ -3,7 +3,7 @@ use Rattle.std.specs.Prelude.{◌≡◌, ◌≢◌, ℕ, ◌-◌, Some, slice_ge
 use Rattle.lat_machines.specs.cores.Cores.{Core}
 use Rattle.lat_machines.specs.world.Machines.{Machines}
 use Rattle.lat_laws.specs.tales.Rows.{RowAfter, RowsAfter, Keeps, newest_place}
-use Rattle.lat_roster.specs.Roster as rosters
+use Rattle.lat_replay.specs.roster.Roster as rosters
 use Rattle.lat_wire.specs.Kept.{Kept, setups_of}
 use Rattle.lat_wire.specs.Stands as wires
 

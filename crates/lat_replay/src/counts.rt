@@ -5,13 +5,13 @@ ghost use Rattle.std.specs.List.{sum_by};
 ghost use Rattle.lat_machines.specs.world.Machines.{Machines};
 ghost use Rattle.lat_machines.specs.world.Reports.{report};
 ghost use Rattle.lat_laws.specs.tales.Rows.{RowsAfter, Keeps};
-ghost use Rattle.lat_roster.specs.Roster.{Shows};
-ghost use Rattle.lat_roster.specs.Shown.{saturated};
+ghost use Rattle.lat_replay.specs.roster.Roster.{Shows};
+ghost use Rattle.lat_replay.specs.roster.Shown.{saturated};
 ghost use Rattle.lat_wire.specs.Kept.{setups_of};
 ghost use Rattle.lat_wire.specs.Stands.{Stands};
 ghost use Rattle.lat_replay.specs.Counts.{counts_in, put_in_row, taken_in_row};
 
-use lat_roster::{Roster, Row};
+use crate::roster::{Roster, Row};
 use lat_wire::{RatingRule, Wire};
 
 /// How much is told of a world. The sums stop at the greatest number of 64 bits.

@@ -12,13 +12,13 @@ ghost use Rattle.lat_server.specs.Stands as servers;
 ghost use Rattle.lat_node.specs.Stands as nodes;
 ghost use Rattle.lat_laws.specs.tales.Rows as rows;
 ghost use Rattle.lat_laws.specs.tales.Reported.{server_figures, node_figures};
-ghost use Rattle.lat_roster.specs.Rows.{ShowsFigures};
+ghost use Rattle.lat_replay.specs.roster.Rows.{ShowsFigures};
 ghost use Rattle.lat_replay.specs.Rows.{figures_shown};
 ghost use Rattle.lat_replay.specs.Standing.{StandsFor, HasHad, RowAt};
 
+use crate::roster::{Figures, Roster, figures_of};
 use lat_base::{LineBook, Memory};
 use lat_node::NodeCore;
-use lat_roster::{Figures, Roster, figures_of};
 use lat_server::ServerCore;
 use lat_wire::{RatingRule, Wire};
 

@@ -11,6 +11,7 @@ mod notes;
 mod play;
 mod refused;
 mod requests;
+mod roster;
 mod sessions;
 mod step;
 mod summary;

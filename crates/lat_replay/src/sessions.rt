@@ -6,13 +6,13 @@ ghost use Rattle.lat_wire.specs.report.ReportText.{row_text, rows_text};
 ghost use Rattle.lat_wire.specs.report.Rows.{row_in};
 ghost use Rattle.lat_laws.specs.tales.Rows as rows;
 ghost use Rattle.lat_laws.specs.tales.Reported.{report_row, report_rows};
-ghost use Rattle.lat_roster.specs.Rows.{ShowsRow};
+ghost use Rattle.lat_replay.specs.roster.Rows.{ShowsRow};
 ghost use Rattle.lat_replay.specs.Rows.{figures_shown, row_with};
 ghost use Rattle.lat_replay.specs.Standing.{StandsFor, RowAt};
 
 use crate::figures::{exact, node_figures, server_figures};
+use crate::roster::{Figures, Roster, Row};
 use lat_base::Memory;
-use lat_roster::{Figures, Roster, Row};
 use lat_wire::{Flow, RatingRule, SessionRow, Wire, session_onto};
 use std::alloc::Global;
 

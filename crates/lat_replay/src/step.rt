@@ -12,10 +12,10 @@ ghost use Rattle.lat_replay.specs.Kept.{moment_of, setups_of};
 ghost use Rattle.lat_replay.specs.Moves.{IsPlayable, move_of, moment_behind, refusal_of};
 ghost use Rattle.lat_replay.specs.Stands.{Stands};
 
+use crate::roster::{add_items, follow, reserve_for, reserve_new};
 use crate::world::World;
 use lat_base::{Addr, Event};
 use lat_node::RatingRule;
-use lat_roster::{add_items, follow, reserve_for, reserve_new};
 use lat_schedule::WorldEvent;
 use lat_wire::EventFault;
 use std::alloc::Global;

@@ -19,10 +19,10 @@ ghost use Rattle.lat_replay.specs.Setups.{setups_shown};
 ghost use Rattle.lat_replay.specs.Stands.{Stands};
 
 use crate::counts::{Counts, counts_of};
+use crate::roster::Roster;
 use crate::summary::report_onto;
 use lat_base::{Memory, OutFrame};
 use lat_node::{NodeCore, RatingRule};
-use lat_roster::Roster;
 use lat_schedule::Setup;
 use lat_server::ServerCore;
 use lat_wire::Wire;

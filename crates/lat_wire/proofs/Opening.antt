@@ -14,11 +14,11 @@ use Rattle.lat_node.specs.Stands as node_stands
 use Rattle.lat_wire.specs.Kept.{Holds, Kept, setups_of}
 use Rattle.lat_wire.specs.Notes.{note_shown}
 use Rattle.lat_wire.specs.Stands.{Stands}
-use Rattle.lat_ledger.specs.Books.{Book, IsBook, IsBookOf, counts_at, no_counts, tallies_of}
-use Rattle.lat_ledger.specs.declared.tallies.Tally.{Tally}
-use Rattle.lat_ledger.specs.Tallies.{nothing, tally_at}
+use Rattle.lat_wire.specs.ledger.Books.{Book, IsBook, IsBookOf, counts_at, no_counts, tallies_of}
+use Rattle.lat_wire.specs.declared.ledger.tallies.Tally.{Tally}
+use Rattle.lat_wire.specs.ledger.Tallies.{nothing, tally_at}
 use Rattle.lat_wire.proofs.Refusing.{posts_length}
-use Rattle.lat_ledger.proofs.Behind.{tells_same}
+use Rattle.lat_wire.proofs.ledger.Behind.{tells_same}
 
 pub opened_book : (u : Setups) (k : Book) → IsBook u k [] [] (λ b. no_counts) → IsBookOf u k (open_machines u)
 opened_book u k h = record {

@@ -11,16 +11,16 @@ use Rattle.lat_machines.specs.world.Tally.{formed_in, shown_in}
 use Rattle.lat_machines.specs.world.Young.{head_of}
 use Rattle.lat_payload.specs.Reads.{reading_of}
 use Rattle.lat_payload.specs.Frames.{FrameView}
-use Rattle.lat_ledger.specs.declared.post.Post.{Post}
+use Rattle.lat_wire.specs.declared.ledger.post.Post.{Post}
 use Rattle.lat_laws.specs.rounds.Lossless.{sent_from}
-use Rattle.lat_ledger.specs.declared.post.Sent.{Sent}
-use Rattle.lat_ledger.specs.Logs.{IsAt, IsMarked}
-use Rattle.lat_ledger.specs.Ways.{mark_of}
-use Rattle.lat_ledger.specs.declared.tallies.Tally.{Tally}
-use Rattle.lat_ledger.specs.Tallies.{tally_at}
-use Rattle.lat_ledger.specs.declared.heading.Heading.{Heading}
-use Rattle.lat_ledger.specs.Headings.{heading, heading_of}
-use Rattle.lat_ledger.specs.Books.{ArePosts, Book, IsBookOf, IsPost, Numbered, counts_at, tallies_of, tally_of}
+use Rattle.lat_wire.specs.declared.ledger.post.Sent.{Sent}
+use Rattle.lat_wire.specs.ledger.Logs.{IsAt, IsMarked}
+use Rattle.lat_wire.specs.ledger.Ways.{mark_of}
+use Rattle.lat_wire.specs.declared.ledger.tallies.Tally.{Tally}
+use Rattle.lat_wire.specs.ledger.Tallies.{tally_at}
+use Rattle.lat_wire.specs.declared.ledger.heading.Heading.{Heading}
+use Rattle.lat_wire.specs.ledger.Headings.{heading, heading_of}
+use Rattle.lat_wire.specs.ledger.Books.{ArePosts, Book, IsBookOf, IsPost, Numbered, counts_at, tallies_of, tally_of}
 use Rattle.lat_wire.specs.declared.fault.EventFault.{EventFault}
 use Rattle.lat_wire.specs.declared.fault.EventFault.TheVariants.{FramesFull, Backward, OwnAddress, NoFrame, Old, Memory}
 use Rattle.lat_wire.specs.Ends.{half_at}

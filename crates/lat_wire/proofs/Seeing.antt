@@ -12,7 +12,7 @@ use Rattle.lat_machines.specs.cores.Lines.{end_of, session_of, seat_at, has_sess
 use Rattle.lat_seq.specs.declared.span.Span.{Span}
 use Rattle.lat_stream.specs.Kept.{state_shown}
 use Rattle.lat_lines.specs.circuits.Info.{some_span}
-use Rattle.lat_ledger.specs.declared.heading.Heading.{Heading}
+use Rattle.lat_wire.specs.declared.ledger.heading.Heading.{Heading}
 use Rattle.lat_wire.specs.Ends.{half_at, half_named, half_span, is_held}
 
 -- half the range of a circuit, by what the core tells of it

@@ -27,8 +27,8 @@ use Rattle.lat_server.specs.Kept as server_kept
 use Rattle.lat_server.specs.Stands as servers
 use Rattle.lat_node.specs.Kept as node_kept
 use Rattle.lat_node.specs.Stands as nodes
-use Rattle.lat_ledger.specs.Books.{IsBookOf}
-use Rattle.lat_ledger.specs.declared.post.Sent.{Sent}
+use Rattle.lat_wire.specs.ledger.Books.{IsBookOf}
+use Rattle.lat_wire.specs.declared.ledger.post.Sent.{Sent}
 use Rattle.lat_laws.proofs.rounds.rounds.Moves.{run_more}
 use Rattle.lat_wire.specs.declared.fault.EventFault.{EventFault}
 use Rattle.lat_wire.specs.declared.fault.EventFault.TheVariants.{Old}

@@ -16,7 +16,7 @@ use Rattle.lat_server.specs.Kept as servers
 use Rattle.lat_server.specs.Stands as server_stands
 use Rattle.lat_node.specs.Kept as nodes
 use Rattle.lat_node.specs.Stands as node_stands
-use Rattle.lat_ledger.specs.Books.{IsReadable}
+use Rattle.lat_wire.specs.ledger.Books.{IsReadable}
 use Rattle.lat_wire.specs.Ends.{KeptEnds, AreEnds, MadeFrames, frames_by, setups_of}
 use Rattle.lat_wire.specs.Rates.{RatesWhatIsLeft, rating, rates}
 use Rattle.lat_wire.specs.Told.{answered}

@@ -14,8 +14,8 @@ use Rattle.lat_machines.specs.world.Tally.{taken_by}
 use Rattle.lat_payload.specs.Reads.{reading_of}
 use Rattle.lat_lines.specs.Back.{answer_of}
 use Rattle.lat_lines.specs.Events.{event_shown}
-use Rattle.lat_ledger.specs.declared.heading.Heading.{Heading}
-use Rattle.lat_ledger.specs.Headings.{heading_in, heading_of}
+use Rattle.lat_wire.specs.declared.ledger.heading.Heading.{Heading}
+use Rattle.lat_wire.specs.ledger.Headings.{heading_in, heading_of}
 use Rattle.lat_wire.specs.Taking.{HeadsRead, is_taken, named_by, taker_of, counted_at}
 
 -- a machine's answer, with what it means

@@ -20,12 +20,12 @@ use Rattle.lat_node.specs.Stands as nodes
 use Rattle.lat_lines.specs.Answers.{answer_shown}
 use Rattle.lat_lines.specs.Back.{answer_of}
 use Rattle.lat_payload.specs.Frames.{frame_view, expected}
-use Rattle.lat_ledger.specs.Ways.{CameAtMost, Log}
-use Rattle.lat_ledger.specs.declared.tallies.Tally.{Tally}
-use Rattle.lat_ledger.specs.Tallies.{tally_at}
-use Rattle.lat_ledger.specs.Logs.{IsLog}
-use Rattle.lat_ledger.specs.Books.{ArePosts, Book, Counts, IsBook, IsBookOf, IsReadable, Tells, behind_all, counts_at, counts_of, took_one, tallies_of, tally_of, with_side}
-use Rattle.lat_ledger.proofs.Behind.{behind_formed, behind_taken, behind_shown, tells_same}
+use Rattle.lat_wire.specs.ledger.Ways.{CameAtMost, Log}
+use Rattle.lat_wire.specs.declared.ledger.tallies.Tally.{Tally}
+use Rattle.lat_wire.specs.ledger.Tallies.{tally_at}
+use Rattle.lat_wire.specs.ledger.Logs.{IsLog}
+use Rattle.lat_wire.specs.ledger.Books.{ArePosts, Book, Counts, IsBook, IsBookOf, IsReadable, Tells, behind_all, counts_at, counts_of, took_one, tallies_of, tally_of, with_side}
+use Rattle.lat_wire.proofs.ledger.Behind.{behind_formed, behind_taken, behind_shown, tells_same}
 use Rattle.lat_wire.specs.Ends.{MadeFrames, frames_by}
 use Rattle.lat_wire.specs.Kept.{Holds, Kept, setups_of}
 use Rattle.lat_wire.specs.Notes.{NotesOn, NoteInfo, note_shown, noted_info}

@@ -19,8 +19,8 @@ use Rattle.lat_node.specs.Kept as nodes
 use Rattle.lat_node.specs.Stands as node_stands
 use Rattle.lat_seq.specs.declared.span.Span.{Span}
 use Rattle.lat_seq.specs.declared.span.Span.TheVariants as spans
-use Rattle.lat_ledger.specs.declared.heading.Heading.{Heading}
-use Rattle.lat_ledger.specs.Books.{IsReadable}
+use Rattle.lat_wire.specs.declared.ledger.heading.Heading.{Heading}
+use Rattle.lat_wire.specs.ledger.Books.{IsReadable}
 use Rattle.lat_wire.specs.Rates.{RatesWhatIsLeft, rates}
 
 -- H is the rule by which the node rates its services

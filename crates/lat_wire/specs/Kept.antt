@@ -6,9 +6,9 @@ use Rattle.lat_machines.specs.world.Machines.{Setups}
 use Rattle.lat_server.specs.Kept as servers
 use Rattle.lat_node.specs.Kept as nodes
 use Rattle.lat_wire.specs.declared.notes.Note.{Note}
-use Rattle.lat_ledger.specs.Ways.{CameAtMost}
-use Rattle.lat_ledger.specs.Tallies.{tally_at}
-use Rattle.lat_ledger.specs.Books.{Book, tallies_of}
+use Rattle.lat_wire.specs.ledger.Ways.{CameAtMost}
+use Rattle.lat_wire.specs.ledger.Tallies.{tally_at}
+use Rattle.lat_wire.specs.ledger.Books.{Book, tallies_of}
 
 -- H is the rule by which the node rates its services
 pub record Kept (H : Type 0) : Type 0 where

@@ -1,3 +1,4 @@
+pub mod ledger
 pub mod report
 pub mod Rates
 pub mod Notes

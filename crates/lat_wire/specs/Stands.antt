@@ -4,7 +4,7 @@ use Rattle.lat_machines.specs.world.Machines.{Machines, Move, happens, run, open
 use Rattle.lat_machines.specs.world.Safe.{Fit, Safe}
 use Rattle.lat_server.specs.Stands as servers
 use Rattle.lat_node.specs.Stands as nodes
-use Rattle.lat_ledger.specs.Books.{IsBookOf}
+use Rattle.lat_wire.specs.ledger.Books.{IsBookOf}
 use Rattle.lat_wire.specs.Kept.{Kept, setups_of}
 use Rattle.lat_wire.specs.Notes.{note_shown, noted_info}
 use Rattle.lat_wire.specs.Rates.{rates}

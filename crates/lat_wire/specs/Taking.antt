@@ -7,11 +7,11 @@ use Rattle.lat_base.specs.declared.event.Event.{Event}
 use Rattle.lat_base.specs.declared.event.Event.TheVariants as events
 use Rattle.lat_machines.specs.values.Frames.{Value, Whole}
 use Rattle.lat_payload.specs.Reads.{reading_of}
-use Rattle.lat_ledger.specs.declared.tallies.Tally.{Tally}
-use Rattle.lat_ledger.specs.Tallies.{tally_at}
-use Rattle.lat_ledger.specs.Books.{took_one}
-use Rattle.lat_ledger.specs.declared.heading.Heading.{Heading}
-use Rattle.lat_ledger.specs.Headings.{heading_in, heading_of}
+use Rattle.lat_wire.specs.declared.ledger.tallies.Tally.{Tally}
+use Rattle.lat_wire.specs.ledger.Tallies.{tally_at}
+use Rattle.lat_wire.specs.ledger.Books.{took_one}
+use Rattle.lat_wire.specs.declared.ledger.heading.Heading.{Heading}
+use Rattle.lat_wire.specs.ledger.Headings.{heading_in, heading_of}
 
 -- a circuit took the message
 abbrev pub is_taken : Answer → Bool

@@ -6,8 +6,8 @@ use Rattle.lat_machines.specs.values.Events.{Event, Time, is_heard}
 use Rattle.lat_machines.specs.world.Machines.{Setups, Posted, Machines, is_for_other, heard_as}
 use Rattle.lat_machines.specs.world.Safe.{answer_by}
 use Rattle.lat_payload.specs.Frames.{frame_view, expected}
-use Rattle.lat_ledger.specs.declared.post.Sent.{Sent}
-use Rattle.lat_ledger.specs.Books.{IsPost}
+use Rattle.lat_wire.specs.declared.ledger.post.Sent.{Sent}
+use Rattle.lat_wire.specs.ledger.Books.{IsPost}
 use Rattle.lat_lines.specs.Back.{answer_of}
 use Rattle.lat_wire.specs.Kept.{Kept, setups_of}
 use Rattle.lat_wire.specs.Stands.{Stands}

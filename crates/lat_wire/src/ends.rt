@@ -12,8 +12,8 @@ ghost use Rattle.lat_wire.specs.Ends.{AreEnds, MadeFrames, setups_of, half_at, h
 ghost use Rattle.lat_wire.specs.Rates.{rates};
 ghost use Rattle.lat_wire.specs.Told.{answered};
 
+use crate::ledger::Heading;
 use lat_base::{Addr, Answer, Core, Event, Memory, OutBox, OutFrame, SessionState};
-use lat_ledger::Heading;
 use lat_node::{NodeCore, RatingRule};
 use lat_seq::Span;
 use lat_server::ServerCore;

@@ -15,9 +15,9 @@ ghost use Rattle.lat_wire.specs.Stands.{Stands};
 ghost use Rattle.lat_wire.specs.Told.{ShowsPost};
 
 use crate::ends::Ends;
+use crate::ledger::Ledger;
 use crate::notes::Note;
 use lat_base::{Addr, Memory, OutBox, OutFrame};
-use lat_ledger::Ledger;
 use lat_node::{NodeConfig, NodeCore, RatingRule};
 use lat_server::{ServerConfig, ServerCore};
 use std::alloc::Global;

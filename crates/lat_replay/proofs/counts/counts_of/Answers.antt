@@ -1,5 +1,5 @@
 use Rattle.std.proofs.Common.{sym, subst}
-use Rattle.lat_roster.specs.Roster.{ShowsRows}
+use Rattle.lat_replay.specs.roster.Roster.{ShowsRows}
 use Rattle.lat_replay.proofs.Reported.{counted}
 use Rattle.lat_replay.proofs.counts.counts_of.Goals as goal
 

@@ -3,8 +3,8 @@ use Rattle.std.specs.Prelude.{slice_get}
 use Rattle.std.proofs.lemmas.Option.{slice_get_read}
 use Rattle.lat_laws.specs.tales.Reported.{report_rows_from}
 use Rattle.lat_wire.specs.report.ReportText.{rows_text}
-use Rattle.lat_roster.specs.Roster.{ShowsRows}
-use Rattle.lat_roster.proofs.Rows.{shows_length}
+use Rattle.lat_replay.specs.roster.Roster.{ShowsRows}
+use Rattle.lat_replay.proofs.roster.Rows.{shows_length}
 use Rattle.lat_replay.proofs.Asked.{session_more, take_all}
 use Rattle.lat_replay.proofs.sessions.sessions_onto.Goals as goal
 

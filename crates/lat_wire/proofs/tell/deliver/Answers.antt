@@ -1,6 +1,6 @@
 use Rattle.std.proofs.Common.{refl, subst, sym, true, false}
-use Rattle.lat_ledger.specs.Logs.{IsLog}
-use Rattle.lat_ledger.specs.Books.{IsBookOf}
+use Rattle.lat_wire.specs.ledger.Logs.{IsLog}
+use Rattle.lat_wire.specs.ledger.Books.{IsBookOf}
 use Rattle.lat_wire.proofs.Telling.{delivered_book}
 use Rattle.lat_wire.proofs.tell.deliver.Goals as goal
 

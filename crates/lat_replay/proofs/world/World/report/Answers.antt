@@ -3,7 +3,7 @@ use Rattle.std.proofs.lemmas.Result.{on_ok_weaker}
 use Rattle.lat_machines.specs.world.Machines.{Machines}
 use Rattle.lat_machines.specs.world.Reports.{report}
 use Rattle.lat_wire.specs.report.ReportText.{report_text}
-use Rattle.lat_roster.specs.Roster as rosters
+use Rattle.lat_replay.specs.roster.Roster as rosters
 use Rattle.lat_laws.specs.tales.Rows.{RowsAfter, Keeps}
 use Rattle.lat_wire.specs.Stands as wires
 use Rattle.lat_replay.specs.Kept.{Kept, setups_of}

@@ -3,9 +3,9 @@ use Rattle.lat_machines.specs.values.Addresses.{address}
 use Rattle.lat_payload.specs.Reads.{reading_of}
 use Rattle.lat_server.specs.Stands as servers
 use Rattle.lat_node.specs.Stands as nodes
-use Rattle.lat_ledger.specs.Tallies.{tally_at}
-use Rattle.lat_ledger.specs.Headings.{heading_of}
-use Rattle.lat_ledger.specs.Books.{tallies_of}
+use Rattle.lat_wire.specs.ledger.Tallies.{tally_at}
+use Rattle.lat_wire.specs.ledger.Headings.{heading_of}
+use Rattle.lat_wire.specs.ledger.Books.{tallies_of}
 use Rattle.lat_wire.specs.Ends.{AreEnds}
 use Rattle.lat_wire.specs.Kept.{Kept, setups_of}
 use Rattle.lat_wire.proofs.Refusing.{heads, read_post, recent_run, refused_half}

@@ -1,7 +1,7 @@
 use Rattle.std.proofs.Common.{◌≡◌, ◌∙◌, ◌<◌, ap, subst, length}
 use Rattle.std.proofs.lemmas.Option.{slice_get_within}
-use Rattle.lat_ledger.specs.Logs.{IsAt}
-use Rattle.lat_ledger.specs.Ways.{post_of}
+use Rattle.lat_wire.specs.ledger.Logs.{IsAt}
+use Rattle.lat_wire.specs.ledger.Ways.{post_of}
 use Rattle.lat_wire.specs.Kept.{setups_of}
 use Rattle.lat_wire.proofs.Refusing.{posts_length, get_refused, get_ok, get_there, sent_at}
 use Rattle.lat_wire.proofs.wire.Wire.sent.Goals as goal

@@ -5,7 +5,7 @@ use Rattle.lat_machines.specs.world.Tally.{RunTallies}
 use Rattle.lat_lines.specs.Events.{event_shown}
 use Rattle.lat_server.specs.Stands as servers
 use Rattle.lat_node.specs.Stands as nodes
-use Rattle.lat_ledger.specs.Books.{Book, tallies_of}
+use Rattle.lat_wire.specs.ledger.Books.{Book, tallies_of}
 use Rattle.lat_wire.specs.Ends as ends
 use Rattle.lat_wire.specs.Kept.{Kept, setups_of}
 use Rattle.lat_wire.specs.Notes.{NotesOn, note_shown}

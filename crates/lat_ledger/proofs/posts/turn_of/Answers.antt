@@ -1,5 +1,0 @@
-use Rattle.std.proofs.Common.{rules}
-use Rattle.lat_ledger.proofs.posts.turn_of.Goals as goal
-
-pub returns-then-for_other : goal.returns-then-for_other
-returns-then-for_other c = search rules
