@@ -12,6 +12,6 @@ mod write;
 pub use fault::LayoutFault;
 pub use params::{Param, Params};
 pub use params_read::params_of;
-pub use params_write::{params_len, params_ok, write_params};
+pub use params_write::{params_len, params_ok, write_param, write_params};
 pub use read::{byte_of, copy_of, counted_of, ends_right, known, name_of, number_of, wanted};
 pub use write::{LEAST_PAYLOAD, write_counted, write_number, write_padding};

@@ -3,6 +3,7 @@
 ghost use Rattle.std.specs.Prelude.{◌≡◌, ◌+◌, ◌<◌, ◌≤◌, ◌++◌, ◌↔◌, length, min, IsTrue};
 ghost use Rattle.std.specs.List.{AllByRecursion, list_all};
 ghost use Rattle.lat_fields.specs.Params.{IsEntry, is_entry, entry_text, params_text};
+ghost use Rattle.lat_fields.specs.ParamsReading.{entry};
 
 use crate::params::{Param, Params};
 use crate::write::write_counted;
@@ -45,13 +46,14 @@ pub fn params_len(params: &Params) -> usize
     len
 }
 
-fn write_entry(out: &mut Payload, entry: &Param)
-    requires short { IsEntry entry.now }
-    requires room { length out.old + length (entry_text entry.now) ≤ 1500 }
-    ensures { out.new ≡ out.old ++ entry_text entry.now }
+/// Writes one parameter, as it stands in front of the 0 that ends a list of them.
+pub fn write_param(out: &mut Payload, code: u8, bytes: &[u8])
+    requires short { length bytes.now < 256 }
+    requires room { length out.old + 2 + length bytes.now ≤ 1500 }
+    ensures { out.new ≡ out.old ++ entry_text (entry code bytes.now) }
 {
-    out.push(entry.code);
-    write_counted(out, entry.bytes.as_slice());
+    out.push(code);
+    write_counted(out, bytes);
 }
 
 /// Writes parameters, with the 0 that ends them.
@@ -61,7 +63,7 @@ pub fn write_params(out: &mut Payload, params: &Params)
     ensures { out.new ≡ out.old ++ params_text params.now }
 {
     for entry in params.as_slice() {
-        write_entry(out, entry);
+        write_param(out, entry.code, entry.bytes.as_slice());
     }
     out.push(0);
 }

@@ -75,7 +75,7 @@ pub fn number_of(field: Field, bytes: &[u8], place: usize) -> Result<(u16, usize
 {
     let (low, behind) = byte_of(field, place, bytes, place)?;
     let (high, behind) = byte_of(field, place, bytes, behind)?;
-    Ok((low as u16 + high as u16 * 256, behind))
+    Ok((u16::from_le_bytes([low, high]), behind))
 }
 
 /// A counted text: a length byte and that many bytes.

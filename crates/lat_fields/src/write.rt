@@ -14,8 +14,7 @@ pub fn write_number(out: &mut Payload, value: u16)
     requires { length out.old + 2 ≤ 1500 }
     ensures { out.new ≡ out.old ++ number value }
 {
-    out.push((value % 256) as u8);
-    out.push((value / 256) as u8);
+    out.append(&value.to_le_bytes());
 }
 
 /// Writes a counted text.

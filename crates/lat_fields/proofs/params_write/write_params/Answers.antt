@@ -5,8 +5,8 @@ use Rattle.lat_fields.specs.Params.{entry_text}
 use Rattle.lat_fields.proofs.Room.{room_at}
 use Rattle.lat_fields.proofs.params_write.write_params.Goals as goal
 
-pub write_entry-requires-clause-room : goal.write_entry-requires-clause-room
-write_entry-requires-clause-room c =
+pub write_param-requires-clause-room : goal.write_param-requires-clause-room
+write_param-requires-clause-room c =
     let ps = c.as_slice-entry-items.result.now in
     let i = c.loop-entry.entry-index in
     omega (
@@ -16,11 +16,12 @@ write_entry-requires-clause-room c =
       length-append c.args.out.now (flat_map entry_text (take i ps)),
       length-append (flat_map entry_text c.args.params.now) (0 ∷ []),
       ap (λ es. length (flat_map entry_text es)) c.as_slice-entry-items.ensures,
+      ap length c.as_slice.ensures,
       c.requires.room,
     )
 
-pub write_entry-requires-clause-short : goal.write_entry-requires-clause-short
-write_entry-requires-clause-short c = grind (arith, common_steps)
+pub write_param-requires-clause-short : goal.write_param-requires-clause-short
+write_param-requires-clause-short c = grind (arith, common_steps)
 
 pub loop-entry-preserved : goal.loop-entry-preserved
 loop-entry-preserved c = grind (arith, common_steps)
