@@ -20,4 +20,4 @@ pub use message::{Head, Message, StartInfo, WideHead};
 pub use read::read_message;
 pub use reason::CircuitEnd;
 pub use slots::Slots;
-pub use write::{write_message, write_plain_head, write_run_head, write_wide_head};
+pub use write::{write_message, write_plain_head, write_run_head, write_slots, write_wide_head};

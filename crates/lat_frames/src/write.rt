@@ -102,7 +102,9 @@ pub fn write_plain_head(
     out.push(0);
 }
 
-fn write_slots(slots: &[Slot], out: &mut Payload)
+/// Adds the texts of the slots, one behind the other, at the end. Each must be one that `slot_ok` accepts, and all of them must
+/// fit into the payload.
+pub fn write_slots(slots: &[Slot], out: &mut Payload)
     requires ok { AllByRecursion SlotIsWritable slots.now }
     requires room { length out.old + length (slots_text slots.now) ≤ 1500 }
     ensures { out.new ≡ out.old ++ slots_text slots.now }
