@@ -6,11 +6,11 @@ ghost use Rattle.lat_base.specs.Names.{IsName};
 ghost use Rattle.lat_fields.specs.Params.{IsEntry, params_text};
 ghost use Rattle.lat_slots.specs.Layout.{Fits, SlotText, IsWritable, body_of, from_of, low_of, slot_text, to_of, type_of};
 
-use crate::head::SERVICE_CLASS;
 use crate::kind::SlotKind;
+use crate::parts::{write_slot_head, write_slot_pad, write_start_fields};
 use crate::slot::Slot;
 use lat_base::{Name, Payload};
-use lat_fields::{Params, params_len, params_ok, write_counted, write_params};
+use lat_fields::{Params, params_len, params_ok, write_params};
 
 fn kind(slot: &Slot) -> SlotKind
     ensures { result ≡ type_of slot.now }
@@ -191,11 +191,7 @@ fn write_body(slot: &Slot, out: &mut Payload)
             params,
             ..
         } => {
-            out.push(SERVICE_CLASS);
-            out.push(*attention);
-            out.push(*size);
-            write_counted(out, service.bytes());
-            write_counted(out, subject.as_slice());
+            write_start_fields(out, *attention, *size, service, subject.as_slice());
             write_params(out, params);
         }
         Slot::DataA { bytes, .. } => out.append(bytes.as_slice()),
@@ -215,13 +211,9 @@ pub fn write_slot(slot: &Slot, out: &mut Payload)
     requires room { length out.old + length (slot_text slot.now) ≤ 1500 }
     ensures { out.new ≡ out.old ++ slot_text slot.now }
 {
-    let len = body_len(slot);
-    out.push(destination(slot));
-    out.push(source(slot));
-    out.push(len as u8);
-    out.push(kind(slot).bits() * 16 + low(slot));
+    let count = body_len(slot) as u8;
+    let (to, from) = (destination(slot), source(slot));
+    write_slot_head(out, to, from, count, kind(slot), low(slot));
     write_body(slot, out);
-    if len % 2 == 1 {
-        out.push(0);
-    }
+    write_slot_pad(out, count);
 }

@@ -20,12 +20,11 @@ ghost use Rattle.lat_stream.specs.Turns.{spends, over, due, gave, framed, stoppe
 use crate::opening::Opening;
 use crate::stream::Stream;
 use crate::write::{
-    start_len, write_attention, write_credits, write_head, write_pad, write_setting, write_start,
-    write_stop,
+    start_len, write_attention, write_credits, write_setting, write_start, write_stop,
 };
 use circular_buffer::HeapCircularBuffer;
 use lat_base::{Item, Payload, SessionEnd, SessionState};
-use lat_slots::SlotKind;
+use lat_slots::{SlotKind, write_slot_head, write_slot_pad};
 
 /// What became of a session's turn in a message.
 #[derive(Clone, Copy)]
@@ -292,9 +291,9 @@ impl Stream {
         }
         let credits = self.give_due();
         self.spend();
-        write_head(out, self.peer, id, count, SlotKind::DataA, credits);
+        write_slot_head(out, self.peer, id, count, SlotKind::DataA, credits);
         move_bytes(&mut self.unframed, count, out);
-        write_pad(out, count);
+        write_slot_pad(out, count);
         Formed::Slot
     }
 

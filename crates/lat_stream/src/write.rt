@@ -1,16 +1,15 @@
 //! The slots that sessions form, written as they stand in a message. It takes no memory.
 
-ghost use Rattle.std.specs.Prelude.{◌≡◌, ◌+◌, ◌<◌, ◌≤◌, ◌*◌, ◌%◌, [], ◌∷◌, ◌++◌, length, replicate};
+ghost use Rattle.std.specs.Prelude.{◌≡◌, ◌+◌, ◌<◌, ◌≤◌, [], ◌++◌, length};
 ghost use Rattle.lat_base.specs.Names.{IsName};
 ghost use Rattle.lat_fields.specs.Params.{params_text};
 ghost use Rattle.lat_model.specs.sessions.Slots as sessions;
-ghost use Rattle.lat_slots.specs.Kinds.{bits_of};
 ghost use Rattle.lat_slots.specs.Layout.{slot_text};
 ghost use Rattle.lat_stream.specs.Wire.{formed_as, request_params};
 
 use lat_base::{Name, Payload};
-use lat_fields::{write_counted, write_number};
-use lat_slots::{SERVICE_CLASS, SlotKind, StopReason};
+use lat_fields::write_param;
+use lat_slots::{SlotKind, StopReason, write_slot_head, write_slot_pad, write_start_fields};
 
 /// The greatest data slot that an end takes, as its starts state.
 const DATA_SIZE: u8 = 255;
@@ -20,28 +19,6 @@ const ATTENTION_SIZE: u8 = 1;
 
 /// The code of the parameter that bears a request.
 const REQUEST: u8 = 5;
-
-/// The head of a slot. What stands beside its type has four bits.
-pub fn write_head(out: &mut Payload, to: u8, from: u8, count: u8, kind: SlotKind, low: u8)
-    requires low { low < 16 }
-    requires room { length out.old + 4 ≤ 1500 }
-    ensures { out.new ≡ out.old ++ to ∷ from ∷ count ∷ (bits_of kind * 16 + low) ∷ [] }
-{
-    out.push(to);
-    out.push(from);
-    out.push(count);
-    out.push(kind.bits() * 16 + low);
-}
-
-/// The byte behind a body of odd length.
-pub fn write_pad(out: &mut Payload, count: u8)
-    requires { length out.old + count % 2 ≤ 1500 }
-    ensures { out.new ≡ out.old ++ replicate (count % 2) 0 }
-{
-    if count % 2 == 1 {
-        out.push(0);
-    }
-}
 
 /// How many bytes the parameters of a start have.
 pub fn request_len(request: Option<u16>) -> u8
@@ -59,9 +36,7 @@ fn write_request(out: &mut Payload, request: Option<u16>)
     ensures { out.new ≡ out.old ++ params_text (request_params request) }
 {
     if let Some(id) = request {
-        out.push(REQUEST);
-        out.push(2);
-        write_number(out, id);
+        write_param(out, REQUEST, &id.to_le_bytes());
     }
     out.push(0);
 }
@@ -89,16 +64,11 @@ pub fn write_start(
     ensures { out.new ≡ out.old
         ++ slot_text (formed_as (sessions.Start to from credits 255 service.now request)) }
 {
-    let name = service.bytes();
-    let count = 5 + name.len() as u8 + request_len(request);
-    write_head(out, to, from, count, SlotKind::Start, credits);
-    out.push(SERVICE_CLASS);
-    out.push(ATTENTION_SIZE);
-    out.push(DATA_SIZE);
-    write_counted(out, name);
-    out.push(0);
+    let count = 5 + service.bytes().len() as u8 + request_len(request);
+    write_slot_head(out, to, from, count, SlotKind::Start, credits);
+    write_start_fields(out, ATTENTION_SIZE, DATA_SIZE, service, &[]);
     write_request(out, request);
-    write_pad(out, count);
+    write_slot_pad(out, count);
 }
 
 /// A setting, which gives so many credits.
@@ -108,7 +78,7 @@ pub fn write_setting(out: &mut Payload, to: u8, from: u8, credits: u8, setting: 
     ensures { out.new ≡ out.old
         ++ slot_text (formed_as (sessions.DataB to from credits setting.now)) }
 {
-    write_head(out, to, from, 5, SlotKind::DataB, credits);
+    write_slot_head(out, to, from, 5, SlotKind::DataB, credits);
     out.append(setting);
     out.push(0);
 }
@@ -119,7 +89,7 @@ pub fn write_credits(out: &mut Payload, to: u8, from: u8, credits: u8)
     requires room { length out.old + 4 ≤ 1500 }
     ensures { out.new ≡ out.old ++ slot_text (formed_as (sessions.DataA to from credits [])) }
 {
-    write_head(out, to, from, 0, SlotKind::DataA, credits);
+    write_slot_head(out, to, from, 0, SlotKind::DataA, credits);
 }
 
 /// An attention.
@@ -127,7 +97,7 @@ pub fn write_attention(out: &mut Payload, to: u8, from: u8, flag: u8)
     requires { length out.old + 6 ≤ 1500 }
     ensures { out.new ≡ out.old ++ slot_text (formed_as (sessions.Attention to from flag)) }
 {
-    write_head(out, to, from, 1, SlotKind::Attention, 0);
+    write_slot_head(out, to, from, 1, SlotKind::Attention, 0);
     out.push(flag);
     out.push(0);
 }
@@ -137,5 +107,5 @@ pub fn write_stop(out: &mut Payload, to: u8, from: u8)
     requires { length out.old + 4 ≤ 1500 }
     ensures { out.new ≡ out.old ++ slot_text (formed_as (sessions.Stop to from 1)) }
 {
-    write_head(out, to, from, 0, SlotKind::Stop, StopReason::Closed.bits());
+    write_slot_head(out, to, from, 0, SlotKind::Stop, StopReason::Closed.bits());
 }

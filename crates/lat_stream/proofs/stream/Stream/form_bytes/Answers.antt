@@ -8,8 +8,8 @@ move_bytes-requires-clause-bytes c = grind (arith, common_steps)
 pub move_bytes-requires-clause-room : goal.move_bytes-requires-clause-room
 move_bytes-requires-clause-room c = grind (arith, common_steps)
 
-pub write_pad-requires : goal.write_pad-requires
-write_pad-requires c = grind (arith, common_steps)
+pub write_slot_pad-requires : goal.write_slot_pad-requires
+write_slot_pad-requires c = grind (arith, common_steps)
 
 pub returns-clause-meets : goal.returns-clause-meets
 returns-clause-meets c = grind (arith, common_steps)
