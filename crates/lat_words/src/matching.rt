@@ -1,7 +1,7 @@
 //! The words, as `clap` takes them.
 
-ghost use Rattle.std.specs.Prelude.{◌≡◌, ℕ, List, None, true, false, IfOk, IfSome, is_some, map, option_map, string_bytes};
-ghost use Rattle.clap.specs.Words.{rule_of, app_of, rows_of, HasKind, found_of, first_of, all_of, with_rule};
+ghost use Rattle.std.specs.Prelude.{◌≡◌, List, None, false, IfOk, IfSome, is_some, map, string_bytes};
+ghost use Rattle.clap.specs.Words.{rule_of, app_of, rows_of, HasKind, found_of, with_rule};
 ghost use Rattle.clap.specs.declared.error.kind.ErrorKind.{ErrorKind};
 ghost use Rattle.lat_words.specs.Commands.{latd, option_rule, peers_rule, is_matched, no_fault, rows};
 
@@ -32,20 +32,12 @@ fn peers<'a>(alloc: Global) -> Arg<'a>
         .num_args(1..=8)
 }
 
-// The command with one more argument.
-fn added<'a>(command: Command<'a>, arg: Arg<'a>) -> Result<Command<'a>, AllocError>
-    requires { arg.global ≡ false }
-    ensures { IfOk result (λ c. app_of c ≡ with_rule (app_of command.entry) (rule_of arg.entry)) }
-{
-    command.arg(arg)
-}
-
 // The command with one more option.
 fn optioned<'a>(alloc: Global, command: Command<'a>, id: &'a str) -> Result<Command<'a>, AllocError>
     ensures { IfOk result (λ c.
         app_of c ≡ with_rule (app_of command.entry) (option_rule id.entry.now)) }
 {
-    added(command, option(alloc, id))
+    command.arg(option(alloc, id))
 }
 
 #[tactic(auto, unfolding(crate::specs::Commands::latd))]
@@ -61,7 +53,7 @@ fn command<'a>(alloc: Global) -> Result<Command<'a>, AllocError>
     let command = optioned(alloc, command, "line-port")?;
     let command = optioned(alloc, command, "service")?;
     let command = optioned(alloc, command, "sessions")?;
-    added(command, peers(alloc))
+    command.arg(peers(alloc))
 }
 
 // An error that isn't for want of memory says that the words aren't taken.
@@ -88,19 +80,4 @@ pub fn matched<'a>(alloc: Global, words: &'a [String]) -> Result<Option<ArgMatch
         Ok(found) => Ok(Some(found)),
         Err(error) => refused(error),
     }
-}
-
-/// The value of an option.
-pub fn value<'a>(found: &ArgMatches<'a>, id: &str) -> Option<&'a str>
-    ensures { option_map (λ s. s.now) result ≡ first_of id.now (rows_of (found_of found.now)) }
-{
-    found.get_str(id)
-}
-
-/// The words behind the options.
-pub fn values<'b, 'a>(found: &'b ArgMatches<'a>, id: &str) -> Option<&'b [&'a str]>
-    ensures { option_map (λ s. map (λ v. v.now) s.now) result
-        ≡ all_of id.now (rows_of (found_of found.entry.now)) }
-{
-    found.get_raw(id)
 }

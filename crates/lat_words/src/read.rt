@@ -5,7 +5,7 @@ ghost use Rattle.clap.specs.Words.{rows_of, found_of};
 ghost use Rattle.lat_words.specs.Configs.{role_of, port_of, peers_of, most_lines, station_of, lines_of, config_in, config_of, Within};
 
 use crate::config::{Config, Lines, Role, Station};
-use crate::matching::{matched, value, values};
+use crate::matching::matched;
 use crate::peers::Peers;
 use clap::ArgMatches;
 use lat_base::Memory;
@@ -58,13 +58,14 @@ fn peers_of(texts: &[&str]) -> Option<Peers>
     Some(peers)
 }
 
+#[tactic(auto, using(crate::proofs::Rows::in_rows))]
 fn station_of(found: &ArgMatches<'_>) -> Option<Station>
     ensures { result ≡ station_of (rows_of (found_of found.now)) }
 {
-    let name = name_of(value(found, "name")?.as_bytes())?;
-    let address = address_of(value(found, "address")?.as_bytes())?;
-    let port = port_of(value(found, "port")?.as_bytes())?;
-    let peers = peers_of(values(found, "peer")?)?;
+    let name = name_of(found.get_str("name")?.as_bytes())?;
+    let address = address_of(found.get_str("address")?.as_bytes())?;
+    let port = port_of(found.get_str("port")?.as_bytes())?;
+    let peers = peers_of(found.get_raw("peer")?)?;
     Some(Station {
         name,
         address,
@@ -73,14 +74,15 @@ fn station_of(found: &ArgMatches<'_>) -> Option<Station>
     })
 }
 
+#[tactic(auto, using(crate::proofs::Rows::in_rows))]
 fn lines_of(role: Role, found: &ArgMatches<'_>) -> Option<Lines>
     ensures value { result ≡ lines_of role (rows_of (found_of found.now)) }
     ensures within { IfSome result (λ lines. Within role lines) }
 {
-    let count = number_within(1, most_lines(role), value(found, "lines")?.as_bytes())?;
-    let port = number_within(1, 65_536 - count, value(found, "line-port")?.as_bytes())?;
-    let service = name_of(value(found, "service")?.as_bytes())?;
-    let sessions = number_within(1, 1_000_000, value(found, "sessions")?.as_bytes())?;
+    let count = number_within(1, most_lines(role), found.get_str("lines")?.as_bytes())?;
+    let port = number_within(1, 65_536 - count, found.get_str("line-port")?.as_bytes())?;
+    let service = name_of(found.get_str("service")?.as_bytes())?;
+    let sessions = number_within(1, 1_000_000, found.get_str("sessions")?.as_bytes())?;
     Some(Lines {
         count: count as u8,
         port: port as u16,
@@ -89,11 +91,12 @@ fn lines_of(role: Role, found: &ArgMatches<'_>) -> Option<Lines>
     })
 }
 
+#[tactic(auto, using(crate::proofs::Rows::in_rows))]
 fn config_in(found: &ArgMatches<'_>) -> Option<Config>
     ensures value { result ≡ config_in (rows_of (found_of found.now)) }
     ensures within { IfSome result (λ config. Within config.role config.lines) }
 {
-    let role = role_of(value(found, "role")?.as_bytes())?;
+    let role = role_of(found.get_str("role")?.as_bytes())?;
     let station = station_of(found)?;
     let lines = lines_of(role, found)?;
     Some(Config {

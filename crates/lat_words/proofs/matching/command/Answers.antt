@@ -42,4 +42,4 @@ returns c =
     let e6 : app_of c.in_ok-command-6.command ≡ a6 = c.in_ok-command-6.ensures ∙ ap (λ (a : App). with_rule a (option_rule (codes "line-port"))) e5 in
     let e7 : app_of c.in_ok-command-7.command ≡ a7 = c.in_ok-command-7.ensures ∙ ap (λ (a : App). with_rule a (option_rule (codes "service"))) e6 in
     let e8 : app_of c.in_ok-command-8.command ≡ a8 = c.in_ok-command-8.ensures ∙ ap (λ (a : App). with_rule a (option_rule (codes "sessions"))) e7 in
-    IfOk-weaker c.added.result _ _ (λ m h. h ∙ ap₂ with_rule e8 c.peers.ensures.rule ∙ sym is_latd) c.added.ensures
+    IfOk-weaker c.arg.result _ _ (λ m h. h.shape c.peers.ensures.global ∙ ap₂ with_rule e8 c.peers.ensures.rule ∙ sym is_latd) c.arg.ensures
