@@ -1,18 +1,20 @@
 -- What is read of the fields that notices alone have is their texts.
-use Rattle.std.proofs.Common.{◌≡◌, ℕ, zero, suc, ◌≤◌, ◌⊎◌, inl, inr, Bool, true, eqb, leb, ltb, List, [], ◌∷◌, ◌++◌, length, Result, Ok, refl, sym, ap, ◌∙◌, subst, arith, append_assoc}
+use Rattle.std.proofs.Common.{◌≡◌, ℕ, zero, suc, ◌≤◌, Bool, true, eqb, leb, ltb, List, [], ◌∷◌, ◌++◌, length, Some, Result, Ok, refl, sym, ap, ◌∙◌, subst, arith, append_assoc}
 use Rattle.std.specs.List.{flat_map, AllByRecursion}
 use Rattle.std.proofs.lemmas.Bool.Decides.{nat_tests}
 use Rattle.lat_base.specs.declared.field.Bad.{Bad}
 use Rattle.lat_base.specs.declared.field.Field.{Field}
 use Rattle.lat_base.specs.declared.field.Field.TheVariants as fields
-use Rattle.lat_fields.specs.Reading.{◌>>=◌, wanted, byte_at, number_at, counted_at, name_at}
+use Rattle.lat_base.specs.declared.kept.Kept.TheVariants.{Waiting, Granted, Cancelled, QueueFull, NoService, RecordsFull, Done}
+use Rattle.lat_fields.specs.Reading.{◌>>=◌, wanted, known, byte_at, number_at, counted_at, name_at}
 use Rattle.lat_fields.specs.Texts.{counted, number}
-use Rattle.lat_fields.proofs.Steps.{IsBytes, bind_ok, wanted_ok}
+use Rattle.lat_fields.proofs.Steps.{IsBytes, bind_ok, wanted_ok, known_ok}
 use Rattle.lat_fields.proofs.Found.{FoundByte, FoundText, byte_found, number_found, counted_found, name_found}
 use Rattle.lat_notices.specs.declared.notice.Action.{Action}
 use Rattle.lat_notices.specs.declared.notice.Outcome.{Outcome}
+use Rattle.lat_notices.specs.declared.notice.Outcome.TheVariants.{Kept, Unknown}
 use Rattle.lat_notices.specs.declared.services.Service.{Service}
-use Rattle.lat_notices.specs.Outcomes.{action_number, is_action, action_of, outcome_number, outcome_place, IsOutcome, is_outcome, place_fits, outcome_of}
+use Rattle.lat_notices.specs.Outcomes.{action_number, action_of, outcome_number, outcome_place, IsOutcome, outcome_of, place_fits, placed}
 use Rattle.lat_notices.specs.Services.{HasName, HasShortDescription, service_text}
 use Rattle.lat_notices.specs.Fields.{byte_for, groups_at, action_at, outcome_at}
 use Rattle.lat_notices.specs.ServicesReading.{service, service_at, services_at}
@@ -36,12 +38,8 @@ groups_found place bytes x all h =
     let P : (List ℕ × ℕ × List ℕ) → Type 0 = λ y. FoundText place bytes y × length y.0 ≤ 32 in
     subst P e (counted_found fields.Groups place place bytes m.0 all m.1, small)
 
-which_action : (n : ℕ) → is_action n ≡ true → n ≡ 1 ⊎ n ≡ 2
-which_action n h = grind (arith, nat_tests)
-
-action_back : (n : ℕ) → n ≡ 1 ⊎ n ≡ 2 → n ≡ action_number (action_of n)
-action_back n (inl e) = let P : ℕ → Type 0 = λ k. k ≡ action_number (action_of k) in subst P (sym e) refl
-action_back n (inr e) = let P : ℕ → Type 0 = λ k. k ≡ action_number (action_of k) in subst P (sym e) refl
+action_is : (n : ℕ) (a : Action) → action_of n ≡ Some a → n ≡ action_number a
+action_is n a is = grind (arith, nat_tests)
 
 pub record FoundAction (bytes : List ℕ) (x : Action × ℕ × List ℕ) : Type 0 where
   pub is : bytes ≡ action_number x.0 ∷ x.2
@@ -50,84 +48,76 @@ pub record FoundAction (bytes : List ℕ) (x : Action × ℕ × List ℕ) : Type
 pub action_found : (place : ℕ) (bytes : List ℕ) (x : Action × ℕ × List ℕ) → IsBytes bytes → action_at place bytes ≡ Ok x → FoundAction bytes x
 unfolding action_at
 action_found place bytes x all h =
-    let a = bind_ok (byte_for is_action fields.Action place bytes) (λ a. Ok (action_of a.0, a.1, a.2)) x h in
-    let f = right_byte_found is_action fields.Action place bytes a.0 all a.1 in
-    let e : (action_of a.0.0, a.0.1, a.0.2) ≡ x = let same = a.2 in cc in
-    let back : a.0.0 ≡ action_number (action_of a.0.0) = action_back a.0.0 (which_action a.0.0 f.1) in
+    let n = bind_ok (byte_at fields.Action place place bytes) (λ n. (known (action_of n.0) fields.Action place >>= (λ a. Ok (a, n.1, n.2)))) x h in
+    let f = byte_found fields.Action place place bytes n.0 all n.1 in
+    let a = bind_ok (known (action_of n.0.0) fields.Action place) (λ a. Ok (a, n.0.1, n.0.2)) x n.2 in
+    let e : (a.0, n.0.1, n.0.2) ≡ x = let same = a.2 in cc in
+    let back : n.0.0 ≡ action_number a.0 = action_is n.0.0 a.0 (known_ok (action_of n.0.0) fields.Action place a.0 a.1) in
     let P : (Action × ℕ × List ℕ) → Type 0 = FoundAction bytes in
-    subst P e (record { is = f.0.is ∙ ap (λ n. n ∷ a.0.2) back; others = f.0.others })
+    subst P e (record { is = f.is ∙ ap (λ k. k ∷ n.0.2) back; others = f.others })
 
--- what an outcome's number and place tell of the outcome that they stand for
-record Stands (number place : ℕ) : Type 0 where
-  number_is : number ≡ outcome_number (outcome_of number place)
-  place_is : place ≡ outcome_place (outcome_of number place)
-  fits : IsOutcome (outcome_of number place)
+outcome_is : (n : ℕ) (o : Outcome) → outcome_of n ≡ Some o → n ≡ outcome_number o
+outcome_is n o is = grind (arith, nat_tests)
+
+-- what an outcome and a place that fits it tell of the two together
+record Stands (o : Outcome) (place : ℕ) : Type 0 where
+  number_is : outcome_number o ≡ outcome_number (placed o place)
+  place_is : place ≡ outcome_place (placed o place)
+  fits : IsOutcome (placed o place)
 
 none : (place : ℕ) → eqb place 0 ≡ true → place ≡ 0
 none place h = grind (arith, nat_tests)
 
-stands : (n place : ℕ) → (n ≡ 1 ⊎ (n ≡ 2 ⊎ (n ≡ 3 ⊎ (n ≡ 4 ⊎ (n ≡ 5 ⊎ (n ≡ 6 ⊎ (n ≡ 7 ⊎ n ≡ 8))))))) → place_fits n place ≡ true → Stands n place
-stands n place which h =
-    let H : ℕ → Type 0 = λ k. place_fits k place ≡ true in
-    let P : ℕ → Type 0 = λ k. Stands k place in
-    elim which as (λ _. Stands n place) [
-      | inl e ↦ let f : ltb 0 place ≡ true = subst H e h in subst P (sym e) (record { number_is = refl; place_is = refl; fits = grind (arith, nat_tests) })
-      | inr w ↦ elim w as (λ _. Stands n place) [
-        | inl e ↦ let f : eqb place 0 ≡ true = subst H e h in subst P (sym e) (record { number_is = refl; place_is = none place f; fits = tt })
-        | inr w ↦ elim w as (λ _. Stands n place) [
-          | inl e ↦ let f : eqb place 0 ≡ true = subst H e h in subst P (sym e) (record { number_is = refl; place_is = none place f; fits = tt })
-          | inr w ↦ elim w as (λ _. Stands n place) [
-            | inl e ↦ let f : eqb place 0 ≡ true = subst H e h in subst P (sym e) (record { number_is = refl; place_is = none place f; fits = tt })
-            | inr w ↦ elim w as (λ _. Stands n place) [
-              | inl e ↦ let f : eqb place 0 ≡ true = subst H e h in subst P (sym e) (record { number_is = refl; place_is = none place f; fits = tt })
-              | inr w ↦ elim w as (λ _. Stands n place) [
-                | inl e ↦ let f : eqb place 0 ≡ true = subst H e h in subst P (sym e) (record { number_is = refl; place_is = none place f; fits = tt })
-                | inr w ↦ elim w as (λ _. Stands n place) [
-                  | inl e ↦ let f : eqb place 0 ≡ true = subst H e h in subst P (sym e) (record { number_is = refl; place_is = none place f; fits = tt })
-                  | inr e ↦ let f : eqb place 0 ≡ true = subst H e h in subst P (sym e) (record { number_is = refl; place_is = none place f; fits = tt })
-                ]
-              ]
-            ]
-          ]
-        ]
-      ]
-    ]
-
-which_outcome : (n : ℕ) → is_outcome n ≡ true → (n ≡ 1 ⊎ (n ≡ 2 ⊎ (n ≡ 3 ⊎ (n ≡ 4 ⊎ (n ≡ 5 ⊎ (n ≡ 6 ⊎ (n ≡ 7 ⊎ n ≡ 8)))))))
-which_outcome n h = grind (arith, nat_tests)
-
-abbrev outcome_given : ℕ → (ℕ × ℕ × List ℕ) → Result (Outcome × ℕ × List ℕ) Bad
-outcome_given number queue = Ok (outcome_of number queue.0, queue.1, queue.2)
+stands : (o : Outcome) (place : ℕ) → place_fits o place ≡ true → Stands o place
+stands (Kept (Waiting unplaced)) place h =
+    let some : ltb 0 place ≡ true = h in
+    record { number_is = refl; place_is = refl; fits = grind (arith, nat_tests) }
+stands (Kept Granted) place h = record { number_is = refl; place_is = none place h; fits = tt }
+stands (Kept Cancelled) place h = record { number_is = refl; place_is = none place h; fits = tt }
+stands (Kept QueueFull) place h = record { number_is = refl; place_is = none place h; fits = tt }
+stands (Kept NoService) place h = record { number_is = refl; place_is = none place h; fits = tt }
+stands (Kept RecordsFull) place h = record { number_is = refl; place_is = none place h; fits = tt }
+stands (Kept Done) place h = record { number_is = refl; place_is = none place h; fits = tt }
+stands Unknown place h = record { number_is = refl; place_is = none place h; fits = tt }
 
 pub record FoundOutcome (bytes : List ℕ) (x : Outcome × ℕ × List ℕ) : Type 0 where
   pub is : bytes ≡ outcome_number x.0 ∷ number (outcome_place x.0) ++ x.2
   pub fits : IsOutcome x.0
   pub others : IsBytes x.2
 
-outcome_joined : (bytes : List ℕ) (o q : ℕ × ℕ × List ℕ) (x : Outcome × ℕ × List ℕ) → Stands o.0 q.0 → bytes ≡ o.0 ∷ o.2 → o.2 ≡ number q.0 ++ q.2 → IsBytes q.2
-    → outcome_given o.0 q ≡ Ok x → FoundOutcome bytes x
-outcome_joined bytes o q x s is1 is2 others same =
-    let e : (outcome_of o.0 q.0, q.1, q.2) ≡ x = cc in
+abbrev outcome_given : Outcome → (ℕ × ℕ × List ℕ) → Result (Outcome × ℕ × List ℕ) Bad
+outcome_given outcome queue = Ok (placed outcome queue.0, queue.1, queue.2)
+
+abbrev after_place : Outcome → ℕ → (ℕ × ℕ × List ℕ) → Result (Outcome × ℕ × List ℕ) Bad
+after_place outcome place queue = wanted (place_fits outcome queue.0) fields.Place place >>= (λ w. outcome_given outcome queue)
+
+abbrev after_outcome : (ℕ × ℕ × List ℕ) → Outcome → Result (Outcome × ℕ × List ℕ) Bad
+after_outcome number outcome = number_at fields.Place number.1 number.2 >>= after_place outcome number.1
+
+outcome_joined : (bytes : List ℕ) (n q : ℕ × ℕ × List ℕ) (o : Outcome) (x : Outcome × ℕ × List ℕ) → n.0 ≡ outcome_number o → Stands o q.0 → bytes ≡ n.0 ∷ n.2 → n.2 ≡ number q.0 ++ q.2
+    → IsBytes q.2 → outcome_given o q ≡ Ok x → FoundOutcome bytes x
+outcome_joined bytes n q o x known_is s is1 is2 others same =
+    let e : (placed o q.0, q.1, q.2) ≡ x = cc in
+    let number_is = known_is ∙ s.number_is in
     let P : (Outcome × ℕ × List ℕ) → Type 0 = FoundOutcome bytes in
     subst P e (record {
-      is = is1 ∙ ap (λ r. o.0 ∷ r) is2 ∙ (λ i. s.number_is i ∷ number (s.place_is i) ++ q.2);
+      is = is1 ∙ ap (λ r. n.0 ∷ r) is2 ∙ (λ i. number_is i ∷ number (s.place_is i) ++ q.2);
       fits = s.fits;
       others = others;
     })
 
-abbrev after_place : ℕ → ℕ → (ℕ × ℕ × List ℕ) → Result (Outcome × ℕ × List ℕ) Bad
-after_place number place queue = wanted (place_fits number queue.0) fields.Place place >>= (λ w. Ok (outcome_of number queue.0, queue.1, queue.2))
-
 pub outcome_found : (place : ℕ) (bytes : List ℕ) (x : Outcome × ℕ × List ℕ) → IsBytes bytes → outcome_at place bytes ≡ Ok x → FoundOutcome bytes x
 unfolding outcome_at
 outcome_found place bytes x all h =
-    let o = bind_ok (byte_for is_outcome fields.Outcome place bytes) (λ o. (number_at fields.Place o.1 o.2 >>= after_place o.0 o.1)) x h in
-    let f = right_byte_found is_outcome fields.Outcome place bytes o.0 all o.1 in
-    let q = bind_ok (number_at fields.Place o.0.1 o.0.2) (after_place o.0.0 o.0.1) x o.2 in
-    let g = number_found fields.Place o.0.1 o.0.2 q.0 f.0.others q.1 in
-    let w = bind_ok (wanted (place_fits o.0.0 q.0.0) fields.Place o.0.1) (λ w. Ok (outcome_of o.0.0 q.0.0, q.0.1, q.0.2)) x q.2 in
-    let s = stands o.0.0 q.0.0 (which_outcome o.0.0 f.1) (wanted_ok (place_fits o.0.0 q.0.0) fields.Place o.0.1 w.0 w.1) in
-    outcome_joined bytes o.0 q.0 x s f.0.is g.is g.others w.2
+    let n = bind_ok (byte_at fields.Outcome place place bytes) (λ n. (known (outcome_of n.0) fields.Outcome place >>= after_outcome n)) x h in
+    let f = byte_found fields.Outcome place place bytes n.0 all n.1 in
+    let o = bind_ok (known (outcome_of n.0.0) fields.Outcome place) (after_outcome n.0) x n.2 in
+    let q = bind_ok (number_at fields.Place n.0.1 n.0.2) (after_place o.0 n.0.1) x o.2 in
+    let g = number_found fields.Place n.0.1 n.0.2 q.0 f.others q.1 in
+    let w = bind_ok (wanted (place_fits o.0 q.0.0) fields.Place n.0.1) (λ w. outcome_given o.0 q.0) x q.2 in
+    let s = stands o.0 q.0.0 (wanted_ok (place_fits o.0 q.0.0) fields.Place n.0.1 w.0 w.1) in
+    let number_is = outcome_is n.0.0 o.0 (known_ok (outcome_of n.0.0) fields.Outcome place o.0 o.1) in
+    outcome_joined bytes n.0 q.0 o.0 x number_is s f.is g.is g.others w.2
 
 pub record FoundService (bytes : List ℕ) (x : Service × ℕ × List ℕ) : Type 0 where
   pub is : bytes ≡ service_text x.0 ++ x.2

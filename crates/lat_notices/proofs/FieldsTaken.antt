@@ -28,12 +28,12 @@ groups_taken place mask rest h =
     rw (counted_taken fields.Groups place place mask rest, small) refl
 
 pub action_taken : (a : Action) (place : ℕ) (rest : List ℕ) → action_at place (action_number a ∷ rest) ≡ Ok (a, place + 1, rest)
-unfolding action_at byte_for
+unfolding action_at
 action_taken actions.Ask place rest = refl
 action_taken actions.Cancel place rest = refl
 
 pub outcome_taken : (o : Outcome) (place : ℕ) (rest : List ℕ) → IsOutcome o → outcome_at place (outcome_number o ∷ number (outcome_place o) ++ rest) ≡ Ok (o, place + 1 + 1 + 1, rest)
-unfolding outcome_at byte_for
+unfolding outcome_at
 outcome_taken (Kept (Waiting queue)) place rest h =
     let some : ltb 0 queue ≡ true = grind (arith, nat_tests) in
     rw (number_taken fields.Place (place + 1) queue rest, some) refl

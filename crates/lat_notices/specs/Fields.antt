@@ -3,10 +3,10 @@ use Rattle.std.specs.Prelude.{ℕ, Bool, List, length, Result, Ok, nat_le, nat_l
 use Rattle.lat_base.specs.declared.field.Bad.{Bad}
 use Rattle.lat_base.specs.declared.field.Field.{Field}
 use Rattle.lat_base.specs.declared.field.Field.TheVariants as fields
-use Rattle.lat_fields.specs.Reading.{◌>>=◌, wanted, byte_at, number_at, counted_at}
+use Rattle.lat_fields.specs.Reading.{◌>>=◌, wanted, known, byte_at, number_at, counted_at}
 use Rattle.lat_notices.specs.declared.notice.Action.{Action}
 use Rattle.lat_notices.specs.declared.notice.Outcome.{Outcome}
-use Rattle.lat_notices.specs.Outcomes.{is_action, action_of, is_outcome, place_fits, outcome_of}
+use Rattle.lat_notices.specs.Outcomes.{action_of, outcome_of, place_fits, placed}
 
 abbrev pub is_version : ℕ → Bool
 is_version version = version == 5
@@ -31,13 +31,15 @@ groups_at place bytes = do
 
 unfoldable pub action_at : ℕ → List ℕ → Result (Action × ℕ × List ℕ) Bad
 action_at place bytes = do
-  action ← byte_for is_action fields.Action place bytes
-  Ok (action_of action.0, action.1, action.2)
+  number ← byte_at fields.Action place place bytes
+  action ← known (action_of number.0) fields.Action place
+  Ok (action, number.1, number.2)
 
 -- an outcome with the place in the queue, which is tied to it
 unfoldable pub outcome_at : ℕ → List ℕ → Result (Outcome × ℕ × List ℕ) Bad
 outcome_at place bytes = do
-  outcome ← byte_for is_outcome fields.Outcome place bytes
-  queue ← number_at fields.Place outcome.1 outcome.2
-  w ← wanted (place_fits outcome.0 queue.0) fields.Place outcome.1
-  Ok (outcome_of outcome.0 queue.0, queue.1, queue.2)
+  number ← byte_at fields.Outcome place place bytes
+  outcome ← known (outcome_of number.0) fields.Outcome place
+  queue ← number_at fields.Place number.1 number.2
+  w ← wanted (place_fits outcome queue.0) fields.Place number.1
+  Ok (placed outcome queue.0, queue.1, queue.2)

@@ -1,5 +1,6 @@
 -- The numbers that actions and outcomes are written as.
-use Rattle.std.specs.Prelude.{ℕ, ◌<◌, Bool, ◌||◌, ◌&&◌, nat_le, nat_lt, ◌==◌, if◌then◌else◌}
+use Rattle.std.specs.Prelude.{ℕ, ◌<◌, Bool, nat_lt, ◌==◌, List, [], ◌∷◌, Option}
+use Rattle.std.specs.List.{find}
 use Rattle.lat_base.specs.declared.kept.Kept.TheVariants.{Waiting, Granted, Cancelled, QueueFull, NoService, RecordsFull, Done}
 use Rattle.lat_notices.specs.declared.notice.Action.{Action}
 use Rattle.lat_notices.specs.declared.notice.Action.TheVariants as actions
@@ -10,12 +11,12 @@ abbrev pub action_number : Action → ℕ
 action_number actions.Ask = 1
 action_number actions.Cancel = 2
 
-abbrev pub is_action : ℕ → Bool
-is_action number = number == 1 || number == 2
+abbrev pub all_actions : List Action
+all_actions = actions.Ask ∷ actions.Cancel ∷ []
 
 -- the action that a number stands for
-abbrev pub action_of : ℕ → Action
-action_of number = if number == 1 then actions.Ask else actions.Cancel
+abbrev pub action_of : ℕ → Option Action
+action_of number = find (λ action. number == action_number action) all_actions
 
 abbrev pub outcome_number : Outcome → ℕ
 outcome_number (Kept (Waiting place)) = 1
@@ -37,21 +38,20 @@ abbrev pub IsOutcome : Outcome → Type 0
 IsOutcome (Kept (Waiting place)) = 0 < place
 IsOutcome outcome = Unit {0}
 
-abbrev pub is_outcome : ℕ → Bool
-is_outcome number = nat_le 1 number && nat_le number 8
+-- each outcome; the place of one that waits is 0 here, since it stands behind the number
+abbrev pub all_outcomes : List Outcome
+all_outcomes = Kept (Waiting 0) ∷ Kept Granted ∷ Kept Cancelled ∷ Kept QueueFull ∷ Kept NoService ∷ Kept RecordsFull ∷ Kept Done ∷ Unknown ∷ []
 
--- the place that may stand with an outcome's number: not 0 where the request waits, else 0
-abbrev pub place_fits : ℕ → ℕ → Bool
-place_fits number place = if number == 1 then nat_lt 0 place else place == 0
+-- the outcome that a number stands for, without its place
+abbrev pub outcome_of : ℕ → Option Outcome
+outcome_of number = find (λ outcome. number == outcome_number outcome) all_outcomes
 
--- the outcome that a number with its place stands for
-abbrev pub outcome_of : ℕ → ℕ → Outcome
-outcome_of number place =
-    if number == 1 then Kept (Waiting place)
-    else if number == 2 then Kept Granted
-    else if number == 3 then Kept Cancelled
-    else if number == 4 then Kept QueueFull
-    else if number == 5 then Kept NoService
-    else if number == 6 then Kept RecordsFull
-    else if number == 7 then Kept Done
-    else Unknown
+-- the place that may stand with an outcome: not 0 where the request waits, else 0
+abbrev pub place_fits : Outcome → ℕ → Bool
+place_fits (Kept (Waiting unplaced)) place = nat_lt 0 place
+place_fits outcome place = place == 0
+
+-- the outcome with the place that stands behind its number
+abbrev pub placed : Outcome → ℕ → Outcome
+placed (Kept (Waiting unplaced)) place = Kept (Waiting place)
+placed outcome place = outcome

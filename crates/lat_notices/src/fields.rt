@@ -4,11 +4,11 @@ ghost use Rattle.std.specs.Prelude.{◌≡◌, ◌≤◌, length, drop, IfOk};
 ghost use Rattle.lat_base.specs.declared.field.Field.TheVariants as fields;
 ghost use Rattle.lat_fields.specs.Reading.{Gives};
 ghost use Rattle.lat_notices.specs.Fields.{is_version, is_timer, byte_for, groups_at, action_at, outcome_at};
-ghost use Rattle.lat_notices.specs.Outcomes.{action_of, outcome_of, place_fits};
+ghost use Rattle.lat_notices.specs.Outcomes.{place_fits, placed};
 
 use crate::notice::{Action, Outcome};
 use lat_base::{Field, Kept};
-use lat_fields::{LayoutFault, byte_of, counted_of, number_of, wanted};
+use lat_fields::{LayoutFault, byte_of, counted_of, known, number_of, wanted};
 
 /// The version of the protocol that each notice has.
 pub const VERSION: u8 = 5;
@@ -61,18 +61,8 @@ pub fn groups_of(bytes: &[u8], place: usize) -> Result<(&[u8], usize), LayoutFau
     Ok((mask, behind))
 }
 
-fn action(number: u8) -> Action
-    ensures { result ≡ action_of number }
-{
-    if number == 1 {
-        Action::Ask
-    } else {
-        Action::Cancel
-    }
-}
-
 /// An action, and the place behind it.
-#[tactic(auto, unfolding(crate::specs::Fields::byte_for, crate::specs::Fields::action_at))]
+#[tactic(auto, unfolding(crate::specs::Fields::action_at))]
 pub fn action_of(bytes: &[u8], place: usize) -> Result<(Action, usize), LayoutFault>
     requires { (place ≤ length bytes.now) × (length bytes.now ≤ 1500) }
     ensures gives { Gives (λ x. (x.0, x.1, drop x.1 bytes.now)) result (action_at place
@@ -80,34 +70,32 @@ pub fn action_of(bytes: &[u8], place: usize) -> Result<(Action, usize), LayoutFa
     ensures within { IfOk result (λ x. x.1 ≤ length bytes.now) }
 {
     let (number, behind) = byte_of(Field::Action, place, bytes, place)?;
-    wanted(number == 1 || number == 2, Field::Action, place)?;
-    Ok((action(number), behind))
+    let action = known(Action::from_number(number), Field::Action, place)?;
+    Ok((action, behind))
 }
 
-fn outcome(number: u8, place: u16) -> Outcome
-    ensures { result ≡ outcome_of number place }
+// Whether a place of the queue may stand with an outcome.
+fn place_fits(outcome: Outcome, place: u16) -> bool
+    ensures { result ≡ place_fits outcome place }
 {
-    match number {
-        1 => Outcome::Kept(Kept::Waiting(place)),
-        2 => Outcome::Kept(Kept::Granted),
-        3 => Outcome::Kept(Kept::Cancelled),
-        4 => Outcome::Kept(Kept::QueueFull),
-        5 => Outcome::Kept(Kept::NoService),
-        6 => Outcome::Kept(Kept::RecordsFull),
-        7 => Outcome::Kept(Kept::Done),
-        _ => Outcome::Unknown,
+    match outcome {
+        Outcome::Kept(Kept::Waiting(_)) => place > 0,
+        _ => place == 0,
     }
 }
 
-// Whether a place of the queue may stand with an outcome's number.
-fn place_fits(number: u8, place: u16) -> bool
-    ensures { result ≡ place_fits number place }
+// The outcome with the place that stands behind its number.
+fn placed(outcome: Outcome, place: u16) -> Outcome
+    ensures { result ≡ placed outcome place }
 {
-    if number == 1 { place > 0 } else { place == 0 }
+    match outcome {
+        Outcome::Kept(Kept::Waiting(_)) => Outcome::Kept(Kept::Waiting(place)),
+        _ => outcome,
+    }
 }
 
 /// An outcome with its place in the queue, and the place behind them.
-#[tactic(auto, unfolding(crate::specs::Fields::byte_for, crate::specs::Fields::outcome_at))]
+#[tactic(auto, unfolding(crate::specs::Fields::outcome_at))]
 pub fn outcome_of(bytes: &[u8], place: usize) -> Result<(Outcome, usize), LayoutFault>
     requires { (place ≤ length bytes.now) × (length bytes.now ≤ 1500) }
     ensures gives { Gives (λ x. (x.0, x.1, drop x.1 bytes.now)) result (outcome_at place
@@ -115,8 +103,8 @@ pub fn outcome_of(bytes: &[u8], place: usize) -> Result<(Outcome, usize), Layout
     ensures within { IfOk result (λ x. x.1 ≤ length bytes.now) }
 {
     let (number, queue_at) = byte_of(Field::Outcome, place, bytes, place)?;
-    wanted(number >= 1 && number <= 8, Field::Outcome, place)?;
+    let outcome = known(Outcome::from_number(number), Field::Outcome, place)?;
     let (queue, behind) = number_of(Field::Place, bytes, queue_at)?;
-    wanted(place_fits(number, queue), Field::Place, queue_at)?;
-    Ok((outcome(number, queue), behind))
+    wanted(place_fits(outcome, queue), Field::Place, queue_at)?;
+    Ok((placed(outcome, queue), behind))
 }

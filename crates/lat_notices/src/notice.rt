@@ -1,7 +1,7 @@
 //! Notices.
 
 ghost use Rattle.std.specs.Prelude.{◌≡◌};
-ghost use Rattle.lat_notices.specs.Outcomes.{action_number, outcome_number, outcome_place};
+ghost use Rattle.lat_notices.specs.Outcomes.{action_number, action_of, outcome_number, outcome_of, outcome_place};
 
 use crate::services::Services;
 use lat_base::{Bytes, Kept, Name};
@@ -43,6 +43,17 @@ pub enum Action {
 }
 
 impl Action {
+    /// The action that a number stands for, if it stands for one.
+    pub fn from_number(number: u8) -> Option<Action>
+        ensures { result ≡ action_of number }
+    {
+        match number {
+            1 => Some(Action::Ask),
+            2 => Some(Action::Cancel),
+            _ => None,
+        }
+    }
+
     /// The number that it is written as and printed by: 1 asks, 2 cancels.
     pub fn number(self) -> u8
         ensures { result ≡ action_number self }
@@ -76,6 +87,24 @@ pub enum Outcome {
 }
 
 impl Outcome {
+    /// The outcome that a number stands for, if it stands for one. A request that waits has the place 0 in it until its
+    /// place is read.
+    pub(crate) fn from_number(number: u8) -> Option<Outcome>
+        ensures { result ≡ outcome_of number }
+    {
+        match number {
+            1 => Some(Outcome::Kept(Kept::Waiting(0))),
+            2 => Some(Outcome::Kept(Kept::Granted)),
+            3 => Some(Outcome::Kept(Kept::Cancelled)),
+            4 => Some(Outcome::Kept(Kept::QueueFull)),
+            5 => Some(Outcome::Kept(Kept::NoService)),
+            6 => Some(Outcome::Kept(Kept::RecordsFull)),
+            7 => Some(Outcome::Kept(Kept::Done)),
+            8 => Some(Outcome::Unknown),
+            _ => None,
+        }
+    }
+
     /// The number that it is written as and printed by, 1 to 8.
     pub fn number(self) -> u8
         ensures { result ≡ outcome_number self }
