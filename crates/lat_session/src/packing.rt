@@ -18,7 +18,7 @@ ghost use Rattle.lat_session.specs.Table.{SameEnd};
 use crate::ask::Ask;
 use crate::table::Sessions;
 use lat_base::{Payload, SessionState};
-use lat_slots::SlotKind;
+use lat_slots::{SlotKind, write_slot_head};
 use lat_stream::Formed;
 
 /// How many bytes a reject has.
@@ -234,8 +234,5 @@ fn write_reject(out: &mut Payload, peer: u8, reason: u8)
     ensures text { out.new ≡ out.old ++ slot_text (formed_as (sessions.Reject peer 0 reason)) }
     ensures small { reason ≤ 15 }
 {
-    out.push(peer);
-    out.push(0);
-    out.push(0);
-    out.push(SlotKind::Reject.bits() * 16 + reason);
+    write_slot_head(out, peer, 0, 0, SlotKind::Reject, reason);
 }
