@@ -1,6 +1,6 @@
 //! The queue.
 
-ghost use Rattle.std.specs.Prelude.{◌≡◌, ◌<◌, ◌≤◌, ◌+◌, [], ◌∷◌, ◌++◌, length, true, false, Some, None, replicate, OnOk, OnErr, IfOk, IfSome, IfNone, IsSome, ◌↔◌, List, slice_get};
+ghost use Rattle.std.specs.Prelude.{◌≡◌, ◌<◌, ◌≤◌, ◌+◌, [], ◌∷◌, ◌++◌, length, true, false, Some, None, replicate, OnOk, OnErr, IfOk, IfSome, IfNone, IsSome, OnSome, ◌↔◌, List, slice_get};
 ghost use Rattle.lat_machines.specs.server.Queue.{QueueEvent, Asks, Cancels, Grants, next_request};
 ghost use Rattle.lat_machines.specs.server.Records.{ask_answer, kept_of, record_at};
 ghost use Rattle.lat_queue.specs.Histories.{Stands, key_in, address_in, kept_in, some_kept, some_first, some_request, some_key, request_key, some_record, finish_history};
@@ -189,11 +189,13 @@ impl Queue {
         self.end(key);
     }
 
-    /// The record at this place of the order of first commands, counted from 0. None past the last.
+    /// The record at this place of the order of first commands, counted from 0. None past the last, and so at 65,536 and
+    /// behind it.
     pub fn record_at(&self, place: usize) -> Option<Record>
         ensures value { (h : List QueueEvent) → Stands self.now h →
             some_record result ≡ record_at place h }
         ensures within { IsSome result ↔ (place < length self.now.entries) }
+        ensures few { OnSome result (place < 65536) }
     {
         self.shown(place)
     }
@@ -366,6 +368,7 @@ impl Queue {
     fn shown(&self, place: usize) -> Option<Record>
         ensures value { result ≡ shown self.now place }
         ensures within { IsSome result ↔ (place < length self.now.entries) }
+        ensures few { OnSome result (place < 65536) }
     {
         let (key, entry) = self.entries.get_index(place)?;
         Some(Record {

@@ -1,6 +1,6 @@
 //! The server core.
 
-ghost use Rattle.std.specs.Prelude.{◌≡◌, ◌≤◌, map, length, IfOk};
+ghost use Rattle.std.specs.Prelude.{◌≡◌, ◌<◌, ◌≤◌, map, length, IfOk, OnSome};
 ghost use Rattle.lat_machines.specs.cores.Books.{book};
 ghost use Rattle.lat_machines.specs.cores.Cores.{span};
 ghost use Rattle.lat_machines.specs.cores.Hearing.{names};
@@ -117,9 +117,12 @@ impl ServerCore {
         self.lines.count()
     }
 
-    /// The record of a request, by the order of first commands from 0 on; `None` exactly past the last. It takes no memory.
+    /// The record of a request, by the order of first commands from 0 on; `None` exactly past the last, and so at 65,536 and
+    /// behind it. It takes no memory.
     pub fn record_at(&self, place: usize) -> Option<Record>
-        ensures { (s : Server) → Stands self.now s → some_record result ≡ record_at place s.queue }
+        ensures value { (s : Server) → Stands self.now s →
+            some_record result ≡ record_at place s.queue }
+        ensures few { OnSome result (place < 65536) }
     {
         self.queue.record_at(place)
     }
