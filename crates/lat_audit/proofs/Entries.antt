@@ -18,12 +18,11 @@ use Rattle.lat_model.specs.sessions.Slots.{Slot}
 use Rattle.lat_machines.specs.values.Messages.{RunMessage, WideMessage, StartMessage, StopMessage}
 use Rattle.lat_notices.specs.declared.notice.Notice.{Notice}
 use Rattle.lat_machines.specs.values.Frames.{OfCircuit, OfNotice, Reading, Whole, Malformed}
-use Rattle.lat_circuit.specs.Frames.{message_shown}
+use Rattle.lat_circuit.specs.Messages.{message_shown}
 use Rattle.lat_value.specs.declared.value.Value.{Value}
 use Rattle.lat_value.specs.declared.value.Value.TheVariants as values
-use Rattle.lat_payload.specs.Shown.{value_shown}
 use Rattle.lat_value.specs.Texts.{IsPayloadOf}
-use Rattle.lat_payload.specs.Reads.{reading_of, malformed}
+use Rattle.lat_payload.specs.Reads.{reading_of, malformed, value_shown}
 use Rattle.lat_captures.specs.Entries as captures
 use Rattle.lat_captures.specs.Entries.{Title}
 use Rattle.lat_captures.specs.Legal as legal

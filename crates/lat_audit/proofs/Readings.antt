@@ -24,8 +24,8 @@ use Rattle.lat_model.specs.sessions.Slots as sessions
 use Rattle.lat_machines.specs.values.Messages as model
 use Rattle.lat_machines.specs.values.Frames.{Value, OfCircuit, OfNotice, Whole}
 use Rattle.lat_stream.specs.Wire.{slot_heard, formed_as}
-use Rattle.lat_circuit.specs.Payloads.{head_of, wide_head_of, slots_as_text}
-use Rattle.lat_circuit.specs.Frames.{head_shown, wide_head_shown, message_shown}
+use Rattle.lat_circuit.specs.Payloads.{slots_as_text}
+use Rattle.lat_circuit.specs.Messages.{head_of, wide_head_of, head_shown, wide_head_shown, message_shown}
 use Rattle.lat_value.specs.declared.value.Value.TheVariants as values
 use Rattle.lat_value.specs.Reading.{read_as, unknown, value_read}
 use Rattle.lat_payload.specs.Reads.{reading_of, read_shown}

@@ -9,7 +9,7 @@ use Rattle.lat_frames.specs.declared.message.Message.TheVariants.{Run, Wide, Sta
 use Rattle.lat_frames.specs.Written.{slots_text}
 use Rattle.lat_frames.specs.Reading.{message_read}
 use Rattle.lat_machines.specs.values.Frames.{Whole, OfCircuit}
-use Rattle.lat_circuit.specs.Frames.{message_shown}
+use Rattle.lat_circuit.specs.Messages.{message_shown}
 use Rattle.lat_payload.specs.Reads.{reading_of}
 use Rattle.lat_captures.specs.Entries as captures
 use Rattle.lat_captures.specs.declared.head.RunHead.{RunHead}

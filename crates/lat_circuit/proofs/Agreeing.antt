@@ -2,7 +2,7 @@
 use Rattle.std.proofs.Common.{◌≡◌, ℕ, zero, suc, ◌<◌, Bool, true, false, not, ◌&&◌, cond, nat_eq, List, [], ◌∷◌, length, map, drop, get_or, min, refl, sym, ap, ◌∙◌, arith}
 use Rattle.lat_fields.specs.declared.params.Param.{Param as ReadParam}
 use Rattle.lat_machines.specs.values.Timing.{is_wide}
-use Rattle.lat_circuit.specs.Frames.{param_shown}
+use Rattle.lat_circuit.specs.Messages.{param_shown}
 
 -- the entry at a place decides where its code is 200
 pub wide_at : (ps : List ReadParam) (i : ℕ) (p : ReadParam) → i < length ps → p ≡ get_or ps i p

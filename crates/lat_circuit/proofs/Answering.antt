@@ -14,7 +14,8 @@ use Rattle.lat_machines.specs.cores.Cores.{setup_of}
 use Rattle.lat_machines.specs.values.Messages.{StartInfo}
 use Rattle.lat_machines.specs.values.Timing.{agreed_by}
 use Rattle.lat_circuit.specs.Links as link
-use Rattle.lat_circuit.specs.Payloads.{message_of, is_wide}
+use Rattle.lat_circuit.specs.Payloads.{is_wide}
+use Rattle.lat_circuit.specs.Messages.{message_of}
 use Rattle.lat_session.specs.Stands as sessions
 use Rattle.lat_session.specs.Table.{Table}
 use Rattle.lat_circuit.specs.declared.agreed.Agreed.{Agreed as OwnAgreed}

@@ -7,7 +7,8 @@ use Rattle.lat_model.specs.ends.Timers.{note_empty}
 use Rattle.lat_model.specs.sessions.Sessions.{held}
 use Rattle.lat_circuit.specs.Kept.{Facts, Kept}
 use Rattle.lat_model.proofs.numbers.Net.{each_append}
-use Rattle.lat_circuit.specs.Frames.{IsFormed, AreFormed, frame_sent, message_sent}
+use Rattle.lat_circuit.specs.Frames.{AreFormed, frame_sent, message_sent}
+use Rattle.lat_circuit.specs.Messages.{IsFormed}
 use Rattle.lat_circuit.specs.Stands.{Stands, Simulates}
 use Rattle.lat_circuit.specs.Steps.{Keeps}
 

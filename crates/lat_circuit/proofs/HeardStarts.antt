@@ -15,13 +15,14 @@ use Rattle.lat_machines.specs.values.Messages.{Message, StartInfo}
 use Rattle.lat_machines.specs.values.Timing.{Timing, agreed_by}
 use Rattle.lat_machines.specs.values.Answers.{Running, Again, Ended}
 use Rattle.lat_circuit.specs.Links as link
-use Rattle.lat_circuit.specs.Payloads.{message_of, is_wide}
+use Rattle.lat_circuit.specs.Payloads.{is_wide}
+use Rattle.lat_circuit.specs.Messages.{message_of, IsFormed}
 use Rattle.lat_session.specs.Stands as sessions
 use Rattle.lat_session.specs.Table.{Table}
 use Rattle.lat_circuit.specs.declared.agreed.Agreed.{Agreed as OwnAgreed}
 use Rattle.lat_circuit.specs.declared.circuit.Circuit.TheInside.{Inside}
 use Rattle.lat_circuit.specs.Agrees.{agreed_shown, span_of, Works}
-use Rattle.lat_circuit.specs.Frames.{IsFormed, AreFormed, frame_sent, message_sent}
+use Rattle.lat_circuit.specs.Frames.{AreFormed, frame_sent, message_sent}
 use Rattle.lat_circuit.specs.Kept.{Kept}
 use Rattle.lat_circuit.specs.Shown.{shown}
 use Rattle.lat_circuit.specs.Stands.{Stands}

@@ -4,6 +4,7 @@ mod Runs
 mod LinkSteps
 pub mod Dids
 pub mod Messages
+pub mod Hears
 pub mod Sending
 pub mod Packs
 pub mod Sends

@@ -11,12 +11,13 @@ use Rattle.lat_model.specs.sessions.Slots.{Slot}
 use Rattle.lat_model.specs.ends.End.{End, CallStart, ReplyStart, marked, send_bare, send_again, send_start}
 use Rattle.lat_machines.specs.values.Messages.{Message, StartMessage, RunMessage, WideMessage, StopMessage}
 use Rattle.lat_circuit.specs.Links as link
-use Rattle.lat_circuit.specs.Payloads.{message_of, run_payload}
+use Rattle.lat_circuit.specs.Payloads.{run_payload}
+use Rattle.lat_circuit.specs.Messages.{message_of, IsFormed}
 use Rattle.lat_circuit.specs.declared.circuit.Circuit.TheInside.{Inside}
 use Rattle.lat_circuit.specs.declared.start.Start.{Start}
 use Rattle.lat_circuit.specs.Kept.{Knows}
 use Rattle.lat_circuit.specs.Shown.{shown}
-use Rattle.lat_circuit.specs.Frames.{IsFormed, AreFormed, frame_sent, message_sent, start_message}
+use Rattle.lat_circuit.specs.Frames.{AreFormed, frame_sent, message_sent, start_message}
 use Rattle.lat_circuit.specs.Stands.{Stands}
 use Rattle.lat_circuit.proofs.Messages.{run_formed, none_message, again_formed, call_formed, reply_formed}
 use Rattle.lat_circuit.proofs.Packs.{framed}

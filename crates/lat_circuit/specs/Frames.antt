@@ -1,23 +1,16 @@
--- The frames of a circuit, and circuit messages as the machines know them.
-use Rattle.std.specs.Prelude.{◌≡◌, false, true, List, [], map}
+-- What an end sends, as messages and as frames.
+use Rattle.std.specs.Prelude.{false, true, List, []}
 use Rattle.lat_base.specs.declared.outbox.OutFrame.{OutFrame}
 use Rattle.lat_base.specs.declared.outbox.Mark.{Mark as FrameMark}
 use Rattle.lat_base.specs.declared.outbox.Mark.TheVariants as marks
 use Rattle.lat_fields.specs.Payloads.{padded}
-use Rattle.lat_fields.specs.declared.params.Param.{Param as ReadParam}
-use Rattle.lat_frames.specs.declared.message.Message.{Message as ReadMessage}
-use Rattle.lat_frames.specs.declared.message.Message.TheVariants as frames
-use Rattle.lat_frames.specs.declared.message.Head.{Head as ReadHead}
-use Rattle.lat_frames.specs.declared.message.WideHead.{WideHead as ReadWideHead}
-use Rattle.lat_frames.specs.declared.message.StartInfo.{StartInfo as ReadInfo}
-use Rattle.lat_frames.specs.Written.{IsWritable, message_text}
-use Rattle.lat_stream.specs.Wire.{slot_heard}
+use Rattle.lat_frames.specs.Written.{message_text}
 use Rattle.lat_model.specs.Lists.{Each}
 use Rattle.lat_model.specs.ends.End.{Mark, Fresh, Again, Bare, Sent, Run, CallStart, ReplyStart, Stopped}
-use Rattle.lat_machines.specs.values.Messages.{Param, Head, StartInfo, Message, RunMessage, WideMessage, StartMessage, StopMessage}
+use Rattle.lat_machines.specs.values.Messages.{StartInfo, Message, StartMessage, StopMessage}
 use Rattle.lat_machines.specs.values.Runs.{run_message}
 use Rattle.lat_machines.specs.values.Timing.{Timing, wide_params, call_info, reply_info}
-use Rattle.lat_circuit.specs.Payloads.{message_of}
+use Rattle.lat_circuit.specs.Messages.{message_of, IsFormed}
 use Rattle.lat_circuit.specs.declared.config.Timing.{Timing as OwnTiming}
 use Rattle.lat_circuit.specs.declared.start.Start.{Start}
 use Rattle.lat_circuit.specs.Kept.{Facts}
@@ -81,44 +74,6 @@ frame_sent k s = record {
   circuit = k.id;
   mark = mark_sent s;
 }
-
--- a message that is heard, as the machines know it
-abbrev pub param_shown : ReadParam → Param
-param_shown p = record { code = p.code; bytes = p.bytes }
-
-abbrev pub head_shown : ReadHead → Head
-head_shown h = record { master = h.master; ask = h.ask; to = h.to; from = h.from; seq = h.seq; ack = h.ack }
-
-abbrev pub wide_head_shown : ReadWideHead → Head
-wide_head_shown h = record { master = h.master; ask = h.ask; to = h.to; from = h.from; seq = h.seq; ack = h.ack }
-
-abbrev pub info_shown : ReadInfo → StartInfo
-info_shown i = record {
-  size = i.size;
-  eco = i.eco;
-  sessions = i.sessions;
-  extra = i.extra;
-  timer = i.timer;
-  keepalive = i.keepalive;
-  facility = i.facility;
-  product = i.product;
-  product_version = i.product_version;
-  slave = i.slave;
-  name = i.name;
-  location = i.location;
-  params = map param_shown i.params;
-}
-
-abbrev pub message_shown : ReadMessage → Message
-message_shown (frames.Run head slots) = RunMessage (head_shown head) (map slot_heard slots)
-message_shown (frames.Wide head slots) = WideMessage (wide_head_shown head) (map slot_heard slots)
-message_shown (frames.Start master ask to from info) = StartMessage master ask to from (info_shown info)
-message_shown (frames.Stop master ask to from reason text) = StopMessage master ask to from reason text
-
--- What is written of the message can be written, and tells the message
-pub record IsFormed (m : Message) : Type 0 where
-  pub writable : IsWritable (message_of m)
-  pub shown : message_shown (message_of m) ≡ m
 
 -- what an end of these facts sends is all of this kind
 abbrev pub AreFormed : Facts → List Sent → Type 0

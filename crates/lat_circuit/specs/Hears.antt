@@ -16,7 +16,8 @@ use Rattle.lat_session.specs.Table.{SameEnd}
 use Rattle.lat_frames.specs.declared.message.Message.{Message as ReadMessage}
 use Rattle.lat_frames.specs.declared.message.StartInfo.{StartInfo as ReadInfo}
 use Rattle.lat_circuit.specs.Kept.{Facts, Kept}
-use Rattle.lat_circuit.specs.Frames.{timing_shown, info_shown, message_shown, frame_sent, AreFormed}
+use Rattle.lat_circuit.specs.Frames.{timing_shown, frame_sent, AreFormed}
+use Rattle.lat_circuit.specs.Messages.{info_shown, message_shown}
 use Rattle.lat_circuit.specs.Stands.{Stands}
 
 pub record HeardStep : Type 0 where
@@ -81,7 +82,7 @@ noted_by k now m = hears_noted k.id (timing_shown k.config.timing) now (message_
 abbrev pub reply_by : Facts → ℕ → (to source : ℕ) → ReadInfo → End → HeardStep
 reply_by k now to source info = hears_reply k.id now (timing_shown k.config.timing) to source (info_shown info)
 
--- an answer, as the machines know it
+-- an answer, as the machines know it, and back
 abbrev pub heard_shown : OwnHeard → Heard
 heard_shown answers.Running = Running
 heard_shown (answers.Taken slots) = Taken slots
@@ -90,6 +91,15 @@ heard_shown answers.AckOnly = AckOnly
 heard_shown answers.Foreign = Foreign
 heard_shown (answers.Broke reason) = Broke reason
 heard_shown (answers.Ended reason) = Ended reason
+
+abbrev pub heard_of : Heard → OwnHeard
+heard_of Running = answers.Running
+heard_of (Taken slots) = answers.Taken slots
+heard_of Again = answers.Again
+heard_of AckOnly = answers.AckOnly
+heard_of Foreign = answers.Foreign
+heard_of (Broke reason) = answers.Broke reason
+heard_of (Ended reason) = answers.Ended reason
 
 -- the circuit did this step of every end that it stood for, the frames went out in order, each of them formed, and it
 -- answered so

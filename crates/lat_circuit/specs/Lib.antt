@@ -1,3 +1,4 @@
+pub mod Messages
 pub mod Payloads
 pub mod Links
 pub mod Laws

@@ -1,56 +1,17 @@
--- The messages of the model as the payloads that are written of them.
+-- The frames of the model as the payloads that are written of them.
 use Rattle.std.specs.Prelude.{ℕ, ◌/◌, ◌%◌, Bool, true, false, List, map, slice_set}
-use Rattle.lat_fields.specs.declared.params.Param.{Param}
 use Rattle.lat_fields.specs.Payloads.{padded}
-use Rattle.lat_frames.specs.declared.message.Head.{Head}
-use Rattle.lat_frames.specs.declared.message.WideHead.{WideHead}
-use Rattle.lat_frames.specs.declared.message.StartInfo.{StartInfo}
-use Rattle.lat_frames.specs.declared.message.Message.{Message}
-use Rattle.lat_frames.specs.declared.message.Message.TheVariants.{Run, Wide, Start, Stop}
 use Rattle.lat_frames.specs.Heads.{run_head, wide_head}
 use Rattle.lat_frames.specs.Written.{message_text, slots_text}
 use Rattle.lat_model.specs.numbers.Link.{Frame}
 use Rattle.lat_model.specs.sessions.Slots.{Slot}
-use Rattle.lat_machines.specs.values.Messages as model
 use Rattle.lat_machines.specs.values.Runs.{run_message}
 use Rattle.lat_seq.specs.declared.span.Span.{Span}
 use Rattle.lat_seq.specs.declared.span.Span.TheVariants.{Byte, Word}
 use Rattle.lat_seq.specs.Spans.{field}
 use Rattle.lat_stream.specs.Wire.{formed_as}
 use Rattle.lat_circuit.specs.declared.ids.Ids.{Ids}
-
-abbrev pub head_of : model.Head → Head
-head_of h = record { master = h.master; ask = h.ask; to = h.to; from = h.from; seq = h.seq; ack = h.ack }
-
-abbrev pub wide_head_of : model.Head → WideHead
-wide_head_of h = record { master = h.master; ask = h.ask; to = h.to; from = h.from; seq = h.seq; ack = h.ack }
-
-abbrev pub param_of : model.Param → Param
-param_of p = record { code = p.code; bytes = p.bytes }
-
-abbrev pub info_of : model.StartInfo → StartInfo
-info_of i = record {
-  size = i.size;
-  eco = i.eco;
-  sessions = i.sessions;
-  extra = i.extra;
-  timer = i.timer;
-  keepalive = i.keepalive;
-  facility = i.facility;
-  product = i.product;
-  product_version = i.product_version;
-  slave = i.slave;
-  name = i.name;
-  location = i.location;
-  params = map param_of i.params;
-}
-
--- the message that is written of a message of the model
-abbrev pub message_of : model.Message → Message
-message_of (model.RunMessage head slots) = Run (head_of head) (map formed_as slots)
-message_of (model.WideMessage head slots) = Wide (wide_head_of head) (map formed_as slots)
-message_of (model.StartMessage master ask to from info) = Start master ask to from (info_of info)
-message_of (model.StopMessage master ask to from reason text) = Stop master ask to from reason text
+use Rattle.lat_circuit.specs.Messages.{message_of}
 
 abbrev pub is_wide : Span → Bool
 is_wide Byte = false

@@ -5,7 +5,8 @@ ghost use Rattle.lat_model.specs.sessions.Sessions.{Sessions as States};
 ghost use Rattle.lat_machines.specs.values.Timing.{agreed_by, is_wide};
 ghost use Rattle.lat_session.specs.Stands.{Stands as SessionsStand};
 ghost use Rattle.lat_session.specs.Table.{SameEnd};
-ghost use Rattle.lat_circuit.specs.Frames.{timing_shown, info_shown, param_shown};
+ghost use Rattle.lat_circuit.specs.Frames.{timing_shown};
+ghost use Rattle.lat_circuit.specs.Messages.{info_shown, param_shown};
 ghost use Rattle.lat_circuit.specs.Agrees.{agreed_shown, Works, span_of};
 
 use crate::config::Timing;

@@ -6,7 +6,8 @@ ghost use Rattle.lat_frames.specs.Written.{IsWritable};
 ghost use Rattle.lat_model.specs.ends.End.{End};
 ghost use Rattle.lat_model.specs.ends.Starting.{reply_end};
 ghost use Rattle.lat_machines.specs.values.Timing.{agreed_by};
-ghost use Rattle.lat_circuit.specs.Frames.{timing_shown, head_shown, wide_head_shown, info_shown};
+ghost use Rattle.lat_circuit.specs.Frames.{timing_shown};
+ghost use Rattle.lat_circuit.specs.Messages.{head_shown, wide_head_shown, info_shown};
 ghost use Rattle.lat_circuit.specs.Hears.{hears_start, hears_stop, heard_by, noted_by, reply_by, heard_shown, SimulatesHearing, Remains};
 ghost use Rattle.lat_circuit.specs.Stands.{Stands, Simulates};
 

@@ -15,7 +15,7 @@ ghost use Rattle.lat_stream.specs.Wire.{slot_heard};
 ghost use Rattle.lat_session.specs.Stands.{Stands as SessionsStand};
 ghost use Rattle.lat_session.specs.Table.{SameEnd};
 ghost use Rattle.lat_circuit.specs.Applies.{number_heard, ack_heard, apply_slots, apply_body, apply, applied_step, slave_occasion, Applies, GoesOn};
-ghost use Rattle.lat_circuit.specs.Frames.{wide_head_shown};
+ghost use Rattle.lat_circuit.specs.Messages.{wide_head_shown};
 ghost use Rattle.lat_circuit.specs.Hears.{hears_run, SimulatesHearing, Remains};
 ghost use Rattle.lat_circuit.specs.Stands.{Stands, Simulates};
 ghost use Rattle.lat_circuit.specs.Steps.{Keeps};

@@ -4,7 +4,7 @@ ghost use Rattle.std.specs.Prelude.{◌≡◌, ◌+◌, ◌<◌, ◌≤◌, true
 ghost use Rattle.lat_frames.specs.Conditions.{InfoFits};
 ghost use Rattle.lat_circuit.specs.Agrees.{IsTiming};
 ghost use Rattle.lat_circuit.specs.Begins.{HasCalled, HasAnswered};
-ghost use Rattle.lat_circuit.specs.Frames.{info_shown};
+ghost use Rattle.lat_circuit.specs.Messages.{info_shown};
 
 use crate::agreed::{agree_sessions, agreed_by, span_of};
 use crate::circuit::Circuit;

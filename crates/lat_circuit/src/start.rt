@@ -8,11 +8,11 @@ ghost use Rattle.lat_fields.specs.Params.{params_text};
 ghost use Rattle.lat_fields.specs.Payloads.{padded};
 ghost use Rattle.lat_frames.specs.Written.{message_text};
 ghost use Rattle.lat_frames.specs.MessageText.{numbers_text};
-ghost use Rattle.lat_circuit.specs.Payloads.{message_of, info_of, param_of};
+ghost use Rattle.lat_circuit.specs.Messages.{message_of, info_of, param_of, IsFormed};
 ghost use Rattle.lat_machines.specs.values.Timing.{wide_params};
 ghost use Rattle.lat_machines.specs.values.Messages.{StopMessage};
 ghost use Rattle.lat_model.specs.ends.End.{CallStart, ReplyStart, Stopped};
-ghost use Rattle.lat_circuit.specs.Frames.{IsFormed, start_info, start_message, message_sent};
+ghost use Rattle.lat_circuit.specs.Frames.{start_info, start_message, message_sent};
 
 use crate::circuit::{Circuit, lend};
 use lat_base::{Addr, Mark, Name, OutBox, OutFrame, Payload};

@@ -1,3 +1,4 @@
+pub mod Announcements
 pub mod Bits
 pub mod Lists
 pub mod Expiry

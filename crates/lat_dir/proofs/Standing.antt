@@ -13,7 +13,8 @@ use Rattle.lat_dir.specs.declared.directory.DirFault.{DirFault}
 use Rattle.lat_dir.specs.declared.directory.DirFault.TheVariants.{Full, Memory}
 use Rattle.lat_dir.specs.declared.node.Node.{Node}
 use Rattle.lat_dir.specs.Words.{Nodes, living, others, node_of, offer_of}
-use Rattle.lat_dir.specs.Stands.{Kept, Known, known, known_of, offer_in, service_shown, Stands, announcement_shown, heard, answer_to, at_moment, UnlessMemory}
+use Rattle.lat_dir.specs.Stands.{Kept, Known, known, known_of, offer_in, Stands, heard, answer_to, at_moment, UnlessMemory}
+use Rattle.lat_dir.specs.Announcements.{service_shown, announcement_shown}
 use Rattle.lat_dir.specs.Steps.{turned_away, trimmed, is_full, answer_met, with_node, taken_in}
 use Rattle.lat_dir.proofs.Lists.{filter_map_is, filter_swap}
 use Rattle.lat_dir.proofs.Trimming.{living_later, living_trimmed, trimmed_many}

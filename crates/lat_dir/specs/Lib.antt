@@ -1,4 +1,5 @@
 pub mod Words
+pub mod Announcements
 pub mod Stands
 pub mod Steps
 pub mod Expiry

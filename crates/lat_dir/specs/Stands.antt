@@ -1,16 +1,16 @@
 -- Which lists of announcements a directory stands for.
 use Rattle.std.specs.Prelude.{◌≡◌, ℕ, ◌+◌, ◌*◌, ◌≤◌, Bool, List, map, Result, Ok, Err, if◌then◌else◌}
 use Rattle.lat_base.specs.declared.addr.Addr.{Addr}
-use Rattle.lat_notices.specs.declared.services.Service as services
 use Rattle.lat_notices.specs.declared.notice.Announcement as notices
 use Rattle.lat_machines.specs.values.Addresses.{address}
 use Rattle.lat_machines.specs.values.Names.{folded}
-use Rattle.lat_machines.specs.values.Notices.{Announcement, Service}
+use Rattle.lat_machines.specs.values.Notices.{Service}
 use Rattle.lat_machines.specs.server.Directory.{HeardAnnouncement, live, meets, refuses, hear}
 use Rattle.lat_dir.specs.declared.directory.DirFault.{DirFault}
 use Rattle.lat_dir.specs.declared.directory.DirFault.TheVariants.{Full, Memory}
 use Rattle.lat_dir.specs.declared.offers.Offer.{Offer}
 use Rattle.lat_dir.specs.declared.node.Node.{Node}
+use Rattle.lat_dir.specs.Announcements.{announcement_shown}
 use Rattle.lat_dir.specs.Words.{Nodes, living}
 
 -- What a directory is: the groups that it listens to, its nodes, and the last moment that it was told
@@ -45,20 +45,6 @@ known_of e = record {
 -- From the last moment on, the nodes that live are those of the list's live announcements, in their order
 abbrev pub Stands : Kept → List HeardAnnouncement → Type 0
 Stands k h = (now : ℕ) → k.moment ≤ now → map known (living now k.nodes) ≡ map known_of (live k.groups now h)
-
--- an announcement as the machines' value
-abbrev pub service_shown : services.Service → Service
-service_shown s = record { rating = s.rating; name = s.name; description = s.description }
-
-abbrev pub announcement_shown : notices.Announcement → Announcement
-announcement_shown a = record {
-  timer = a.timer;
-  incarnation = a.incarnation;
-  groups = a.groups;
-  node = a.node;
-  description = a.description;
-  services = map service_shown a.services;
-}
 
 -- the list once the announcement was heard
 abbrev pub heard : List ℕ → ℕ → Addr → notices.Announcement → List HeardAnnouncement → List HeardAnnouncement

@@ -1,10 +1,10 @@
 -- A local call on the session of a line, as the circuits do it and as the machines do.
-use Rattle.std.proofs.Common.{◌≡◌, ℕ, ◌+◌, ◌-◌, Bool, true, false, not, cond, ◌&&◌, nat_eq, nat_lt, eqb-true, List, [], ◌∷◌, ◌++◌, append-nil, drop_of_length-le, map, length, take, drop, min, le_of_eq, Result, Ok, Err, if◌then◌else◌, refl, sym, ap, ap₂, subst, subst₂, ◌∙◌, arith}
+use Rattle.std.proofs.Common.{◌≡◌, ℕ, ◌+◌, ◌-◌, Bool, true, false, not, cond, ◌&&◌, nat_eq, nat_lt, eqb-true, List, [], ◌++◌, append-nil, drop_of_length-le, map, length, take, drop, min, le_of_eq, Result, Ok, Err, if◌then◌else◌, refl, sym, ap, ap₂, subst, subst₂, ◌∙◌, arith}
 use Rattle.std.proofs.Math.Path.{fun_ext}
 use Rattle.lat_base.specs.declared.answer.Answer.TheVariants as answers
 use Rattle.lat_base.specs.declared.item.Item as base_item
 use Rattle.lat_model.specs.Lists.{updated}
-use Rattle.lat_model.specs.sessions.Slots.{Item, Byte, Setting, items}
+use Rattle.lat_model.specs.sessions.Slots.{Item, items}
 use Rattle.lat_model.specs.sessions.Session.{Session, put_open, take_open, unframed}
 use Rattle.lat_model.specs.sessions.Sessions.{Sessions, named, held}
 use Rattle.lat_model.specs.sessions.Calls as calls
@@ -17,7 +17,8 @@ use Rattle.lat_machines.specs.cores.Acts.{steps_at, idle}
 use Rattle.lat_machines.specs.cores.Cores.{Seat, Core, Side, with_circuits}
 use Rattle.lat_machines.specs.cores.Lines.{sessions_of, session_of}
 use Rattle.lat_machines.specs.cores.LineCalls.{Said, says, put_on, set_on, attend_on, take_on, close_on}
-use Rattle.lat_stream.specs.Kept.{item_shown}
+use Rattle.lat_stream.specs.Kept.{item_shown, item_in}
+use Rattle.lat_stream.proofs.Kept.{items_in_back}
 use Rattle.lat_stream.specs.declared.calls.SessionFault.{SessionFault}
 use Rattle.lat_stream.specs.declared.calls.SessionFault.TheVariants.{Full, Closed}
 use Rattle.lat_session.specs.declared.call.SessionCall.{SessionCall}
@@ -25,7 +26,8 @@ use Rattle.lat_session.specs.declared.call.SessionCall.TheVariants.{Put, Set, At
 use Rattle.lat_session.specs.Calls.{call_of, answer_of, is_taken}
 use Rattle.lat_lines.specs.circuits.Stands.{calling}
 use Rattle.lat_lines.specs.circuits.Info.{answer_at}
-use Rattle.lat_lines.specs.Answers.{answer_shown, item_in, took_answer}
+use Rattle.lat_lines.specs.Answers.{took_answer}
+use Rattle.lat_lines.specs.AnswerValues.{answer_shown}
 use Rattle.lat_lines.specs.Calls.{call_on, call_answer, done_answer}
 use Rattle.lat_lines.proofs.HeldSeats.{IsHeld}
 use Rattle.lat_lines.proofs.Telling.{takes_at}
@@ -166,11 +168,6 @@ call_agrees k c lines t call h =
 
 -- a take of as many items as there are, at most
 
-item_back : (xs : List Item) → map item_in (map item_shown xs) ≡ xs
-item_back [] = refl
-item_back (Byte b ∷ xs) = ap (λ z. Byte b ∷ z) (item_back xs)
-item_back (Setting t ∷ xs) = ap (λ z. Setting t ∷ z) (item_back xs)
-
 abbrev pub giving : Core → ℕ → ℕ → List base_item.Item → List base_item.Item
 giving c x id given =
     if lives (c.circuits.circuit_at x).end && take_open (named (c.circuits.circuit_at x).end.half.sessions id)
@@ -246,6 +243,6 @@ take_agrees k c lines t n given h long = record { core = inner.core ∙ sym alik
         ap shown_of f
         ∙ ap (λ z. Took (map item_in (map item_shown (front (take_count s m) s) ++ z))) none
         ∙ ap (λ z. Took (map item_in z)) (append-nil (map item_shown (front (take_count s m) s)))
-        ∙ ap Took (item_back (front (take_count s m) s) ∙ ap (λ j. front j s) (counts f) ∙ ap (λ u. front (take_count u n) u) (sym h.named))
+        ∙ ap Took (items_in_back (front (take_count s m) s) ∙ ap (λ j. front j s) (counts f) ∙ ap (λ u. front (take_count u n) u) (sym h.named))
         ∙ sym (ap (λ b. cond b (Took (took e t.id n)) Refused) f)
     by false f = ap shown_of f ∙ sym (ap (λ b. cond b (Took (took e t.id n)) Refused) f)

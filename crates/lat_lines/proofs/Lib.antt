@@ -1,6 +1,6 @@
 pub mod CircuitsHeld
 pub mod CircuitFound
-pub mod Back
+pub mod AnswerValues
 pub mod later
 pub mod Lists
 pub mod reaping

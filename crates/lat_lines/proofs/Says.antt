@@ -15,7 +15,8 @@ use Rattle.lat_lines.specs.declared.seat.Seat as own
 use Rattle.lat_lines.specs.Kept.{Kept, side_of}
 use Rattle.lat_lines.specs.Calm.{CoreCalm}
 use Rattle.lat_lines.specs.Stands.{Stands, freed_key, freed_from, freed_between}
-use Rattle.lat_lines.specs.Answers.{HasAnswered, SimulatesCall, answer_shown, seat_or}
+use Rattle.lat_lines.specs.Answers.{HasAnswered, SimulatesCall, seat_or}
+use Rattle.lat_lines.specs.AnswerValues.{answer_shown}
 use Rattle.lat_lines.proofs.OnLines.{HasSeat, Found, found, is_seat_of}
 use Rattle.lat_lines.proofs.HeldSeats.{IsHeld, held_seat, circuit_is, id_is}
 use Rattle.lat_lines.proofs.Standing.{stands_as}

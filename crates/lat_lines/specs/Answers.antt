@@ -1,58 +1,20 @@
--- Answers to line calls, as the machines know them.
+-- What calls on lines are answered.
 use Rattle.std.specs.Prelude.{◌≡◌, ℕ, cond, List, map, Option, Some, None, Result, Ok, Err, find, nat_eq}
 use Rattle.std.specs.Option.{ok_or}
 use Rattle.lat_base.specs.declared.answer.Answer as base
 use Rattle.lat_base.specs.declared.answer.Answer.TheVariants as answers
 use Rattle.lat_base.specs.declared.item.Item as base_item
-use Rattle.lat_base.specs.declared.item.Item.TheVariants as items
-use Rattle.lat_model.specs.sessions.Slots.{Item, Byte, Setting}
-use Rattle.lat_machines.specs.values.Answers.{Answer, Circuit, Started, StartRefused, Announced, DirectoryFull, KeptIs, NotKept, Noted, Apart, Solicited, Ignored, Bad, Done, Connected, Accepted, Took, NoLine, Busy, NoService, SessionsFull, CircuitsFull, IdsOut, Closed, Full, IdUsed, NotHere}
 use Rattle.lat_machines.specs.cores.Cores.{Core}
 use Rattle.lat_machines.specs.cores.LineCalls.{Said}
 use Rattle.lat_machines.specs.cores.Lines.{line_exists}
-use Rattle.lat_payload.specs.FieldNumbers.{field_number}
-use Rattle.lat_queue.specs.Histories.{kept_in}
 use Rattle.lat_stream.specs.declared.calls.SessionFault.{SessionFault}
 use Rattle.lat_stream.specs.declared.calls.SessionFault.TheVariants as faults
-use Rattle.lat_circuit.specs.Hears.{heard_shown}
 use Rattle.lat_lines.specs.circuits.Info as circuits
 use Rattle.lat_lines.specs.declared.seat.Seat.{Seat}
+use Rattle.lat_lines.specs.AnswerValues.{answer_shown}
 use Rattle.lat_lines.specs.Kept.{Kept}
 use Rattle.lat_lines.specs.Stands.{Stands, freed_between}
 use Rattle.lat_queue.specs.Histories.{key_in}
-
-abbrev pub item_in : base_item.Item → Item
-item_in (items.Byte b) = Byte b
-item_in (items.Set t) = Setting t
-
--- an answer, as the machines know it
-abbrev pub answer_shown : base.Answer → Answer
-answer_shown (answers.Circuit heard) = Circuit (heard_shown heard)
-answer_shown (answers.Started id) = Started id
-answer_shown answers.StartRefused = StartRefused
-answer_shown answers.Announced = Announced
-answer_shown answers.DirectoryFull = DirectoryFull
-answer_shown (answers.Kept kept) = KeptIs (kept_in kept)
-answer_shown answers.NotKept = NotKept
-answer_shown answers.Noted = Noted
-answer_shown answers.Apart = Apart
-answer_shown answers.Solicited = Solicited
-answer_shown answers.Ignored = Ignored
-answer_shown (answers.Bad bad) = Bad (field_number bad.field) bad.at
-answer_shown (answers.Connected circuit session) = Connected circuit session
-answer_shown (answers.Put n) = Accepted n
-answer_shown (answers.Took given) = Took (map item_in given)
-answer_shown answers.Done = Done
-answer_shown answers.NoLine = NoLine
-answer_shown answers.Busy = Busy
-answer_shown answers.NoService = NoService
-answer_shown answers.SessionsFull = SessionsFull
-answer_shown answers.CircuitsFull = CircuitsFull
-answer_shown answers.IdsOut = IdsOut
-answer_shown answers.Closed = Closed
-answer_shown answers.Full = Full
-answer_shown answers.IdUsed = IdUsed
-answer_shown answers.NotHere = NotHere
 
 -- it tells neither of bytes that were put nor of items that were taken
 abbrev pub IsPlain : base.Answer → Type 0

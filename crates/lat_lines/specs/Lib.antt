@@ -5,9 +5,9 @@ pub mod Stands
 pub mod Looks
 pub mod Cores
 pub mod Calm
+pub mod AnswerValues
 pub mod Answers
 pub mod Calls
 pub mod Opens
 pub mod Shown
 pub mod Events
-pub mod Back

@@ -5,7 +5,7 @@ ghost use Rattle.std.specs.List.{list_any};
 ghost use Rattle.lat_frames.specs.Written.{IsWritable};
 ghost use Rattle.lat_machines.specs.values.Addresses.{address};
 ghost use Rattle.lat_machines.specs.cores.Cores.{Core, passes_time};
-ghost use Rattle.lat_circuit.specs.Frames.{message_shown};
+ghost use Rattle.lat_circuit.specs.Messages.{message_shown};
 ghost use Rattle.lat_circuit.specs.Kept.{Kept};
 ghost use Rattle.lat_lines.specs.circuits.Kept.{IsClear, has_id};
 ghost use Rattle.lat_lines.specs.circuits.Hears.{heard_core, hearing_shown};

@@ -2,7 +2,8 @@
 
 ghost use Rattle.std.specs.Prelude.{◌≡◌};
 ghost use Rattle.lat_lines.specs.circuits.Hears.{hearing_shown};
-ghost use Rattle.lat_lines.specs.Answers.{answer_shown, IsPlain};
+ghost use Rattle.lat_lines.specs.Answers.{IsPlain};
+ghost use Rattle.lat_lines.specs.AnswerValues.{answer_shown};
 
 use crate::circuits::Hearing;
 use lat_base::Answer;

@@ -17,8 +17,8 @@ use Rattle.lat_machines.specs.values.Notices.{Service, ResponseNotice}
 use Rattle.lat_machines.specs.values.Frames as machines
 use Rattle.lat_machines.specs.cores.Lines.{used}
 use Rattle.lat_machines.specs.node.Node.{Node, rated, announcement, response, solicited}
-use Rattle.lat_dir.specs.Stands.{service_shown}
-use Rattle.lat_payload.specs.Shown.{notice_shown}
+use Rattle.lat_dir.specs.Announcements.{service_shown}
+use Rattle.lat_payload.specs.Notices.{notice_shown}
 use Rattle.lat_payload.specs.Frames.{GoesOutAs, Emits}
 use Rattle.lat_payload.proofs.Frames.{adds_none, adds_one, adds_then}
 use Rattle.lat_lines.proofs.CircuitFound.{finds_at}

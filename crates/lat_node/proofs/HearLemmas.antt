@@ -16,7 +16,7 @@ use Rattle.lat_machines.specs.cores.Cores.{at_moment}
 use Rattle.lat_machines.specs.node.Node.{NodeConfig, Node, NodeStep, with_core, tells, solicited, hears_message, hears_notice, hears_value, node_step, rates_of}
 use Rattle.lat_payload.specs.Frames.{Emits}
 use Rattle.lat_payload.specs.Reads.{malformed}
-use Rattle.lat_lines.specs.Answers.{answer_shown}
+use Rattle.lat_lines.specs.AnswerValues.{answer_shown}
 use Rattle.lat_node.specs.Kept.{Kept, config_of}
 use Rattle.lat_node.specs.Stands.{Stands}
 use Rattle.lat_node.specs.Events.{Simulates, SimulatesRated, Rated, notice_ratings}

@@ -14,7 +14,7 @@ use Rattle.lat_lines.specs.circuits.Hears.{HeardCore, heard_core}
 use Rattle.lat_lines.specs.circuits.Kept.{has_id}
 use Rattle.lat_lines.specs.Kept as lines
 use Rattle.lat_lines.specs.Stands as line_stands
-use Rattle.lat_lines.specs.Answers.{answer_shown}
+use Rattle.lat_lines.specs.AnswerValues.{answer_shown}
 use Rattle.lat_node.specs.Kept.{Kept, SameConfig, config_of}
 use Rattle.lat_node.specs.Stands.{Stands}
 use Rattle.lat_node.specs.Hearing.{named_by, then_asked, AskedThen}

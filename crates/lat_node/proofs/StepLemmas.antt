@@ -17,7 +17,8 @@ use Rattle.lat_lines.specs.Kept as lines
 use Rattle.lat_lines.specs.Stands as line_stands
 use Rattle.lat_session.specs.declared.call.SessionCall.{SessionCall}
 use Rattle.lat_session.specs.declared.call.SessionCall.TheVariants.{Put, Set, Attend, Close}
-use Rattle.lat_lines.specs.Answers.{SimulatesCall, HasAnswered, answer_shown, IsPlain}
+use Rattle.lat_lines.specs.Answers.{SimulatesCall, HasAnswered, IsPlain}
+use Rattle.lat_lines.specs.AnswerValues.{answer_shown}
 use Rattle.lat_lines.specs.Calls.{call_on, event_of, IsNoCall}
 use Rattle.lat_lines.specs.Events.{event_shown}
 use Rattle.lat_node.specs.Kept.{Kept, SameConfig, config_of}

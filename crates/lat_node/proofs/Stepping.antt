@@ -5,10 +5,9 @@ use Rattle.lat_base.specs.declared.event.Event as base_event
 use Rattle.lat_base.specs.declared.event.Event.TheVariants as events
 use Rattle.lat_base.specs.declared.outbox.OutFrame.{OutFrame}
 use Rattle.lat_machines.specs.node.Node.{NodeConfig, Node, open_node, node_step, rates_of}
-use Rattle.lat_lines.specs.Answers.{answer_shown}
-use Rattle.lat_lines.specs.Back.{answer_of}
+use Rattle.lat_lines.specs.AnswerValues.{answer_shown, answer_of}
 use Rattle.lat_lines.specs.Events.{event_shown}
-use Rattle.lat_lines.proofs.Back.{answer_back}
+use Rattle.lat_lines.proofs.AnswerValues.{answer_back}
 use Rattle.lat_node.specs.Kept.{Kept, SameConfig, config_of}
 use Rattle.lat_node.specs.Stands.{Stands, Machine, IsMachine, opening, next, answered, Frames}
 use Rattle.lat_node.specs.Events.{Simulates, SimulatesRated, Rated, IsLocal, TakesNoMemory}

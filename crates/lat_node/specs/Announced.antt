@@ -6,7 +6,7 @@ use Rattle.lat_notices.specs.declared.services.Service.{Service}
 use Rattle.lat_machines.specs.values.Addresses.{everyone}
 use Rattle.lat_machines.specs.values.Frames.{plain, OfNotice}
 use Rattle.lat_machines.specs.node.Node.{announcement}
-use Rattle.lat_payload.specs.Shown.{notice_shown}
+use Rattle.lat_payload.specs.Notices.{notice_shown}
 use Rattle.lat_node.specs.Kept.{Kept, config_of}
 
 abbrev pub ratings : List Service → List ℕ

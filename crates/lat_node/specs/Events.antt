@@ -11,7 +11,7 @@ use Rattle.lat_machines.specs.values.Events as machine
 use Rattle.lat_machines.specs.values.Names.{Name, same}
 use Rattle.lat_machines.specs.values.Notices.{Notice, AnnouncementNotice, CommandNotice, StatusNotice, SolicitNotice, ResponseNotice}
 use Rattle.lat_payload.specs.Frames.{Emits}
-use Rattle.lat_lines.specs.Answers.{answer_shown}
+use Rattle.lat_lines.specs.AnswerValues.{answer_shown}
 use Rattle.lat_node.specs.Kept.{Kept, config_of}
 use Rattle.lat_node.specs.Stands.{Stands}
 

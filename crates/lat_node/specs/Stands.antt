@@ -12,7 +12,7 @@ use Rattle.lat_machines.specs.cores.Lines.{line_state, waiting_at, saturated_cou
 use Rattle.lat_machines.specs.node.Node.{NodeConfig, Requested, Node, NodeStep, NodeFrames, node_side, open_node, node_step, finished}
 use Rattle.lat_payload.specs.Frames.{frame_view, expected, IsReadable}
 use Rattle.lat_stream.specs.Kept.{state_shown}
-use Rattle.lat_lines.specs.Back.{answer_of}
+use Rattle.lat_lines.specs.AnswerValues.{answer_of}
 use Rattle.lat_lines.specs.Events.{event_shown}
 use Rattle.lat_lines.specs.Stands as lines
 use Rattle.lat_node.specs.declared.requests.Request.{Request}

@@ -8,11 +8,13 @@ ghost use Rattle.lat_machines.specs.node.Node.{Node, with_core, hears_message, h
 ghost use Rattle.lat_machines.specs.values.Addresses.{address, everyone};
 ghost use Rattle.lat_machines.specs.values.Events.{Hears};
 ghost use Rattle.lat_machines.specs.values.Frames.{Reading, Whole, OfNotice};
-ghost use Rattle.lat_circuit.specs.Frames.{message_shown};
-ghost use Rattle.lat_lines.specs.Answers.{answer_shown, IsPlain};
+ghost use Rattle.lat_circuit.specs.Messages.{message_shown};
+ghost use Rattle.lat_lines.specs.Answers.{IsPlain};
+ghost use Rattle.lat_lines.specs.AnswerValues.{answer_shown};
 ghost use Rattle.lat_payload.specs.Reads as reads;
 ghost use Rattle.lat_value.specs.Texts as texts;
-ghost use Rattle.lat_payload.specs.Shown.{value_shown, notice_shown};
+ghost use Rattle.lat_payload.specs.Reads.{value_shown};
+ghost use Rattle.lat_payload.specs.Notices.{notice_shown};
 ghost use Rattle.lat_node.specs.Events.{Simulates, SimulatesRated, Rated, notice_ratings};
 ghost use Rattle.lat_node.specs.Hearing.{named_by, AskedThen};
 ghost use Rattle.lat_node.specs.Kept.{config_of, AtRest, SameConfig};

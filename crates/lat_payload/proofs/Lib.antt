@@ -1,4 +1,5 @@
-pub mod NoticesBack
+pub mod FieldNumbers
+pub mod Notices
 pub mod Heard
 pub mod Readable
 pub mod Frames

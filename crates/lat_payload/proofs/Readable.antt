@@ -16,15 +16,14 @@ use Rattle.lat_notices.specs.Texts.{notice_text, IsWritable}
 use Rattle.lat_notices.proofs.Exact as notices
 use Rattle.lat_machines.specs.values.Frames.{Whole, OfCircuit, OfNotice}
 use Rattle.lat_machines.specs.values.Messages as machines
-use Rattle.lat_circuit.specs.Payloads.{message_of}
-use Rattle.lat_circuit.specs.Frames.{message_shown}
+use Rattle.lat_circuit.specs.Messages.{message_of, message_shown}
 use Rattle.lat_value.specs.declared.value.Value.{Value}
 use Rattle.lat_value.specs.declared.value.Value.TheVariants as values
-use Rattle.lat_payload.specs.Shown.{notice_shown, value_shown}
+use Rattle.lat_payload.specs.Notices.{notice_shown}
 use Rattle.lat_payload.specs.Frames.{payload_of}
 use Rattle.lat_value.specs.Reading.{read_as, unknown, value_read}
-use Rattle.lat_payload.specs.Reads.{reading_of, read_shown}
-use Rattle.lat_payload.proofs.NoticesBack.{notice_back}
+use Rattle.lat_payload.specs.Reads.{reading_of, read_shown, value_shown}
+use Rattle.lat_payload.proofs.Notices.{notice_back}
 
 -- a payload that is read is of a known type
 message_kind : (first : ℕ) (rest : List ℕ) (m : Message) → message_read (first ∷ rest) ≡ Ok m → is_kind (first / 4) ≡ true

@@ -1,5 +1,5 @@
--- The numbers of the fields of the layouts.
-use Rattle.std.specs.Prelude.{ℕ}
+-- The numbers of the fields of the layouts, and the fields of these numbers.
+use Rattle.std.specs.Prelude.{ℕ, List, [], ◌∷◌, get_or}
 use Rattle.lat_base.specs.declared.field.Field.{Field}
 use Rattle.lat_base.specs.declared.field.Field.TheVariants as fields
 
@@ -53,3 +53,19 @@ field_number fields.Rating = 43
 field_number fields.ServiceDescription = 44
 field_number fields.SolicitId = 45
 field_number fields.Trailing = 46
+
+-- all fields, each at the place of its number
+abbrev pub all_fields : List Field
+all_fields =
+    fields.Size ∷ fields.Kind ∷ fields.SlotCount ∷ fields.DestinationCircuit ∷ fields.SourceCircuit ∷
+    fields.Sequence ∷ fields.Acknowledgement ∷ fields.SlotType ∷ fields.DestinationSlot ∷ fields.SourceSlot ∷
+    fields.ByteCount ∷ fields.ServiceClass ∷ fields.AttentionSize ∷ fields.DataSize ∷ fields.Service ∷
+    fields.Subject ∷ fields.Parameters ∷ fields.SlotEnd ∷ fields.SlotPad ∷ fields.FrameSize ∷
+    fields.Version ∷ fields.Eco ∷ fields.Sessions ∷ fields.Extra ∷ fields.Timer ∷ fields.KeepAlive ∷
+    fields.Facility ∷ fields.ProductType ∷ fields.ProductVersion ∷ fields.SlaveName ∷ fields.MasterName ∷
+    fields.Location ∷ fields.Reason ∷ fields.Text ∷ fields.Incarnation ∷ fields.RequestId ∷ fields.Action ∷
+    fields.Outcome ∷ fields.Place ∷ fields.NodeName ∷ fields.Groups ∷ fields.Description ∷
+    fields.ServiceCount ∷ fields.Rating ∷ fields.ServiceDescription ∷ fields.SolicitId ∷ fields.Trailing ∷ []
+
+abbrev pub field_of : ℕ → Field
+field_of n = get_or all_fields n fields.Kind

@@ -9,9 +9,9 @@ use Rattle.lat_notices.specs.Texts.{notice_text}
 use Rattle.lat_machines.specs.values.Addresses.{address}
 use Rattle.lat_machines.specs.values.Frames as machines
 use Rattle.lat_model.specs.Lists.{Each}
-use Rattle.lat_circuit.specs.Payloads.{message_of}
+use Rattle.lat_circuit.specs.Messages.{message_of}
 use Rattle.lat_circuit.specs.Frames.{mark_shown}
-use Rattle.lat_payload.specs.NoticesOf.{notice_of}
+use Rattle.lat_payload.specs.Notices.{notice_of}
 use Rattle.lat_payload.specs.Reads.{reading_of}
 
 -- a frame, whichever way it is known

@@ -1,5 +1,4 @@
-pub mod Shown
+pub mod Notices
 pub mod FieldNumbers
 pub mod Reads
-pub mod NoticesOf
 pub mod Frames

@@ -8,8 +8,7 @@ ghost use Rattle.lat_notices.specs.Writing.{CanBeWritten};
 ghost use Rattle.lat_machines.specs.values.Addresses.{address, everyone};
 ghost use Rattle.lat_machines.specs.values.Frames.{plain, OfNotice};
 ghost use Rattle.lat_machines.specs.values.Notices.{CommandNotice, StatusNotice, SolicitNotice, ResponseNotice};
-ghost use Rattle.lat_payload.specs.Shown.{action_shown, outcome_shown, notice_shown};
-ghost use Rattle.lat_payload.specs.NoticesOf.{IsSendable};
+ghost use Rattle.lat_payload.specs.Notices.{action_shown, outcome_shown, notice_shown, IsSendable};
 ghost use Rattle.lat_payload.specs.Frames.{GoesOutAs};
 
 use lat_base::{Addr, EVERYONE, Mark, Name, OutFrame, Payload};

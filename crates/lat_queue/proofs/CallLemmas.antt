@@ -23,7 +23,8 @@ use Rattle.lat_queue.specs.declared.entry.Standing.{Standing}
 use Rattle.lat_queue.specs.declared.entry.Standing.TheVariants as stands
 use Rattle.lat_queue.specs.KeyHash.{one_key}
 use Rattle.lat_queue.specs.Tables.{Table, waits_somewhere, waiters, info_of, entry_info, info, standing_at, new_standing, new_info, added, with_standing, restood, waiting_entry, waiting_found, cancelled_by, cancelled, given_by, given, finished_entry, finished_by, finished, first_of}
-use Rattle.lat_queue.specs.Histories.{Noted, noted, key_in, address_in, kept_in, some_kept, some_first, some_request, request_key, waited, turned_away, line_of, standing_in, noted_in, is_first_answer, IsFirst, Stands, finish_history}
+use Rattle.lat_queue.specs.Histories.{Noted, noted, key_in, address_in, some_kept, some_first, some_request, request_key, waited, turned_away, line_of, standing_in, noted_in, is_first_answer, IsFirst, Stands, finish_history}
+use Rattle.lat_queue.specs.KeptValues.{kept_in}
 use Rattle.lat_queue.proofs.KeyLemmas.{key_self, key_turn, key_right}
 use Rattle.lat_queue.proofs.EventLemmas.{extend, Grows, grows_cancel, grows_grant, grows_finish, grows_again, full_asks, grows_new, grants_more, place_other, place_same}
 use Rattle.lat_machines.proofs.queue.Legal.{legal_none}

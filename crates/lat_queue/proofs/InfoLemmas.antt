@@ -21,7 +21,8 @@ use Rattle.lat_queue.specs.KeyHash.{one_key}
 use Rattle.lat_queue.specs.Lines.{place_of}
 use Rattle.lat_queue.specs.Tables as tables
 use Rattle.lat_queue.specs.Tables.{Table, waiters, info_of, entry_info, info, grant_info, shown_entry, standing_at, new_standing, new_info}
-use Rattle.lat_queue.specs.Histories.{Noted, noted, key_in, kept_in, record_in, some_kept, some_record, waited, turned_away, line_of, standing_in, noted_in, is_first_answer, IsFirst, Stands}
+use Rattle.lat_queue.specs.Histories.{Noted, noted, key_in, record_in, some_kept, some_record, waited, turned_away, line_of, standing_in, noted_in, is_first_answer, IsFirst, Stands}
+use Rattle.lat_queue.specs.KeptValues.{kept_in}
 use Rattle.lat_queue.proofs.KeyLemmas.{key_self}
 use Rattle.lat_queue.proofs.RecordLemmas.{Found, look_found, look_none}
 use Rattle.lat_queue.proofs.WaitLemmas.{Stood, stood, not_stood, any_line, waiter_in, request_in, lines_wait, place_right}

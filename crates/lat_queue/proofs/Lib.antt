@@ -1,3 +1,4 @@
+pub mod KeptValues
 pub mod CallLemmas
 pub mod EventLemmas
 pub mod KeyLemmas

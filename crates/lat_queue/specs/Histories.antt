@@ -4,12 +4,11 @@ use Rattle.std.specs.Option.{is_some}
 use Rattle.std.specs.List.{list_any, position_or_len}
 use Rattle.lat_base.specs.declared.addr.Addr.{Addr}
 use Rattle.lat_base.specs.declared.kept.Kept as base
-use Rattle.lat_base.specs.declared.kept.Kept.TheVariants as own
 use Rattle.lat_model.specs.Lists.{Each}
 use Rattle.lat_machines.specs.values.Names.{Name, same}
 use Rattle.lat_machines.specs.values.Addresses.{address}
 use Rattle.lat_machines.specs.values.Keys as keys
-use Rattle.lat_machines.specs.values.Notices.{Kept, Waiting, Granted, Cancelled, QueueFull, NoService, RecordsFull, Done}
+use Rattle.lat_machines.specs.values.Notices.{Kept, Waiting, Granted, Cancelled, QueueFull, NoService, Done}
 use Rattle.lat_machines.specs.server.Queue.{QueueEvent, Finishes, Request, cancels, grants, finishes, is_waiting, records, first_asks, LegalQueue}
 use Rattle.lat_machines.specs.server.Records as records
 use Rattle.lat_machines.specs.server.Records.{grants_of, grant_of, record_of, is_granted, kept_of}
@@ -18,6 +17,7 @@ use Rattle.lat_queue.specs.declared.entry.Standing.{Standing}
 use Rattle.lat_queue.specs.declared.entry.Standing.TheVariants as stands
 use Rattle.lat_queue.specs.declared.entry.Entry.{Entry}
 use Rattle.lat_queue.specs.declared.record.Record.{Record}
+use Rattle.lat_queue.specs.KeptValues.{kept_in}
 use Rattle.lat_queue.specs.Tables.{Table}
 
 -- this crate's values in the words of the machines
@@ -27,15 +27,6 @@ key_in k = record { node = k.node; incarnation = k.incarnation; request = k.requ
 
 abbrev pub address_in : Addr → ℕ
 address_in a = address a.0
-
-abbrev pub kept_in : base.Kept → Kept
-kept_in (own.Waiting place) = Waiting place
-kept_in own.Granted = Granted
-kept_in own.Cancelled = Cancelled
-kept_in own.QueueFull = QueueFull
-kept_in own.NoService = NoService
-kept_in own.RecordsFull = RecordsFull
-kept_in own.Done = Done
 
 abbrev pub record_in : Record → records.Record
 record_in r = record { key = key_in r.key; service = r.service; kept = kept_in r.kept; grant = r.grant }

@@ -1,4 +1,5 @@
 pub mod KeyHash
 pub mod Lines
 pub mod Tables
+pub mod KeptValues
 pub mod Histories

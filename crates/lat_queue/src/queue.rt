@@ -3,7 +3,8 @@
 ghost use Rattle.std.specs.Prelude.{◌≡◌, ◌<◌, ◌≤◌, ◌+◌, [], ◌∷◌, ◌++◌, length, true, false, Some, None, replicate, OnOk, OnErr, IfOk, IfSome, IfNone, IsSome, OnSome, ◌↔◌, List, slice_get};
 ghost use Rattle.lat_machines.specs.server.Queue.{QueueEvent, Asks, Cancels, Grants, next_request};
 ghost use Rattle.lat_machines.specs.server.Records.{ask_answer, kept_of, record_at};
-ghost use Rattle.lat_queue.specs.Histories.{Stands, key_in, address_in, kept_in, some_kept, some_first, some_request, some_key, request_key, some_record, finish_history};
+ghost use Rattle.lat_queue.specs.Histories.{Stands, key_in, address_in, some_kept, some_first, some_request, some_key, request_key, some_record, finish_history};
+ghost use Rattle.lat_queue.specs.KeptValues.{kept_in};
 ghost use Rattle.std.specs.Map.{lookup};
 ghost use Rattle.lat_queue.specs.KeyHash.{one_key};
 ghost use Rattle.indexmap.specs.IndexMap.{insert_entry};

@@ -6,7 +6,7 @@ use Rattle.lat_model.specs.sessions.Slots.{Item}
 use Rattle.lat_machines.specs.world.Machines.{Machines}
 use Rattle.lat_laws.specs.tales.Rows.{RowAfter, RowsAfter}
 use Rattle.lat_laws.specs.tales.Reported.{report_rows_from}
-use Rattle.lat_replay.specs.roster.Shown.{item_shown}
+use Rattle.lat_stream.specs.Kept.{item_shown}
 use Rattle.lat_replay.specs.declared.roster.row.Row.{Row}
 use Rattle.lat_replay.specs.roster.Roster.{ShowsRows}
 use Rattle.lat_replay.specs.Counts.{put_of, taken_of, put_in_row, taken_in_row}

@@ -5,12 +5,11 @@ use Rattle.std.specs.Option.{option_or}
 use Rattle.std.proofs.lemmas.Bool.{and_parts, true≢false, leb-true, le-leb}
 use Rattle.lat_base.specs.declared.book.LineSession as base
 use Rattle.lat_base.specs.declared.book.LineBook as base_book
-use Rattle.lat_base.specs.declared.state.SessionEnd as base_end
-use Rattle.lat_base.specs.declared.state.SessionEnd.TheVariants as ends
 use Rattle.lat_model.specs.Lists.{Each}
 use Rattle.lat_machines.specs.cores.Cores.{no_seat, Core}
 use Rattle.lat_machines.specs.cores.Books.{LineSession, line_session, book}
 use Rattle.lat_machines.specs.cores.Lines.{line_exists, last_on, seat_at}
+use Rattle.lat_stream.specs.Kept.{saturated}
 use Rattle.lat_lines.specs.Kept.{IsLine}
 use Rattle.lat_lines.specs.Stands as lines
 use Rattle.lat_lines.specs.Stands.{session_shown, session_info, book_shown, book_info}
@@ -18,23 +17,11 @@ use Rattle.lat_laws.specs.tales.Books.{newest_info}
 use Rattle.lat_laws.specs.tales.Rows.{figures_of, newest_place}
 use Rattle.lat_laws.specs.tales.Rows as rows
 use Rattle.lat_laws.proofs.tales.rows.Books.{book_newest}
-use Rattle.lat_replay.specs.roster.Shown as rosters
 use Rattle.lat_replay.specs.declared.roster.figures.Figures.{Figures}
 use Rattle.lat_replay.specs.roster.Rows.{ShowsFigures}
 use Rattle.lat_replay.specs.Rows.{figures_shown}
 use Rattle.lat_replay.specs.Standing.{HasHad}
 use Rattle.lat_replay.proofs.Rows.{had_line}
-
--- ends are shown alike
-
-end_same : (e : base_end.SessionEnd) → rosters.end_shown e ≡ lines.end_shown e
-end_same ends.Closed = refl
-end_same (ends.Rejected r) = refl
-end_same (ends.Circuit r) = refl
-
-ends_same : (o : Option base_end.SessionEnd) → option_map rosters.end_shown o ≡ option_map lines.end_shown o
-ends_same None = refl
-ends_same (Some e) = ap Some (end_same e)
 
 -- the newest that is told
 
@@ -66,11 +53,11 @@ line_is most line c e h = had_line (lines.IsSeat most c) (IsLine most) line 0 0 
 
 -- figures that are exact
 
-below : (n m : ℕ) → n ≡ rosters.saturated m → n ≢ 18446744073709551615 → n ≡ m
+below : (n m : ℕ) → n ≡ saturated m → n ≢ 18446744073709551615 → n ≡ m
 below n m q a = search arith
 
 pub exactly : (f : Figures) (r : rows.Figures) → ShowsFigures f r → f.given ≢ 18446744073709551615 → f.used ≢ 18446744073709551615 → figures_shown f ≡ r
-exactly f r s a b = three (below f.given r.given s.given a) (below f.used r.used_up s.used_up b) (sym (ends_same f.end) ∙ s.end)
+exactly f r s a b = three (below f.given r.given s.given a) (below f.used r.used_up s.used_up b) s.end
   where
     three : f.given ≡ r.given → f.used ≡ r.used_up → option_map lines.end_shown f.end ≡ r.end → figures_shown f ≡ r
     three p q e =

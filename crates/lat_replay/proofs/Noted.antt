@@ -5,8 +5,8 @@ use Rattle.std.specs.List.{flat_map}
 use Rattle.lat_machines.specs.values.Notices as notices
 use Rattle.lat_machines.specs.values.Answers.{Heard, Running, Taken, Again, AckOnly, Foreign, Broke, Ended, Answer, Circuit, Started, StartRefused, Announced, DirectoryFull, KeptIs, NotKept, Noted, Apart, Solicited, Ignored, Bad, Done, Connected, Accepted, Took, NoLine, Busy, NoService, SessionsFull, CircuitsFull, IdsOut, Closed, Full, IdUsed, NotHere}
 use Rattle.lat_machines.specs.world.Machines.{NotedEvent}
-use Rattle.lat_lines.specs.Answers.{answer_shown}
-use Rattle.lat_lines.specs.Back.{answer_of, field_of}
+use Rattle.lat_lines.specs.AnswerValues.{answer_shown, answer_of}
+use Rattle.lat_payload.specs.FieldNumbers.{field_of}
 use Rattle.lat_wire.specs.report.NoteText.{note_text}
 use Rattle.lat_wire.specs.report.ReportText.{event_text}
 use Rattle.lat_text.specs.Line.{line}

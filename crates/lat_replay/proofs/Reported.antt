@@ -6,7 +6,7 @@ use Rattle.lat_machines.specs.world.Reports.{Report, report}
 use Rattle.lat_laws.specs.tales.Rows.{RowsAfter, Keeps}
 use Rattle.lat_laws.specs.tales.Reported.{report_rows}
 use Rattle.lat_laws.proofs.tales.rows.Told.{run_told}
-use Rattle.lat_replay.specs.roster.Shown.{saturated}
+use Rattle.lat_stream.specs.Kept.{saturated}
 use Rattle.lat_replay.specs.declared.roster.row.Row.{Row}
 use Rattle.lat_replay.specs.roster.Roster.{ShowsRows}
 use Rattle.lat_replay.proofs.roster.Rows.{shows_length}

@@ -14,7 +14,7 @@ use Rattle.lat_laws.specs.tales.Items.{line_of, put_by, taken_by}
 use Rattle.lat_laws.specs.tales.Rows.{RowsAfter, Keeps}
 use Rattle.lat_laws.specs.tales.Keeping.{adds, rows_after, rows_at_frame, rows_at}
 use Rattle.lat_laws.proofs.tales.rows.Runs.{next_keeps}
-use Rattle.lat_lines.specs.Back.{answer_of}
+use Rattle.lat_lines.specs.AnswerValues.{answer_of}
 use Rattle.lat_lines.specs.Events.{event_shown}
 use Rattle.lat_replay.specs.roster.Roster as rosters
 use Rattle.lat_wire.specs.declared.fault.EventFault.{EventFault}

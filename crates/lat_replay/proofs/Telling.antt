@@ -6,7 +6,7 @@ use Rattle.lat_machines.specs.world.Machines.{Machines}
 use Rattle.lat_machines.specs.world.Reports as reports
 use Rattle.lat_laws.specs.tales.Rows.{Figures, RowAfter, RowsAfter}
 use Rattle.lat_laws.specs.tales.Reported.{server_figures, node_figures, report_row}
-use Rattle.lat_replay.specs.roster.Shown.{item_shown}
+use Rattle.lat_stream.specs.Kept.{item_shown}
 use Rattle.lat_wire.specs.report.ReportText.{row_text}
 use Rattle.lat_wire.specs.report.Rows.{items_in}
 use Rattle.lat_replay.specs.Rows.{row_with}

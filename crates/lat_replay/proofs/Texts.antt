@@ -3,13 +3,13 @@ use Rattle.std.proofs.Common.{◌≡◌, ℕ, zero, suc, ◌+◌, refl, sym, ap,
 use Rattle.std.specs.Prelude.{slice_get}
 use Rattle.std.specs.List.{flat_map}
 use Rattle.lat_base.specs.declared.item.Item as base
-use Rattle.lat_model.specs.sessions.Slots.{Item, Byte, Setting}
+use Rattle.lat_model.specs.sessions.Slots.{Item}
 use Rattle.lat_machines.specs.world.Machines.{Machines}
 use Rattle.lat_machines.specs.world.Reports.{Row}
-use Rattle.lat_lines.specs.Answers.{item_in}
+use Rattle.lat_stream.specs.Kept.{item_shown}
+use Rattle.lat_stream.proofs.Kept.{items_in_back}
 use Rattle.lat_laws.specs.tales.Rows.{RowAfter, RowsAfter}
 use Rattle.lat_laws.specs.tales.Reported.{report_row, report_rows_from}
-use Rattle.lat_replay.specs.roster.Shown.{item_shown}
 use Rattle.lat_wire.specs.report.ReportText.{row_text, rows_text}
 use Rattle.lat_wire.specs.report.Rows.{items_in}
 use Rattle.lat_replay.proofs.Rows.{told_more, take_length, told_length}
@@ -50,13 +50,8 @@ more_text text before xs ys zs a b = ap (λ z. z ++ zs) a ∙ (append_more befor
 
 -- items
 
-items_back : (xs : List Item) → map item_in (map item_shown xs) ≡ xs
-items_back [] = refl
-items_back (Byte b ∷ xs) = ap (λ z. Byte b ∷ z) (items_back xs)
-items_back (Setting t ∷ xs) = ap (λ z. Setting t ∷ z) (items_back xs)
-
 pub items_are : (ys : List base.Item) (xs : List Item) → ys ≡ map item_shown xs → items_in ys ≡ xs
-items_are ys xs q = ap items_in q ∙ items_back xs
+items_are ys xs q = ap items_in q ∙ items_in_back xs
 
 -- one more of a list of texts
 pub flat_more : {A : Type 0} → (f : A → List ℕ) (xs : List A) (i : ℕ) (x : A) → slice_get xs i ≡ Some x → flat_map f (take (suc i) xs) ≡ flat_map f (take i xs) ++ f x

@@ -3,7 +3,7 @@ use Rattle.std.specs.Prelude.{ℕ, ◌+◌, length}
 use Rattle.std.specs.List.{sum_by}
 use Rattle.lat_machines.specs.world.Reports as reports
 use Rattle.lat_machines.specs.world.Reports.{Report}
-use Rattle.lat_replay.specs.roster.Shown.{saturated}
+use Rattle.lat_stream.specs.Kept.{saturated}
 use Rattle.lat_replay.specs.declared.roster.row.Row.{Row}
 use Rattle.lat_replay.specs.declared.counts.Counts.{Counts}
 

@@ -1,6 +1,6 @@
 -- The lines of the events that were noted.
 use Rattle.std.specs.Prelude.{ℕ, List}
-use Rattle.lat_lines.specs.Answers.{answer_shown}
+use Rattle.lat_lines.specs.AnswerValues.{answer_shown}
 use Rattle.lat_wire.specs.report.Noted.{noted_answer}
 use Rattle.lat_wire.specs.report.ReportText.{event_text}
 use Rattle.lat_wire.specs.declared.notes.Note.{Note}

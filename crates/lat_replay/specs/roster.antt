@@ -3,7 +3,6 @@ pub mod Reserved
 pub mod Adding
 pub mod Present
 pub mod Following
-pub mod Shown
 pub mod Names
 pub mod Rows
 pub mod Roster

@@ -6,7 +6,7 @@ ghost use Rattle.lat_machines.specs.world.Machines.{Machines};
 ghost use Rattle.lat_machines.specs.world.Reports.{report};
 ghost use Rattle.lat_laws.specs.tales.Rows.{RowsAfter, Keeps};
 ghost use Rattle.lat_replay.specs.roster.Roster.{Shows};
-ghost use Rattle.lat_replay.specs.roster.Shown.{saturated};
+ghost use Rattle.lat_stream.specs.Kept.{saturated};
 ghost use Rattle.lat_wire.specs.Kept.{setups_of};
 ghost use Rattle.lat_wire.specs.Stands.{Stands};
 ghost use Rattle.lat_replay.specs.Counts.{counts_in, put_in_row, taken_in_row};

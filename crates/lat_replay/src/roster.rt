@@ -18,7 +18,7 @@ ghost use Rattle.lat_model.specs.sessions.Slots as slots;
 ghost use Rattle.lat_laws.specs.tales.Rows as rows;
 ghost use Rattle.lat_laws.specs.tales.Keeping.{no_rows, adds, connects, accepts};
 ghost use Rattle.lat_replay.specs.roster.Names.{key_of, place_of};
-ghost use Rattle.lat_replay.specs.roster.Shown.{item_shown};
+ghost use Rattle.lat_stream.specs.Kept.{item_shown};
 ghost use Rattle.lat_replay.specs.roster.Rows.{ShowsFigures, IsSeat};
 ghost use Rattle.lat_replay.specs.roster.Roster.{Shows, last_row, newest, ReservedFor};
 

@@ -6,7 +6,7 @@ use Rattle.lat_machines.specs.values.Answers.{Answer, Circuit, Started, StartRef
 use Rattle.lat_machines.specs.server.Server.{ServerConfig, Server, server_step}
 use Rattle.lat_machines.specs.node.Node.{NodeConfig, Node, node_step}
 use Rattle.lat_machines.proofs.frames.Reads.{server_bad_only, node_bad_only}
-use Rattle.lat_lines.specs.Back.{answer_of}
+use Rattle.lat_lines.specs.AnswerValues.{answer_of}
 use Rattle.lat_runs.specs.Heard.{IsNotBad}
 
 not_whole : (v : Value) (f a : ℕ) → Whole v ≢ Malformed f a

@@ -10,7 +10,7 @@ use Rattle.lat_machines.specs.node.Node.{Node, NodeConfig, node_step}
 use Rattle.lat_machines.specs.world.Histories.{RatedEvent, node_frames, node_answers}
 use Rattle.lat_machines.proofs.events.Ratings.{same_but_frames}
 use Rattle.lat_payload.specs.Frames.{frame_view, expected}
-use Rattle.lat_lines.specs.Back.{answer_of}
+use Rattle.lat_lines.specs.AnswerValues.{answer_of}
 use Rattle.lat_lines.specs.Events.{event_shown}
 use Rattle.lat_node.specs.Kept.{Kept}
 use Rattle.lat_node.specs.Stands.{Machine, IsMade, IsMachine, Frames, opening, next, answered}

@@ -11,7 +11,7 @@ use Rattle.lat_machines.specs.server.Server.{server_step}
 use Rattle.lat_machines.specs.node.Node.{node_step}
 use Rattle.lat_payload.specs.Frames.{frame_view, expected, IsReadable}
 use Rattle.lat_payload.specs.Reads.{reading_of}
-use Rattle.lat_lines.specs.Back.{answer_of}
+use Rattle.lat_lines.specs.AnswerValues.{answer_of}
 use Rattle.lat_server.specs.Stands as server
 use Rattle.lat_node.specs.Stands as node
 use Rattle.lat_runs.specs.Heard.{IsNotBad, ServerHearsWhole, NodeHearsWhole}

@@ -12,7 +12,7 @@ use Rattle.lat_machines.specs.world.Histories.{server_run, server_frames, server
 use Rattle.lat_machines.specs.world.Histories.{RatedEvent, node_run, node_frames, node_answers}
 use Rattle.lat_machines.specs.world.Histories.{Passed, server_part, node_part, moves_of, Honest}
 use Rattle.lat_payload.specs.Frames.{frame_view, expected}
-use Rattle.lat_lines.specs.Back.{answer_of}
+use Rattle.lat_lines.specs.AnswerValues.{answer_of}
 use Rattle.lat_lines.specs.Events.{event_shown}
 use Rattle.lat_server.specs.Kept as servers
 use Rattle.lat_server.specs.Stands as server

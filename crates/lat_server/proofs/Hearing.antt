@@ -17,8 +17,7 @@ use Rattle.lat_machines.specs.cores.Lines.{over}
 use Rattle.lat_machines.specs.cores.LineCalls.{Said}
 use Rattle.lat_machines.specs.server.Server.{ServerConfig, Server, ServerStep, server_side, offered, tells, with_core, does, said, hears_message, hears_announcement, status_frame, key_of, hears_command}
 use Rattle.lat_payload.specs.Frames.{GoesOutAs, Emits}
-use Rattle.lat_payload.specs.NoticesOf.{IsSendable}
-use Rattle.lat_payload.specs.Shown.{outcome_shown}
+use Rattle.lat_payload.specs.Notices.{IsSendable, outcome_shown}
 use Rattle.lat_payload.proofs.Frames.{adds_none, adds_one}
 use Rattle.lat_dir.specs.declared.directory.DirFault.{DirFault}
 use Rattle.lat_dir.specs.declared.directory.DirFault.TheVariants as faults
@@ -29,7 +28,8 @@ use Rattle.lat_queue.specs.Histories.{key_in, some_kept}
 use Rattle.lat_queue.proofs.RecordLemmas.{map_twice}
 use Rattle.lat_circuit.specs.Frames.{timing_shown}
 use Rattle.lat_lines.specs.circuits.Hears.{HeardCore, heard_core}
-use Rattle.lat_lines.specs.Answers.{answer_shown, HasAnswered}
+use Rattle.lat_lines.specs.Answers.{HasAnswered}
+use Rattle.lat_lines.specs.AnswerValues.{answer_shown}
 use Rattle.lat_lines.specs.Kept as lines
 use Rattle.lat_lines.specs.Stands as stands
 use Rattle.lat_lines.specs.Stands.{freed_key, freed_from}

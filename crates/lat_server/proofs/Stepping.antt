@@ -13,11 +13,11 @@ use Rattle.lat_machines.specs.server.Server.{ServerConfig, Server, ServerStep, s
 use Rattle.lat_session.specs.declared.call.SessionCall.{SessionCall}
 use Rattle.lat_session.specs.declared.call.SessionCall.TheVariants.{Put, Set, Attend, Close}
 use Rattle.lat_lines.specs.Answers.{SimulatesCall, HasAnswered}
-use Rattle.lat_lines.specs.Back.{answer_of}
+use Rattle.lat_lines.specs.AnswerValues.{answer_of}
 use Rattle.lat_lines.specs.Calls.{call_on, event_of, IsNoCall}
 use Rattle.lat_lines.specs.Events.{event_shown}
 use Rattle.lat_lines.specs.Kept as lines
-use Rattle.lat_lines.proofs.Back.{answer_back}
+use Rattle.lat_lines.proofs.AnswerValues.{answer_back}
 use Rattle.lat_queue.specs.Tables.{Table}
 use Rattle.lat_server.specs.Kept.{Kept, AtRest, config_of}
 use Rattle.lat_server.specs.Stands.{Stands, Machine, IsMachine, next, answered, Frames}

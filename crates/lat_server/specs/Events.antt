@@ -13,7 +13,7 @@ use Rattle.lat_payload.specs.Frames.{Emits}
 use Rattle.lat_dir.specs.Stands as dir
 use Rattle.lat_queue.specs.Histories as queue
 use Rattle.lat_queue.specs.Histories.{key_in}
-use Rattle.lat_lines.specs.Answers.{answer_shown}
+use Rattle.lat_lines.specs.AnswerValues.{answer_shown}
 use Rattle.lat_lines.specs.Stands as lines
 use Rattle.lat_lines.specs.Stands.{freed_between}
 use Rattle.lat_server.specs.Kept.{Kept, config_of}

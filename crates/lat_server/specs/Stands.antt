@@ -11,7 +11,7 @@ use Rattle.lat_dir.specs.Stands as dir
 use Rattle.lat_queue.specs.Histories as queue
 use Rattle.lat_payload.specs.Frames.{frame_view, expected, IsReadable}
 use Rattle.lat_stream.specs.Kept.{state_shown}
-use Rattle.lat_lines.specs.Back.{answer_of}
+use Rattle.lat_lines.specs.AnswerValues.{answer_of}
 use Rattle.lat_lines.specs.Events.{event_shown}
 use Rattle.lat_lines.specs.Stands as lines
 use Rattle.lat_server.specs.Kept.{Kept, config_of}

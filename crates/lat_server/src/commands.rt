@@ -5,7 +5,7 @@ ghost use Rattle.lat_machines.specs.values.Addresses.{address};
 ghost use Rattle.lat_machines.specs.server.Server as machine;
 ghost use Rattle.lat_machines.specs.server.Server.{hears_command};
 ghost use Rattle.lat_machines.specs.server.Queue.{QueueEvent};
-ghost use Rattle.lat_payload.specs.Shown.{action_shown, command_shown};
+ghost use Rattle.lat_payload.specs.Notices.{action_shown, command_shown};
 ghost use Rattle.lat_queue.specs.Histories as queue;
 ghost use Rattle.lat_queue.specs.Histories.{key_in};
 ghost use Rattle.lat_queue.specs.Tables.{HasPlace};

@@ -1,3 +1,4 @@
+pub mod Kept
 pub mod Same
 pub mod Left
 pub mod Begun

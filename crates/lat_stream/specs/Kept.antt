@@ -34,6 +34,10 @@ abbrev pub item_shown : Item → base_item.Item
 item_shown (Byte b) = kept_items.Byte b
 item_shown (Setting t) = kept_items.Set t
 
+abbrev pub item_in : base_item.Item → Item
+item_in (kept_items.Byte b) = Byte b
+item_in (kept_items.Set t) = Setting t
+
 abbrev pub state_shown : SessionState → base_state.SessionState
 state_shown Free = kept_states.Free
 state_shown Calling = kept_states.Calling

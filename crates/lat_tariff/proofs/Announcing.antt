@@ -9,9 +9,9 @@ use Rattle.lat_machines.specs.values.Frames as machines
 use Rattle.lat_machines.specs.values.Names.{Name}
 use Rattle.lat_machines.specs.values.Notices.{ResponseNotice}
 use Rattle.lat_machines.specs.node.Node.{NodeConfig, rated, announcement, response}
-use Rattle.lat_dir.specs.Stands.{service_shown}
+use Rattle.lat_dir.specs.Announcements.{service_shown}
 use Rattle.lat_payload.specs.Frames.{GoesOutAs}
-use Rattle.lat_payload.specs.Shown.{notice_shown}
+use Rattle.lat_payload.specs.Notices.{notice_shown}
 use Rattle.lat_node.specs.Announced.{ratings}
 use Rattle.lat_node.specs.declared.config.NodeConfig as own
 use Rattle.lat_node.specs.Config.{config_shown, IsConfig}

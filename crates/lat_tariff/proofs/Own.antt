@@ -4,7 +4,7 @@ use Rattle.std.specs.List.{AllZip}
 use Rattle.lat_node.specs.Rules.{TellsFullness}
 use Rattle.lat_notices.specs.declared.services.Service.{Service}
 use Rattle.lat_machines.specs.node.Node.{rated}
-use Rattle.lat_dir.specs.Stands.{service_shown}
+use Rattle.lat_dir.specs.Announcements.{service_shown}
 use Rattle.lat_node.specs.Announced.{ratings}
 use Rattle.lat_node.proofs.AnnounceLemmas.{services_more}
 use Rattle.lat_tariff.specs.declared.tariff.Rule.{Rule}

@@ -11,7 +11,7 @@ use Rattle.lat_machines.specs.values.Events as machine
 use Rattle.lat_machines.specs.values.Frames.{plain, OfNotice, Reading, Whole}
 use Rattle.lat_machines.specs.values.Notices.{SolicitNotice}
 use Rattle.lat_payload.specs.Frames.{Emits, GoesOutAs}
-use Rattle.lat_payload.specs.Shown.{notice_shown, solicit_shown}
+use Rattle.lat_payload.specs.Notices.{notice_shown, solicit_shown}
 use Rattle.lat_node.specs.Kept.{config_of}
 use Rattle.lat_node.specs.Stands.{Stands}
 use Rattle.lat_tariff.specs.declared.tariff.Rule.{Rule}

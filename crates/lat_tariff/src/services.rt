@@ -2,7 +2,7 @@
 
 ghost use Rattle.std.specs.Prelude.{◌≡◌, ◌≤◌, [], map, length, IfOk};
 ghost use Rattle.lat_machines.specs.node.Node as machine;
-ghost use Rattle.lat_dir.specs.Stands.{service_shown};
+ghost use Rattle.lat_dir.specs.Announcements.{service_shown};
 ghost use Rattle.lat_node.specs.Announced.{ratings};
 ghost use Rattle.lat_tariff.specs.Tariffs.{names, AreKnown, AreOwn};
 

@@ -3,8 +3,7 @@ use Rattle.std.proofs.Common.{◌≡◌, refl}
 use Rattle.lat_machines.specs.values.Notices as kepts
 use Rattle.lat_machines.specs.values.Answers.{Running, Taken, Again, AckOnly, Foreign, Broke, Ended, Answer, Circuit, Started, StartRefused, Announced, DirectoryFull, KeptIs, NotKept, Noted, Apart, Solicited, Ignored, Bad, Done, Connected, Accepted, Took, NoLine, Busy, NoService, SessionsFull, CircuitsFull, IdsOut, Closed, Full, IdUsed, NotHere}
 use Rattle.lat_machines.specs.world.Machines.{is_noted}
-use Rattle.lat_lines.specs.Answers.{answer_shown}
-use Rattle.lat_lines.specs.Back.{answer_of}
+use Rattle.lat_lines.specs.AnswerValues.{answer_shown, answer_of}
 
 -- a machine's answer is noted where the core's is
 pub noted_same : (a : Answer) → is_noted a ≡ is_noted (answer_shown (answer_of a))

@@ -22,7 +22,7 @@ use Rattle.lat_machines.proofs.queue.Quiet.{world_ok}
 use Rattle.lat_machines.proofs.runs.Safety.{every_safe}
 use Rattle.lat_machines.proofs.tally.Worlds.{machines_tally, youth}
 use Rattle.lat_payload.specs.Reads.{reading_of}
-use Rattle.lat_lines.specs.Back.{answer_of}
+use Rattle.lat_lines.specs.AnswerValues.{answer_of}
 use Rattle.lat_server.specs.Kept as server_kept
 use Rattle.lat_server.specs.Stands as servers
 use Rattle.lat_node.specs.Kept as node_kept

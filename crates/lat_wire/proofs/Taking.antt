@@ -12,7 +12,7 @@ use Rattle.lat_machines.specs.world.Machines.{Setups, Machines}
 use Rattle.lat_machines.specs.world.Safe.{answer_by}
 use Rattle.lat_machines.specs.world.Tally.{taken_by}
 use Rattle.lat_payload.specs.Reads.{reading_of}
-use Rattle.lat_lines.specs.Back.{answer_of}
+use Rattle.lat_lines.specs.AnswerValues.{answer_of}
 use Rattle.lat_lines.specs.Events.{event_shown}
 use Rattle.lat_wire.specs.declared.ledger.heading.Heading.{Heading}
 use Rattle.lat_wire.specs.ledger.Headings.{heading_in, heading_of}

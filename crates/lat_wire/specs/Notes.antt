@@ -2,8 +2,7 @@
 use Rattle.std.specs.Prelude.{◌≡◌, ℕ, List, [], ◌∷◌, ◌++◌, cond}
 use Rattle.lat_base.specs.declared.answer.Answer as base
 use Rattle.lat_machines.specs.world.Machines.{NotedEvent, is_noted}
-use Rattle.lat_lines.specs.Answers.{answer_shown}
-use Rattle.lat_lines.specs.Back.{answer_of}
+use Rattle.lat_lines.specs.AnswerValues.{answer_shown, answer_of}
 use Rattle.lat_wire.specs.report.Noted.{noted_answer}
 use Rattle.lat_wire.specs.declared.notes.Note.{Note}
 

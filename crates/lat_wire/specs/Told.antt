@@ -8,7 +8,7 @@ use Rattle.lat_machines.specs.world.Safe.{answer_by}
 use Rattle.lat_payload.specs.Frames.{frame_view, expected}
 use Rattle.lat_wire.specs.declared.ledger.post.Sent.{Sent}
 use Rattle.lat_wire.specs.ledger.Books.{IsPost}
-use Rattle.lat_lines.specs.Back.{answer_of}
+use Rattle.lat_lines.specs.AnswerValues.{answer_of}
 use Rattle.lat_wire.specs.Kept.{Kept, setups_of}
 use Rattle.lat_wire.specs.Stands.{Stands}
 

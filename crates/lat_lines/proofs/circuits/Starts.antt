@@ -18,7 +18,7 @@ use Rattle.lat_machines.specs.cores.Acts.{put_at}
 use Rattle.lat_machines.specs.cores.Cores.{Side, Core, acts}
 use Rattle.lat_machines.specs.cores.Hearing.{Repeats, start_fact}
 use Rattle.lat_circuit.specs.Kept as circuit
-use Rattle.lat_circuit.specs.Frames.{head_shown, wide_head_shown, info_shown, message_shown}
+use Rattle.lat_circuit.specs.Messages.{head_shown, wide_head_shown, info_shown, message_shown}
 use Rattle.lat_circuit.specs.Hears.{HeardStep, hears_start, foreign}
 use Rattle.lat_lines.specs.circuits.Kept.{Kept, Holds, IsOwn, IsClear, ids, side_of}
 use Rattle.lat_lines.specs.circuits.Stands.{Stands, IsCircuit}

@@ -10,7 +10,8 @@ use Rattle.lat_model.specs.Lists.{Each}
 use Rattle.lat_payload.specs.Frames.{frame_view, expected, IsReadable, Emits}
 use Rattle.lat_payload.proofs.Readable.{message_readable}
 use Rattle.lat_circuit.specs.Kept.{Facts}
-use Rattle.lat_circuit.specs.Frames.{timing_shown, frame_sent, message_sent, IsFormed, AreFormed}
+use Rattle.lat_circuit.specs.Frames.{timing_shown, frame_sent, message_sent, AreFormed}
+use Rattle.lat_circuit.specs.Messages.{IsFormed}
 
 -- The frames of a circuit with these facts bear what the core has of it
 pub record Bears (k : Side) (c : Core) (f : Facts) (station peer : ℕ) : Type 0 where

@@ -11,7 +11,7 @@ ghost use Rattle.lat_machines.specs.cores.Hearing.{Makes, Refuses};
 ghost use Rattle.lat_machines.specs.node.Node.{start_answer};
 ghost use Rattle.lat_circuit.specs.Kept.{Kept};
 ghost use Rattle.lat_circuit.specs.Hears.{heard_shown};
-ghost use Rattle.lat_circuit.specs.Frames.{info_shown, message_shown};
+ghost use Rattle.lat_circuit.specs.Messages.{info_shown, message_shown};
 ghost use Rattle.lat_lines.specs.circuits.Kept.{side_of, ids, SameCore, SameCircuits, has_id, IsClear};
 ghost use Rattle.lat_lines.specs.circuits.Stands.{Stands, Simulates};
 ghost use Rattle.lat_lines.specs.circuits.Hears.{heard_core, hears_named, hears_at, start_core, new_fact, hearing_shown};

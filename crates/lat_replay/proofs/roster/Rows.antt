@@ -6,7 +6,7 @@ use Rattle.std.specs.Prelude.{map, replicate, slice_get, Some}
 use Rattle.lat_base.specs.declared.item.Item.{Item}
 use Rattle.lat_base.specs.declared.item.Item.TheVariants.{Byte}
 use Rattle.lat_model.specs.sessions.Slots as slots
-use Rattle.lat_replay.specs.roster.Shown.{item_shown}
+use Rattle.lat_stream.specs.Kept.{item_shown}
 use Rattle.lat_replay.specs.declared.roster.row.Flow.{Flow}
 use Rattle.lat_laws.specs.tales.Keeping.{with_items, adds, lines_of}
 use Rattle.lat_laws.specs.tales.Rows as rows

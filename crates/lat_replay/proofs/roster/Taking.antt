@@ -20,7 +20,7 @@ use Rattle.lat_machines.specs.world.Machines.{Machines, core_of}
 use Rattle.lat_laws.specs.rounds.Seated.{IsSeat, Seated}
 use Rattle.lat_laws.proofs.rounds.ready.Seats.{over_parts}
 use Rattle.lat_stream.specs.Kept.{item_shown}
-use Rattle.lat_lines.specs.Back.{answer_of}
+use Rattle.lat_lines.specs.AnswerValues.{answer_of}
 use Rattle.lat_lines.specs.Events.{event_shown}
 use Rattle.lat_replay.specs.declared.roster.row.Row.{Row}
 use Rattle.lat_replay.specs.roster.Rows.{HasReserved}

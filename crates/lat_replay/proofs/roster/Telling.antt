@@ -2,27 +2,14 @@
 use Rattle.std.proofs.Common.{◌≡◌, ◌≢◌, ℕ, refl, ap, ◌∙◌, Bool, true, false, cond, List, Option, Some, None, option_map, nat_eq}
 use Rattle.std.proofs.Common.{eqb-true}
 use Rattle.lat_base.specs.declared.book.LineSession as base
-use Rattle.lat_base.specs.declared.state.SessionEnd.{SessionEnd}
-use Rattle.lat_base.specs.declared.state.SessionEnd.TheVariants as ends
 use Rattle.lat_machines.specs.cores.Cores.{Seat, no_seat, Core}
 use Rattle.lat_machines.specs.cores.Lines.{last_on}
 use Rattle.lat_machines.specs.cores.Books.{LineSession, line_session}
-use Rattle.lat_lines.specs.Stands as lines
-use Rattle.lat_lines.specs.Stands.{session_shown, session_info}
-use Rattle.lat_replay.specs.roster.Shown.{end_shown}
+use Rattle.lat_lines.specs.Stands.{end_shown, session_shown, session_info}
 use Rattle.lat_replay.specs.roster.Rows.{ShowsFigures}
 use Rattle.lat_replay.specs.declared.roster.figures.Figures.{Figures}
 use Rattle.lat_laws.specs.tales.Books.{newest_of}
 use Rattle.lat_laws.specs.tales.Rows.{figures_of, newest_place}
-
-end_same : (e : SessionEnd) → end_shown e ≡ lines.end_shown e
-end_same ends.Closed = refl
-end_same (ends.Rejected reason) = refl
-end_same (ends.Circuit reason) = refl
-
-ends_same : (o : Option SessionEnd) → option_map end_shown o ≡ option_map lines.end_shown o
-ends_same None = refl
-ends_same (Some e) = ap (λ z. Some z) (end_same e)
 
 some_same : {A : Type 0} (x y : A) → Some x ≡ Some y → x ≡ y
 some_same x y h = cc
@@ -33,7 +20,7 @@ figures_shown c number s y f h given used end =
     record {
       given = given ∙ ap (λ (z : LineSession). z.given) same;
       used_up = used ∙ ap (λ (z : LineSession). z.used_up) same;
-      end = ap (option_map end_shown) end ∙ (ends_same y.end ∙ ap (λ (z : LineSession). z.end) same);
+      end = ap (option_map end_shown) end ∙ ap (λ (z : LineSession). z.end) same;
     }
 
 -- of a line that had a session, the figures are those of the newest one

@@ -3,7 +3,7 @@ use Rattle.std.specs.Prelude.{◌≡◌, ℕ, Bool, List}
 use Rattle.lat_base.specs.declared.answer.Answer.{Answer}
 use Rattle.lat_model.specs.sessions.Slots.{Item}
 use Rattle.lat_machines.specs.values.Answers as machines
-use Rattle.lat_lines.specs.Back.{answer_of}
+use Rattle.lat_lines.specs.AnswerValues.{answer_of}
 use Rattle.lat_laws.specs.tales.Keeping.{adds}
 use Rattle.lat_laws.specs.tales.Rows.{RowsAfter}
 use Rattle.lat_replay.specs.roster.Roster as rosters

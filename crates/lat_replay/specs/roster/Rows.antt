@@ -1,6 +1,7 @@
 -- What the rows of a roster show.
 use Rattle.std.specs.Prelude.{◌≡◌, ℕ, ◌+◌, ◌≤◌, Bool, true, false, map, option_map, vec_len, vec_capacity}
-use Rattle.lat_replay.specs.roster.Shown.{item_shown, end_shown, saturated}
+use Rattle.lat_stream.specs.Kept.{item_shown, saturated}
+use Rattle.lat_lines.specs.Stands.{end_shown}
 use Rattle.lat_machines.specs.cores.Cores.{Seat}
 use Rattle.lat_laws.specs.tales.Rows as rows
 use Rattle.lat_replay.specs.declared.roster.figures.Figures.{Figures}

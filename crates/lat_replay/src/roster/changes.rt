@@ -5,7 +5,7 @@ ghost use Rattle.lat_model.specs.sessions.Slots as slots;
 ghost use Rattle.lat_laws.specs.tales.Rows as rows;
 ghost use Rattle.lat_laws.specs.tales.Keeping.{change, with_items};
 ghost use Rattle.lat_replay.specs.roster.Rows.{ShowsFigures, HasReserved};
-ghost use Rattle.lat_replay.specs.roster.Shown.{item_shown};
+ghost use Rattle.lat_stream.specs.Kept.{item_shown};
 ghost use Rattle.lat_replay.specs.roster.Roster.{ShowsRows, Changes, ReservedAt};
 
 use crate::roster::figures::Figures;

@@ -3,7 +3,7 @@
 ghost use Rattle.std.specs.Prelude.{◌≡◌, ℕ, [], length};
 ghost use Rattle.lat_machines.specs.values.Answers as machines;
 ghost use Rattle.lat_base.specs.Answers.{items_given};
-ghost use Rattle.lat_lines.specs.Back.{answer_of};
+ghost use Rattle.lat_lines.specs.AnswerValues.{answer_of};
 ghost use Rattle.lat_lines.specs.Events.{event_shown};
 ghost use Rattle.lat_laws.specs.tales.Items.{line_of, put_by, taken_by, accepted_bytes, accepted_setting, taken_items};
 ghost use Rattle.lat_laws.specs.tales.Keeping.{adds};

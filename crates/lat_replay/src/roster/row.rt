@@ -6,7 +6,7 @@ ghost use Rattle.lat_base.specs.declared.item.Item.TheVariants.{Byte};
 ghost use Rattle.lat_machines.specs.cores.Cores.{Seat};
 ghost use Rattle.lat_laws.specs.tales.Rows as rows;
 ghost use Rattle.lat_laws.specs.tales.Keeping.{new_row, with_items};
-ghost use Rattle.lat_replay.specs.roster.Shown.{item_shown};
+ghost use Rattle.lat_stream.specs.Kept.{item_shown};
 ghost use Rattle.lat_replay.specs.roster.Rows.{IsSeat, ShowsRow, HasReserved};
 
 use crate::roster::figures::Figures;

@@ -7,7 +7,8 @@ use Rattle.lat_base.specs.FieldWords.{field_word}
 use Rattle.lat_notices.specs.declared.notice.Announcement.{Announcement}
 use Rattle.lat_text.specs.Line.{line}
 use Rattle.lat_machines.specs.server.Directory.{HeardAnnouncement, Best, best, refuses}
-use Rattle.lat_dir.specs.Stands.{announcement_shown, heard}
+use Rattle.lat_dir.specs.Stands.{heard}
+use Rattle.lat_dir.specs.Announcements.{announcement_shown}
 use Rattle.lat_show.specs.declared.choice.entry.Entry.{Entry}
 use Rattle.lat_show.specs.declared.choice.entry.Entry.TheVariants as entries
 

@@ -19,7 +19,7 @@ use Rattle.lat_machines.specs.server.Server.{server_side}
 use Rattle.lat_stream.specs.Kept.{state_shown}
 use Rattle.lat_server.specs.Stands as server
 use Rattle.lat_server.specs.Stands.{Machine}
-use Rattle.lat_lines.specs.Back.{answer_of}
+use Rattle.lat_lines.specs.AnswerValues.{answer_of}
 use Rattle.lat_switch.specs.declared.piece.Piece.{Piece}
 use Rattle.lat_switch.specs.declared.piece.Piece.TheVariants as pieces
 use Rattle.lat_switch.specs.Lines.{Line, no_line, is_session, has_session, shows_next, gives_way}

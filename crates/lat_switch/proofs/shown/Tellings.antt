@@ -16,7 +16,7 @@ use Rattle.lat_laws.proofs.tales.seats.Sound.{Sound}
 use Rattle.lat_laws.proofs.tales.seats.Told.{server_tale}
 use Rattle.lat_laws.proofs.tales.rows.By.{append_nil}
 use Rattle.lat_server.specs.Stands.{Machine, stepped}
-use Rattle.lat_lines.specs.Back.{answer_of}
+use Rattle.lat_lines.specs.AnswerValues.{answer_of}
 use Rattle.lat_lines.specs.Events.{event_shown}
 use Rattle.lat_switch.specs.Lines.{Line, first_free, has_session, shows, inner_lines}
 use Rattle.lat_switch.specs.Switch.{Switch, line_on, Course, begins, tells, answer_to, changes, Step}

@@ -19,9 +19,9 @@ use Rattle.lat_notices.specs.declared.notice.Notice.{Notice}
 use Rattle.lat_notices.specs.Kinds.{is_notice}
 use Rattle.lat_notices.specs.Reading.{notice_read}
 use Rattle.lat_machines.specs.values.Frames.{Value, OfCircuit, OfNotice, Whole}
-use Rattle.lat_circuit.specs.Frames.{message_shown}
+use Rattle.lat_circuit.specs.Messages.{message_shown}
 use Rattle.lat_value.specs.declared.value.Value.TheVariants.{Circuit, Notice as NoticeOf}
-use Rattle.lat_payload.specs.Shown.{notice_shown}
+use Rattle.lat_payload.specs.Notices.{notice_shown}
 use Rattle.lat_value.specs.Reading.{read_as, unknown, value_read}
 use Rattle.lat_payload.specs.Reads.{reading_of, read_shown}
 use Rattle.lat_wire.specs.declared.ledger.heading.Heading.{Heading}

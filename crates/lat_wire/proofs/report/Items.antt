@@ -4,7 +4,7 @@ use Rattle.std.specs.Prelude.{◌==◌}
 use Rattle.std.specs.List.{flat_map}
 use Rattle.std.proofs.lemmas.Bool.{true≢false}
 use Rattle.lat_base.specs.declared.item.Item.{Item}
-use Rattle.lat_lines.specs.Answers.{item_in}
+use Rattle.lat_stream.specs.Kept.{item_in}
 use Rattle.lat_wire.specs.report.ReportText.{item_text, items_text}
 use Rattle.lat_wire.specs.report.Rows.{items_in}
 

@@ -3,7 +3,7 @@ use Rattle.std.specs.Prelude.{ℕ, List, [], ◌++◌, codes, decimal}
 use Rattle.lat_base.specs.FieldWords.{field_word}
 use Rattle.lat_machines.specs.values.Answers.{Broke, Answer, Circuit, StartRefused, DirectoryFull, KeptIs, Bad, NoLine, Busy, NoService, SessionsFull, CircuitsFull, IdsOut, Closed, Full, IdUsed}
 use Rattle.lat_machines.specs.values.Notices.{RecordsFull}
-use Rattle.lat_lines.specs.Back.{field_of}
+use Rattle.lat_payload.specs.FieldNumbers.{field_of}
 
 -- the word of the field of this number
 abbrev pub field_named : ℕ → List ℕ

@@ -5,7 +5,7 @@ use Rattle.lat_base.specs.declared.answer.Answer.TheVariants as answers
 use Rattle.lat_base.specs.declared.heard.Heard.TheVariants as heards
 use Rattle.lat_base.specs.declared.kept.Kept.TheVariants as kepts
 use Rattle.lat_machines.specs.world.Machines.{is_noted}
-use Rattle.lat_lines.specs.Answers.{answer_shown}
+use Rattle.lat_lines.specs.AnswerValues.{answer_shown}
 use Rattle.lat_wire.specs.declared.report.noted.Refusal.{Refusal}
 use Rattle.lat_wire.specs.declared.report.noted.Refusal.TheVariants as refusals
 use Rattle.lat_wire.specs.declared.report.noted.Noted.{Noted}

@@ -3,9 +3,10 @@ use Rattle.std.specs.Prelude.{List, map, option_map}
 use Rattle.lat_base.specs.declared.item.Item as base_item
 use Rattle.lat_model.specs.sessions.Slots.{Item}
 use Rattle.lat_machines.specs.world.Reports.{Direction, Row, RecordRow}
-use Rattle.lat_lines.specs.Answers.{item_in}
+use Rattle.lat_stream.specs.Kept.{item_in}
 use Rattle.lat_lines.specs.Stands.{end_shown}
-use Rattle.lat_queue.specs.Histories.{key_in, kept_in}
+use Rattle.lat_queue.specs.Histories.{key_in}
+use Rattle.lat_queue.specs.KeptValues.{kept_in}
 use Rattle.lat_queue.specs.declared.record.Record.{Record}
 use Rattle.lat_wire.specs.declared.report.rows.Flow.{Flow}
 use Rattle.lat_wire.specs.declared.report.rows.SessionRow.{SessionRow}

@@ -2,7 +2,7 @@
 
 ghost use Rattle.std.specs.Prelude.{◌≡◌, ◌++◌, OnOk, option_map, string_bytes};
 ghost use Rattle.lat_base.specs.declared.answer.Answer.TheVariants as answers;
-ghost use Rattle.lat_lines.specs.Answers.{answer_shown};
+ghost use Rattle.lat_lines.specs.AnswerValues.{answer_shown};
 ghost use Rattle.lat_wire.specs.report.NoteText.{refusal_word};
 ghost use Rattle.lat_wire.specs.report.Noted.{refusal_answer, noted_answer, noted_of};
 ghost use Rattle.lat_wire.specs.report.ReportText.{event_text};

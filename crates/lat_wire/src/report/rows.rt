@@ -2,7 +2,8 @@
 
 ghost use Rattle.std.specs.Prelude.{◌≡◌, ◌++◌, OnOk, codes, option_map, string_bytes};
 ghost use Rattle.std.specs.List.{flat_map};
-ghost use Rattle.lat_queue.specs.Histories.{key_in, kept_in};
+ghost use Rattle.lat_queue.specs.Histories.{key_in};
+ghost use Rattle.lat_queue.specs.KeptValues.{kept_in};
 ghost use Rattle.lat_wire.specs.report.ReportText.{
   frames_text,
   item_text,
@@ -19,7 +20,7 @@ ghost use Rattle.lat_wire.specs.report.ReportText.{
   grant_text,
 };
 ghost use Rattle.lat_wire.specs.report.Rows.{items_in, direction_in, row_in, record_in};
-ghost use Rattle.lat_lines.specs.Answers.{item_in};
+ghost use Rattle.lat_stream.specs.Kept.{item_in};
 ghost use Rattle.lat_lines.specs.Stands.{end_shown};
 
 use lat_base::{Item, Kept, SessionEnd};

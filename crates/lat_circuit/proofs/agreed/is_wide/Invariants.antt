@@ -1,6 +1,6 @@
 use Rattle.std.proofs.Common.{◌≡◌, map, drop}
 use Rattle.lat_machines.specs.values.Timing.{is_wide}
-use Rattle.lat_circuit.specs.Frames.{param_shown}
+use Rattle.lat_circuit.specs.Messages.{param_shown}
 use Rattle.lat_circuit.proofs.agreed.is_wide.Given as goal
 
 abbrev pub invariant-loop-param : goal.invariant-loop-param

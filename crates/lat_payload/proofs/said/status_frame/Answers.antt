@@ -1,4 +1,4 @@
-use Rattle.lat_payload.proofs.NoticesBack.{sendable_fits}
+use Rattle.lat_payload.proofs.Notices.{sendable_fits}
 use Rattle.std.proofs.Common.{rules}
 use Rattle.lat_payload.proofs.said.status_frame.Goals as goal
 

@@ -1,6 +1,6 @@
 use Rattle.std.proofs.Common.{◌≡◌, take}
 use Rattle.std.specs.List.{sum_by}
-use Rattle.lat_replay.specs.roster.Shown.{saturated}
+use Rattle.lat_stream.specs.Kept.{saturated}
 use Rattle.lat_replay.specs.Counts.{taken_in_row}
 use Rattle.lat_replay.proofs.counts.taken_in.Given as goal
 

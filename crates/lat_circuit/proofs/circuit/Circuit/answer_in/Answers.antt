@@ -2,7 +2,7 @@ use Rattle.std.proofs.Common.{false, ap, ◌∙◌}
 use Rattle.lat_circuit.specs.Links.{fresh_kept}
 use Rattle.lat_model.specs.ends.Starting.{no_sessions}
 use Rattle.lat_seq.specs.declared.span.Span.{Span}
-use Rattle.lat_circuit.specs.Frames.{info_shown}
+use Rattle.lat_circuit.specs.Messages.{info_shown}
 use Rattle.lat_circuit.proofs.Answering.{answered_begins}
 use Rattle.lat_circuit.proofs.circuit.Circuit.answer_in.Goals as goal
 

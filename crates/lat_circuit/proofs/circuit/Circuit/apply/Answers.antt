@@ -1,6 +1,6 @@
 use Rattle.std.proofs.Common.{is_err, map, sym, ap, ◌∙◌}
 use Rattle.lat_stream.specs.Wire.{slot_heard}
-use Rattle.lat_circuit.specs.Frames.{wide_head_shown}
+use Rattle.lat_circuit.specs.Messages.{wide_head_shown}
 use Rattle.lat_circuit.proofs.HeardParts.{then_applies}
 use Rattle.lat_circuit.proofs.circuit.Circuit.apply.Goals as goal
 

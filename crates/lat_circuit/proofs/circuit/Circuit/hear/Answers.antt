@@ -1,7 +1,8 @@
 use Rattle.std.proofs.Common.{map, sym, ap, subst, ◌∙◌}
 use Rattle.lat_machines.specs.values.Messages.{Message, RunMessage, WideMessage}
 use Rattle.lat_stream.specs.Wire.{slot_heard}
-use Rattle.lat_circuit.specs.Frames.{timing_shown, head_shown, wide_head_shown, message_shown}
+use Rattle.lat_circuit.specs.Frames.{timing_shown}
+use Rattle.lat_circuit.specs.Messages.{head_shown, wide_head_shown, message_shown}
 use Rattle.lat_circuit.specs.Hears.{hears, SimulatesHearing}
 use Rattle.lat_circuit.proofs.circuit.Circuit.hear.Goals as goal
 

@@ -1,6 +1,7 @@
 use Rattle.std.proofs.Common.{◌≡◌, [], sym, ap, subst, ◌∙◌}
 use Rattle.lat_base.specs.declared.heard.Heard.TheVariants as answers
-use Rattle.lat_circuit.specs.Frames.{timing_shown, info_shown}
+use Rattle.lat_circuit.specs.Frames.{timing_shown}
+use Rattle.lat_circuit.specs.Messages.{info_shown}
 use Rattle.lat_circuit.specs.Kept.{Kept}
 use Rattle.lat_circuit.specs.Shown.{shown}
 use Rattle.lat_circuit.specs.Stands.{Stands}

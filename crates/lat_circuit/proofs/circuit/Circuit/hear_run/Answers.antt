@@ -2,7 +2,7 @@ use Rattle.std.proofs.Common.{arith, ◌≡◌, map, sym, subst, ◌∙◌}
 use Rattle.lat_base.specs.declared.heard.Heard.TheVariants as answers
 use Rattle.lat_stream.specs.Wire.{slot_heard}
 use Rattle.lat_model.specs.ends.End.{End}
-use Rattle.lat_circuit.specs.Frames.{wide_head_shown}
+use Rattle.lat_circuit.specs.Messages.{wide_head_shown}
 use Rattle.lat_circuit.specs.Hears.{hears_run, SimulatesHearing}
 use Rattle.lat_circuit.specs.Kept.{Kept}
 use Rattle.lat_circuit.specs.Shown.{shown}

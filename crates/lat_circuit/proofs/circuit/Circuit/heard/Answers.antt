@@ -1,5 +1,6 @@
 use Rattle.lat_circuit.proofs.Dids.{did_noted}
-use Rattle.lat_circuit.specs.Frames.{timing_shown, message_shown}
+use Rattle.lat_circuit.specs.Frames.{timing_shown}
+use Rattle.lat_circuit.specs.Messages.{message_shown}
 use Rattle.lat_circuit.specs.Hears.{hears}
 use Rattle.lat_circuit.proofs.circuit.Circuit.heard.Goals as goal
 

@@ -7,7 +7,8 @@ use Rattle.lat_seq.specs.declared.span.Span.{Span}
 use Rattle.lat_circuit.specs.declared.ids.Ids.{Ids}
 use Rattle.lat_circuit.specs.Links.{fresh_kept, Kept as LinkKept}
 use Rattle.lat_circuit.specs.Payloads.{head_size}
-use Rattle.lat_circuit.specs.Frames.{timing_shown, info_shown}
+use Rattle.lat_circuit.specs.Frames.{timing_shown}
+use Rattle.lat_circuit.specs.Messages.{info_shown}
 use Rattle.lat_circuit.specs.Kept.{Kept}
 use Rattle.lat_circuit.specs.Shown.{shown}
 use Rattle.lat_circuit.specs.Stands.{Stands}

@@ -3,7 +3,7 @@ use Rattle.std.proofs.lemmas.Grind.{common_steps}
 use Rattle.lat_base.specs.declared.outbox.Mark.TheVariants as marks
 use Rattle.lat_fields.specs.Payloads.{padded}
 use Rattle.lat_frames.specs.Written.{message_text}
-use Rattle.lat_circuit.specs.Payloads.{message_of}
+use Rattle.lat_circuit.specs.Messages.{message_of}
 use Rattle.lat_model.specs.ends.End.{CallStart}
 use Rattle.lat_circuit.specs.Frames.{start_message, message_sent}
 use Rattle.lat_circuit.specs.Kept.{Kept}

@@ -2,7 +2,7 @@ use Rattle.std.proofs.Common.{map, sym, subst}
 use Rattle.lat_base.specs.declared.heard.Heard.TheVariants.{Broke}
 use Rattle.lat_stream.specs.Wire.{slot_heard}
 use Rattle.lat_circuit.specs.Applies.{apply, applied_step}
-use Rattle.lat_circuit.specs.Frames.{wide_head_shown}
+use Rattle.lat_circuit.specs.Messages.{wide_head_shown}
 use Rattle.lat_circuit.specs.Hears.{SimulatesHearing}
 use Rattle.lat_circuit.proofs.HeardParts.{applied_ok, applied_err}
 use Rattle.lat_circuit.proofs.circuit.Circuit.take_run.Goals as goal

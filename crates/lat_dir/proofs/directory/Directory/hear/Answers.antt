@@ -3,7 +3,8 @@ use Rattle.lat_model.specs.Lists.{is_empty}
 use Rattle.lat_machines.specs.server.Directory.{share_group, meets}
 use Rattle.lat_machines.specs.values.Names.{folded}
 use Rattle.lat_dir.specs.Words.{living, node_of}
-use Rattle.lat_dir.specs.Stands.{Stands, announcement_shown, heard}
+use Rattle.lat_dir.specs.Stands.{Stands, heard}
+use Rattle.lat_dir.specs.Announcements.{announcement_shown}
 use Rattle.lat_dir.specs.Steps.{turned_away, taken_in, answer_met}
 use Rattle.lat_dir.proofs.Standing.{turned_away_stands, taken_in_stands, answer_is, unless_map}
 use Rattle.lat_dir.proofs.directory.Directory.hear.Goals as goal

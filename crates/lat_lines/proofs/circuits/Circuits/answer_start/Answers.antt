@@ -3,7 +3,7 @@ use Rattle.std.specs.Option.{option_to_list}
 use Rattle.std.proofs.lemmas.Grind.{common_steps, elements}
 use Rattle.lat_machines.specs.values.Addresses.{address}
 use Rattle.lat_machines.specs.cores.Hearing.{Makes}
-use Rattle.lat_circuit.specs.Frames.{info_shown}
+use Rattle.lat_circuit.specs.Messages.{info_shown}
 use Rattle.lat_lines.specs.circuits.Hears.{start_core}
 use Rattle.lat_lines.specs.circuits.Kept.{Kept, Holds, side_of}
 use Rattle.lat_lines.specs.circuits.Shown.{shown}

@@ -2,7 +2,7 @@ use Rattle.std.proofs.Common.{◌≡◌, ◌<◌, length, slice_index, ap, subst
 use Rattle.std.proofs.lemmas.Grind.{common_steps}
 use Rattle.lat_machines.specs.cores.Cores.{Core}
 use Rattle.lat_machines.specs.values.Answers.{Circuit}
-use Rattle.lat_circuit.specs.Frames.{message_shown}
+use Rattle.lat_circuit.specs.Messages.{message_shown}
 use Rattle.lat_circuit.specs.Hears.{heard_shown}
 use Rattle.lat_lines.specs.circuits.Hears.{hears_at}
 use Rattle.lat_lines.specs.circuits.Kept.{Kept, SameCircuits, IsOwn, side_of, ids}

@@ -1,7 +1,7 @@
 use Rattle.std.proofs.Common.{◌∙◌, sym, ap, subst, slice_index}
 use Rattle.lat_frames.specs.declared.message.Message.TheVariants as frames
 use Rattle.lat_machines.specs.values.Addresses.{address}
-use Rattle.lat_circuit.specs.Frames.{message_shown, info_shown}
+use Rattle.lat_circuit.specs.Messages.{message_shown, info_shown}
 use Rattle.lat_lines.specs.circuits.Hears.{HeardCore, heard_core, hears_at, hears_named, start_core, new_fact}
 use Rattle.lat_lines.specs.circuits.Kept.{Kept, Holds, ids, side_of}
 use Rattle.lat_lines.proofs.circuits.Passing.{did_as}

@@ -1,7 +1,7 @@
 use Rattle.std.proofs.Common.{◌∙◌, sym, ap}
 use Rattle.lat_machines.specs.values.Addresses.{address}
 use Rattle.lat_machines.specs.cores.Cores.{rests}
-use Rattle.lat_circuit.specs.Frames.{message_shown}
+use Rattle.lat_circuit.specs.Messages.{message_shown}
 use Rattle.lat_lines.specs.circuits.Hears.{HeardCore, hears_at, hears_named}
 use Rattle.lat_lines.specs.circuits.Kept.{side_of, ids}
 use Rattle.std.specs.Prelude.{slice_index}

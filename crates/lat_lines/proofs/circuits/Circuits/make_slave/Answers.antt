@@ -3,7 +3,7 @@ use Rattle.lat_machines.specs.values.Addresses.{address}
 use Rattle.lat_machines.specs.values.Answers.{Started}
 use Rattle.lat_machines.specs.cores.Hearing.{StartFact, Makes, Refuses}
 use Rattle.lat_machines.specs.node.Node.{start_answer}
-use Rattle.lat_circuit.specs.Frames.{info_shown}
+use Rattle.lat_circuit.specs.Messages.{info_shown}
 use Rattle.lat_lines.specs.circuits.Hears.{start_core, new_fact}
 use Rattle.lat_lines.specs.circuits.Kept.{side_of}
 use Rattle.lat_lines.proofs.circuits.Answered.{refused_did}

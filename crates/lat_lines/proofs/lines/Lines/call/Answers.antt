@@ -12,7 +12,8 @@ use Rattle.lat_session.specs.Calls.{call_of, bytes_in}
 use Rattle.lat_lines.specs.circuits.Stands.{calling}
 use Rattle.lat_lines.specs.circuits.Info.{answer_at}
 use Rattle.lat_lines.specs.Kept.{Kept, side_of}
-use Rattle.lat_lines.specs.Answers.{SimulatesCall, answer_shown, seat_or, ready}
+use Rattle.lat_lines.specs.Answers.{SimulatesCall, seat_or, ready}
+use Rattle.lat_lines.specs.AnswerValues.{answer_shown}
 use Rattle.lat_lines.specs.Calls.{call_on, event_of, call_answer}
 use Rattle.lat_lines.specs.Shown.{shown}
 use Rattle.lat_lines.proofs.Calling.{call_agrees, agrees_at}

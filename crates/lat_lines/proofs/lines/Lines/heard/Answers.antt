@@ -2,7 +2,7 @@ use Rattle.std.proofs.Common.{◌≡◌, true, nat_eq, eqb-true, length, sym, ap
 use Rattle.std.proofs.lemmas.Bool.{and_parts}
 use Rattle.lat_machines.specs.values.Addresses.{address}
 use Rattle.lat_machines.specs.cores.Cores.{Core}
-use Rattle.lat_circuit.specs.Frames.{message_shown}
+use Rattle.lat_circuit.specs.Messages.{message_shown}
 use Rattle.lat_lines.specs.circuits.Hears.{heard_core, hearing_shown}
 use Rattle.lat_lines.specs.circuits.Kept.{has_id}
 use Rattle.lat_lines.specs.Calm.{CoreCalm, takes_nothing}

@@ -6,7 +6,8 @@ use Rattle.lat_lines.specs.circuits.Stands.{calling}
 use Rattle.std.proofs.lemmas.Bool.{not-true}
 use Rattle.lat_session.specs.States.{is_free}
 use Rattle.lat_lines.specs.Kept.{Kept, side_of}
-use Rattle.lat_lines.specs.Answers.{SimulatesCall, answer_shown, seat_or, took_answer}
+use Rattle.lat_lines.specs.Answers.{SimulatesCall, seat_or, took_answer}
+use Rattle.lat_lines.specs.AnswerValues.{answer_shown}
 use Rattle.lat_lines.specs.Shown.{shown}
 use Rattle.lat_lines.proofs.Standing.{refilled}
 use Rattle.lat_lines.proofs.Telling.{takes_at}

@@ -1,7 +1,7 @@
 use Rattle.std.proofs.Common.{arith}
 use Rattle.std.proofs.lemmas.Grind.{common_steps}
 use Rattle.lat_machines.specs.values.Addresses.{address}
-use Rattle.lat_payload.specs.Shown.{value_shown}
+use Rattle.lat_payload.specs.Reads.{value_shown}
 use Rattle.lat_node.proofs.HearLemmas.{steps_read}
 use Rattle.lat_node.proofs.node.NodeCore.hear.Goals as goal
 

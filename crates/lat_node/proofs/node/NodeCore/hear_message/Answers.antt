@@ -2,7 +2,7 @@ use Rattle.std.proofs.Common.{◌∙◌, subst, None}
 use Rattle.lat_machines.specs.cores.Cores.{at_moment}
 use Rattle.lat_machines.specs.node.Node.{with_core, hears_message}
 use Rattle.lat_machines.specs.values.Addresses.{address}
-use Rattle.lat_circuit.specs.Frames.{message_shown}
+use Rattle.lat_circuit.specs.Messages.{message_shown}
 use Rattle.lat_node.specs.Events.{Simulates}
 use Rattle.lat_node.specs.Kept.{Kept}
 use Rattle.lat_node.specs.Shown.{shown}

@@ -1,5 +1,5 @@
 use Rattle.lat_machines.specs.values.Addresses.{address}
-use Rattle.lat_payload.specs.Shown.{notice_shown}
+use Rattle.lat_payload.specs.Notices.{notice_shown}
 use Rattle.lat_node.proofs.HearLemmas.{steps_notice}
 use Rattle.lat_node.proofs.node.NodeCore.hear_notice.Goals as goal
 

@@ -1,7 +1,7 @@
 use Rattle.std.proofs.Common.{ap, sym}
 use Rattle.lat_machines.specs.values.Addresses.{address}
-use Rattle.lat_circuit.specs.Frames.{message_shown}
-use Rattle.lat_payload.specs.Shown.{value_shown}
+use Rattle.lat_circuit.specs.Messages.{message_shown}
+use Rattle.lat_payload.specs.Reads.{value_shown}
 use Rattle.lat_node.proofs.HearLemmas.{steps_everyone, steps_message}
 use Rattle.lat_node.proofs.node.NodeCore.hear_value.Goals as goal
 

@@ -1,7 +1,7 @@
 use Rattle.std.proofs.Common.{◌≡◌, map, take}
 use Rattle.lat_model.specs.Lists.{Each}
 use Rattle.lat_machines.specs.node.Node as machine
-use Rattle.lat_dir.specs.Stands.{service_shown}
+use Rattle.lat_dir.specs.Announcements.{service_shown}
 use Rattle.lat_node.specs.Announced.{ratings}
 use Rattle.lat_node.proofs.node.NodeCore.rated.Given as goal
 

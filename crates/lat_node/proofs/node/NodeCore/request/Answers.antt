@@ -3,7 +3,7 @@ use Rattle.lat_machines.specs.values.Addresses.{address}
 use Rattle.lat_machines.specs.values.Answers.{Done}
 use Rattle.lat_machines.specs.node.Node.{Node, Requested, requests_again, request_of}
 use Rattle.lat_payload.specs.Frames.{Emits}
-use Rattle.lat_lines.specs.Answers.{answer_shown}
+use Rattle.lat_lines.specs.AnswerValues.{answer_shown}
 use Rattle.lat_node.specs.Kept.{Kept, config_of}
 use Rattle.lat_node.specs.Shown.{shown}
 use Rattle.lat_node.specs.Stands.{request_shown, request_in, Stands}

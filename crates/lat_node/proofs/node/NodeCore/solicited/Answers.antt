@@ -3,7 +3,7 @@ use Rattle.lat_machines.specs.values.Addresses.{address}
 use Rattle.lat_machines.specs.values.Names.{Name, same}
 use Rattle.lat_machines.specs.node.Node as machine
 use Rattle.lat_lines.proofs.CircuitFound.{finds_none}
-use Rattle.lat_lines.specs.Answers.{answer_shown}
+use Rattle.lat_lines.specs.AnswerValues.{answer_shown}
 use Rattle.lat_node.specs.Events.{Rated, ratings_for}
 use Rattle.lat_node.specs.Kept.{Kept, config_of}
 use Rattle.lat_node.proofs.AnnounceLemmas.{offered_at, ok_weaker, ignored_rated}

@@ -5,7 +5,8 @@ use Rattle.lat_machines.specs.server.Records.{ask_answer}
 use Rattle.lat_base.specs.declared.kept.Kept.{Kept}
 use Rattle.lat_queue.specs.KeyHash.{one_key}
 use Rattle.lat_queue.specs.Tables.{Table, added, new_info, new_standing}
-use Rattle.lat_queue.specs.Histories.{Stands, key_in, address_in, kept_in}
+use Rattle.lat_queue.specs.Histories.{Stands, key_in, address_in}
+use Rattle.lat_queue.specs.KeptValues.{kept_in}
 use Rattle.lat_queue.proofs.CallLemmas.{stands_again, stands_full, stands_new, info_none, ok_both}
 use Rattle.lat_queue.proofs.InfoLemmas.{known_answer, full_answer, new_right}
 use Rattle.lat_queue.proofs.queue.Queue.ask.Goals as goal

@@ -5,8 +5,9 @@ use Rattle.lat_machines.specs.cores.Cores.{at_moment}
 use Rattle.lat_machines.specs.server.Server.{with_core, hears_announcement}
 use Rattle.lat_dir.specs.declared.directory.DirFault.TheVariants as faults
 use Rattle.lat_dir.specs.Stands as dir
-use Rattle.lat_dir.specs.Stands.{announcement_shown, heard, answer_to}
-use Rattle.lat_lines.specs.Answers.{answer_shown}
+use Rattle.lat_dir.specs.Stands.{heard, answer_to}
+use Rattle.lat_dir.specs.Announcements.{announcement_shown}
+use Rattle.lat_lines.specs.AnswerValues.{answer_shown}
 use Rattle.lat_server.specs.Commands.{announced_answer}
 use Rattle.lat_server.specs.Kept.{Kept, config_of, AtRest}
 use Rattle.lat_server.specs.Shown.{shown}

@@ -5,7 +5,7 @@ use Rattle.lat_machines.specs.cores.Cores.{at_moment}
 use Rattle.lat_machines.specs.server.Server.{with_core, status_frame, hears_command}
 use Rattle.lat_notices.specs.declared.notice.Outcome.{Outcome}
 use Rattle.lat_payload.specs.Frames.{GoesOutAs}
-use Rattle.lat_payload.specs.Shown.{action_shown, outcome_shown, command_shown}
+use Rattle.lat_payload.specs.Notices.{action_shown, outcome_shown, command_shown}
 use Rattle.lat_server.specs.Commands.{kept_answer, kept_outcome}
 use Rattle.lat_server.specs.Kept.{Kept, config_of, AtRest}
 use Rattle.lat_server.specs.Shown.{shown}

@@ -2,9 +2,9 @@ use Rattle.std.proofs.Common.{◌≡◌, None, sym, ap, subst, ◌∙◌}
 use Rattle.lat_machines.specs.values.Addresses.{address}
 use Rattle.lat_machines.specs.cores.Cores.{Core, Side, at_moment}
 use Rattle.lat_machines.specs.server.Server.{server_side, with_core, hears_message}
-use Rattle.lat_circuit.specs.Frames.{message_shown}
+use Rattle.lat_circuit.specs.Messages.{message_shown}
 use Rattle.lat_lines.specs.circuits.Hears.{heard_core}
-use Rattle.lat_lines.specs.Answers.{answer_shown}
+use Rattle.lat_lines.specs.AnswerValues.{answer_shown}
 use Rattle.lat_lines.specs.Kept as lines
 use Rattle.lat_lines.specs.Stands as stands
 use Rattle.lat_server.specs.Kept.{Kept, config_of}

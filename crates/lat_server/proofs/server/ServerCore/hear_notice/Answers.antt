@@ -4,8 +4,8 @@ use Rattle.lat_notices.specs.declared.notice.Notice.{Notice}
 use Rattle.lat_machines.specs.values.Addresses.{address}
 use Rattle.lat_machines.specs.cores.Cores.{at_moment}
 use Rattle.lat_machines.specs.server.Server.{with_core, hears_announcement, hears_notice}
-use Rattle.lat_dir.specs.Stands.{announcement_shown}
-use Rattle.lat_payload.specs.Shown.{notice_shown}
+use Rattle.lat_dir.specs.Announcements.{announcement_shown}
+use Rattle.lat_payload.specs.Notices.{notice_shown}
 use Rattle.lat_server.specs.Kept.{config_of}
 use Rattle.lat_server.specs.Events.{HasDone, Simulates}
 use Rattle.lat_server.proofs.Hearing.{if_ok}

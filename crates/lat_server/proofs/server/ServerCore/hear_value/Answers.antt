@@ -6,7 +6,8 @@ use Rattle.lat_machines.specs.values.Frames.{Whole}
 use Rattle.lat_machines.specs.cores.Cores.{at_moment}
 use Rattle.lat_machines.specs.server.Server.{Server, tells, with_core, hears_notice, hears_value, hears}
 use Rattle.lat_value.specs.declared.value.Value.{Value}
-use Rattle.lat_payload.specs.Shown.{notice_shown, value_shown}
+use Rattle.lat_payload.specs.Notices.{notice_shown}
+use Rattle.lat_payload.specs.Reads.{value_shown}
 use Rattle.lat_server.specs.Kept.{config_of}
 use Rattle.lat_server.specs.Events.{HasDone, Simulates}
 use Rattle.lat_server.proofs.Hearing.{if_ok}

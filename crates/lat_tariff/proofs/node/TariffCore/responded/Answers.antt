@@ -2,7 +2,7 @@ use Rattle.std.proofs.Common.{◌≡◌, sym, ap, ◌∙◌, subst, ℕ}
 use Rattle.lat_machines.specs.values.Addresses.{address}
 use Rattle.lat_node.specs.Kept.{config_of}
 use Rattle.lat_node.specs.Stands.{Stands}
-use Rattle.lat_payload.specs.Shown.{solicit_shown}
+use Rattle.lat_payload.specs.Notices.{solicit_shown}
 use Rattle.lat_tariff.specs.Kept.{Kept}
 use Rattle.lat_tariff.specs.Tariffs.{names}
 use Rattle.lat_tariff.proofs.Announcing.{response_as}

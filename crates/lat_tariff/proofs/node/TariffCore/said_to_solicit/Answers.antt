@@ -3,7 +3,7 @@ use Rattle.lat_machines.specs.values.Addresses.{address}
 use Rattle.lat_machines.specs.values.Names.{same}
 use Rattle.lat_lines.proofs.CircuitFound.{finds_at}
 use Rattle.lat_node.specs.Kept.{config_of}
-use Rattle.lat_payload.specs.Shown.{solicit_shown}
+use Rattle.lat_payload.specs.Notices.{solicit_shown}
 use Rattle.lat_tariff.specs.declared.tariff.Rule.{Rule}
 use Rattle.lat_tariff.specs.Kept.{Kept, rule_of}
 use Rattle.lat_tariff.specs.Tariffs.{names}

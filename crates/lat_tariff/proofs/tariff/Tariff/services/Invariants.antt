@@ -1,6 +1,6 @@
 use Rattle.std.proofs.Common.{◌≡◌, map, take}
 use Rattle.lat_machines.specs.node.Node as machine
-use Rattle.lat_dir.specs.Stands.{service_shown}
+use Rattle.lat_dir.specs.Announcements.{service_shown}
 use Rattle.lat_node.specs.Announced.{ratings}
 use Rattle.lat_tariff.specs.Tariffs.{names, AreOwn}
 use Rattle.lat_tariff.proofs.tariff.Tariff.services.Given as goal

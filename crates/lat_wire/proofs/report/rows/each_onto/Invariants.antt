@@ -1,6 +1,6 @@
 use Rattle.std.proofs.Common.{◌≡◌, ◌++◌, string_bytes, take}
 use Rattle.std.specs.List.{flat_map}
-use Rattle.lat_lines.specs.Answers.{item_in}
+use Rattle.lat_stream.specs.Kept.{item_in}
 use Rattle.lat_wire.specs.report.ReportText.{item_text}
 use Rattle.lat_wire.proofs.report.rows.each_onto.Given as goal
 

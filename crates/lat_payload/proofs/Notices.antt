@@ -1,8 +1,6 @@
 -- The notice that is written of a notice shown is that notice, and an outcome that a server tells has a text.
-use Rattle.std.proofs.Common.{◌≡◌, List, [], ◌∷◌, map, refl, ap, arith}
-use Rattle.lat_base.specs.declared.kept.Kept.{Kept}
+use Rattle.std.proofs.Common.{◌≡◌, refl, ap, arith}
 use Rattle.lat_base.specs.declared.kept.Kept.TheVariants as kept
-use Rattle.lat_notices.specs.declared.services.Service.{Service}
 use Rattle.lat_notices.specs.declared.notice.Action.{Action}
 use Rattle.lat_notices.specs.declared.notice.Action.TheVariants as actions
 use Rattle.lat_notices.specs.declared.notice.Outcome.{Outcome}
@@ -10,35 +8,20 @@ use Rattle.lat_notices.specs.declared.notice.Outcome.TheVariants as outcomes
 use Rattle.lat_notices.specs.declared.notice.Notice.{Notice}
 use Rattle.lat_notices.specs.declared.notice.Notice.TheVariants as notices
 use Rattle.lat_notices.specs.Outcomes.{IsOutcome}
-use Rattle.lat_dir.specs.Stands.{service_shown}
-use Rattle.lat_queue.specs.Histories.{kept_in}
-use Rattle.lat_payload.specs.Shown.{action_shown, outcome_shown, notice_shown}
-use Rattle.lat_payload.specs.NoticesOf.{kept_of, outcome_of, action_of, service_of, notice_of, IsSendable}
-
-pub kept_back : (k : Kept) → kept_of (kept_in k) ≡ k
-kept_back (kept.Waiting place) = refl
-kept_back kept.Granted = refl
-kept_back kept.Cancelled = refl
-kept_back kept.QueueFull = refl
-kept_back kept.NoService = refl
-kept_back kept.RecordsFull = refl
-kept_back kept.Done = refl
-
-pub outcome_back : (o : Outcome) → outcome_of (outcome_shown o) ≡ o
-outcome_back (outcomes.Kept k) = ap outcomes.Kept (kept_back k)
-outcome_back outcomes.Unknown = refl
+use Rattle.lat_dir.proofs.Announcements.{announcement_back}
+use Rattle.lat_queue.proofs.KeptValues.{kept_back}
+use Rattle.lat_payload.specs.Notices.{action_shown, action_of, outcome_shown, outcome_of, notice_shown, notice_of, IsSendable}
 
 pub action_back : (a : Action) → action_of (action_shown a) ≡ a
 action_back actions.Ask = refl
 action_back actions.Cancel = refl
 
-pub services_back : (ss : List Service) → map service_of (map service_shown ss) ≡ ss
-services_back [] = refl
-services_back (s ∷ ss) = ap (λ more. s ∷ more) (services_back ss)
+pub outcome_back : (o : Outcome) → outcome_of (outcome_shown o) ≡ o
+outcome_back (outcomes.Kept k) = ap outcomes.Kept (kept_back k)
+outcome_back outcomes.Unknown = refl
 
--- a notice comes back
 pub notice_back : (n : Notice) → notice_of (notice_shown n) ≡ n
-notice_back (notices.Announcement a) = ap (λ ss. notices.Announcement (record a { services = ss })) (services_back a.services)
+notice_back (notices.Announcement a) = ap notices.Announcement (announcement_back a)
 notice_back (notices.Command c) = ap (λ want. notices.Command (record c { action = want })) (action_back c.action)
 notice_back (notices.Status s) = ap (λ o. notices.Status (record s { outcome = o })) (outcome_back s.outcome)
 notice_back (notices.Solicit s) = refl

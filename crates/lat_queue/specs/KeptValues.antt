@@ -1,0 +1,22 @@
+-- What is kept of a request as the machines know it, and back.
+use Rattle.lat_base.specs.declared.kept.Kept.{Kept}
+use Rattle.lat_base.specs.declared.kept.Kept.TheVariants as own
+use Rattle.lat_machines.specs.values.Notices as model
+
+abbrev pub kept_in : Kept → model.Kept
+kept_in (own.Waiting place) = model.Waiting place
+kept_in own.Granted = model.Granted
+kept_in own.Cancelled = model.Cancelled
+kept_in own.QueueFull = model.QueueFull
+kept_in own.NoService = model.NoService
+kept_in own.RecordsFull = model.RecordsFull
+kept_in own.Done = model.Done
+
+abbrev pub kept_of : model.Kept → Kept
+kept_of (model.Waiting place) = own.Waiting place
+kept_of model.Granted = own.Granted
+kept_of model.Cancelled = own.Cancelled
+kept_of model.QueueFull = own.QueueFull
+kept_of model.NoService = own.NoService
+kept_of model.RecordsFull = own.RecordsFull
+kept_of model.Done = own.Done
