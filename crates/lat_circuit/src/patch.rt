@@ -24,8 +24,9 @@ pub(crate) fn set_acknowledgement(payload: &mut Payload, span: Span, ack: u16)
     match span {
         Span::Byte => payload.set(7, ack as u8),
         Span::Word => {
-            payload.set(8, (ack % 256) as u8);
-            payload.set(9, (ack / 256) as u8);
+            let [low, high] = ack.to_le_bytes();
+            payload.set(8, low);
+            payload.set(9, high);
         }
     }
 }

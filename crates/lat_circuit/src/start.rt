@@ -7,26 +7,22 @@ ghost use Rattle.lat_base.specs.Lending.{frame_of};
 ghost use Rattle.lat_fields.specs.Params.{params_text};
 ghost use Rattle.lat_fields.specs.Payloads.{padded};
 ghost use Rattle.lat_frames.specs.Written.{message_text};
-ghost use Rattle.lat_frames.specs.MessageText.{numbers_text};
-ghost use Rattle.lat_circuit.specs.Messages.{message_of, info_of, param_of, IsFormed};
+ghost use Rattle.lat_circuit.specs.Messages.{message_of, param_of, IsFormed};
 ghost use Rattle.lat_machines.specs.values.Timing.{wide_params};
 ghost use Rattle.lat_machines.specs.values.Messages.{StopMessage};
 ghost use Rattle.lat_model.specs.ends.End.{CallStart, ReplyStart, Stopped};
-ghost use Rattle.lat_circuit.specs.Frames.{start_info, start_message, message_sent};
+ghost use Rattle.lat_circuit.specs.Frames.{start_message, message_sent};
 
 use crate::circuit::{Circuit, lend};
 use lat_base::{Addr, Mark, Name, OutBox, OutFrame, Payload};
-use lat_fields::{write_counted, write_number, write_padding};
-use lat_frames::{CircuitEnd, MessageKind, write_plain_head};
+use lat_fields::{write_counted, write_padding, write_param};
+use lat_frames::{CircuitEnd, Limits, MessageKind, write_numbers, write_plain_head};
 use lat_seq::Span;
 
 /// The greatest frame that an end takes.
 pub(crate) const FRAME_SIZE: u16 = 1500;
 
-/// The version of the protocol.
-const VERSION: u8 = 5;
-
-/// Its change order.
+/// The change order of the protocol's version.
 const ECO: u8 = 1;
 
 /// The code of the parameter that says how many bytes message numbers have.
@@ -72,28 +68,20 @@ impl Start {
             self.from,
             out,
         );
-        self.write_numbers(out);
+        let limits = Limits {
+            size: FRAME_SIZE,
+            eco: ECO,
+            sessions: self.sessions,
+            extra: self.extra,
+            timer: self.timer,
+            keepalive: self.keepalive,
+        };
+        write_numbers(limits, 0, 0, 0, out);
         write_counted(out, self.slave.bytes());
         write_counted(out, self.name.bytes());
         write_counted(out, &[]);
         write_span(self.wide, out);
         write_padding(out);
-    }
-
-    fn write_numbers(&self, out: &mut Payload)
-        requires { length out.old + 12 ≤ 1500 }
-        ensures { out.new ≡ out.old ++ numbers_text (info_of (start_info self.now)) }
-    {
-        write_number(out, FRAME_SIZE);
-        out.append(&[
-            VERSION,
-            ECO,
-            self.sessions,
-            self.extra,
-            self.timer,
-            self.keepalive,
-        ]);
-        out.append(&[0, 0, 0, 0]);
     }
 }
 
@@ -103,8 +91,7 @@ fn write_span(wide: bool, out: &mut Payload)
     ensures { out.new ≡ out.old ++ params_text (map param_of (wide_params wide)) }
 {
     if wide {
-        out.push(SPAN);
-        write_counted(out, &[WIDE]);
+        write_param(out, SPAN, &[WIDE]);
     }
     out.push(0);
 }
@@ -114,9 +101,7 @@ fn write_stop(master: bool, to: u16, from: u16, reason: u8, out: &mut Payload)
     requires { out.old ≡ [] }
     ensures { out.new ≡ padded (message_text (message_of (StopMessage master false to from reason []))) }
 {
-    write_plain_head(MessageKind::Stop, master, false, to, from, out);
-    out.push(reason);
-    write_counted(out, &[]);
+    lat_frames::write_stop(master, false, to, from, reason, &[], out);
     write_padding(out);
 }
 

@@ -14,7 +14,7 @@ use Rattle.lat_fields.specs.Params.{IsEntry}
 use Rattle.lat_fields.proofs.Steps.{IsBytes, bind_ok, both}
 use Rattle.lat_frames.proofs.Steps.{same_ok, wanted_then, byte_then, number_then, counted_then, name_then, params_then}
 use Rattle.lat_frames.specs.declared.message.StartInfo.{StartInfo}
-use Rattle.lat_frames.specs.declared.read_start.Limits.{Limits}
+use Rattle.lat_frames.specs.declared.message.Limits.{Limits}
 use Rattle.lat_frames.specs.Conditions.{TimesFit, InfoFits}
 use Rattle.lat_frames.specs.MessageText.{info_text}
 use Rattle.lat_frames.specs.Reading.{timer_fits, keepalive_fits, timed_at, holding_at, limits_at, named_at, info_at}

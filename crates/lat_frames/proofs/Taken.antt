@@ -10,9 +10,8 @@ use Rattle.lat_slots.proofs.SlotTaken.{slot_taken}
 use Rattle.lat_frames.specs.declared.kind.MessageKind.{MessageKind}
 use Rattle.lat_frames.specs.declared.message.StartInfo.{StartInfo}
 use Rattle.lat_frames.specs.declared.read_head.Circuits.{Circuits}
-use Rattle.lat_frames.specs.declared.read_start.Limits.{Limits}
 use Rattle.lat_frames.specs.Conditions.{TimesFit, InfoFits}
-use Rattle.lat_frames.specs.MessageText.{SlotsText, info_text}
+use Rattle.lat_frames.specs.MessageText.{SlotsText, info_text, limits}
 use Rattle.lat_frames.specs.Reading.{destination_fits, source_fits, timer_fits, keepalive_fits, circuits_at, timed_at, holding_at, limits_at, named_at, info_at, slots_at}
 
 pub slots_taken : (ss : List Slot) (b : List ℕ) (place : ℕ) (rest : List ℕ) → SlotsText ss b → slots_at (length ss) place (b ++ rest) ≡ Ok (ss, place + length b, rest)
@@ -44,9 +43,6 @@ timer_is false timer keepalive h = refl
 keepalive_is : (master : Bool) (timer keepalive : ℕ) → TimesFit master timer keepalive → keepalive_fits master keepalive ≡ true
 keepalive_is true timer keepalive h = let a = h.2 in grind (arith, nat_tests)
 keepalive_is false timer keepalive h = refl
-
-abbrev pub limits : StartInfo → Limits
-limits i = record { size = i.size; eco = i.eco; sessions = i.sessions; extra = i.extra; timer = i.timer; keepalive = i.keepalive }
 
 limits_taken : (master : Bool) (place : ℕ) (i : StartInfo) (rest : List ℕ) → InfoFits master i
     → limits_at master place (number i.size ++ 5 ∷ i.eco ∷ i.sessions ∷ i.extra ∷ i.timer ∷ i.keepalive ∷ rest) ≡ Ok (limits i, place + 1 + 1 + 1 + 1 + 1 + 1 + 1 + 1, rest)

@@ -7,6 +7,7 @@ use Rattle.lat_slots.specs.Layout.{SlotText}
 use Rattle.lat_frames.specs.declared.kind.MessageKind.TheVariants as kinds
 use Rattle.lat_frames.specs.declared.message.Head.{Head}
 use Rattle.lat_frames.specs.declared.message.WideHead.{WideHead}
+use Rattle.lat_frames.specs.declared.message.Limits.{Limits}
 use Rattle.lat_frames.specs.declared.message.StartInfo.{StartInfo}
 use Rattle.lat_frames.specs.declared.message.Message.{Message}
 use Rattle.lat_frames.specs.declared.message.Message.TheVariants.{Run, Wide, Start, Stop}
@@ -19,20 +20,22 @@ SlotsText [] b = b ≡ []
 SlotsText (s ∷ more) b =
     (text : List ℕ) × (rest : List ℕ) × (b ≡ text ++ rest) × SlotText s text × SlotsText more rest
 
--- the twelve bytes of numbers that a START tells of its sender; the protocol version is 5
-abbrev pub numbers_text : StartInfo → List ℕ
-numbers_text i =
-    number i.size
-    ++ 5 ∷ i.eco ∷ i.sessions ∷ i.extra ∷ i.timer ∷ i.keepalive ∷ number i.facility
-    ++ i.product ∷ i.product_version ∷ []
+-- what the sender of a START can do, with the times of the circuit
+abbrev pub limits : StartInfo → Limits
+limits i = record { size = i.size; eco = i.eco; sessions = i.sessions; extra = i.extra; timer = i.timer; keepalive = i.keepalive }
 
--- the names and what else follows them
-abbrev pub names_text : StartInfo → List ℕ
-names_text i = counted i.slave ++ (counted i.name ++ (counted i.location ++ params_text i.params))
+-- the twelve bytes of numbers that a START tells of its sender; the protocol version is 5
+abbrev pub numbers_text : Limits → (facility product product_version : ℕ) → List ℕ
+numbers_text l facility product product_version =
+    number l.size
+    ++ 5 ∷ l.eco ∷ l.sessions ∷ l.extra ∷ l.timer ∷ l.keepalive ∷ number facility
+    ++ product ∷ product_version ∷ []
 
 -- what a START tells of its sender
 abbrev pub info_text : StartInfo → List ℕ
-info_text i = numbers_text i ++ names_text i
+info_text i =
+    numbers_text (limits i) i.facility i.product i.product_version
+    ++ (counted i.slave ++ (counted i.name ++ (counted i.location ++ params_text i.params)))
 
 pub record RunText (head : Head) (slots : List Slot) (b : List ℕ) : Type 0 where
   pub destination : 0 < head.to

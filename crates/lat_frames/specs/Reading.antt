@@ -13,7 +13,7 @@ use Rattle.lat_frames.specs.declared.message.Message.{Message}
 use Rattle.lat_frames.specs.declared.message.Message.TheVariants.{Run, Wide, Start, Stop}
 use Rattle.lat_frames.specs.declared.message.StartInfo.{StartInfo}
 use Rattle.lat_frames.specs.declared.read_head.Circuits.{Circuits}
-use Rattle.lat_frames.specs.declared.read_start.Limits.{Limits}
+use Rattle.lat_frames.specs.declared.message.Limits.{Limits}
 use Rattle.lat_frames.specs.Heads.{is_master, asks}
 use Rattle.lat_frames.specs.Kinds.{kind_of}
 

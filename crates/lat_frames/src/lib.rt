@@ -16,8 +16,11 @@ mod write;
 pub use check::message_ok;
 pub use kind::MessageKind;
 pub use lat_fields::LayoutFault as FrameFault;
-pub use message::{Head, Message, StartInfo, WideHead};
+pub use message::{Head, Limits, Message, StartInfo, WideHead};
 pub use read::read_message;
 pub use reason::CircuitEnd;
 pub use slots::Slots;
-pub use write::{write_message, write_plain_head, write_run_head, write_slots, write_wide_head};
+pub use write::{
+    write_message, write_numbers, write_plain_head, write_run_head, write_slots, write_stop,
+    write_wide_head,
+};

@@ -36,6 +36,17 @@ pub struct WideHead {
     pub ack: u16,
 }
 
+/// What the sender of a START can do, with the times of the circuit: the first six fields of `StartInfo`.
+#[derive(Clone, Copy)]
+pub struct Limits {
+    pub size: u16,
+    pub eco: u8,
+    pub sessions: u8,
+    pub extra: u8,
+    pub timer: u8,
+    pub keepalive: u8,
+}
+
 /// What a START message tells of its sender.
 pub struct StartInfo {
     /// The greatest frame that it takes, 576 to 1,518 bytes.

@@ -4,7 +4,7 @@ ghost use Rattle.std.specs.Prelude.{◌≡◌, ◌+◌, ◌<◌, ◌≤◌, leng
 ghost use Rattle.lat_fields.specs.Reading.{Gives};
 ghost use Rattle.lat_frames.specs.Reading.{timer_fits, keepalive_fits, timed_at, holding_at, limits_at, named_at, info_at, start_at, stop_at};
 
-use crate::message::{Message, StartInfo};
+use crate::message::{Limits, Message, StartInfo};
 use crate::read_head::{Circuits, asks, is_master};
 use lat_base::Field;
 use lat_fields::{LayoutFault, byte_of, copy_of, name_of, number_of, params_of, wanted};
@@ -12,17 +12,6 @@ use std::alloc::Global;
 
 /// The protocol version that is spoken here.
 pub const VERSION: u8 = 5;
-
-/// What the sender of a START can do, with the times of the circuit.
-#[derive(Clone, Copy)]
-pub struct Limits {
-    pub size: u16,
-    pub eco: u8,
-    pub sessions: u8,
-    pub extra: u8,
-    pub timer: u8,
-    pub keepalive: u8,
-}
 
 fn timer_fits(master: bool, timer: u8) -> bool
     ensures { result ≡ timer_fits master timer }

@@ -5,12 +5,13 @@ ghost use Rattle.std.specs.List.{AllByRecursion};
 ghost use Rattle.lat_fields.specs.Params.{IsEntry};
 ghost use Rattle.lat_fields.specs.Payloads.{padded};
 ghost use Rattle.lat_slots.specs.Layout.{IsWritable as SlotIsWritable};
+ghost use Rattle.lat_frames.specs.declared.message.Message.TheVariants.{Stop};
 ghost use Rattle.lat_frames.specs.Heads.{bit, first_byte, head_text, run_head, wide_head};
-ghost use Rattle.lat_frames.specs.MessageText.{info_text, names_text, numbers_text};
+ghost use Rattle.lat_frames.specs.MessageText.{info_text, numbers_text};
 ghost use Rattle.lat_frames.specs.Written.{IsWritable, message_text, slots_text};
 
 use crate::kind::MessageKind;
-use crate::message::{Head, Message, StartInfo, WideHead};
+use crate::message::{Head, Limits, Message, StartInfo, WideHead};
 use crate::read_start::VERSION;
 use lat_base::Payload;
 use lat_fields::{write_counted, write_number, write_padding, write_params};
@@ -114,35 +115,30 @@ pub fn write_slots(slots: &[Slot], out: &mut Payload)
     }
 }
 
-// What a START tells of its sender in numbers.
-fn write_numbers(info: &StartInfo, out: &mut Payload)
+/// Adds what a START tells of its sender in numbers, with the version of the protocol, twelve bytes, at the end. They must
+/// fit into the payload.
+pub fn write_numbers(
+    limits: Limits,
+    facility: u16,
+    product: u8,
+    product_version: u8,
+    out: &mut Payload,
+)
     requires { length out.old + 12 ≤ 1500 }
-    ensures { out.new ≡ out.old ++ numbers_text info.now }
+    ensures { out.new ≡ out.old ++ numbers_text limits facility product product_version }
 {
-    write_number(out, info.size);
+    write_number(out, limits.size);
     out.append(&[
         VERSION,
-        info.eco,
-        info.sessions,
-        info.extra,
-        info.timer,
-        info.keepalive,
+        limits.eco,
+        limits.sessions,
+        limits.extra,
+        limits.timer,
+        limits.keepalive,
     ]);
-    write_number(out, info.facility);
-    out.push(info.product);
-    out.push(info.product_version);
-}
-
-fn write_names(info: &StartInfo, out: &mut Payload)
-    requires location { length info.now.location < 256 }
-    requires params { AllByRecursion IsEntry info.now.params }
-    requires room { length out.old + length (names_text info.now) ≤ 1500 }
-    ensures { out.new ≡ out.old ++ names_text info.now }
-{
-    write_counted(out, info.slave.bytes());
-    write_counted(out, info.name.bytes());
-    write_counted(out, info.location.as_slice());
-    write_params(out, &info.params);
+    write_number(out, facility);
+    out.push(product);
+    out.push(product_version);
 }
 
 fn write_info(info: &StartInfo, out: &mut Payload)
@@ -151,8 +147,44 @@ fn write_info(info: &StartInfo, out: &mut Payload)
     requires room { length out.old + length (info_text info.now) ≤ 1500 }
     ensures { out.new ≡ out.old ++ info_text info.now }
 {
-    write_numbers(info, out);
-    write_names(info, out);
+    let limits = Limits {
+        size: info.size,
+        eco: info.eco,
+        sessions: info.sessions,
+        extra: info.extra,
+        timer: info.timer,
+        keepalive: info.keepalive,
+    };
+    write_numbers(
+        limits,
+        info.facility,
+        info.product,
+        info.product_version,
+        out,
+    );
+    write_counted(out, info.slave.bytes());
+    write_counted(out, info.name.bytes());
+    write_counted(out, info.location.as_slice());
+    write_params(out, &info.params);
+}
+
+/// Writes a STOP, whose text has at most 255 bytes, into an empty payload. `write_padding` puts the zeros behind it.
+pub fn write_stop(
+    master: bool,
+    ask: bool,
+    to: u16,
+    from: u16,
+    reason: u8,
+    text: &[u8],
+    out: &mut Payload,
+)
+    requires short { length text.now < 256 }
+    requires empty { out.old ≡ [] }
+    ensures { out.new ≡ message_text (Stop master ask to from reason text.now) }
+{
+    write_plain_head(MessageKind::Stop, master, ask, to, from, out);
+    out.push(reason);
+    write_counted(out, text);
 }
 
 fn write_text(m: &Message, out: &mut Payload)
@@ -188,11 +220,7 @@ fn write_text(m: &Message, out: &mut Payload)
             from,
             reason,
             text,
-        } => {
-            write_plain_head(MessageKind::Stop, *master, *ask, *to, *from, out);
-            out.push(*reason);
-            write_counted(out, text.as_slice());
-        }
+        } => write_stop(*master, *ask, *to, *from, *reason, text.as_slice(), out),
     }
 }
 
