@@ -1,9 +1,9 @@
 //! The call that does all that a daemon does once its words are read and its core is made.
 
-ghost use Rattle.std.specs.Prelude.{◌≡◌, ◌≢◌, ◌⊎◌, ◌+◌, ◌≤◌, length, IfOk, None, Err, vec_len};
+ghost use Rattle.std.specs.Prelude.{◌≡◌, ◌≢◌, ◌⊎◌, ◌+◌, ◌≤◌, IfOk, None, Err, vec_len};
 ghost use Rattle.lat_history.specs.Ledgers.{AreBlanks};
 ghost use Rattle.lat_outside.specs.Causes.{Rose};
-ghost use Rattle.lat_live.specs.Printed.{printed, IsOwn, IsPrinted, RoseIn};
+ghost use Rattle.lat_live.specs.Printed.{IsOwn, RoseIn};
 ghost use Rattle.lat_live.specs.Seating.{AreFresh, IsNothing};
 ghost use Rattle.lat_live.specs.Served.{CoreHasPrinted, CoreIsBack};
 
@@ -11,7 +11,7 @@ use crate::opening::{StartFault, open_lines};
 use crate::running::{Ending, run_all};
 use crate::seats::{Given, Seated, take_seats};
 use lat_base::{Addr, Core, Memory, Name};
-use lat_cell::{Blanks, Cell, LineDone, LineShare, print_end};
+use lat_cell::{Blanks, Cell, print_end};
 use lat_outside::{Clock, Gate, LineEnd, Opener, Rx, Sink, Tx};
 use std::alloc::Global;
 use std::sync::Wait;
@@ -146,24 +146,6 @@ fn not_run<C: Core, T: Tx, L: LineEnd, E: Ledger, B: Ledger, F: Ledger>(
     }
 }
 
-// Prints the last text.
-fn printed<C: Core, T: Tx, S: Sink, E: Ledger, B: Ledger, F: Ledger>(
-    alloc: Global,
-    cell: &Cell<C, T, E, B, F>,
-    shares: &[LineShare<E, B, F>],
-    ends: &[LineDone],
-    out: &mut S,
-) -> u8
-    requires { length ends.now ≤ 64 }
-    ensures text { IsPrinted S.written S.faults out.old out.new (printed cell.now) shares.now ends.now result }
-    ensures own { IsOwn result ⊎ (result ≡ 5) }
-    ensures other { result ≢ 4 }
-    ensures sink { result ≡ 5 → RoseIn S.faults out.old out.new }
-    ensures memory { result ≡ 9 → S.written out.new ≡ S.written out.old }
-{
-    print_end(alloc, cell, shares, ends, out)
-}
-
 // Runs all workers until each has ended, and prints what came of it.
 fn run_started<
     C: Core + Send,
@@ -209,7 +191,7 @@ fn run_started<
     let (cell, seated) = run_all(rt, alloc, cell, rx, seated, clock, gate, ending);
     let given = given.filled(seated);
     let (shares, ends) = (given.shares.as_slice(), given.ends.as_slice());
-    let status = printed(alloc, &cell, shares, ends, out);
+    let status = print_end(alloc, &cell, shares, ends, out);
     CoreServed {
         status,
         ran: Some(cell),

@@ -1,6 +1,7 @@
 use Rattle.std.proofs.Common.{rules}
 use Rattle.lat_live.specs.Seating.{done_of, line_of}
 use Rattle.lat_live.proofs.Seating.{all_back, counted_back, many_back}
+use Rattle.lat_live.proofs.Statuses.{printed_status, own_not_4}
 use Rattle.lat_live.proofs.serving.run_started.Goals as goal
 
 pub returns-clause-back : goal.returns-clause-back
@@ -18,3 +19,15 @@ returns-clause-back g c =
 
 pub returns-clause-ended : goal.returns-clause-ended
 returns-clause-ended g c = search rules
+
+pub returns-clause-own : goal.returns-clause-own
+returns-clause-own g c = printed_status _ _ _ _ _ _ _ _ _ c.print_end-status.ensures
+
+pub returns-clause-other : goal.returns-clause-other
+returns-clause-other g c = own_not_4 _ (printed_status _ _ _ _ _ _ _ _ _ c.print_end-status.ensures)
+
+pub returns-clause-sink : goal.returns-clause-sink
+returns-clause-sink g c = c.print_end-status.ensures.fault
+
+pub returns-clause-memory : goal.returns-clause-memory
+returns-clause-memory g c = c.print_end-status.ensures.silent
