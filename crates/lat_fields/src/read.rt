@@ -1,7 +1,7 @@
 //! Reading one field. Each call reads at a place of the bytes and gives the value with the place behind it; `at` is
 //! the place that is named where the field is bad.
 
-ghost use Rattle.std.specs.Prelude.{◌≡◌, ◌+◌, ◌*◌, ◌^◌, ◌<◌, ◌≤◌, ◌==◌, ◌||◌, nat_le, length, take, drop, IfOk};
+ghost use Rattle.std.specs.Prelude.{◌≡◌, ◌+◌, ◌^◌, ◌<◌, ◌≤◌, ◌==◌, ◌||◌, nat_le, length, drop, IfOk};
 ghost use Rattle.lat_fields.specs.Reading.{Gives, fault, known, wanted, byte_at, number_at, counted_at, name_at};
 
 use crate::fault::LayoutFault;

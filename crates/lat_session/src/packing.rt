@@ -1,6 +1,6 @@
 //! The slots of a message. It takes no memory.
 
-ghost use Rattle.std.specs.Prelude.{◌≡◌, ◌+◌, ◌-◌, ◌*◌, ◌<◌, ◌≤◌, ◌++◌, ◌&&◌, not, true, false, ℕ, List, cond, map, length, nat_lt, slice_index_or};
+ghost use Rattle.std.specs.Prelude.{◌≡◌, ◌+◌, ◌-◌, ◌<◌, ◌≤◌, ◌++◌, ◌&&◌, not, true, false, ℕ, List, cond, map, length, nat_lt, slice_index_or};
 ghost use Rattle.std.specs.List.{remove};
 ghost use Rattle.lat_model.specs.Lists.{upwards, Each};
 ghost use Rattle.lat_model.specs.ends.End.{wire_of};
