@@ -27,7 +27,7 @@ use lat_fields::LayoutFault;
 use lat_frames::Message;
 use lat_lines::hearing_answer;
 use lat_notices::Notice;
-use lat_payload::{Value, is_everyone, read_value};
+use lat_value::{Value, read_value};
 use std::alloc::Global;
 
 impl<H: RatingRule> NodeCore<H> {
@@ -106,7 +106,7 @@ impl<H: RatingRule> NodeCore<H> {
         ensures most { length out.new ≤ length out.old + 2 }
         ensures err { OnErr result ((self.new ≡ self.old) × (out.new ≡ out.old)) }
     {
-        if is_everyone(&from.0) {
+        if from.is_everyone() {
             self.pass(now);
             return Ok(Answer::Ignored);
         }

@@ -22,7 +22,7 @@ use crate::node::NodeCore;
 use indexmap::IndexMap;
 use lat_base::{Addr, Answer, Memory, Name, OutBox};
 use lat_notices::Action;
-use lat_payload::{command_frame, is_same};
+use lat_payload::command_frame;
 use std::alloc::Global;
 
 /// A request, as it was first made.
@@ -156,11 +156,11 @@ impl<H: RatingRule> NodeCore<H> {
 
 impl Request {
     // Whether it was made to this server, for this service.
-    fn is_for(&self, to: Addr, service: &Name) -> bool
-        ensures { result ≡ (nat_eq (address self.now.to.0) (address to.0)
-            && same self.now.service service.now) }
+    fn is_for(self, to: Addr, service: &Name) -> bool
+        ensures { result ≡ (nat_eq (address self.to.0) (address to.0)
+            && same self.service service.now) }
     {
-        is_same(&self.to.0, &to.0) && self.service.same(service)
+        self.to == to && self.service.same(service)
     }
 }
 

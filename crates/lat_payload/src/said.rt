@@ -39,7 +39,7 @@ pub fn notice_frame(to: Addr, notice: &Notice) -> OutFrame
 
 /// What a server answers to a node's command. The incarnation and the request are those of the command; a place in the queue
 /// is 1 to 64.
-#[tactic(auto, using(crate::proofs::NoticesBack::sendable_fits))]
+#[tactic(auto, using(crate::proofs::Notices::sendable_fits))]
 pub fn status_frame(
     to: Addr,
     incarnation: u16,

@@ -28,8 +28,7 @@ ghost use Rattle.lat_schedule.specs.SetupLines.{
 ghost use Rattle.lat_schedule.specs.Setups.{IsServerLine, IsNodeLine, AreNumbers, IsCircuitLine};
 
 use crate::numbers::{byte_within, short_up_to};
-use lat_base::{Addr, EVERYONE, Name};
-use lat_payload::is_same;
+use lat_base::{Addr, Name};
 use lat_server::{Offer, Timing};
 use lat_text::{LineFault, address_of, behind_word, bytes_of, first_word, mask_of, name_of};
 use std::alloc::Global;
@@ -95,11 +94,7 @@ fn station_of(text: &[u8]) -> Option<Addr>
     ensures not_everyone { IfSome result (λ own. address own.0 ≢ everyone) }
 {
     let own = address_of(text)?;
-    if is_same(&own.0, &EVERYONE.0) {
-        None
-    } else {
-        Some(own)
-    }
+    if own.is_everyone() { None } else { Some(own) }
 }
 
 /// `server ADDR NAME LINES`
@@ -131,7 +126,7 @@ pub fn node_of(server: Addr, line: &[u8]) -> Option<NodeLine>
     let lines = byte_within(1, 64, lines)?;
     let incarnation = short_up_to(65535, incarnation)?;
     let timer = byte_within(1, 255, timer)?;
-    if is_same(&own.0, &server.0) {
+    if own == server {
         return None;
     }
     Some(NodeLine {

@@ -21,7 +21,7 @@ ghost use Rattle.lat_server.specs.Concluded.{finish_each};
 use crate::server::ServerCore;
 use lat_base::{Addr, Kept, Name, OutBox};
 use lat_notices::Outcome;
-use lat_payload::{is_same, status_frame};
+use lat_payload::status_frame;
 use lat_queue::{Key, Queue};
 
 // Finishes the requests of these keys, in order.
@@ -33,17 +33,6 @@ fn finish_keys(requests: &mut Queue, keys: &[Key])
 {
     for key in keys {
         requests.finish(key);
-    }
-}
-
-// Whether a station is this one.
-fn is_station(station: Option<Addr>, other: Addr) -> bool
-    ensures { result ≡ true →
-        option_map (λ (a : Addr). address a.0) station ≡ Some (address other.0) }
-{
-    match station {
-        Some(station) => is_same(&station.0, &other.0),
-        None => false,
     }
 }
 
@@ -135,7 +124,7 @@ impl ServerCore {
         ensures { (c : Core) → lines.Stands self.now.lines c →
             result ≡ can_open c (address from.0) }
     {
-        if is_station(shut, from) {
+        if shut == Some(from) {
             return false;
         }
         self.lines.can_open(from)

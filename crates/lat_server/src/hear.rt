@@ -26,7 +26,7 @@ use lat_fields::LayoutFault;
 use lat_frames::Message;
 use lat_lines::hearing_answer;
 use lat_notices::{Announcement, Notice};
-use lat_payload::{Value, is_everyone, read_value};
+use lat_value::{Value, read_value};
 use std::alloc::Global;
 
 // What an announcement is answered.
@@ -105,7 +105,7 @@ impl ServerCore {
         ensures most { length out.new ≤ length out.old + 1 }
         ensures err { OnErr result ((self.new ≡ self.old) × (out.new ≡ out.old)) }
     {
-        if is_everyone(&from.0) {
+        if from.is_everyone() {
             return Ok(self.turn_away(Answer::Ignored, now));
         }
         match value {

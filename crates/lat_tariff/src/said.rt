@@ -20,7 +20,8 @@ use lat_base::{Addr, Bytes, EVERYONE, Event, Memory, OutFrame};
 use lat_fields::LayoutFault;
 use lat_node::RatingRule;
 use lat_notices::{Announcement, Notice, Solicit};
-use lat_payload::{Value, is_everyone, notice_frame, read_value, response_frame};
+use lat_payload::{notice_frame, response_frame};
+use lat_value::{Value, read_value};
 use std::alloc::Global;
 
 /// The frames with ratings that an event makes.
@@ -50,7 +51,7 @@ impl<H: RatingRule, R: SteadyRule> TariffCore<H, R> {
         requires rules { AreKnown R.fact self.now.rules }
         ensures { IfOk result (SaysTo R.may self.now (address from.0) (reading_of payload.now)) }
     {
-        if is_everyone(&from.0) {
+        if from.is_everyone() {
             return Ok(Said::Nothing);
         }
         match solicit_in(alloc, payload)? {

@@ -20,7 +20,6 @@ use crate::circuits::{CIRCUITS, Circuits};
 use lat_base::{Addr, Heard, Name, OutBox};
 use lat_circuit::{Circuit, CircuitConfig, refusal};
 use lat_frames::{Message, StartInfo};
-use lat_payload::is_same;
 
 /// What became of a circuit message.
 #[derive(Clone, Copy)]
@@ -234,5 +233,5 @@ impl Circuits {
 pub(crate) fn is_to(circuit: &Circuit, station: Addr) -> bool
     ensures { result ≡ nat_eq (address circuit.now.facts.config.peer.0) (address station.0) }
 {
-    is_same(&circuit.config().peer.0, &station.0)
+    circuit.config().peer == station
 }

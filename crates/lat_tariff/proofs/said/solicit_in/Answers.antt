@@ -1,7 +1,13 @@
-use Rattle.std.proofs.Common.{sym, subst}
+use Rattle.std.proofs.Common.{Ok, Err, sym, subst}
 use Rattle.lat_machines.specs.values.Frames.{Reading}
+use Rattle.lat_payload.specs.Reads.{reading_of}
+use Rattle.lat_payload.proofs.Heard.{answers_as_read}
 use Rattle.lat_tariff.specs.Said.{Solicits}
 use Rattle.lat_tariff.proofs.said.solicit_in.Goals as goal
 
 pub returns-in-Ok : goal.returns-in-Ok
-returns-in-Ok c = subst (λ (r : Reading). Solicits r c.solicit_of.result) (sym c.in-Ok.ensures.reading) c.solicit_of.ensures
+returns-in-Ok c =
+    subst (λ (r : Reading). Solicits r c.solicit_of.result) (sym (answers_as_read c.args.payload.now (Ok c.in-Ok.value) c.in-Ok.ensures.reading)) c.solicit_of.ensures
+
+pub returns-in-Err : goal.returns-in-Err
+returns-in-Err c = c.unread.ensures (reading_of c.args.payload.now) (answers_as_read c.args.payload.now (Err c.in-Err.fault) c.in-Err.ensures.reading)
