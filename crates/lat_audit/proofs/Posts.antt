@@ -36,11 +36,6 @@ seen_at k w i by_server f stands shows = record {
 
 -- places in lists
 
-pub is_there : {X : Type 0} (xs : List X) (i : ℕ) → i < length xs → slice_get xs i ≡ None → ⊥
-is_there [] i less e = absurd (omega (arith, less))
-is_there (y ∷ xs) zero less e = let z : ⊥ = cc in absurd z
-is_there (y ∷ xs) (suc i) less e = is_there xs i (omega (arith, less)) e
-
 drop_at : {X : Type 0} (xs : List X) (i : ℕ) (x : X) → slice_get xs i ≡ Some x → drop i xs ≡ x ∷ drop (suc i) xs
 drop_at [] i x e = let z : ⊥ = cc in absurd z
 drop_at (y ∷ xs) zero x e = let same : y ≡ x = cc in ap (λ z. z ∷ xs) same

@@ -25,7 +25,9 @@ fn first_up<H: RatingRule>(wire: &Wire<H>, tap: &Tap) -> Option<RunSeen>
         result ≡ option_map seen_of (first_up (setups_of wire.now) tap.now.circuit w.posts) }
 {
     for index in 0..wire.frames() {
-        let (by_server, frame) = wire.frame(index)?;
+        let Some((by_server, frame)) = wire.frame(index) else {
+            unreachable!()
+        };
         let run = tap.run_up(by_server, frame);
         if run.is_some() {
             return run;
@@ -51,9 +53,10 @@ fn entries_onto<H: RatingRule>(
     ensures bytes { OnOk result ((w : Machines) → Stands wire.now w → AllGoOut w) }
 {
     for index in 0..wire.frames() {
-        if let Some((by_server, frame)) = wire.frame(index) {
-            tap.frame_onto(alloc, text, slave, by_server, frame)?;
-        }
+        let Some((by_server, frame)) = wire.frame(index) else {
+            unreachable!()
+        };
+        tap.frame_onto(alloc, text, slave, by_server, frame)?;
     }
     Ok(())
 }

@@ -12,8 +12,8 @@ use lat_base::Memory;
 use lat_captures::{Checker, Rule, RunHead};
 use lat_fields::LayoutFault;
 use lat_frames::{Head, Message, WideHead};
-use lat_payload::{Value, read_value};
 use lat_slots::Slot;
+use lat_value::{Value, read_value};
 use std::alloc::Global;
 
 fn narrow_head(head: &Head) -> RunHead

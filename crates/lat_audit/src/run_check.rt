@@ -1,6 +1,6 @@
 //! A RUN of a capture, held against the rules.
 
-ghost use Rattle.std.specs.Prelude.{◌≡◌, ◌+◌, ◌^◌, ◌<◌, ◌≤◌, ◌++◌, false, None, length, IfOk, nat_eq, not};
+ghost use Rattle.std.specs.Prelude.{◌≡◌, ◌+◌, ◌^◌, ◌<◌, ◌≤◌, false, None, length, IfOk, nat_eq, not};
 ghost use Rattle.std.specs.List.{AllByRecursion};
 ghost use Rattle.lat_slots.specs.Layout.{IsWritable as SlotIsWritable};
 ghost use Rattle.lat_frames.specs.Written.{slots_text};
@@ -12,7 +12,8 @@ ghost use Rattle.lat_audit.specs.Steps.{ChecksRun};
 
 use lat_base::{Memory, Payload};
 use lat_captures::{Checker, Rule, RunHead, SlotFacts};
-use lat_slots::{Slot, write_slot};
+use lat_frames::write_slots;
+use lat_slots::Slot;
 use std::alloc::Global;
 
 // What the rules look at in a start.
@@ -98,17 +99,6 @@ fn facts_of_all(alloc: Global, slots: &[Slot]) -> Result<Vec<SlotFacts>, Memory>
         facts.push(facts_of(slot))?;
     }
     Ok(facts)
-}
-
-// Adds the texts of slots that can be written.
-fn write_slots(slots: &[Slot], out: &mut Payload)
-    requires ok { AllByRecursion SlotIsWritable slots.now }
-    requires room { length out.old + length (slots_text slots.now) ≤ 1500 }
-    ensures { out.new ≡ out.old ++ slots_text slots.now }
-{
-    for slot in slots {
-        write_slot(slot, out);
-    }
 }
 
 /// Takes a RUN of one end behind those before, or answers the first rule that it breaks. Its slots are such as a RUN may have.

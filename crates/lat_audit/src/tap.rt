@@ -10,7 +10,6 @@ ghost use Rattle.lat_audit.specs.Tapped.{IsTap, IsSeenAs, up_seen, is_captured, 
 use crate::print::entry_onto;
 use crate::run_seen::{RunSeen, run_of};
 use lat_base::{Addr, Memory, OutFrame};
-use lat_payload::is_same;
 use lat_wire::{RatingRule, Wire};
 use std::alloc::Global;
 
@@ -35,20 +34,20 @@ impl Tap {
         }
     }
 
-    // Whether a RUN of the server goes to the node with this source.
-    fn is_up(&self, frame: &OutFrame, run: RunSeen) -> bool
-        ensures { result ≡ (nat_eq (address frame.now.to.0) (address self.now.node.0)
-            && nat_eq run.from self.now.circuit) }
+    // Whether a RUN of the server that is sent to this station goes to the node with this source.
+    fn is_up(self, to: Addr, run: RunSeen) -> bool
+        ensures { result ≡ (nat_eq (address to.0) (address self.node.0)
+            && nat_eq run.from self.circuit) }
     {
-        is_same(&frame.to.0, &self.node.0) && run.from == self.circuit
+        to == self.node && run.from == self.circuit
     }
 
-    // Whether a RUN of the node goes to the server with both ids.
-    fn is_back(&self, slave: u16, frame: &OutFrame, run: RunSeen) -> bool
-        ensures { result ≡ (nat_eq (address frame.now.to.0) (address self.now.server.0)
-            && nat_eq run.to self.now.circuit && nat_eq run.from slave) }
+    // Whether a RUN of the node that is sent to this station goes to the server with both ids.
+    fn is_back(self, slave: u16, to: Addr, run: RunSeen) -> bool
+        ensures { result ≡ (nat_eq (address to.0) (address self.server.0)
+            && nat_eq run.to self.circuit && nat_eq run.from slave) }
     {
-        is_same(&frame.to.0, &self.server.0) && run.to == self.circuit && run.from == slave
+        to == self.server && run.to == self.circuit && run.from == slave
     }
 
     /// What a frame says of its circuit, where it is a RUN that the server sent the node with this source.
@@ -57,7 +56,7 @@ impl Tap {
             result ≡ up_seen u self.now.circuit x }
     {
         let run = run_of(frame.payload.bytes())?;
-        if by_server && self.is_up(frame, run) {
+        if by_server && self.is_up(frame.to, run) {
             Some(run)
         } else {
             None
@@ -76,9 +75,9 @@ impl Tap {
             return false;
         };
         if by_server {
-            self.is_up(frame, run)
+            self.is_up(frame.to, run)
         } else {
-            self.is_back(slave, frame, run)
+            self.is_back(slave, frame.to, run)
         }
     }
 

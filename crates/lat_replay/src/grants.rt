@@ -61,13 +61,12 @@ fn places_of(alloc: Global, server: &ServerCore) -> Result<Vec<Option<Key>>, Mem
         flat_map place_text places.items ≡ flat_map grant_text (grants_of s.queue)) }
 {
     let mut places = Vec::new(alloc);
-    for number in 0..usize::MAX {
-        match server.record_at(number) {
-            Some(request) => place(&mut places, &request)?,
-            None => return Ok(places),
-        }
+    let mut number = 0;
+    while let Some(request) = server.record_at(number) {
+        place(&mut places, &request)?;
+        number += 1;
     }
-    Err(Memory)
+    Ok(places)
 }
 
 // Appends the grants of these places, in order.

@@ -23,11 +23,10 @@ pub(crate) fn requests_onto(
         string_bytes out.new
         ≡ string_bytes out.old ++ flat_map request_text (request_rows s.queue)) }
 {
-    for place in 0..usize::MAX {
-        match server.record_at(place) {
-            Some(request) => request_onto(alloc, out, &request)?,
-            None => return Ok(()),
-        }
+    let mut place = 0;
+    while let Some(request) = server.record_at(place) {
+        request_onto(alloc, out, &request)?;
+        place += 1;
     }
-    Err(Memory)
+    Ok(())
 }

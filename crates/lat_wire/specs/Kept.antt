@@ -26,6 +26,10 @@ pub record Kept (H : Type 0) : Type 0 where
 abbrev pub setups_of : {H : Type 0} → Kept H → Setups
 setups_of k = record { server = servers.config_of k.server; node = nodes.config_of k.node }
 
+-- how many frames were sent
+abbrev pub frame_count : {H : Type 0} → Kept H → ℕ
+frame_count k = length k.book.log.posts
+
 -- what holds of every wire
 pub record Holds {H : Type 0} (k : Kept H) : Type 0 where
   pub server_own : (setups_of k).server.own ≡ address k.server_own.0

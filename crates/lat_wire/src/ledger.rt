@@ -256,7 +256,7 @@ impl Ledger {
     {
         let tally = self.tally(by_server, frame.circuit);
         let post = post_of(frame, by_server, tally);
-        self.posts.push(post, is_for(&frame.to, other));
+        self.posts.push(post, is_for(frame.to, *other));
         self.set(by_server, frame.circuit, tally_behind(frame.mark, tally));
     }
 }

@@ -93,7 +93,7 @@ impl<H: RatingRule> Wire<H> {
         ensures err { OnErr result (self.new ≡ self.old) }
     {
         self.may_step()?;
-        if self.is_own(&from) {
+        if self.is_own(from) {
             return Err(EventFault::OwnAddress);
         }
         let event = self.heard(alloc, from, payload)?;

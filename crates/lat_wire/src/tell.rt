@@ -51,7 +51,6 @@ use crate::report::Noted;
 use crate::wire::Wire;
 use lat_base::{Addr, Answer, Bytes, Event, Heard, Memory};
 use lat_node::RatingRule;
-use lat_payload::is_same;
 use std::alloc::Global;
 
 impl<H: RatingRule> Wire<H> {
@@ -115,10 +114,10 @@ impl<H: RatingRule> Wire<H> {
         }
     }
 
-    pub(crate) fn is_own(&self, station: &Addr) -> bool
-        ensures { result ≡ is_own (setups_of self.now) (address station.now.0) }
+    pub(crate) fn is_own(&self, station: Addr) -> bool
+        ensures { result ≡ is_own (setups_of self.now) (address station.0) }
     {
-        is_same(&station.0, &self.server_own.0) || is_same(&station.0, &self.node_own.0)
+        station == self.own(true) || station == self.own(false)
     }
 
     /// A payload that is heard from a station at the moment of the schedule.

@@ -1,12 +1,12 @@
 //! The wire.
 
-ghost use Rattle.std.specs.Prelude.{◌≡◌, ◌≢◌, ◌*◌, ◌↔◌, IfOk, IsTrue, MatchOption, None, map, length, slice_get};
+ghost use Rattle.std.specs.Prelude.{◌≡◌, ◌≢◌, ◌*◌, ◌<◌, ◌↔◌, IfOk, IsSome, IsTrue, MatchOption, None, map, length, slice_get};
 ghost use Rattle.lat_machines.specs.values.Addresses.{address, everyone};
 ghost use Rattle.lat_machines.specs.cores.Lines.{has_session, waiting_at};
 ghost use Rattle.lat_machines.specs.world.Machines.{Machines, core_of, open_machines};
 ghost use Rattle.lat_server.specs.Config as servers;
 ghost use Rattle.lat_node.specs.Config as nodes;
-ghost use Rattle.lat_wire.specs.Kept.{setups_of};
+ghost use Rattle.lat_wire.specs.Kept.{frame_count, setups_of};
 ghost use Rattle.lat_laws.specs.rounds.Lossless.{Lossless};
 ghost use Rattle.lat_laws.specs.rounds.Rounds.{undelivered};
 ghost use Rattle.lat_wire.specs.Notes.{note_shown, noted_info};
@@ -123,17 +123,19 @@ impl<H: RatingRule> Wire<H> {
 
     /// How many frames were sent.
     pub fn frames(&self) -> u64
-        ensures { (w : Machines) → Stands self.now w → result ≡ length w.posts }
+        ensures value { (w : Machines) → Stands self.now w → result ≡ length w.posts }
+        ensures count { result ≡ frame_count self.now }
     {
         self.ledger.posts.len() as u64
     }
 
     /// The frame of this index, and whether the server sent it. `None` exactly past the last.
     pub fn frame(&self, index: u64) -> Option<(bool, &OutFrame)>
-        ensures { (w : Machines) →
+        ensures value { (w : Machines) →
             Stands self.now w →
             MatchOption result (slice_get w.posts index ≡ None) (λ shown.
             ShowsPost w.posts index shown.0 shown.1.now) }
+        ensures there { IsSome result ↔ (index < frame_count self.now) }
     {
         let sent = self.ledger.posts.get(index)?;
         Some((sent.post.by_server, &sent.post.frame))

@@ -23,7 +23,6 @@ use crate::roster::books::{made, present_at};
 use crate::roster::figures::figures_of;
 use crate::roster::newcomer::Newcomer;
 use lat_base::LineSession;
-use lat_payload::is_same;
 use lat_wire::{RatingRule, Wire};
 use std::alloc::Global;
 
@@ -160,8 +159,7 @@ fn mate_of<H: RatingRule>(wire: &Wire<H>, session: LineSession, roster: &Roster)
         last_row circuit id 0 0 k.rows ≡ last_named circuit id 0 0 x.server.core.seats) →
         result ≡ mate_by_ids u x t }
 {
-    let own = wire.own(true);
-    if is_same(&session.peer.0, &own.0) {
+    if session.peer == wire.own(true) {
         roster.named(session.peer_circuit, session.peer_session)
     } else {
         0

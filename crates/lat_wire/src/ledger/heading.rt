@@ -19,7 +19,7 @@ fn number_at(payload: &[u8], place: usize) -> u16
     requires { place + 1 < length payload.now }
     ensures { result ≡ slice_index payload.now place + slice_index payload.now (place + 1) * 256 }
 {
-    u16::from(payload[place]) + u16::from(payload[place + 1]) * 256
+    u16::from_le_bytes([payload[place], payload[place + 1]])
 }
 
 /// The circuits that the payload of a RUN names; `None` of any other payload that has a reading. See "Circuit messages" in

@@ -5,7 +5,7 @@ use Rattle.lat_replay.proofs.summary.report_onto.Goals as goal
 
 pub returns : goal.returns
 returns g c = λ w k s h sh.
-    composed c.args.wire.now w k c.notes.result.now c.frames.result _ _ _ _ _ _ s h (c.frames.ensures w s) (c.notes.ensures w s)
+    composed c.args.wire.now w k c.notes.result.now c.frames.result _ _ _ _ _ _ s h (c.frames.ensures.value w s) (c.notes.ensures w s)
     c.in_ok-frames_onto.ensures
     (c.in_ok-sessions_onto.ensures w k (record { stands = s; keeps = h; shows = sh }))
     (c.in_ok-queue_onto.ensures w.server (subst (λ z. servers.Stands z w.server) (sym c.server.ensures) s.parts.server))

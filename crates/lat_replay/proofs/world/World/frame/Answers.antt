@@ -4,4 +4,4 @@ use Rattle.lat_replay.specs.Kept.{Kept}
 use Rattle.lat_replay.proofs.world.World.frame.Goals as goal
 
 pub returns : goal.returns
-returns g c = λ w s. c.frame.ensures w (subst (λ (z : Kept g.row.H.Denot). wires.Stands z.wire w) (sym c.self.view_is) s.wire)
+returns g c = λ w s. c.frame.ensures.value w (subst (λ (z : Kept g.row.H.Denot). wires.Stands z.wire w) (sym c.self.view_is) s.wire)
