@@ -2,10 +2,9 @@
 
 use crate::hear::hand;
 use crate::play::Play;
-use crate::print::answer_onto;
 use crate::station::Station;
 use lat_base::{Answer, Event, Memory, Name, OutBox};
-use lat_script::{ScriptFault, name, number};
+use lat_script::{ScriptFault, answer_onto, name, number};
 use std::alloc::Global;
 
 // A STOP of source 0 to this circuit, with reason 3.
@@ -23,9 +22,7 @@ impl<S: Station, N: Station> Play<S, N> {
         text: &mut String,
     ) -> Result<(), ScriptFault> {
         let times = number(line, 1)?;
-        let Some(service) = name(line, 2) else {
-            return Ok(text.push_str("no name\n")?);
-        };
+        let service = name(line, 2)?;
         let mut out = OutBox::make(alloc)?;
         let mut last = Answer::Done;
         for _ in 0..times {

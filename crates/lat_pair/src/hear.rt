@@ -1,11 +1,14 @@
 //! Frames that come to the cores.
 
+ghost use Rattle.std.specs.Prelude.{◌≤◌};
+
 use crate::play::{Play, Side, side_at};
 use crate::post::Post;
-use crate::print::answer_onto;
 use crate::station::Station;
 use lat_base::{Addr, Answer, Bytes, EVERYONE, Event, Memory, Name, OutBox, Payload};
-use lat_script::{ScriptFault, address, bytes, name, number, short, word};
+use lat_script::{
+    ScriptFault, address, answer_onto, bytes, name, number, number_within, short, word,
+};
 use std::alloc::Global;
 use std::ops::Range;
 
@@ -94,12 +97,11 @@ impl<S: Station, N: Station> Play<S, N> {
         line: &str,
         text: &mut String,
     ) -> Result<(), ScriptFault> {
-        let Some(from) = address(line, 2) else {
-            return Ok(text.push_str("no address\n")?);
-        };
+        let side = side_at(line, 1)?;
+        let from = address(line, 2)?;
         let payload = bytes(alloc, line, 3)?;
         let now = self.moment_at(line, 4)?;
-        Ok(self.hear(alloc, side_at(line, 1), from, &payload, now, text)?)
+        Ok(self.hear(alloc, side, from, &payload, now, text)?)
     }
 
     // Hands the server the announcements of so many nodes; its last answer.
@@ -131,10 +133,12 @@ impl<S: Station, N: Station> Play<S, N> {
         alloc: Global,
         requests: Range<u64>,
         service: &Name,
-    ) -> Result<Answer, Memory> {
+    ) -> Result<Answer, Memory>
+        requires { requests.end ≤ 65536 }
+    {
         let mut out = OutBox::make(alloc)?;
         let mut last = Answer::Done;
-        for request in requests.start..requests.end.min(65_536) {
+        for request in requests.start..requests.end {
             let payload = command(alloc, request as u16, service)?;
             let (server, now) = (&mut self.server, self.latest);
             last = hand(alloc, server, ANNOUNCERS, &payload, now, &mut out)?;
@@ -149,10 +153,8 @@ impl<S: Station, N: Station> Play<S, N> {
         line: &str,
         text: &mut String,
     ) -> Result<(), ScriptFault> {
-        let requests = number(line, 1)?..number(line, 2)?;
-        let Some(service) = name(line, 3) else {
-            return Ok(text.push_str("no name\n")?);
-        };
+        let requests = number(line, 1)?..number_within(0, 65_536, line, 2)?;
+        let service = name(line, 3)?;
         let last = self.ask_all(alloc, requests, &service)?;
         Ok(answer_onto(alloc, text, &last)?)
     }

@@ -7,18 +7,23 @@
 //! `#` is printed as it is; of another one the line itself is printed behind `> `, and then what it answers. The cores are `s`,
 //! the server, and `n`, the node. Moments are milliseconds; an address is twelve hex digits.
 //!
-//! Numbers are in decimal, without a sign or a needless 0: moments, frames and records, FROM, TO and the N of `draw` are below
-//! 2^64, circuits, ids of requests, INCARNATION and each other N 65,535 at most, and what is left 255. Of a line with another word
-//! in the place of a number, or with an odd number of hex digits, nothing is done, and `line N word M isn't a number up to K` or
-//! `line N word M isn't hex digits` is printed, with the numbers of the line and of its word, both counted from 1.
+//! Numbers are in decimal, without a sign or a needless 0. In front of `go` the LINES of the server are 1 to 32 and those of the
+//! node 1 to 64, each TIMER of a circuit is 1 to 100, that of the node and KEEPALIVE 1 to 255, SESSIONS 1 to 64, CEILING 1 to 15,
+//! and the LINE of an offer is one of the server's. Moments, frames and records, FROM and the N of `draw` are below 2^64, TO is
+//! 65,536 at most, circuits, ids of requests, INCARNATION and each other N 65,535 at most, and what is left 255. E is `s` or `n`;
+//! a mask of groups has at most 64 hex digits, and a setting ten. Of a line with another word there, with another word than a
+//! name or an address where one is wanted, with an odd number of hex digits, or whose word is no command, no event and no question
+//! below, nothing is done, and a line follows it that says which of its words it is and what that isn't: `line 7 word 3 isn't a
+//! number up to 255`, `line 7 word 2 isn't s or n`, `line 7 word 1 isn't a command`. Lines of the script and words of the line are
+//! counted from 1.
 //!
 //! | Line before `go` | Says |
 //! |---|---|
 //! | `server ADDRESS NAME LINES` | the server, without an offer |
 //! | `node ADDRESS NAME LINES INCARNATION TIMER` | the node |
-//! | `circuit TIMER KEEPALIVE SESSIONS EXTRA CEILING` (and perhaps `wide`) | the timing of both |
+//! | `circuit TIMER KEEPALIVE SESSIONS EXTRA CEILING` (and perhaps `wide` or `narrow`, which is the same as nothing) | the timing of both |
 //! | `groups SERVER NODE` | the groups that the server listens to, and the mask of the node's announcements, in hex; without it all groups, and the empty mask |
-//! | `service NAME` | the node offers it |
+//! | `service NAME` | the node offers it; 32 at most |
 //! | `offer LINE NAME` | the server's line offers it; a line offers once |
 //!
 //! | Event | Does |

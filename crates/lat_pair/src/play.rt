@@ -2,10 +2,10 @@
 
 use crate::event::event_of;
 use crate::post::Post;
-use crate::print::{answer_onto, frame_onto};
+use crate::print::frame_onto;
 use crate::station::Station;
 use lat_base::{Addr, Event, Memory, OutBox, Payload};
-use lat_script::{ScriptFault, word};
+use lat_script::{Pair, ScriptFault, answer_onto, choice};
 use std::alloc::Global;
 
 /// The one core or the other.
@@ -16,11 +16,11 @@ pub enum Side {
 }
 
 /// The core that this word means.
-pub fn side_at(line: &str, place: u8) -> Side {
-    if word(line, place) == "s" {
-        Side::Server
+pub fn side_at(line: &str, place: u8) -> Result<Side, ScriptFault> {
+    if choice(Pair::Cores, line, place)? {
+        Ok(Side::Server)
     } else {
-        Side::Node
+        Ok(Side::Node)
     }
 }
 
@@ -87,14 +87,10 @@ impl<S: Station, N: Station> Play<S, N> {
         line: &str,
         text: &mut String,
     ) -> Result<(), ScriptFault> {
-        match event_of(alloc, line, self.server.own())? {
-            Some(event) => {
-                if let Event::Time { now } = &event {
-                    self.latest = self.latest.max(*now);
-                }
-                Ok(self.step(alloc, side, &event, text)?)
-            }
-            None => Ok(text.push_str("no event\n")?),
+        let event = event_of(alloc, line, self.server.own())?;
+        if let Event::Time { now } = &event {
+            self.latest = self.latest.max(*now);
         }
+        Ok(self.step(alloc, side, &event, text)?)
     }
 }

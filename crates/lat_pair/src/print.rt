@@ -1,51 +1,12 @@
-//! Answers, frames and books in words.
+//! Frames and books in words.
 
-use lat_base::{Answer, Bad, Kept, LineBook, LineSession, Memory, OutFrame};
+use lat_base::{LineBook, LineSession, Memory, OutFrame};
 use lat_queue::Record;
-use lat_script::{answer_word, end_onto, heard_onto, mark_onto, took_onto};
+use lat_script::{end_onto, kept_onto, payload_line, totals_onto};
 use lat_seq::Span;
 use lat_show::show;
 use lat_text::{address_onto, name_onto};
 use std::alloc::{AllocError, Global};
-
-/// Adds what a core answers to the text.
-pub fn answer_onto(alloc: Global, text: &mut String, answer: &Answer) -> Result<(), AllocError> {
-    match answer {
-        Answer::Circuit(heard) => heard_onto(text, *heard),
-        Answer::Started(id) => write!(text, "started {id}\n"),
-        Answer::Kept(kept) => kept_line_onto(text, *kept),
-        Answer::Bad(bad) => bad_onto(text, *bad),
-        Answer::Connected { circuit, session } => {
-            write!(text, "connected circuit {circuit} session {session}\n")
-        }
-        Answer::Put(count) => write!(text, "put {count}\n"),
-        Answer::Took(items) => took_onto(alloc, text, items.as_slice()),
-        _ => text.push_str(answer_word(answer)),
-    }
-}
-
-fn bad_onto(text: &mut String, bad: Bad) -> Result<(), AllocError> {
-    let (field, at) = (bad.field.word(), bad.at);
-    write!(text, "bad {field} {at}\n")
-}
-
-fn kept_line_onto(text: &mut String, kept: Kept) -> Result<(), AllocError> {
-    text.push_str("kept ")?;
-    kept_onto(text, kept)?;
-    text.push_str("\n")
-}
-
-fn kept_onto(text: &mut String, kept: Kept) -> Result<(), AllocError> {
-    match kept {
-        Kept::Waiting(place) => write!(text, "waiting {place}"),
-        Kept::Granted => text.push_str("granted"),
-        Kept::Cancelled => text.push_str("cancelled"),
-        Kept::QueueFull => text.push_str("queue-full"),
-        Kept::NoService => text.push_str("no-service"),
-        Kept::RecordsFull => text.push_str("records-full"),
-        Kept::Done => text.push_str("done"),
-    }
-}
 
 /// Adds a frame of this number to the text: its mark, where it goes, its circuit, and what is shown of it.
 pub fn frame_onto(
@@ -54,8 +15,7 @@ pub fn frame_onto(
     number: usize,
     frame: &OutFrame,
 ) -> Result<(), Memory> {
-    write!(text, "{number} ")?;
-    mark_onto(text, frame.mark)?;
+    lat_script::frame_onto(text, number as u64, frame.mark)?;
     text.push_str(" to ")?;
     address_onto(alloc, text, frame.to)?;
     let circuit = frame.circuit;
@@ -65,8 +25,7 @@ pub fn frame_onto(
 
 // Adds what is shown of a payload.
 fn shown_onto(alloc: Global, text: &mut String, payload: &[u8]) -> Result<(), Memory> {
-    let mut line = hex::encode(alloc, payload)?;
-    line.push_str("\n")?;
+    let line = payload_line(alloc, payload)?;
     let (_, shown) = show(alloc, line.as_bytes())?;
     Ok(text.push_str(&shown)?)
 }
@@ -98,8 +57,9 @@ fn session_onto(alloc: Global, text: &mut String, session: &LineSession) -> Resu
     write!(text, "number {number} peer ")?;
     address_onto(alloc, text, session.peer)?;
     ids_onto(text, session)?;
-    let (given, used) = (session.given, session.used);
-    write!(text, " given {given} used {used} end ")?;
+    text.push_str(" ")?;
+    totals_onto(text, u64::from(session.given), u64::from(session.used))?;
+    text.push_str(" end ")?;
     match session.end {
         Some(end) => Ok(end_onto(text, end)?),
         None => Ok(text.push_str("open\n")?),

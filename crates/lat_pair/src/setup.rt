@@ -1,16 +1,19 @@
 //! What both cores are made of.
 
-ghost use Rattle.std.specs.Prelude.{◌≡◌, true, false, nat_eq, IfOk};
+ghost use Rattle.std.specs.Prelude.{◌≡◌, ◌≤◌, true, false, nat_eq, length, IfOk};
 ghost use Rattle.std.specs.List.{list_any};
 ghost use Rattle.lat_circuit.specs.Agrees.{IsTiming};
 ghost use Rattle.lat_lines.specs.Kept.{IsLine};
 ghost use Rattle.lat_server.specs.Config.{IsConfig};
 ghost use Rattle.lat_server.specs.declared.config.Offer.{Offer};
 
-use lat_base::{Addr, Bytes, Memory, Name};
+use lat_base::{Addr, Bytes, Memory};
 use lat_node::NodeConfig;
 use lat_queue::Services16;
-use lat_script::{ScriptFault, address, byte, bytes, name, short, word};
+use lat_script::{
+    Pair, ScriptFault, Wanted, address, byte, byte_within, bytes, choice, known_name, name,
+    no_command, short, word,
+};
 use lat_server::{Offer, Offers, ServerConfig, Timing};
 use std::alloc::Global;
 use std::marker::Model;
@@ -43,26 +46,32 @@ const USUAL: Timing = Timing {
     wide: false,
 };
 
-// The numbers that a line states, brought into their bounds.
+// Whether the numbers of a circuit's messages are wide: by the last word, where there is one.
+fn is_wide(line: &str) -> Result<bool, ScriptFault> {
+    if word(line, 6) == "" {
+        return Ok(false);
+    }
+    choice(Pair::Widths, line, 6)
+}
+
+// The timing that a line states.
 fn timing_of(line: &str) -> Result<Timing, ScriptFault>
     ensures { IfOk result IsTiming }
 {
     Ok(Timing {
-        timer: byte(line, 1)?.clamp(1, 100),
-        keepalive: byte(line, 2)?.max(1),
-        sessions: byte(line, 3)?.clamp(1, 64),
+        timer: byte_within(1, 100, line, 1)?,
+        keepalive: byte_within(1, 255, line, 2)?,
+        sessions: byte_within(1, 64, line, 3)?,
         extra: byte(line, 4)?,
-        ceiling: byte(line, 5)?.clamp(1, 15),
-        wide: word(line, 6) == "wide",
+        ceiling: byte_within(1, 15, line, 5)?,
+        wide: is_wide(line)?,
     })
 }
 
 impl Setup {
     /// What they are made of where nothing is said.
     pub fn usual(alloc: Global) -> Result<Setup, Memory> {
-        let (Ok(server), Ok(node)) = (Name::read(b"TS1"), Name::read(b"VAX1")) else {
-            unreachable!()
-        };
+        let (server, node) = (known_name(b"TS1"), known_name(b"VAX1"));
         Ok(Setup {
             server: ServerConfig {
                 own: Addr([0xaa, 0x00, 0x04, 0x00, 0x01, 0x04]),
@@ -98,50 +107,51 @@ impl Setup {
             "groups" => self.tell_groups(alloc, line)?,
             "service" => self.tell_service(line)?,
             "offer" => self.tell_offer(line)?,
-            _ => {}
+            _ => return Err(no_command(0)),
         }
         Ok(())
     }
 
     fn tell_server(&mut self, alloc: Global, line: &str) -> Result<(), ScriptFault> {
-        let lines = byte(line, 3)?;
-        self.server.own = address(line, 1).unwrap_or(self.server.own);
-        self.server.name = name(line, 2).unwrap_or(self.server.name);
+        let (own, name) = (address(line, 1)?, name(line, 2)?);
+        let lines = byte_within(1, 32, line, 3)?;
+        self.server.own = own;
+        self.server.name = name;
         self.server.offers = Offers::new(alloc);
-        self.server.lines = lines.clamp(1, 32);
+        self.server.lines = lines;
         Ok(())
     }
 
     fn tell_node(&mut self, line: &str) -> Result<(), ScriptFault> {
-        let (lines, incarnation, timer) = (byte(line, 3)?, short(line, 4)?, byte(line, 5)?);
-        self.node.own = address(line, 1).unwrap_or(self.node.own);
-        self.node.name = name(line, 2).unwrap_or(self.node.name);
-        self.node.lines = lines.clamp(1, 64);
+        let (own, name) = (address(line, 1)?, name(line, 2)?);
+        let (lines, incarnation) = (byte_within(1, 64, line, 3)?, short(line, 4)?);
+        let timer = byte_within(1, 255, line, 5)?;
+        self.node.own = own;
+        self.node.name = name;
+        self.node.lines = lines;
         self.node.incarnation = incarnation;
-        self.node.timer = timer.max(1);
+        self.node.timer = timer;
         Ok(())
     }
 
     fn tell_groups(&mut self, alloc: Global, line: &str) -> Result<(), ScriptFault> {
-        let (heard, mask) = (bytes(alloc, line, 1)?, bytes(alloc, line, 2)?);
-        let count = mask.len().min(32);
-        self.node.groups = Bytes::copy(alloc, &mask[..count])?;
-        self.server.groups = mask_of(&heard);
+        let (heard, mask) = (mask_of(alloc, line, 1)?, mask_of(alloc, line, 2)?);
+        self.node.groups = Bytes::copy(alloc, &mask)?;
+        self.server.groups = filled(&heard);
         Ok(())
     }
 
-    fn tell_service(&mut self, line: &str) -> Result<(), Memory> {
-        match name(line, 1) {
-            Some(service) if self.node.services.len() < 32 => self.node.services.push(&service),
-            _ => Ok(()),
+    fn tell_service(&mut self, line: &str) -> Result<(), ScriptFault> {
+        let service = name(line, 1)?;
+        if self.node.services.len() < 32 {
+            self.node.services.push(&service)?;
         }
+        Ok(())
     }
 
     fn tell_offer(&mut self, line: &str) -> Result<(), ScriptFault> {
-        let place = byte(line, 1)?;
-        let Some(service) = name(line, 2) else {
-            return Ok(());
-        };
+        let place = byte_within(1, self.server.lines, line, 1)?;
+        let service = name(line, 2)?;
         if !self.may_offer(place) {
             return Ok(());
         }
@@ -179,10 +189,25 @@ fn offer_more(server: &mut ServerConfig, offer: Offer) -> Result<(), Memory>
     server.offers.push(offer)
 }
 
+// The bytes of a mask of groups, 32 at most.
+fn mask_of(alloc: Global, line: &str, place: u8) -> Result<Vec<u8>, ScriptFault>
+    ensures { IfOk result (λ mask. length mask.items ≤ 32) }
+{
+    let mask = bytes(alloc, line, place)?;
+    if mask.len() > 32 {
+        return Err(ScriptFault::Word {
+            place,
+            wanted: Wanted::Digits,
+        });
+    }
+    Ok(mask)
+}
+
 // The mask of these bytes; those that it doesn't have are 0.
-fn mask_of(bytes: &[u8]) -> [u8; 32] {
+fn filled(bytes: &[u8]) -> [u8; 32]
+    requires { length bytes.now ≤ 32 }
+{
     let mut mask = [0; 32];
-    let count = bytes.len().min(32);
-    mask[..count].copy_from_slice(&bytes[..count]);
+    mask[..bytes.len()].copy_from_slice(bytes);
     mask
 }

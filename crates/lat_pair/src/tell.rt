@@ -4,8 +4,10 @@ use crate::play::{Play, Side, side_at};
 use crate::post::Post;
 use crate::print::{book_onto, record_onto, span_word, yes_word};
 use crate::station::Station;
-use lat_script::{ScriptFault, address, byte, number, short, state_word, word};
-use std::alloc::{AllocError, Global};
+use lat_script::{
+    ScriptFault, address, byte, no_command, number, number_onto, short, state_onto, word,
+};
+use std::alloc::Global;
 
 impl<S: Station, N: Station> Play<S, N> {
     /// What is told at a question.
@@ -19,10 +21,13 @@ impl<S: Station, N: Station> Play<S, N> {
                 let used = self.node.used().unwrap_or(0);
                 Ok(number_onto(text, u64::from(used))?)
             }
-            _ => match side_at(line, 1) {
-                Side::Server => tell_onto(alloc, &self.server, line, text),
-                Side::Node => tell_onto(alloc, &self.node, line, text),
-            },
+            "moment" | "finished" | "span" | "names" | "book" | "state" | "waiting" => {
+                match side_at(line, 1)? {
+                    Side::Server => tell_onto(alloc, &self.server, line, text),
+                    Side::Node => tell_onto(alloc, &self.node, line, text),
+                }
+            }
+            _ => Err(no_command(0)),
         }
     }
 }
@@ -52,39 +57,12 @@ fn tell_line_onto<C: Station>(
 ) -> Result<(), ScriptFault> {
     match word(line, 0) {
         "book" => Ok(book_onto(alloc, text, post.book(byte(line, 2)?))?),
-        "state" => state_onto(post, line, text),
-        "waiting" => waiting_onto(post, line, text),
-        _ => Ok(text.push_str("no command\n")?),
+        "state" => Ok(state_onto(text, post.state(byte(line, 2)?))?),
+        _ => Ok(number_onto(text, u64::from(post.waiting(byte(line, 2)?)))?),
     }
-}
-
-fn number_onto(text: &mut String, number: u64) -> Result<(), AllocError> {
-    write!(text, "{number}\n")
-}
-
-fn state_onto<C: Station>(
-    post: &Post<C>,
-    line: &str,
-    text: &mut String,
-) -> Result<(), ScriptFault> {
-    let state = state_word(post.state(byte(line, 2)?));
-    Ok(write!(text, "{state}\n")?)
-}
-
-fn waiting_onto<C: Station>(
-    post: &Post<C>,
-    line: &str,
-    text: &mut String,
-) -> Result<(), ScriptFault> {
-    let waiting = post.waiting(byte(line, 2)?);
-    Ok(number_onto(text, u64::from(waiting))?)
 }
 
 // Whether a RUN of the address and the ids in this line names a circuit.
 fn names<C: Station>(post: &Post<C>, line: &str) -> Result<bool, ScriptFault> {
-    let (to, from) = (short(line, 3)?, short(line, 4)?);
-    Ok(match address(line, 2) {
-        Some(address) => post.names(address, to, from),
-        None => false,
-    })
+    Ok(post.names(address(line, 2)?, short(line, 3)?, short(line, 4)?))
 }

@@ -24,9 +24,10 @@
 //! | `cuts HEX` | what `show` prints of the first bytes of this payload, as many as 0, 1 and so on to one byte less than all |
 //!
 //! What was written is printed as it is; where it doesn't end with a line feed, `%` and a line feed follow it. Numbers are in
-//! decimal, without a sign or a needless 0. Of a line with another word in the place of a number, or with an odd number of hex
-//! digits, nothing is done, and `line N word M isn't a number up to 18446744073709551615` or `line N word M isn't hex digits` is
-//! printed, with the numbers of the line and of its word, both counted from 1. Another command is `wrong`.
+//! decimal, without a sign or a needless 0, and below 2^64; the K of `line` and READ are 1 at least. Of a line with another word in
+//! the place of a number, with an odd number of hex digits, or whose first word is none of these, nothing is done, and a line says
+//! which of its words it is and what that isn't: `line 7 word 2 isn't a number from 1 to 18446744073709551615`, `line 7 word 2
+//! isn't hex digits`, `line 7 word 1 isn't a command`. Lines of the file and words of the line are counted from 1.
 #![tactic(auto)]
 
 mod input;

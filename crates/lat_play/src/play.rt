@@ -6,7 +6,9 @@ use lat_base::Memory;
 use lat_cmd::run;
 use lat_node::FreeLines;
 use lat_outside::{MemSink, MemSource};
-use lat_script::{ScriptFault, bytes, is_command, number, refused_onto, word};
+use lat_script::{
+    ScriptFault, bytes, is_command, no_command, number, number_within, refused_onto, word,
+};
 use std::alloc::Global;
 
 // The words of the program's next runs, their input, and what the last run wrote.
@@ -72,6 +74,11 @@ fn measured(bytes: &[u8]) -> (u64, u64) {
     (lines, sum)
 }
 
+// The number behind the command, which isn't 0.
+fn at_least_one(line: &str) -> Result<u64, ScriptFault> {
+    number_within(1, u64::MAX, line, 1)
+}
+
 impl Play {
     // These words, separated by blanks, and no input.
     fn of(alloc: Global, words: &str) -> Result<Play, Memory> {
@@ -131,7 +138,7 @@ impl Play {
 
     fn outside(&mut self, alloc: Global, line: &str, text: &mut String) -> Result<(), ScriptFault> {
         let outside = Outside {
-            read_most: number(line, 1)? as usize,
+            read_most: at_least_one(line)? as usize,
             failing_read: number(line, 2)?,
             write_most: number(line, 3)? as usize,
             failing_write: number(line, 4)?,
@@ -140,7 +147,7 @@ impl Play {
     }
 
     fn reads(&mut self, alloc: Global, line: &str, text: &mut String) -> Result<(), ScriptFault> {
-        let (most, calls) = (number(line, 1)?, number(line, 2)?);
+        let (most, calls) = (at_least_one(line)?, number(line, 2)?);
         for call in 0..calls {
             let outside = Outside {
                 read_most: most as usize,
@@ -180,7 +187,7 @@ impl Play {
 
     // Puts a text in the place of a line of the input.
     fn exchange(&mut self, alloc: Global, line: &str) -> Result<(), ScriptFault> {
-        let at = number(line, 1)?;
+        let at = at_least_one(line)?;
         Ok(self.input.replace(alloc, at, behind_two(line))?)
     }
 
@@ -193,7 +200,7 @@ impl Play {
             "reads" => self.reads(alloc, line, text),
             "writes" => self.writes(alloc, line, text),
             "cuts" => cuts(alloc, line, text),
-            _ => Ok(text.push_str("wrong\n")?),
+            _ => Err(no_command(0)),
         }
     }
 

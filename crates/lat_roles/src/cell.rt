@@ -7,12 +7,11 @@ ghost use Rattle.lat_history.specs.Ledgers.{AreBlanks};
 ghost use Rattle.lat_server.specs.Config.{IsConfig};
 
 use crate::cell::told::{Told, Wrong};
-use crate::names::{USUAL, name};
-use crate::print::answer_onto;
+use crate::names::USUAL;
 use lat_base::{Addr, Memory};
 use lat_history::{Blanks, Cell, LineShare, Past, seat};
 use lat_outside::MemTx;
-use lat_script::{Part, ScriptFault, byte, refused_onto};
+use lat_script::{Part, ScriptFault, answer_onto, byte, known_name};
 use lat_server::{Offers, ServerConfig, ServerCore};
 use std::alloc::Global;
 use std::marker::Brand;
@@ -23,7 +22,7 @@ fn config(alloc: Global) -> ServerConfig
 {
     ServerConfig {
         own: Addr([0xaa, 0x00, 0x04, 0x00, 0x01, 0x04]),
-        name: name(b"TS1"),
+        name: known_name(b"TS1"),
         lines: 2,
         offers: Offers::new(alloc),
         groups: [0xff; 32],
@@ -86,15 +85,9 @@ fn play(alloc: Global, events: u8, text: &mut String) -> Result<(), Memory> {
     }
 }
 
-fn play_block(alloc: Global, block: Part, text: &mut String) -> Result<(), ScriptFault> {
+/// What a block does, printed.
+pub fn play_block(alloc: Global, block: Part, text: &mut String) -> Result<(), ScriptFault> {
     let first = block.text.lines().next().unwrap_or("");
     let events = byte(first, 1)?;
     Ok(play(alloc, events, text)?)
-}
-
-/// What a block does, printed.
-pub fn block_onto(alloc: Global, block: Part, text: &mut String) -> Result<(), Memory> {
-    let done = play_block(alloc, block, text);
-    refused_onto(text, block.first, done)?;
-    Ok(text.push_str("\n")?)
 }

@@ -3,12 +3,11 @@
 //! of a cell's history are seen to hold: what stands in `stdout` was worked out from the rules in docs/PROTOCOL.md, "Tariffs",
 //! "Several sessions on one line" and "Cells", and docs/FORMATS.md, "Slots, notices, circuit messages" and "Schedules".
 //!
-//! A script is a list of blocks with a line `---` between them. Each begins anew. A block whose first line is none of those below
-//! is not played: `no block` is printed.
+//! A script is a list of blocks with a line `---` between them. Each begins anew.
 //!
 //! A block whose first line isn't a title has a node `VAX1` at aa0004000204 in its incarnation 1, with an announcement timer of 30
 //! and no groups. Each of its lines is printed behind `> `, and then what it makes: of each frame that belongs to no circuit the
-//! address that it goes to and its payload, in hex. An empty line is printed behind it.
+//! address that it goes to and its payload, in hex. An empty line is printed behind the block.
 //!
 //! | First line of a block | Makes |
 //! |---|---|
@@ -20,30 +19,31 @@
 //! | `announce` | announces |
 //! | `hear HEX` | hears a payload from aa0004000104 at moment 0 |
 //!
-//! LINES is a number in decimal, 255 at most, without a sign or a needless 0. A block with another word there is not played, and of a
-//! line `hear` with an odd number of hex digits nothing is done: `line N word M isn't a number up to 255` or
-//! `line N word M isn't hex digits` is printed, with the numbers of the line in the script and of its word, both counted from 1.
+//! LINES is a number in decimal from 1 to 64, without a sign or a needless 0. A block with another word there, or whose first word
+//! is none of these two nor `cell`, is not played, and nothing is done of a line behind the first one whose first word is none of
+//! the other two, nor of a line `hear` with an odd number of hex digits. Which word it is and what it isn't is printed: `line 7
+//! word 2 isn't a number from 1 to 64`, `line 7 word 1 isn't a command`, `line 7 word 2 isn't hex digits`, with the numbers of the
+//! line in the script and of its word, both counted from 1.
 //!
-//! A title begins with `#` and is printed as it is. What follows it is a schedule: the switch is made of the server's line, with at
-//! most 8 lines and without its offers. Of each event that one of the two is told the line itself is printed behind `> `, then what
+//! A title begins with `#` and is printed as it is. What follows it is a schedule: the switch is made of the server's line, which
+//! has at most 8 lines, and without its offers. Of each event that one of the two is told the line itself is printed behind `> `, then what
 //! it is answered, and for an event of a line of the switch the inner line that the line shows, the state of its session, and how
 //! many items wait. Other events do nothing. All frames are delivered at once, in the order in which they are made, at the latest
-//! moment so far; what is answered to them isn't printed. A block whose schedule isn't one is not played: `line N form` is printed,
-//! N the first wrong line of the schedule, counted from 1, or `line N limit events`.
+//! moment so far; what is answered to them isn't printed. A block whose schedule isn't one, or has a server of more lines, is not
+//! played: `line N form` is printed, N the first wrong line of the schedule, counted from 1, or `line N limit events`.
 //!
-//! A block whose first line is `cell EVENTS` tells the cell of a server with two lines so many events, without threads: the same
-//! ten again and again, 80 ms later each time. They are an announcement of a node that offers VAX, then of line 1 a connect to VAX,
-//! five bytes put, a setting, an attention, then the time, a take of line 1, of line 2 a connect to NONE and a byte put, and an
-//! announce. Of each event that the cell keeps its seat is printed and what it was answered, and of each share its seat, its events
-//! and the bytes that were put. An event for which no memory is found is told once more, behind a look whether anything has
-//! changed; `the cell isn't right` is printed where something has, or where the cell, its shares and the events differ. So where
-//! one request for memory is refused (tools/want_of_memory.sh refuses each in turn) the block prints what it prints with ample
-//! memory, or the program ends with status 9 and prints nothing.
+//! A block whose first line is `cell EVENTS` tells the cell of a server with two lines so many events, 255 at most, without
+//! threads: the same ten again and again, 80 ms later each time. They are an announcement of a node that offers VAX, then of line 1
+//! a connect to VAX, five bytes put, a setting, an attention, then the time, a take of line 1, of line 2 a connect to NONE and a
+//! byte put, and an announce. Of each event that the cell keeps its seat is printed and what it was answered, and of each share its
+//! seat, its events and the bytes that were put. An event for which no memory is found is told once more, behind a look whether
+//! anything has changed; `the cell isn't right` is printed where something has, or where the cell, its shares and the events
+//! differ. So where one request for memory is refused (tools/want_of_memory.sh refuses each in turn) the block prints what it
+//! prints with ample memory, or the program ends with status 9 and prints nothing.
 #![tactic(auto)]
 
 mod cell;
 mod names;
-mod print;
 mod script;
 mod switch;
 mod tariff;

@@ -1,9 +1,6 @@
-//! Where the node is, the times of a circuit, and names that are known beforehand.
+//! Where the node is, and the times of a circuit.
 
-ghost use Rattle.std.specs.Prelude.{◌≡◌, true, is_ok};
-ghost use Rattle.lat_base.specs.Names.{name_read};
-
-use lat_base::{Addr, Name};
+use lat_base::Addr;
 use lat_lines::Timing;
 
 /// Where the node is.
@@ -18,13 +15,3 @@ pub const USUAL: Timing = Timing {
     ceiling: 4,
     wide: false,
 };
-
-/// The name that these bytes are.
-pub fn name(bytes: &[u8]) -> Name
-    requires { is_ok (name_read bytes.now) ≡ true }
-{
-    let Ok(name) = Name::read(bytes) else {
-        unreachable!()
-    };
-    name
-}

@@ -2,18 +2,26 @@
 
 use crate::{cell, switch, tariff};
 use lat_base::Memory;
-use lat_script::{Part, line_behind};
+use lat_script::{Part, ScriptFault, line_behind, refused_onto};
 use std::alloc::Global;
 
-// A block with a title is a schedule over a switch, one that begins with `cell` a cell's, and any other a node's with a tariff.
+// A block without a title: one that begins with `cell` is a cell's, and any other a node's with a tariff.
+fn play_block(alloc: Global, block: Part, text: &mut String) -> Result<(), ScriptFault> {
+    if block.text.starts_with("cell ") {
+        cell::play_block(alloc, block, text)
+    } else {
+        tariff::play_block(alloc, block, text)
+    }
+}
+
+// A block with a title is a schedule over a switch; behind any other an empty line is printed.
 fn block_onto(alloc: Global, block: Part, text: &mut String) -> Result<(), Memory> {
     if block.text.starts_with("#") {
-        switch::block_onto(alloc, block.text, text)
-    } else if block.text.starts_with("cell ") {
-        cell::block_onto(alloc, block, text)
-    } else {
-        tariff::block_onto(alloc, block, text)
+        return switch::block_onto(alloc, block.text, text);
     }
+    let done = play_block(alloc, block, text);
+    refused_onto(text, block.first, done)?;
+    Ok(text.push_str("\n")?)
 }
 
 /// What a script does, printed.

@@ -3,6 +3,7 @@
 mod play;
 mod print;
 
+ghost use Rattle.std.specs.Prelude.{◌≤◌};
 ghost use Rattle.lat_schedule.specs.Setups.{IsSetup};
 
 use crate::switch::play::{Play, Post};
@@ -12,14 +13,15 @@ use lat_schedule::{Schedule, ScheduleFault, Setup, read_schedule};
 use lat_switch::{SwitchConfig, SwitchCore};
 use std::alloc::Global;
 
-// Makes both; the node rates by the lines that are left.
+// Makes both, a switch of at most 8 lines; the node rates by the lines that are left.
 fn opened(alloc: Global, setup: &Setup) -> Result<Play<FreeLines>, Memory>
-    requires { IsSetup setup.now }
+    requires setup { IsSetup setup.now }
+    requires lines { setup.now.server.lines ≤ 8 }
 {
     let config = SwitchConfig {
         own: setup.server.own,
         name: setup.server.name,
-        lines: setup.server.lines.min(8),
+        lines: setup.server.lines,
         groups: setup.server.groups,
         timing: setup.server.timing,
     };
@@ -34,6 +36,9 @@ fn opened(alloc: Global, setup: &Setup) -> Result<Play<FreeLines>, Memory>
 fn play_schedule(alloc: Global, schedule: &Schedule, text: &mut String) -> Result<(), Memory>
     requires { IsSetup schedule.now.setup }
 {
+    if schedule.setup.server.lines > 8 {
+        return Ok(text.push_str("line 2 form\n")?);
+    }
     let mut play = opened(alloc, &schedule.setup)?;
     for event in schedule.events.as_slice() {
         play.told(alloc, event, text)?;
@@ -43,9 +48,7 @@ fn play_schedule(alloc: Global, schedule: &Schedule, text: &mut String) -> Resul
 
 /// What a block does, printed.
 pub fn block_onto(alloc: Global, block: &str, text: &mut String) -> Result<(), Memory> {
-    let Some((title, lines)) = block.split_once("\n") else {
-        return Ok(text.push_str("no block\n")?);
-    };
+    let (title, lines) = block.split_once("\n").unwrap_or((block, ""));
     write!(text, "{title}\n")?;
     match read_schedule(alloc, lines.as_bytes()) {
         Ok(schedule) => play_schedule(alloc, &schedule, text),

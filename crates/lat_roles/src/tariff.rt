@@ -3,15 +3,15 @@
 mod play;
 mod rules;
 
-ghost use Rattle.std.specs.Prelude.{◌≡◌, true, is_ok};
+ghost use Rattle.std.specs.Prelude.{◌≡◌, ◌≤◌, true, is_ok};
 ghost use Rattle.lat_base.specs.Names.{name_read};
 ghost use Rattle.lat_tariff.specs.Tariffs.{AreKnown};
 
-use crate::names::{NODE, USUAL, name};
+use crate::names::{NODE, USUAL};
 use crate::tariff::play::Play;
 use crate::tariff::rules::{ByRoom, Flat, Unseen};
 use lat_base::{Bytes, Memory};
-use lat_script::{Part, ScriptFault, byte, refused_onto, word};
+use lat_script::{Part, ScriptFault, byte_within, known_name, no_command, word};
 use lat_tariff::{NodeConfig, Rule, SteadyRule, Tariff, TariffCore, are_apart};
 use std::alloc::Global;
 
@@ -23,7 +23,7 @@ fn add<R: SteadyRule>(rules: &mut Vec<Rule<R>>, service: &[u8], rule: R) -> Resu
     ensures known { AreKnown R.fact rules.new.items }
 {
     rules.push(Rule {
-        name: name(service),
+        name: known_name(service),
         rule,
     })?;
     Ok(())
@@ -37,7 +37,8 @@ fn play_rules<R: SteadyRule>(
     block: Part,
     text: &mut String,
 ) -> Result<(), Memory>
-    requires { AreKnown R.fact rules.items }
+    requires known { AreKnown R.fact rules.items }
+    requires lines { (1 ≤ lines) × (lines ≤ 64) }
 {
     if rules.is_empty() || rules.len() > 32 || !are_apart(rules.as_slice()) {
         write!(text, "no tariff\n")?;
@@ -46,9 +47,9 @@ fn play_rules<R: SteadyRule>(
     let tariff = Tariff::make(rules);
     let config = NodeConfig {
         own: NODE,
-        name: name(b"VAX1"),
+        name: known_name(b"VAX1"),
         incarnation: 1,
-        lines: lines.clamp(1, 64),
+        lines,
         services: tariff.names(alloc)?,
         timer: 30,
         groups: Bytes::copy(alloc, &[])?,
@@ -59,7 +60,9 @@ fn play_rules<R: SteadyRule>(
 }
 
 // Two services, by rules of two types.
-fn play_two(alloc: Global, lines: u8, block: Part, text: &mut String) -> Result<(), Memory> {
+fn play_two(alloc: Global, lines: u8, block: Part, text: &mut String) -> Result<(), Memory>
+    requires { (1 ≤ lines) × (lines ≤ 64) }
+{
     let login: Box<dyn SteadyRule + Send> = Box::new(alloc, ByRoom)?;
     let print: Box<dyn SteadyRule + Send> = Box::new(alloc, Flat { rating: 9 })?;
     let mut rules = Vec::new(alloc);
@@ -69,7 +72,9 @@ fn play_two(alloc: Global, lines: u8, block: Part, text: &mut String) -> Result<
 }
 
 // 32 services.
-fn play_many(alloc: Global, lines: u8, block: Part, text: &mut String) -> Result<(), Memory> {
+fn play_many(alloc: Global, lines: u8, block: Part, text: &mut String) -> Result<(), Memory>
+    requires { (1 ≤ lines) × (lines ≤ 64) }
+{
     let mut rules = Vec::new(alloc);
     for rating in 1..33_u8 {
         let service = [b'N', b'0' + rating / 10, b'0' + rating % 10];
@@ -78,19 +83,12 @@ fn play_many(alloc: Global, lines: u8, block: Part, text: &mut String) -> Result
     play_rules(alloc, rules, lines, block, text)
 }
 
-// What one block does.
-fn play_block(alloc: Global, block: Part, text: &mut String) -> Result<(), ScriptFault> {
+/// What a block does, printed.
+pub fn play_block(alloc: Global, block: Part, text: &mut String) -> Result<(), ScriptFault> {
     let first = block.text.lines().next().unwrap_or("");
     match word(first, 0) {
-        "two" => Ok(play_two(alloc, byte(first, 1)?, block, text)?),
-        "many" => Ok(play_many(alloc, byte(first, 1)?, block, text)?),
-        _ => Ok(text.push_str("no block\n")?),
+        "two" => Ok(play_two(alloc, byte_within(1, 64, first, 1)?, block, text)?),
+        "many" => Ok(play_many(alloc, byte_within(1, 64, first, 1)?, block, text)?),
+        _ => Err(no_command(0)),
     }
-}
-
-/// What a block does, printed.
-pub fn block_onto(alloc: Global, block: Part, text: &mut String) -> Result<(), Memory> {
-    let done = play_block(alloc, block, text);
-    refused_onto(text, block.first, done)?;
-    Ok(text.push_str("\n")?)
 }

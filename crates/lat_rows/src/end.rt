@@ -2,13 +2,14 @@
 
 ghost use Rattle.std.specs.Prelude.{◌≡◌};
 
-use crate::print::{
-    count_onto, done_onto, due_onto, ended_onto, fault_word, life_onto, maybe_onto,
-};
-use lat_base::{Item, Memory, OutBox, SessionState};
+use crate::print::{count_onto, done_onto, due_onto, ended_onto, life_onto, maybe_onto};
+use lat_base::{Item, Memory, Name, OutBox, SessionState};
 use lat_circuit::Circuit;
 use lat_frames::{Message, message_ok};
-use lat_script::{ScriptFault, byte, bytes, heard_onto, name, short, state_word, took_onto, word};
+use lat_script::{
+    ScriptFault, byte, bytes, filling, heard_onto, name, no_command, number_onto, setting, short,
+    state_onto, took_onto, totals_onto, word,
+};
 use std::alloc::{AllocError, Global};
 
 /// A circuit whose sessions are on its own side.
@@ -19,14 +20,6 @@ pub struct End {
 }
 
 const NOT_NOW: &str = "not now\n";
-
-// The setting that these bytes are.
-fn setting_of(bytes: &[u8]) -> Option<[u8; 5]> {
-    match *bytes {
-        [flag, a, b, c, d] => Some([flag, a, b, c, d]),
-        _ => None,
-    }
-}
 
 impl End {
     /// Gives it a moment.
@@ -61,16 +54,13 @@ impl End {
         heard_onto(text, heard)
     }
 
-    fn connect(&mut self, line: &str, text: &mut String) -> Result<(), AllocError> {
-        let Some(service) = name(line, 1) else {
-            return text.push_str("no name\n");
-        };
+    fn connect(&mut self, service: &Name, text: &mut String) -> Result<(), AllocError> {
         if !self.circuit.lives() || !self.circuit.is_master() {
             return text.push_str(NOT_NOW);
         }
-        match self.circuit.connect(&service, None) {
+        match self.circuit.connect(service, None) {
             Ok(id) => write!(text, "connected {id}\n"),
-            Err(fault) => text.push_str(fault_word(fault)),
+            Err(fault) => done_onto(text, Err(fault)),
         }
     }
 
@@ -79,7 +69,7 @@ impl End {
             return text.push_str(NOT_NOW);
         }
         self.circuit.answer_session(id);
-        text.push_str("done\n")
+        done_onto(text, Ok(()))
     }
 
     fn reject(&mut self, id: u8, reason: u8, text: &mut String) -> Result<(), AllocError> {
@@ -87,7 +77,7 @@ impl End {
             return text.push_str(NOT_NOW);
         }
         self.circuit.reject(id, reason);
-        text.push_str("done\n")
+        done_onto(text, Ok(()))
     }
 
     fn put(&mut self, id: u8, bytes: &[u8], text: &mut String) -> Result<(), AllocError> {
@@ -95,13 +85,10 @@ impl End {
             return text.push_str(NOT_NOW);
         }
         let answer = self.circuit.put(id, bytes);
-        count_onto(text, "put", answer)
+        count_onto(text, answer)
     }
 
-    fn set(&mut self, id: u8, bytes: &[u8], text: &mut String) -> Result<(), AllocError> {
-        let Some(setting) = setting_of(bytes) else {
-            return text.push_str("no setting\n");
-        };
+    fn set(&mut self, id: u8, setting: [u8; 5], text: &mut String) -> Result<(), AllocError> {
         if !self.circuit.lives() {
             return text.push_str(NOT_NOW);
         }
@@ -116,7 +103,7 @@ impl End {
         let mut items = vec![in alloc; Item::Byte(0); usize::from(most)]?;
         match self.circuit.take(id, &mut items) {
             Ok(count) => Ok(took_onto(alloc, text, &items[..count])?),
-            Err(fault) => Ok(text.push_str(fault_word(fault))?),
+            Err(fault) => Ok(done_onto(text, Err(fault))?),
         }
     }
 
@@ -150,7 +137,7 @@ impl End {
     /// What it answers to a command that names no end: the calls that one end alone has.
     pub fn own_call(&mut self, line: &str, text: &mut String) -> Result<(), ScriptFault> {
         match word(line, 0) {
-            "connect" => self.connect(line, text)?,
+            "connect" => self.connect(&name(line, 1)?, text)?,
             "answer" => self.answer(byte(line, 1)?, text)?,
             "reject" => self.reject(byte(line, 1)?, byte(line, 2)?, text)?,
             _ => self.asked(text)?,
@@ -186,11 +173,8 @@ impl End {
         let id = byte(line, 2)?;
         match word(line, 0) {
             "put" => self.put(id, &bytes(alloc, line, 3)?, text)?,
-            "set" => self.set(id, &bytes(alloc, line, 3)?, text)?,
-            _ => {
-                let filling = vec![in alloc; 0x61; usize::from(short(line, 3)?)]?;
-                self.put(id, &filling, text)?;
-            }
+            "set" => self.set(id, setting(line, 3)?, text)?,
+            _ => self.put(id, &filling(alloc, line, 3)?, text)?,
         }
         Ok(())
     }
@@ -199,17 +183,12 @@ impl End {
     fn tell_session(&self, line: &str, text: &mut String) -> Result<(), ScriptFault> {
         let id = byte(line, 2)?;
         match word(line, 0) {
-            "state" => {
-                let state = state_word(self.circuit.state(id));
-                write!(text, "{state}\n")?;
-            }
-            "waiting" => {
-                let waiting = self.circuit.waiting(id);
-                write!(text, "{waiting}\n")?;
-            }
+            "state" => state_onto(text, self.circuit.state(id))?,
+            "waiting" => number_onto(text, u64::from(self.circuit.waiting(id)))?,
             _ => {
                 let (given, used) = self.circuit.totals(id);
-                write!(text, "given {given} used {used}\n")?;
+                totals_onto(text, u64::from(given), u64::from(used))?;
+                text.push_str("\n")?;
             }
         }
         Ok(())
@@ -223,7 +202,7 @@ impl End {
             "mark" => maybe_onto(text, self.circuit.mark(byte(line, 2)?))?,
             "ended" => ended_onto(text, self.circuit.ended(byte(line, 2)?))?,
             "peer" => maybe_onto(text, Some(self.circuit.peer(byte(line, 2)?)))?,
-            _ => text.push_str("no command\n")?,
+            _ => return Err(no_command(0)),
         }
         Ok(())
     }

@@ -1,15 +1,14 @@
 //! How the two ends begin.
 
-ghost use Rattle.std.specs.Prelude.{◌≡◌, ◌+◌, ◌<◌, ◌≤◌, [], true, is_ok, length, IfOk};
-ghost use Rattle.lat_base.specs.Names.{name_read};
+ghost use Rattle.std.specs.Prelude.{◌≡◌, ◌+◌, ◌<◌, ◌≤◌, [], true, length, IfOk};
 ghost use Rattle.lat_frames.specs.Conditions.{InfoFits};
 ghost use Rattle.lat_circuit.specs.Agrees.{IsTiming};
 
 use crate::end::End;
-use lat_base::{Addr, Memory, Name, OutBox};
+use lat_base::{Addr, Memory, OutBox};
 use lat_circuit::{Circuit, CircuitConfig, Timing};
 use lat_frames::StartInfo;
-use lat_script::{ScriptFault, byte, word};
+use lat_script::{Pair, ScriptFault, byte, byte_within, choice, known_name};
 use std::alloc::Global;
 
 const SERVER: Addr = Addr([0xaa, 0x00, 0x04, 0x00, 0x01, 0x04]);
@@ -23,46 +22,18 @@ pub struct Setup {
     pub slave: CircuitConfig,
 }
 
-// The five numbers that a line states.
-fn numbers_of(line: &str) -> Result<[u8; 5], ScriptFault> {
-    let mut numbers = [0; 5];
-    for place in 0..5 {
-        numbers[usize::from(place)] = byte(line, place + 1)?;
-    }
-    Ok(numbers)
-}
-
-// The timing of these numbers, brought into their bounds.
-fn bounded(numbers: [u8; 5], wide: bool) -> Timing
-    ensures { IsTiming result }
-{
-    let [timer, keepalive, sessions, extra, ceiling] = numbers;
-    Timing {
-        timer: timer.clamp(1, 100),
-        keepalive: keepalive.max(1),
-        sessions: sessions.clamp(1, 64),
-        extra,
-        ceiling: ceiling.clamp(1, 15),
-        wide,
-    }
-}
-
 // The timing that a line states.
 fn timing_of(line: &str) -> Result<Timing, ScriptFault>
     ensures { IfOk result IsTiming }
 {
-    let numbers = numbers_of(line)?;
-    Ok(bounded(numbers, word(line, 6) == "word"))
-}
-
-// The name that these bytes are.
-fn name(bytes: &[u8]) -> Name
-    requires { is_ok (name_read bytes.now) ≡ true }
-{
-    let Ok(name) = Name::read(bytes) else {
-        unreachable!()
-    };
-    name
+    Ok(Timing {
+        timer: byte_within(1, 100, line, 1)?,
+        keepalive: byte_within(1, 255, line, 2)?,
+        sessions: byte_within(1, 64, line, 3)?,
+        extra: byte(line, 4)?,
+        ceiling: byte_within(1, 15, line, 5)?,
+        wide: choice(Pair::Spans, line, 6)?,
+    })
 }
 
 /// The server TS1 and the node VAX1, with the numbers that a line states.
@@ -71,7 +42,7 @@ pub fn setup_of(line: &str) -> Result<Setup, ScriptFault>
     ensures slave { IfOk result (λ setup. IsTiming setup.slave.timing) }
 {
     let timing = timing_of(line)?;
-    let (server, node) = (name(b"TS1"), name(b"VAX1"));
+    let (server, node) = (known_name(b"TS1"), known_name(b"VAX1"));
     Ok(Setup {
         master: CircuitConfig {
             own: SERVER,

@@ -1,8 +1,8 @@
 //! Answers in words.
 
-use lat_base::{Memory, OutFrame, SessionEnd};
+use lat_base::{Answer, Heard, Memory, OutFrame, SessionEnd};
 use lat_circuit::{Due, SessionFault};
-use lat_script::{end_onto, mark_onto};
+use lat_script::{answer_word, end_onto, heard_onto, number_onto, payload_line, put_onto};
 use lat_show::show;
 use std::alloc::{AllocError, Global};
 
@@ -11,35 +11,32 @@ pub fn due_onto(text: &mut String, due: Due) -> Result<(), AllocError> {
     match due {
         Due::Quiet => text.push_str("quiet\n"),
         Due::Sent(frames) => write!(text, "sent {frames}\n"),
-        Due::Ended(reason) => write!(text, "ended {reason}\n"),
+        Due::Ended(reason) => heard_onto(text, Heard::Ended(reason)),
     }
 }
 
-/// The word of a refused call.
-pub fn fault_word(fault: SessionFault) -> &'static str {
-    match fault {
-        SessionFault::Full => "full\n",
-        SessionFault::Closed => "closed\n",
-    }
-}
-
-/// What a call answers that counts something.
-pub fn count_onto(
-    text: &mut String,
-    what: &str,
-    answer: Result<usize, SessionFault>,
-) -> Result<(), AllocError> {
+// What a call answers that was done or refused.
+fn answer_of(answer: Result<(), SessionFault>) -> Answer {
     match answer {
-        Ok(count) => write!(text, "{what} {count}\n"),
-        Err(fault) => text.push_str(fault_word(fault)),
+        Ok(()) => Answer::Done,
+        Err(SessionFault::Full) => Answer::Full,
+        Err(SessionFault::Closed) => Answer::Closed,
     }
 }
 
 /// Adds a call's answer to the text.
 pub fn done_onto(text: &mut String, answer: Result<(), SessionFault>) -> Result<(), AllocError> {
+    text.push_str(answer_word(&answer_of(answer)))
+}
+
+/// Adds the answer of a put to the text.
+pub fn count_onto(
+    text: &mut String,
+    answer: Result<usize, SessionFault>,
+) -> Result<(), AllocError> {
     match answer {
-        Ok(()) => text.push_str("done\n"),
-        Err(fault) => text.push_str(fault_word(fault)),
+        Ok(count) => put_onto(text, count as u64),
+        Err(fault) => done_onto(text, Err(fault)),
     }
 }
 
@@ -54,7 +51,7 @@ pub fn ended_onto(text: &mut String, end: Option<SessionEnd>) -> Result<(), Allo
 /// Adds a number that may be missing to the text.
 pub fn maybe_onto(text: &mut String, value: Option<u8>) -> Result<(), AllocError> {
     match value {
-        Some(value) => write!(text, "{value}\n"),
+        Some(value) => number_onto(text, u64::from(value)),
         None => text.push_str("none\n"),
     }
 }
@@ -62,7 +59,7 @@ pub fn maybe_onto(text: &mut String, value: Option<u8>) -> Result<(), AllocError
 /// Whether a circuit lives, or for which reason it ended.
 pub fn life_onto(text: &mut String, ended: Option<u8>) -> Result<(), AllocError> {
     match ended {
-        Some(reason) => write!(text, "ended {reason}\n"),
+        Some(reason) => heard_onto(text, Heard::Ended(reason)),
         None => text.push_str("yes\n"),
     }
 }
@@ -74,12 +71,9 @@ pub fn frame_onto(
     number: usize,
     frame: &OutFrame,
 ) -> Result<(), Memory> {
-    write!(text, "{number} ")?;
-    mark_onto(text, frame.mark)?;
+    lat_script::frame_onto(text, number as u64, frame.mark)?;
     text.push_str("\n")?;
-    let mut line = hex::encode(alloc, frame.payload.bytes())?;
-    line.push_str("\n")?;
+    let line = payload_line(alloc, frame.payload.bytes())?;
     let (_, shown) = show(alloc, line.as_bytes())?;
-    text.push_str(&shown)?;
-    Ok(())
+    Ok(text.push_str(&shown)?)
 }

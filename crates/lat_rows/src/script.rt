@@ -9,7 +9,10 @@ use crate::print::frame_onto;
 use crate::rounds::{Round, rounds_onto};
 use lat_base::{Memory, OutBox, Payload};
 use lat_frames::{FrameFault, Message, message_ok, read_message};
-use lat_script::{ScriptFault, byte, bytes, is_command, number, refused_onto, short, word};
+use lat_script::{
+    Pair, ScriptFault, bad_onto, byte, bytes, choice, is_command, no_command, number, refused_onto,
+    short, short_within, word,
+};
 use std::alloc::Global;
 
 // A frame that was made.
@@ -41,6 +44,32 @@ fn pick<'x>(
     if is_one { one } else { other }
 }
 
+// Whether a line names the master, and not the slave.
+fn is_master(line: &str) -> Result<bool, ScriptFault> {
+    choice(Pair::Ends, line, 1)
+}
+
+// Whether this is a command that names an end.
+fn names_end(command: &str) -> bool {
+    matches!(
+        command,
+        "put"
+            | "fill"
+            | "set"
+            | "attend"
+            | "take"
+            | "close"
+            | "state"
+            | "mark"
+            | "waiting"
+            | "totals"
+            | "ended"
+            | "peer"
+            | "held"
+            | "lives"
+    )
+}
+
 // The moment that this word is; where there is no word the end's own, or 0 without an end.
 fn moment_of(line: &str, place: u8, end: &Option<End>) -> Result<u64, ScriptFault> {
     match end {
@@ -69,11 +98,12 @@ impl Play {
         Ok(())
     }
 
-    fn call(&mut self, alloc: Global, id: u16, text: &mut String) -> Result<(), Memory> {
+    fn call(&mut self, alloc: Global, line: &str, text: &mut String) -> Result<(), ScriptFault> {
+        let id = short_within(1, 65_535, line, 1)?;
         let mut out = OutBox::make(alloc)?;
-        self.master = Some(called(alloc, &self.setup.master, id.max(1), &mut out)?);
+        self.master = Some(called(alloc, &self.setup.master, id, &mut out)?);
         text.push_str("called\n")?;
-        self.keep(alloc, true, &out, text)
+        Ok(self.keep(alloc, true, &out, text)?)
     }
 
     fn room(&mut self, alloc: Global, sessions: u8, text: &mut String) -> Result<(), Memory> {
@@ -84,7 +114,7 @@ impl Play {
     }
 
     fn time(&mut self, alloc: Global, line: &str, text: &mut String) -> Result<(), ScriptFault> {
-        let by_master = word(line, 1) == "m";
+        let by_master = is_master(line)?;
         let now = number(line, 2)?;
         let end = pick(&mut self.master, &mut self.slave, by_master);
         let Some(end) = end else {
@@ -151,11 +181,7 @@ impl Play {
     ) -> Result<(), Memory> {
         match read_message(alloc, payload) {
             Ok(message) => self.hear(alloc, by_master, &message, now, text),
-            Err(FrameFault::Bad(bad)) => {
-                let (field, at) = (bad.field.word(), bad.at);
-                write!(text, "bad {field} {at}\n")?;
-                Ok(())
-            }
+            Err(FrameFault::Bad(bad)) => Ok(bad_onto(text, bad)?),
             Err(FrameFault::Memory) => Err(Memory),
         }
     }
@@ -171,7 +197,7 @@ impl Play {
     }
 
     fn inject(&mut self, alloc: Global, line: &str, text: &mut String) -> Result<(), ScriptFault> {
-        let by_master = word(line, 1) == "s";
+        let by_master = !is_master(line)?;
         let payload = bytes(alloc, line, 2)?;
         let end = if by_master { &self.slave } else { &self.master };
         let now = moment_of(line, 3, end)?;
@@ -198,7 +224,10 @@ impl Play {
         line: &str,
         text: &mut String,
     ) -> Result<(), ScriptFault> {
-        let end = pick(&mut self.master, &mut self.slave, word(line, 1) == "m");
+        if !names_end(word(line, 0)) {
+            return Err(no_command(0));
+        }
+        let end = pick(&mut self.master, &mut self.slave, is_master(line)?);
         match end {
             Some(end) => end.session_call(alloc, line, text),
             None => Ok(text.push_str(NO_CIRCUIT)?),
@@ -220,7 +249,7 @@ impl Play {
     // What one command answers.
     fn act(&mut self, alloc: Global, line: &str, text: &mut String) -> Result<(), ScriptFault> {
         match word(line, 0) {
-            "call" => Ok(self.call(alloc, short(line, 1)?, text)?),
+            "call" => self.call(alloc, line, text),
             "room" => Ok(self.room(alloc, byte(line, 1)?, text)?),
             "time" => self.time(alloc, line, text),
             "deliver" => self.deliver(alloc, line, text),

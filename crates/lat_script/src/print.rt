@@ -1,15 +1,36 @@
 //! Answers in print.
 
-ghost use Rattle.std.specs.Prelude.{◌≡◌, ◌++◌, OnOk, string_bytes};
-ghost use Rattle.lat_script.specs.Printed.{answer_text, end_text, heard_text, item_text, items_text, mark_text, state_text, took_text};
+ghost use Rattle.std.specs.Prelude.{◌≡◌, [], ◌∷◌, ◌++◌, OnOk, IfOk, decimal, string_bytes};
+ghost use Rattle.lat_text.specs.HexText.{hex_text};
+ghost use Rattle.lat_text.specs.Line.{line};
+ghost use Rattle.lat_script.specs.Printed.{
+  answer_text,
+  answer_word,
+  bad_text,
+  connected_text,
+  end_text,
+  frame_text,
+  heard_text,
+  item_text,
+  items_text,
+  kept_text,
+  kept_line,
+  mark_text,
+  put_text,
+  state_text,
+  state_line,
+  started_text,
+  took_text,
+  totals_text,
+};
 
-use lat_base::{Answer, Heard, Item, Mark, SessionEnd, SessionState};
+use lat_base::{Answer, Bad, Heard, Item, Kept, Mark, SessionEnd, SessionState};
 use lat_text::{byte_onto, hex_onto};
 use std::alloc::{AllocError, Global};
 
-/// The line of an answer without a number; `other` for each other one.
+/// The line of an answer without a number; no letter for each other one.
 pub fn answer_word(answer: &Answer) -> &'static str
-    ensures { result.now ≡ answer_text answer.now }
+    ensures { result.now ≡ answer_word answer.now }
 {
     match answer {
         Answer::StartRefused => "start-refused\n",
@@ -31,7 +52,84 @@ pub fn answer_word(answer: &Answer) -> &'static str
         Answer::Full => "full\n",
         Answer::IdUsed => "id-used\n",
         Answer::NotHere => "not-here\n",
-        _ => "other\n",
+        _ => "",
+    }
+}
+
+/// Adds the line of a number.
+pub fn number_onto(text: &mut String, number: u64) -> Result<(), AllocError>
+    ensures { OnOk result (string_bytes text.new
+        ≡ string_bytes text.old ++ line (decimal number ∷ [])) }
+{
+    write!(text, "{number}\n")
+}
+
+/// Adds the line of a put of which so many bytes were taken.
+pub fn put_onto(text: &mut String, count: u64) -> Result<(), AllocError>
+    ensures { OnOk result (string_bytes text.new ≡ string_bytes text.old ++ put_text count) }
+{
+    write!(text, "put {count}\n")
+}
+
+/// Adds the line of bytes that are no message.
+pub fn bad_onto(text: &mut String, bad: Bad) -> Result<(), AllocError>
+    ensures { OnOk result (string_bytes text.new ≡ string_bytes text.old ++ bad_text bad) }
+{
+    let (field, at) = (bad.field.word(), bad.at);
+    write!(text, "bad {field} {at}\n")
+}
+
+/// Adds what is kept of a request.
+pub fn kept_onto(text: &mut String, kept: Kept) -> Result<(), AllocError>
+    ensures { OnOk result (string_bytes text.new ≡ string_bytes text.old ++ kept_text kept) }
+{
+    match kept {
+        Kept::Waiting(place) => write!(text, "waiting {place}"),
+        Kept::Granted => text.push_str("granted"),
+        Kept::Cancelled => text.push_str("cancelled"),
+        Kept::QueueFull => text.push_str("queue-full"),
+        Kept::NoService => text.push_str("no-service"),
+        Kept::RecordsFull => text.push_str("records-full"),
+        Kept::Done => text.push_str("done"),
+    }
+}
+
+// Adds the line of what is kept of a request.
+fn kept_line_onto(text: &mut String, kept: Kept) -> Result<(), AllocError>
+    ensures { OnOk result (string_bytes text.new ≡ string_bytes text.old ++ kept_line kept) }
+{
+    text.push_str("kept ")?;
+    kept_onto(text, kept)?;
+    text.push_str("\n")
+}
+
+fn started_onto(text: &mut String, id: u16) -> Result<(), AllocError>
+    ensures { OnOk result (string_bytes text.new ≡ string_bytes text.old ++ started_text id) }
+{
+    write!(text, "started {id}\n")
+}
+
+fn connected_onto(text: &mut String, circuit: u16, session: u8) -> Result<(), AllocError>
+    ensures { OnOk result (string_bytes text.new
+        ≡ string_bytes text.old ++ connected_text circuit session) }
+{
+    write!(text, "connected circuit {circuit} session {session}\n")
+}
+
+/// Adds the line of what a core answers to an event.
+pub fn answer_onto(alloc: Global, text: &mut String, answer: &Answer) -> Result<(), AllocError>
+    ensures { OnOk result (string_bytes text.new
+        ≡ string_bytes text.old ++ answer_text answer.now) }
+{
+    match answer {
+        Answer::Circuit(heard) => heard_onto(text, *heard),
+        Answer::Started(id) => started_onto(text, *id),
+        Answer::Kept(kept) => kept_line_onto(text, *kept),
+        Answer::Bad(bad) => bad_onto(text, *bad),
+        Answer::Connected { circuit, session } => connected_onto(text, *circuit, *session),
+        Answer::Put(count) => put_onto(text, u64::from(*count)),
+        Answer::Took(items) => took_onto(alloc, text, items.as_slice()),
+        _ => text.push_str(answer_word(answer)),
     }
 }
 
@@ -50,8 +148,8 @@ pub fn heard_onto(text: &mut String, heard: Heard) -> Result<(), AllocError>
     }
 }
 
-/// Adds the mark of a frame: `fresh`, `again` with how far its number lies below the newest, `bare` or `plain`.
-pub fn mark_onto(text: &mut String, mark: Mark) -> Result<(), AllocError>
+// Adds the mark of a frame: `fresh`, `again` with how far its number lies below the newest, `bare` or `plain`.
+fn mark_onto(text: &mut String, mark: Mark) -> Result<(), AllocError>
     ensures { OnOk result (string_bytes text.new ≡ string_bytes text.old ++ mark_text mark) }
 {
     match mark {
@@ -60,6 +158,25 @@ pub fn mark_onto(text: &mut String, mark: Mark) -> Result<(), AllocError>
         Mark::Bare => text.push_str("bare"),
         Mark::Plain => text.push_str("plain"),
     }
+}
+
+/// Adds a frame's number and its mark.
+pub fn frame_onto(text: &mut String, number: u64, mark: Mark) -> Result<(), AllocError>
+    ensures { OnOk result (string_bytes text.new
+        ≡ string_bytes text.old ++ frame_text number mark) }
+{
+    write!(text, "{number} ")?;
+    mark_onto(text, mark)
+}
+
+/// A payload as a line that is read: its hex digits and a line feed.
+pub fn payload_line(alloc: Global, payload: &[u8]) -> Result<String, AllocError>
+    ensures { IfOk result (λ text. string_bytes text ≡ line (hex_text payload.now ∷ [])) }
+{
+    let mut text = String::new(alloc);
+    hex_onto(alloc, &mut text, payload)?;
+    text.push_str("\n")?;
+    Ok(text)
 }
 
 /// The word of a session's state.
@@ -74,6 +191,22 @@ pub fn state_word(state: SessionState) -> &'static str
         SessionState::Closing => "closing",
         SessionState::Left => "left",
     }
+}
+
+/// Adds the line of a session's state.
+pub fn state_onto(text: &mut String, state: SessionState) -> Result<(), AllocError>
+    ensures { OnOk result (string_bytes text.new ≡ string_bytes text.old ++ state_line state) }
+{
+    let state = state_word(state);
+    write!(text, "{state}\n")
+}
+
+/// Adds how many credits a session gave and used.
+pub fn totals_onto(text: &mut String, given: u64, used: u64) -> Result<(), AllocError>
+    ensures { OnOk result (string_bytes text.new
+        ≡ string_bytes text.old ++ totals_text given used) }
+{
+    write!(text, "given {given} used {used}")
 }
 
 /// Adds the line of how a session ended.
@@ -102,8 +235,8 @@ fn item_onto(alloc: Global, text: &mut String, item: Item) -> Result<(), AllocEr
     }
 }
 
-/// Adds items, each behind a blank, and a line feed.
-pub fn items_onto(alloc: Global, text: &mut String, items: &[Item]) -> Result<(), AllocError>
+// Adds items, each behind a blank, and a line feed.
+fn items_onto(alloc: Global, text: &mut String, items: &[Item]) -> Result<(), AllocError>
     ensures { OnOk result (string_bytes text.new ≡ string_bytes text.old ++ items_text items.now) }
 {
     for item in items {

@@ -3,8 +3,9 @@
 ghost use Rattle.std.specs.Prelude.{◌≡◌, true, is_ok};
 ghost use Rattle.lat_base.specs.Names.{name_read};
 
-use crate::names::{NODE, name};
+use crate::names::NODE;
 use lat_base::{Bytes, Event, Memory};
+use lat_script::known_name;
 use std::alloc::Global;
 
 /// Node VAX1 offers VAX, rated 200.
@@ -15,7 +16,7 @@ fn connect(line: u8, service: &[u8]) -> Event
 {
     Event::Connect {
         line,
-        service: name(service),
+        service: known_name(service),
     }
 }
 

@@ -2,11 +2,11 @@
 
 ghost use Rattle.std.specs.Prelude.{◌≡◌, []};
 
-use crate::print::answer_onto;
 use crate::switch::print::shown_onto;
 use lat_base::{Addr, Answer, Bytes, Core, EVERYONE, Event, Memory, OutBox, Payload};
 use lat_node::{NodeCore, RatingRule};
 use lat_schedule::{WorldEvent, event_onto};
+use lat_script::answer_onto;
 use lat_switch::SwitchCore;
 use std::alloc::Global;
 use std::collections::VecDeque;

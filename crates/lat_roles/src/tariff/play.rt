@@ -1,7 +1,8 @@
 //! A core that is told events, and what it sends to no circuit.
 
 use lat_base::{Addr, Bytes, Core, Event, Memory, OutBox, OutFrame};
-use lat_script::{Part, ScriptFault, bytes, refused_onto, word};
+use lat_script::{Part, ScriptFault, bytes, no_command, payload_line, refused_onto, word};
+use lat_text::address_onto;
 use std::alloc::Global;
 use std::marker::Model;
 
@@ -27,10 +28,10 @@ fn print(alloc: Global, frame: &OutFrame, text: &mut String) -> Result<(), Memor
     if frame.circuit != 0 {
         return Ok(());
     }
-    let to = hex::encode(alloc, &frame.to.0)?;
-    let payload = hex::encode(alloc, frame.payload.bytes())?;
-    write!(text, "{to} {payload}\n")?;
-    Ok(())
+    address_onto(alloc, text, frame.to)?;
+    text.push_str(" ")?;
+    let payload = payload_line(alloc, frame.payload.bytes())?;
+    Ok(text.push_str(&payload)?)
 }
 
 impl<C: Core> Play<C> {
@@ -63,7 +64,7 @@ impl<C: Core> Play<C> {
                 };
                 Ok(self.tell(alloc, &heard, text)?)
             }
-            _ => Ok(()),
+            _ => Err(no_command(0)),
         }
     }
 
@@ -71,8 +72,10 @@ impl<C: Core> Play<C> {
     pub fn act_all(&mut self, alloc: Global, lines: Part, text: &mut String) -> Result<(), Memory> {
         for (at, line) in lines.text.lines().enumerate() {
             write!(text, "> {line}\n")?;
-            let done = self.act(alloc, line, text);
-            refused_onto(text, lines.first.saturating_add(at as u64), done)?;
+            if at > 0 {
+                let done = self.act(alloc, line, text);
+                refused_onto(text, lines.first.saturating_add(at as u64), done)?;
+            }
         }
         Ok(())
     }
