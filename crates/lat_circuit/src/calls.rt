@@ -8,7 +8,7 @@ ghost use Rattle.lat_model.specs.ends.Timers.{note_empty};
 ghost use Rattle.lat_model.specs.sessions.Calls.{take_count, took, Connect, Take, Answer, Refuse};
 ghost use Rattle.lat_model.specs.sessions.Session.{take_open};
 ghost use Rattle.lat_model.specs.sessions.Sessions.{named, held, least_free};
-ghost use Rattle.lat_stream.specs.Kept.{item_shown};
+ghost use Rattle.lat_stream.specs.Kept.{item_of};
 ghost use Rattle.lat_session.specs.Calls.{call_of, answer_of, bytes_in};
 ghost use Rattle.lat_session.specs.Table.{state_at, waiting_at};
 ghost use Rattle.lat_circuit.specs.Stands.{Stands};
@@ -123,7 +123,7 @@ impl Circuit {
         ensures items { (e : End) →
             Stands self.old e →
             out.new ≡ (if take_open (named e.half.sessions id)
-            then map item_shown (took e.half.sessions id (length out.old))
+            then map item_of (took e.half.sessions id (length out.old))
             ++ drop (take_count (named e.half.sessions id) (length out.old)) out.old
             else out.old) }
         ensures count { IfOk result (λ n.

@@ -17,8 +17,8 @@ use Rattle.lat_machines.specs.cores.Acts.{steps_at, idle}
 use Rattle.lat_machines.specs.cores.Cores.{Seat, Core, Side, with_circuits}
 use Rattle.lat_machines.specs.cores.Lines.{sessions_of, session_of}
 use Rattle.lat_machines.specs.cores.LineCalls.{Said, says, put_on, set_on, attend_on, take_on, close_on}
-use Rattle.lat_stream.specs.Kept.{item_shown, item_in}
-use Rattle.lat_stream.proofs.Kept.{items_in_back}
+use Rattle.lat_stream.specs.Kept.{item_of, item_shown}
+use Rattle.lat_stream.proofs.Kept.{items_of_back}
 use Rattle.lat_stream.specs.declared.calls.SessionFault.{SessionFault}
 use Rattle.lat_stream.specs.declared.calls.SessionFault.TheVariants.{Full, Closed}
 use Rattle.lat_session.specs.declared.call.SessionCall.{SessionCall}
@@ -171,7 +171,7 @@ call_agrees k c lines t call h =
 abbrev pub giving : Core → ℕ → ℕ → List base_item.Item → List base_item.Item
 giving c x id given =
     if lives (c.circuits.circuit_at x).end && take_open (named (c.circuits.circuit_at x).end.half.sessions id)
-    then map item_shown (took (c.circuits.circuit_at x).end.half.sessions id (length given)) ++ drop (take_count (named (c.circuits.circuit_at x).end.half.sessions id) (length given)) given else given
+    then map item_of (took (c.circuits.circuit_at x).end.half.sessions id (length given)) ++ drop (take_count (named (c.circuits.circuit_at x).end.half.sessions id) (length given)) given else given
 
 take_alike : (k : Side) (c : Core) (x id m n : ℕ) → (take_open (named (c.circuits.circuit_at x).end.half.sessions id) ≡ true → take_count (named (c.circuits.circuit_at x).end.half.sessions id) m ≡ take_count (named (c.circuits.circuit_at x).end.half.sessions id) n)
     → calling k x (Take id m) c ≡ calling k x (Take id n) c
@@ -223,7 +223,7 @@ take_agrees k c lines t n given h long = record { core = inner.core ∙ sym alik
     inner = agrees_either c d (take_open s) (Took (took e t.id n)) Refused (λ f. sym (calls_nothing k t.circuit c (Take t.id n) (no_call _ _ _ (ap take_open h.named ∙ f))))
 
     given_of : Bool → Session → List base_item.Item
-    given_of b u = if b && take_open u then map item_shown (take (take_count u m) (drop u.taken (items u.came))) ++ drop (take_count u m) given else given
+    given_of b u = if b && take_open u then map item_of (take (take_count u m) (drop u.taken (items u.came))) ++ drop (take_count u m) given else given
 
     answer_of : Bool → Session → Answer
     answer_of b u = answer_shown (took_answer (if b && take_open u then Ok (take_count u m) else Err Closed) (given_of b u))
@@ -235,14 +235,14 @@ take_agrees k c lines t n given h long = record { core = inner.core ∙ sym alik
     front j u = take j (drop u.taken (items u.came))
 
     shown_of : Bool → Answer
-    shown_of b = answer_shown (took_answer (if b then Ok (take_count s m) else Err Closed) (if b then map item_shown (front (take_count s m) s) ++ drop (take_count s m) given else given))
+    shown_of b = answer_shown (took_answer (if b then Ok (take_count s m) else Err Closed) (if b then map item_of (front (take_count s m) s) ++ drop (take_count s m) given else given))
 
     by : (b : Bool) → take_open s ≡ b → shown_of (take_open s) ≡ cond (take_open s) (Took (took e t.id n)) Refused
     by true f =
         let none : drop (take_count s m) given ≡ [] = drop_of_length-le given (le_of_eq (sym (count f))) in
         ap shown_of f
-        ∙ ap (λ z. Took (map item_in (map item_shown (front (take_count s m) s) ++ z))) none
-        ∙ ap (λ z. Took (map item_in z)) (append-nil (map item_shown (front (take_count s m) s)))
-        ∙ ap Took (items_in_back (front (take_count s m) s) ∙ ap (λ j. front j s) (counts f) ∙ ap (λ u. front (take_count u n) u) (sym h.named))
+        ∙ ap (λ z. Took (map item_shown (map item_of (front (take_count s m) s) ++ z))) none
+        ∙ ap (λ z. Took (map item_shown z)) (append-nil (map item_of (front (take_count s m) s)))
+        ∙ ap Took (items_of_back (front (take_count s m) s) ∙ ap (λ j. front j s) (counts f) ∙ ap (λ u. front (take_count u n) u) (sym h.named))
         ∙ sym (ap (λ b. cond b (Took (took e t.id n)) Refused) f)
     by false f = ap shown_of f ∙ sym (ap (λ b. cond b (Took (took e t.id n)) Refused) f)

@@ -3,7 +3,7 @@ use Rattle.std.specs.Prelude.{map}
 use Rattle.lat_base.specs.declared.answer.Answer as base
 use Rattle.lat_base.specs.declared.answer.Answer.TheVariants as answers
 use Rattle.lat_machines.specs.values.Answers.{Answer, Circuit, Started, StartRefused, Announced, DirectoryFull, KeptIs, NotKept, Noted, Apart, Solicited, Ignored, Bad, Done, Connected, Accepted, Took, NoLine, Busy, NoService, SessionsFull, CircuitsFull, IdsOut, Closed, Full, IdUsed, NotHere}
-use Rattle.lat_stream.specs.Kept.{item_in, item_shown}
+use Rattle.lat_stream.specs.Kept.{item_shown, item_of}
 use Rattle.lat_circuit.specs.Hears.{heard_shown, heard_of}
 use Rattle.lat_queue.specs.KeptValues.{kept_in, kept_of}
 use Rattle.lat_payload.specs.FieldNumbers.{field_number, field_of}
@@ -23,7 +23,7 @@ answer_shown answers.Ignored = Ignored
 answer_shown (answers.Bad bad) = Bad (field_number bad.field) bad.at
 answer_shown (answers.Connected circuit session) = Connected circuit session
 answer_shown (answers.Put n) = Accepted n
-answer_shown (answers.Took given) = Took (map item_in given)
+answer_shown (answers.Took given) = Took (map item_shown given)
 answer_shown answers.Done = Done
 answer_shown answers.NoLine = NoLine
 answer_shown answers.Busy = Busy
@@ -52,7 +52,7 @@ answer_of (Bad field at) = answers.Bad (record { field = field_of field; at = at
 answer_of Done = answers.Done
 answer_of (Connected circuit session) = answers.Connected circuit session
 answer_of (Accepted n) = answers.Put n
-answer_of (Took items) = answers.Took (map item_shown items)
+answer_of (Took items) = answers.Took (map item_of items)
 answer_of NoLine = answers.NoLine
 answer_of Busy = answers.Busy
 answer_of NoService = answers.NoService

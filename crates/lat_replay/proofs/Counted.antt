@@ -6,7 +6,7 @@ use Rattle.lat_model.specs.sessions.Slots.{Item}
 use Rattle.lat_machines.specs.world.Machines.{Machines}
 use Rattle.lat_laws.specs.tales.Rows.{RowAfter, RowsAfter}
 use Rattle.lat_laws.specs.tales.Reported.{report_rows_from}
-use Rattle.lat_stream.specs.Kept.{item_shown}
+use Rattle.lat_stream.specs.Kept.{item_of}
 use Rattle.lat_replay.specs.declared.roster.row.Row.{Row}
 use Rattle.lat_replay.specs.roster.Roster.{ShowsRows}
 use Rattle.lat_replay.specs.Counts.{put_of, taken_of, put_in_row, taken_in_row}
@@ -15,8 +15,8 @@ map_length : {A B : Type 0} → (f : A → B) (xs : List A) → length (map f xs
 map_length f [] = refl
 map_length f (x ∷ xs) = ap suc (map_length f xs)
 
-items_length : (ys : List base.Item) (xs : List Item) → ys ≡ map item_shown xs → length ys ≡ length xs
-items_length ys xs q = ap length q ∙ map_length item_shown xs
+items_length : (ys : List base.Item) (xs : List Item) → ys ≡ map item_of xs → length ys ≡ length xs
+items_length ys xs q = ap length q ∙ map_length item_of xs
 
 put_from : (w : Machines) (k : RowsAfter) (p n : ℕ) (ks : List Row) (rs : List RowAfter) → ShowsRows ks rs → fold (λ a x. a + put_in_row x) n ks ≡ fold (λ a x. a + put_of x) n (report_rows_from w k p rs)
 put_from w k p n [] [] h = refl

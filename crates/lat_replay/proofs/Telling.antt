@@ -6,7 +6,7 @@ use Rattle.lat_machines.specs.world.Machines.{Machines}
 use Rattle.lat_machines.specs.world.Reports as reports
 use Rattle.lat_laws.specs.tales.Rows.{Figures, RowAfter, RowsAfter}
 use Rattle.lat_laws.specs.tales.Reported.{server_figures, node_figures, report_row}
-use Rattle.lat_stream.specs.Kept.{item_shown}
+use Rattle.lat_stream.specs.Kept.{item_of}
 use Rattle.lat_wire.specs.report.ReportText.{row_text}
 use Rattle.lat_wire.specs.report.Rows.{items_in}
 use Rattle.lat_replay.specs.Rows.{row_with}
@@ -22,7 +22,7 @@ module _ (r : RowAfter) (server node : Figures) where
     down = record { put = put_down; taken = taken_down; given = server.given; used_up = node.used_up };
   }
 
-  pub told_is : (line node_line : ℕ) (o : Option ℕ) (put_up taken_up put_down taken_down : List base.Item) → line ≡ r.line → node_line ≡ r.node_line → o ≡ cond (nat_eq node_line 0) None (Some node_line) → put_up ≡ map item_shown r.put_up → taken_up ≡ map item_shown r.taken_up → put_down ≡ map item_shown r.put_down → taken_down ≡ map item_shown r.taken_down → whole line o (items_in put_up) (items_in taken_up) (items_in put_down) (items_in taken_down) ≡ row_with r server node
+  pub told_is : (line node_line : ℕ) (o : Option ℕ) (put_up taken_up put_down taken_down : List base.Item) → line ≡ r.line → node_line ≡ r.node_line → o ≡ cond (nat_eq node_line 0) None (Some node_line) → put_up ≡ map item_of r.put_up → taken_up ≡ map item_of r.taken_up → put_down ≡ map item_of r.put_down → taken_down ≡ map item_of r.taken_down → whole line o (items_in put_up) (items_in taken_up) (items_in put_down) (items_in taken_down) ≡ row_with r server node
   told_is line node_line o pu tu pd td l n e a b c d =
       ap₂ (λ x y. whole x y (items_in pu) (items_in tu) (items_in pd) (items_in td)) l (e ∙ ap (λ z. cond (nat_eq z 0) None (Some z)) n)
       ∙ (ap₂ (λ x y. whole r.line (cond (nat_eq r.node_line 0) None (Some r.node_line)) x y (items_in pd) (items_in td)) (items_are pu r.put_up a) (items_are tu r.taken_up b)

@@ -6,8 +6,8 @@ use Rattle.lat_base.specs.declared.item.Item as base
 use Rattle.lat_model.specs.sessions.Slots.{Item}
 use Rattle.lat_machines.specs.world.Machines.{Machines}
 use Rattle.lat_machines.specs.world.Reports.{Row}
-use Rattle.lat_stream.specs.Kept.{item_shown}
-use Rattle.lat_stream.proofs.Kept.{items_in_back}
+use Rattle.lat_stream.specs.Kept.{item_of}
+use Rattle.lat_stream.proofs.Kept.{items_of_back}
 use Rattle.lat_laws.specs.tales.Rows.{RowAfter, RowsAfter}
 use Rattle.lat_laws.specs.tales.Reported.{report_row, report_rows_from}
 use Rattle.lat_wire.specs.report.ReportText.{row_text, rows_text}
@@ -50,8 +50,8 @@ more_text text before xs ys zs a b = ap (λ z. z ++ zs) a ∙ (append_more befor
 
 -- items
 
-pub items_are : (ys : List base.Item) (xs : List Item) → ys ≡ map item_shown xs → items_in ys ≡ xs
-items_are ys xs q = ap items_in q ∙ items_in_back xs
+pub items_are : (ys : List base.Item) (xs : List Item) → ys ≡ map item_of xs → items_in ys ≡ xs
+items_are ys xs q = ap items_in q ∙ items_of_back xs
 
 -- one more of a list of texts
 pub flat_more : {A : Type 0} → (f : A → List ℕ) (xs : List A) (i : ℕ) (x : A) → slice_get xs i ≡ Some x → flat_map f (take (suc i) xs) ≡ flat_map f (take i xs) ++ f x

@@ -18,7 +18,7 @@ ghost use Rattle.lat_model.specs.sessions.Slots as slots;
 ghost use Rattle.lat_laws.specs.tales.Rows as rows;
 ghost use Rattle.lat_laws.specs.tales.Keeping.{no_rows, adds, connects, accepts};
 ghost use Rattle.lat_replay.specs.roster.Names.{key_of, place_of};
-ghost use Rattle.lat_stream.specs.Kept.{item_shown};
+ghost use Rattle.lat_stream.specs.Kept.{item_of};
 ghost use Rattle.lat_replay.specs.roster.Rows.{ShowsFigures, IsSeat};
 ghost use Rattle.lat_replay.specs.roster.Roster.{Shows, last_row, newest, ReservedFor};
 
@@ -164,8 +164,8 @@ impl Roster {
     pub fn adds(&mut self, server: bool, line: u8, put: &[Item], taken: &[Item])
         requires { ReservedFor self.old server line (length put.now) (length taken.now) }
         ensures shows { (r : rows.RowsAfter) (ps ts : List slots.Item) →
-            put.now ≡ map item_shown ps →
-            taken.now ≡ map item_shown ts →
+            put.now ≡ map item_of ps →
+            taken.now ≡ map item_of ts →
             Shows self.old r →
             Shows self.new (adds server line ps ts r) }
         ensures rows { self.old.reserved ≡ self.new.reserved }

@@ -5,7 +5,7 @@ ghost use Rattle.lat_base.specs.declared.state.SessionState.TheVariants as state
 ghost use Rattle.lat_model.specs.sessions.Calls.{call as called, take_count, took, Connect, Take, Answer, Refuse};
 ghost use Rattle.lat_model.specs.sessions.Session.{Session, take_open};
 ghost use Rattle.lat_model.specs.sessions.Sessions.{Sessions as States, named, held, least_free};
-ghost use Rattle.lat_stream.specs.Kept.{item_shown, kept_of};
+ghost use Rattle.lat_stream.specs.Kept.{item_of, kept_of};
 ghost use Rattle.lat_stream.specs.Sound.{Sound};
 ghost use Rattle.lat_session.specs.Calls.{call_of, answer_of, bytes_in, is_taken, after, without_bytes};
 ghost use Rattle.lat_session.specs.Stands.{Stands};
@@ -92,7 +92,7 @@ impl Sessions {
         ensures items { (e : States) →
             Stands self.old e →
             out.new ≡ (if take_open (named e id)
-            then map item_shown (took e id (length out.old))
+            then map item_of (took e id (length out.old))
             ++ drop (take_count (named e id) (length out.old)) out.old
             else out.old) }
         ensures state { (e : States) → Stands self.old e →

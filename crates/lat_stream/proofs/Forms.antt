@@ -6,7 +6,7 @@ use Rattle.lat_model.specs.sessions.Slots.{Slot, items, items_of, credits, credi
 use Rattle.lat_model.specs.sessions.Session.{Session, Free, Calling, Asked, Live, Closing, Left, peer, answered, rejected, held_slots}
 use Rattle.lat_model.specs.sessions.Packing.{formed}
 use Rattle.lat_model.proofs.sessions.Words.{items-append, credits-append, costs-append, has_stop-append}
-use Rattle.lat_stream.specs.Kept.{Kept, kept_of, item_shown, state_shown, saturated, left_in, reject_reason}
+use Rattle.lat_stream.specs.Kept.{Kept, kept_of, item_of, state_shown, saturated, left_in, reject_reason}
 
 -- over: both stops were formed and heard
 abbrev pub over_by : Session → (stop : Bool) → Bool
@@ -30,8 +30,8 @@ kept_with master ceiling s attention none stop outstanding unused given used cou
   credits = record { ceiling = ceiling; outstanding = outstanding; held = held_slots s; unused = unused };
   given = given;
   used = used;
-  unframed = cond (rejected s) [] (map item_shown (cond (has_stop s.came) [] (drop count s.put)));
-  heard = cond s.closed [] (map item_shown (drop s.taken (items s.came)));
+  unframed = cond (rejected s) [] (map item_of (cond (has_stop s.came) [] (drop count s.put)));
+  heard = cond s.closed [] (map item_of (drop s.taken (items s.came)));
   held = cond s.closed [] (left_in s.taken s.came);
   end = cond (nat_eq s.id 0) None (cond (rejected s) (Some (ends.Rejected (reject_reason s))) (cond (free_by s stop) (Some ends.Closed) None));
 }

@@ -12,7 +12,7 @@ use Rattle.lat_model.specs.sessions.Session.{Session, Free, Calling, Asked, Live
 use Rattle.lat_model.specs.sessions.Session as session
 use Rattle.lat_model.specs.sessions.Offers.{start_of}
 use Rattle.lat_model.specs.sessions.Packing.{formed}
-use Rattle.lat_stream.specs.Kept.{Kept, kept_of, item_shown, state_shown, saturated, reject_reason}
+use Rattle.lat_stream.specs.Kept.{Kept, kept_of, item_of, state_shown, saturated, reject_reason}
 use Rattle.lat_stream.specs.Turns.{gave, framed, stopped}
 use Rattle.lat_stream.proofs.Forms.{kept_with, kept_now, then_is, or_false, told_more}
 
@@ -89,10 +89,10 @@ drop_none : {A : Type 0} (n : ℕ) → drop {A = A} n [] ≡ []
 drop_none zero = refl
 drop_none (suc n) = refl
 
-left_unframed : (r h : Bool) (k n : ℕ) (put : List Item) → cond r [] (map item_shown (cond h [] (drop (k + n) put))) ≡ drop n (cond r [] (map item_shown (cond h [] (drop k put))))
+left_unframed : (r h : Bool) (k n : ℕ) (put : List Item) → cond r [] (map item_of (cond h [] (drop (k + n) put))) ≡ drop n (cond r [] (map item_of (cond h [] (drop k put))))
 left_unframed true h k n put = sym (drop_none n)
 left_unframed false true k n put = sym (drop_none n)
-left_unframed false false k n put = ap (map item_shown) (drop_more k n put) ∙ map_drop item_shown n (drop k put)
+left_unframed false false k n put = ap (map item_of) (drop_more k n put) ∙ map_drop item_of n (drop k put)
 
 frames_more : (m : Bool) (c : ℕ) (s : Session) (n : ℕ) → costs s.came ≤ credits s.out →
     kept_now m c s s.attention false false (credits s.out + session.due c s) (costs s.out + 1) (length (items s.out) + n) ≡ framed n (gave (open_kept m c s))
@@ -168,7 +168,7 @@ stop_after m c s n r a h =
     let k : Kept = open_kept m c s in
     let sc : Bool = has_stop s.came in
     let taken : Bool = s.closed || nat_le (length (items s.came)) s.taken in
-    let gone : is_empty k.heard ≡ taken = heard_gone item_shown s.closed s.taken (items s.came) in
+    let gone : is_empty k.heard ≡ taken = heard_gone item_of s.closed s.taken (items s.came) in
     open_then m c s (Stop (peer s) s.id 1) h ∙ plain m c s s.attention true
     ∙ ap (λ z. stopped_with k z (end_by (nat_eq s.id 0) (rejected s) sc taken true (reject_reason s))) (state_after m (rejected s) sc s.closed (nat_le (length (items s.came)) s.taken) (answered s) r a)
     ∙ ap (λ z. stopped_with k (cond sc (cond taken kept_states.Free kept_states.Left) k.state) z) (end_after (nat_eq s.id 0) (rejected s) sc taken (reject_reason s) (ne_eqb s.id 0 n) r)

@@ -12,7 +12,7 @@ use Rattle.lat_stream.specs.declared.opening.Opening.{Opening}
 use Rattle.lat_stream.specs.declared.forming.Formed.{Formed}
 use Rattle.lat_stream.specs.declared.forming.Turn.{Turn}
 use Rattle.lat_stream.specs.declared.forming.Turn.TheVariants as turns
-use Rattle.lat_stream.specs.Kept.{Kept, kept_of, item_shown, state_shown}
+use Rattle.lat_stream.specs.Kept.{Kept, kept_of, item_of, state_shown}
 use Rattle.lat_stream.specs.Sound.{Sound}
 use Rattle.lat_stream.specs.Does.{Does, reject_due}
 use Rattle.lat_stream.specs.Turns.{Meets, data_turn, live_turn, turn_in, turn_of, leading, next_bytes, bytes_offer, offer_at, kept_after, framed, gave}
@@ -66,7 +66,7 @@ credits_agree m c room s w = record { offered = same (session.due c s); after = 
         ∙ credits_after m c s w.spent w.stop
 
 -- the bytes that stand next
-leading_shown : (us : List Item) → leading (map item_shown us) ≡ offers.leading us
+leading_shown : (us : List Item) → leading (map item_of us) ≡ offers.leading us
 leading_shown [] = refl
 leading_shown (Byte b ∷ us) = ap (λ z. b ∷ z) (leading_shown us)
 leading_shown (Setting t ∷ us) = refl
@@ -100,8 +100,8 @@ some_left a b = go (nat_lt 0 (b - a)) (nat_lt a b) refl refl
     go false true e f = absurd (omega (arith, ltb-false 0 (b - a) e, ltb-true a b f))
     go false false e f = refl
 
-data_agrees : (m : Bool) (c room : ℕ) (s : Session) → Open m c s → (us : List Item) → (open_kept m c s).unframed ≡ map item_shown us → (b : Bool) → may_spend s ≡ b →
-    Agrees m c room s (open_kept m c s) (offers.data_offer c room s us) (data_turn b (map item_shown us))
+data_agrees : (m : Bool) (c room : ℕ) (s : Session) → Open m c s → (us : List Item) → (open_kept m c s).unframed ≡ map item_of us → (b : Bool) → may_spend s ≡ b →
+    Agrees m c room s (open_kept m c s) (offers.data_offer c room s us) (data_turn b (map item_of us))
 data_agrees m c room s w [] e b f = credits_agree m c room s w
 data_agrees m c room s w (Byte x ∷ us) e b f = go (may_spend s) b f
   where
@@ -127,7 +127,7 @@ data_agrees m c room s w (Setting t ∷ us) e b f = go (may_spend s) b f
     go false true e = absurd (false≢true e)
     go false false e = credits_agree m c room s w
 
-empty_shown : (us : List Item) → is_empty (map item_shown us) ≡ is_empty us
+empty_shown : (us : List Item) → is_empty (map item_of us) ≡ is_empty us
 empty_shown [] = refl
 empty_shown (u ∷ us) = refl
 
@@ -138,8 +138,8 @@ live_agrees m c room s w None = go (stop_due s) (k.stop_heard || (k.closed && is
     k : Kept
     k = open_kept m c s
 
-    shown : k.unframed ≡ map item_shown (unframed s)
-    shown = ap (λ b. cond b [] (map item_shown (unframed s))) w.rejected_not
+    shown : k.unframed ≡ map item_of (unframed s)
+    shown = ap (λ b. cond b [] (map item_of (unframed s))) w.rejected_not
 
     y : Slot
     y = Stop (peer s) s.id 1

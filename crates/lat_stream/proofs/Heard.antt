@@ -16,7 +16,7 @@ use Rattle.lat_model.proofs.sessions.Bounds.{heard_fit}
 use Rattle.lat_model.proofs.sessions.Hears.{starter_more, heard_accounts}
 use Rattle.lat_model.proofs.sessions.Words.{items-append}
 use Rattle.lat_stream.specs.declared.opening.Opening.{Opening}
-use Rattle.lat_stream.specs.Kept.{Kept, kept_of, item_shown, state_shown, left_in}
+use Rattle.lat_stream.specs.Kept.{Kept, kept_of, item_of, state_shown, left_in}
 use Rattle.lat_stream.specs.Sound.{Sound}
 use Rattle.lat_stream.specs.Steps.{granted, held_more, kept_more, can_pay}
 use Rattle.lat_stream.proofs.Same.{same}
@@ -32,17 +32,17 @@ credits_more c s x = record {
   unused = credits s.came + credits_of x - costs s.out;
 }
 
-pub heard_items : (s : Session) (x : Slot) → s.taken ≤ length (items s.came) → map item_shown (drop s.taken (items (s.came ++ x ∷ []))) ≡ map item_shown (drop s.taken (items s.came)) ++ map item_shown (items_of x ++ [])
+pub heard_items : (s : Session) (x : Slot) → s.taken ≤ length (items s.came) → map item_of (drop s.taken (items (s.came ++ x ∷ []))) ≡ map item_of (drop s.taken (items s.came)) ++ map item_of (items_of x ++ [])
 heard_items s x h =
-    ap (λ z. map item_shown (drop s.taken z)) (items-append s.came (x ∷ []))
-    ∙ ap (λ z. map item_shown z) (drop-append-le s.taken (items s.came) (items_of x ++ []) h)
-    ∙ map-append item_shown (drop s.taken (items s.came)) (items_of x ++ [])
+    ap (λ z. map item_of (drop s.taken z)) (items-append s.came (x ∷ []))
+    ∙ ap (λ z. map item_of z) (drop-append-le s.taken (items s.came) (items_of x ++ []) h)
+    ∙ map-append item_of (drop s.taken (items s.came)) (items_of x ++ [])
 
 pub heard_is : (m : Bool) (c : ℕ) (s : Session) (x : Slot) → s.taken ≤ length (items s.came) → Runs s → has_stop s.came ≡ false → is_stop x ≡ false →
     record (kept_of m c s) {
       mark = mark_after s.mark x;
       credits = credits_more c s x;
-      heard = cond s.closed [] (map item_shown (drop s.taken (items s.came)) ++ map item_shown (items_of x ++ []));
+      heard = cond s.closed [] (map item_of (drop s.taken (items s.came)) ++ map item_of (items_of x ++ []));
       held = cond s.closed [] (left_in s.taken s.came ++ left_in 0 (x ∷ []));
     } ≡ kept_of m c (heard s x)
 heard_is m c s x t r h i =
@@ -61,7 +61,7 @@ heard_is m c s x t r h i =
       credits = ap (λ (a : Account). record { ceiling = c; outstanding = a.given - a.heard; held = a.held; unused = a.granted - a.used }) (sym (sessions.heard_is s x t));
       given = refl;
       used = refl;
-      unframed = ap₂ (λ a b. cond a [] (map item_shown (cond b [] (drop (length (items s.out)) s.put)))) (sym (rejected_more s x r.some)) (sym stop);
+      unframed = ap₂ (λ a b. cond a [] (map item_of (cond b [] (drop (length (items s.out)) s.put)))) (sym (rejected_more s x r.some)) (sym stop);
       heard = ap (λ z. cond s.closed [] z) (sym (heard_items s x t));
       held = ap (λ z. cond s.closed [] z) (sym (left_behind s.taken s.came x t));
       end = end_runs s r ∙ sym (end_runs (heard s x) q);
@@ -92,7 +92,7 @@ free_of m c s x ac r h i cost none =
       given = refl;
       used = refl;
       unframed = refl;
-      heard = ap (λ z. cond s.closed [] z) (sym (append-nil _) ∙ ap (λ z. map item_shown (drop s.taken (items s.came)) ++ map item_shown (z ++ [])) (sym none));
+      heard = ap (λ z. cond s.closed [] z) (sym (append-nil _) ∙ ap (λ z. map item_of (drop s.taken (items s.came)) ++ map item_of (z ++ [])) (sym none));
       held = ap (λ z. cond s.closed [] z) (sym (append-nil _) ∙ ap (λ z. left_in s.taken s.came ++ cond (nat_lt 0 (length z)) ((length z - 0) ∷ []) []) (sym none));
       end = refl;
     }) ∙ heard_is m c s x ac.taken r h i
@@ -104,7 +104,7 @@ free_of m c s x ac r h i cost none =
 -- items come, for a credit
 
 pub paid_for : (m : Bool) (c : ℕ) (s : Session) (x : Slot) → Accounts c s → Runs s → has_stop s.came ≡ false → is_stop x ≡ false → cost_of x ≡ 1 → 0 < length (items_of x) → mark_after s.mark x ≡ s.mark →
-    kept_more (map item_shown (items_of x)) (held_more (length (items_of x)) (granted (credits_of x) (kept_of m c s))) ≡ kept_of m c (heard s x)
+    kept_more (map item_of (items_of x)) (held_more (length (items_of x)) (granted (credits_of x) (kept_of m c s))) ≡ kept_of m c (heard s x)
 paid_for m c s x ac r h i cost some mark =
     same _ _ (record {
       state = refl;
@@ -129,9 +129,9 @@ paid_for m c s x ac r h i cost some mark =
     bound true = omega arith
     bound false = omega (arith, cost)
 
-    items_come : (b : Bool) → cond b (cond b [] (map item_shown (drop s.taken (items s.came)))) (cond b [] (map item_shown (drop s.taken (items s.came))) ++ map item_shown (items_of x)) ≡ cond b [] (map item_shown (drop s.taken (items s.came)) ++ map item_shown (items_of x ++ []))
+    items_come : (b : Bool) → cond b (cond b [] (map item_of (drop s.taken (items s.came)))) (cond b [] (map item_of (drop s.taken (items s.came))) ++ map item_of (items_of x)) ≡ cond b [] (map item_of (drop s.taken (items s.came)) ++ map item_of (items_of x ++ []))
     items_come true = refl
-    items_come false = ap (λ z. map item_shown (drop s.taken (items s.came)) ++ map item_shown z) (sym (append-nil (items_of x)))
+    items_come false = ap (λ z. map item_of (drop s.taken (items s.came)) ++ map item_of z) (sym (append-nil (items_of x)))
 
     is_held : (b : Bool) → cond b (cond b [] (left_in s.taken s.came)) (cond b [] (left_in s.taken s.came) ++ length (items_of x) ∷ []) ≡ cond b [] (left_in s.taken s.came ++ cond (nat_lt 0 (length (items_of x))) ((length (items_of x) - 0) ∷ []) [])
     is_held true = refl
@@ -148,13 +148,13 @@ room_for m c s x most ac small few fit = go s.closed refl
     more : Small (s.came ++ x ∷ [])
     more = each_append (λ y. length (items_of y) ≤ 255) s.came (x ∷ []) small (few, tt)
 
-    go : (b : Bool) → s.closed ≡ b → length (cond b [] (map item_shown (drop s.taken (items s.came)))) + length (items_of x) ≤ 3825
+    go : (b : Bool) → s.closed ≡ b → length (cond b [] (map item_of (drop s.taken (items s.came)))) + length (items_of x) ≤ 3825
     go true q = omega (arith, few)
     go false q =
         let all : length (items (s.came ++ x ∷ [])) - s.taken ≤ 3825 = heard_fit c (heard s x) most (heard_accounts c s x fit ac) more q in
         let sum : length (items (s.came ++ x ∷ [])) ≡ length (items s.came) + length (items_of x ++ []) = ap length (items-append s.came (x ∷ [])) ∙ length-append (items s.came) (items_of x ++ []) in
         let last : length (items_of x ++ []) ≡ length (items_of x) = ap length (append-nil (items_of x)) in
-        let left : length (map item_shown (drop s.taken (items s.came))) ≡ length (items s.came) - s.taken = length-map (drop s.taken (items s.came)) item_shown ∙ length-drop s.taken (items s.came) in
+        let left : length (map item_of (drop s.taken (items s.came))) ≡ length (items s.came) - s.taken = length-map (drop s.taken (items s.came)) item_of ∙ length-drop s.taken (items s.came) in
         omega (arith, ac.taken)
 
 pub attention_is : (m : Bool) (c : ℕ) (s : Session) (to from flag : ℕ) → Accounts c s → Runs s → has_stop s.came ≡ false → record (kept_of m c s) { mark = Some flag } ≡ kept_of m c (heard s (Attention to from flag))
@@ -168,7 +168,7 @@ pub bytes_are : (m : Bool) (c : ℕ) (s : Session) (to from n : ℕ) (bs : List 
 bytes_are m c s to from n [] some ac r h = absurd (omega (arith, some))
 bytes_are m c s to from n (b ∷ bs) some ac r h =
     ap (λ z. kept_more z (held_more (length (b ∷ bs)) (granted n (kept_of m c s)))) (sym (bytes_shown (b ∷ bs)))
-    ∙ ap (λ z. kept_more (map item_shown (map Byte (b ∷ bs))) (held_more z (granted n (kept_of m c s)))) (sym (length-map (b ∷ bs) Byte))
+    ∙ ap (λ z. kept_more (map item_of (map Byte (b ∷ bs))) (held_more z (granted n (kept_of m c s)))) (sym (length-map (b ∷ bs) Byte))
     ∙ paid_for m c s (DataA to from n (b ∷ bs)) ac r h refl refl (omega arith) refl
 
 pub no_bytes_are : (m : Bool) (c : ℕ) (s : Session) (to from n : ℕ) (bs : List ℕ) → length bs ≡ 0 → Accounts c s → Runs s → has_stop s.came ≡ false →

@@ -4,10 +4,10 @@ use Rattle.std.proofs.lemmas.Bool.{lt-ltb, le-ltb}
 use Rattle.lat_base.specs.declared.item.Item.TheVariants as kept_items
 use Rattle.lat_model.specs.sessions.Slots.{Byte, Slot, items_of, items}
 use Rattle.lat_model.specs.sessions.Session.{held_from}
-use Rattle.lat_stream.specs.Kept.{left_in, item_shown}
+use Rattle.lat_stream.specs.Kept.{left_in, item_of}
 use Rattle.lat_stream.specs.Steps.{still_held}
 
-pub bytes_shown : (bs : List ℕ) → map item_shown (map Byte bs) ≡ map kept_items.Byte bs
+pub bytes_shown : (bs : List ℕ) → map item_of (map Byte bs) ≡ map kept_items.Byte bs
 bytes_shown [] = refl
 bytes_shown (b ∷ bs) = ap (λ z. kept_items.Byte b ∷ z) (bytes_shown bs)
 

@@ -12,7 +12,7 @@ use Rattle.lat_model.specs.sessions.Hearing.{heard}
 use Rattle.lat_model.proofs.sessions.Hears.{starter_more, starts_more}
 use Rattle.lat_model.proofs.sessions.Words.{items-append, has_stop-append}
 use Rattle.lat_stream.specs.declared.opening.Opening.{Opening}
-use Rattle.lat_stream.specs.Kept.{kept_of, item_shown, state_shown, left_in, end_of, reject_reason}
+use Rattle.lat_stream.specs.Kept.{kept_of, item_of, state_shown, left_in, end_of, reject_reason}
 use Rattle.lat_stream.specs.Sound.{Sound}
 use Rattle.lat_stream.specs.Steps.{is_left, stop_in}
 use Rattle.lat_stream.proofs.Same.{same}
@@ -63,8 +63,8 @@ stop_is m c s to from reason h r none =
       credits = counted ∙ ap (λ (a : Account). record { ceiling = c; outstanding = a.given - a.heard; held = a.held; unused = a.granted - a.used }) (sym (sessions.heard_is s x h.accounts.taken));
       given = refl;
       used = refl;
-      unframed = ap₂ (λ a b. cond a [] (map item_shown (cond b [] (drop (length (items s.out)) s.put)))) (sym rej) (sym stop);
-      heard = ap (λ z. cond s.closed [] (map item_shown (drop s.taken z))) (sym all);
+      unframed = ap₂ (λ a b. cond a [] (map item_of (cond b [] (drop (length (items s.out)) s.put)))) (sym rej) (sym stop);
+      heard = ap (λ z. cond s.closed [] (map item_of (drop s.taken z))) (sym all);
       held = ap (λ z. cond s.closed [] z) (sym (append-nil (left_in s.taken s.came)) ∙ sym (left_behind s.taken s.came x h.accounts.taken));
       end =
           ap (λ b. cond (is_left (cond o kept_states.Left kept_states.Closing) && b) (Some ends.Closed) (end_of s)) done
@@ -73,7 +73,7 @@ stop_is m c s to from reason h r none =
           ∙ ap (λ b. cond b None (end_of (record t { id = 1 }))) (sym id);
     })
   where
-    nothing : (b : Bool) → is_empty (cond b [] (map item_shown (drop s.taken (items s.came)))) ≡ (b || nat_le (length (items s.came)) s.taken)
+    nothing : (b : Bool) → is_empty (cond b [] (map item_of (drop s.taken (items s.came)))) ≡ (b || nat_le (length (items s.came)) s.taken)
     nothing true = refl
     nothing false = none_left s.taken (items s.came)
 

@@ -11,7 +11,7 @@ use Rattle.lat_model.specs.Lists.{is_empty, IsPrefixOf}
 use Rattle.lat_model.specs.sessions.Slots.{Item, Byte, items, credits, costs, has_stop, turned}
 use Rattle.lat_model.specs.sessions.Session.{Session, Free, Calling, Asked, Live, Closing, Left, state, answered, rejected, stopped, gone, free, unframed, held_from, put_open, take_open}
 use Rattle.lat_model.specs.sessions.Calls.{put_items, put_count, take_count}
-use Rattle.lat_stream.specs.Kept.{Kept, kept_of, item_shown, state_shown, left_in, end_of, reject_reason}
+use Rattle.lat_stream.specs.Kept.{Kept, kept_of, item_of, state_shown, left_in, end_of, reject_reason}
 use Rattle.lat_stream.specs.Sound.{Sound}
 use Rattle.lat_stream.specs.Steps.{can_put, can_take, is_left, ended_if_done, ended, took, still_held}
 use Rattle.lat_stream.proofs.Left.{bytes_shown, left_count, still_left}
@@ -39,7 +39,7 @@ pub waiting_is : (m : Bool) (c : ℕ) (s : Session) → Sound m c s → cond (ca
 waiting_is m c s h = ap (λ b. cond b (length (kept_of m c s).heard) 0) (can_take_is m c s h) ∙ go (take_open s) refl
   where
     go : (b : Bool) → take_open s ≡ b → cond b (length (kept_of m c s).heard) 0 ≡ cond b (length (items s.came) - s.taken) 0
-    go true e = ap (λ b. length (cond b [] (map item_shown (drop s.taken (items s.came))))) (take_some s e).0 ∙ length-map (drop s.taken (items s.came)) item_shown ∙ length-drop s.taken (items s.came)
+    go true e = ap (λ b. length (cond b [] (map item_of (drop s.taken (items s.came))))) (take_some s e).0 ∙ length-map (drop s.taken (items s.came)) item_of ∙ length-drop s.taken (items s.came)
     go false e = refl
 
 -- items are put
@@ -49,19 +49,19 @@ framed_fit xs ys h =
     let e : length (xs ++ h.0) ≡ length ys = ap length h.1 in
     omega (arith, length-append xs h.0)
 
-pub put_is : (m : Bool) (c : ℕ) (s : Session) (xs : List Item) → Sound m c s → put_open s ≡ true → record (kept_of m c s) { unframed = (kept_of m c s).unframed ++ map item_shown xs } ≡ kept_of m c (put_items s xs)
+pub put_is : (m : Bool) (c : ℕ) (s : Session) (xs : List Item) → Sound m c s → put_open s ≡ true → record (kept_of m c s) { unframed = (kept_of m c s).unframed ++ map item_of xs } ≡ kept_of m c (put_items s xs)
 put_is m c s xs h o =
     let e : (rejected s ≡ false) × (has_stop s.came ≡ false) = put_some s o in
     let n : ℕ = length (items s.out) in
     ap (λ (z : List base_item.Item). record (kept_of m c s) { unframed = z })
-    (ap₂ (λ r b. cond r [] (map item_shown (cond b [] (drop n s.put))) ++ map item_shown xs) e.0 e.1
-    ∙ sym (map-append item_shown (drop n s.put) xs)
-    ∙ ap (λ z. map item_shown z) (sym (drop-append-le n s.put xs (framed_fit (items s.out) s.put h.accounts.framed)))
-    ∙ ap₂ (λ r b. cond r [] (map item_shown (cond b [] (drop n (s.put ++ xs))))) (sym e.0) (sym e.1))
+    (ap₂ (λ r b. cond r [] (map item_of (cond b [] (drop n s.put))) ++ map item_of xs) e.0 e.1
+    ∙ sym (map-append item_of (drop n s.put) xs)
+    ∙ ap (λ z. map item_of z) (sym (drop-append-le n s.put xs (framed_fit (items s.out) s.put h.accounts.framed)))
+    ∙ ap₂ (λ r b. cond r [] (map item_of (cond b [] (drop n (s.put ++ xs))))) (sym e.0) (sym e.1))
 
 put_count_is : (m : Bool) (c : ℕ) (s : Session) (n : ℕ) → put_open s ≡ true → min n (4096 - length (kept_of m c s).unframed) ≡ put_count s n
 put_count_is m c s n o =
-    ap (λ z. min n (4096 - z)) (ap (λ r. length (cond r [] (map item_shown (unframed s)))) (put_some s o).0 ∙ length-map (unframed s) item_shown)
+    ap (λ z. min n (4096 - z)) (ap (λ r. length (cond r [] (map item_of (unframed s)))) (put_some s o).0 ∙ length-map (unframed s) item_of)
 
 pub put_bytes_is : (m : Bool) (c : ℕ) (s : Session) (bs : List ℕ) (n : ℕ) → Sound m c s → put_open s ≡ true → n ≡ min (length bs) (4096 - length (kept_of m c s).unframed) →
     record (kept_of m c s) { unframed = (kept_of m c s).unframed ++ map kept_items.Byte (take n bs) } ≡ kept_of m c (put_items s (map Byte (take (put_count s (length bs)) bs)))
@@ -83,19 +83,19 @@ ended_if_done_is k = go (is_left k.state && is_empty k.heard)
     go true = refl
     go false = refl
 
-pub none_left : (n : ℕ) (xs : List Item) → is_empty (map item_shown (drop n xs)) ≡ nat_le (length xs) n
+pub none_left : (n : ℕ) (xs : List Item) → is_empty (map item_of (drop n xs)) ≡ nat_le (length xs) n
 none_left n xs = go (drop n xs) (length-drop n xs)
   where
-    go : (ys : List Item) → length ys ≡ length xs - n → is_empty (map item_shown ys) ≡ nat_le (length xs) n
+    go : (ys : List Item) → length ys ≡ length xs - n → is_empty (map item_of ys) ≡ nat_le (length xs) n
     go [] e = sym (le-leb (length xs) n (omega (arith, e)))
     go (y ∷ ys) e = sym (lt-leb (length xs) n (omega (arith, e)))
 
-taken_now : (s : Session) (n : ℕ) → s.closed ≡ false → drop n (cond s.closed [] (map item_shown (drop s.taken (items s.came)))) ≡ cond s.closed [] (map item_shown (drop (s.taken + n) (items s.came)))
+taken_now : (s : Session) (n : ℕ) → s.closed ≡ false → drop n (cond s.closed [] (map item_of (drop s.taken (items s.came)))) ≡ cond s.closed [] (map item_of (drop (s.taken + n) (items s.came)))
 taken_now s n e =
-    ap (λ b. drop n (cond b [] (map item_shown (drop s.taken (items s.came))))) e
-    ∙ drop-map item_shown n (drop s.taken (items s.came))
-    ∙ ap (λ z. map item_shown z) (drop-drop n s.taken (items s.came))
-    ∙ ap (λ b. cond b [] (map item_shown (drop (s.taken + n) (items s.came)))) (sym e)
+    ap (λ b. drop n (cond b [] (map item_of (drop s.taken (items s.came))))) e
+    ∙ drop-map item_of n (drop s.taken (items s.came))
+    ∙ ap (λ z. map item_of z) (drop-drop n s.taken (items s.came))
+    ∙ ap (λ b. cond b [] (map item_of (drop (s.taken + n) (items s.came)))) (sym e)
 
 held_now : (s : Session) (n : ℕ) → s.closed ≡ false → still_held n (cond s.closed [] (left_in s.taken s.came)) ≡ cond s.closed [] (left_in (s.taken + n) s.came)
 held_now s n e =
@@ -130,7 +130,7 @@ took_is m c s n h o =
     let d : Bool = nat_le (length (items s.came)) s.taken in
     let e : Bool = nat_le (length (items s.came)) (s.taken + n) in
     let done : is_empty (drop n (kept_of m c s).heard) ≡ nat_le (length (items s.came)) (s.taken + n) =
-    ap is_empty (taken_now s n q.0) ∙ ap (λ b. is_empty (cond b [] (map item_shown (drop (s.taken + n) (items s.came))))) q.0 ∙ none_left (s.taken + n) (items s.came) in
+    ap is_empty (taken_now s n q.0) ∙ ap (λ b. is_empty (cond b [] (map item_of (drop (s.taken + n) (items s.came))))) q.0 ∙ none_left (s.taken + n) (items s.came) in
     let k : Kept = record (kept_of m c s) {
       heard = drop n (kept_of m c s).heard;
       held = still_held n (kept_of m c s).held;
@@ -164,9 +164,9 @@ took_is m c s n h o =
 -- what a take gives
 pub given_is : (m : Bool) (c : ℕ) (s : Session) (n : ℕ) → take_open s ≡ true → min n (length (kept_of m c s).heard) ≡ take_count s n
 given_is m c s n o =
-    ap (λ z. min n z) (ap (λ b. length (cond b [] (map item_shown (drop s.taken (items s.came))))) (take_some s o).0 ∙ length-map (drop s.taken (items s.came)) item_shown ∙ length-drop s.taken (items s.came))
+    ap (λ z. min n z) (ap (λ b. length (cond b [] (map item_of (drop s.taken (items s.came))))) (take_some s o).0 ∙ length-map (drop s.taken (items s.came)) item_of ∙ length-drop s.taken (items s.came))
 
-pub gives : (m : Bool) (c : ℕ) (s : Session) (n : ℕ) → take_open s ≡ true → take n (kept_of m c s).heard ≡ map item_shown (take n (drop s.taken (items s.came)))
+pub gives : (m : Bool) (c : ℕ) (s : Session) (n : ℕ) → take_open s ≡ true → take n (kept_of m c s).heard ≡ map item_of (take n (drop s.taken (items s.came)))
 gives m c s n o =
-    ap (λ b. take n (cond b [] (map item_shown (drop s.taken (items s.came))))) (take_some s o).0
-    ∙ take-map item_shown n (drop s.taken (items s.came))
+    ap (λ b. take n (cond b [] (map item_of (drop s.taken (items s.came))))) (take_some s o).0
+    ∙ take-map item_of n (drop s.taken (items s.came))

@@ -30,13 +30,13 @@ pub record Kept : Type 0 where
   pub held : List ℕ  -- of each held slot, how many of its items aren't taken
   pub end : Option SessionEnd  -- how it ended; None while it isn't over, and before the first session
 
-abbrev pub item_shown : Item → base_item.Item
-item_shown (Byte b) = kept_items.Byte b
-item_shown (Setting t) = kept_items.Set t
+abbrev pub item_of : Item → base_item.Item
+item_of (Byte b) = kept_items.Byte b
+item_of (Setting t) = kept_items.Set t
 
-abbrev pub item_in : base_item.Item → Item
-item_in (kept_items.Byte b) = Byte b
-item_in (kept_items.Set t) = Setting t
+abbrev pub item_shown : base_item.Item → Item
+item_shown (kept_items.Byte b) = Byte b
+item_shown (kept_items.Set t) = Setting t
 
 abbrev pub state_shown : SessionState → base_state.SessionState
 state_shown Free = kept_states.Free
@@ -101,8 +101,8 @@ kept_of master ceiling s = record {
   credits = credits_kept ceiling s;
   given = saturated (credits s.out);
   used = saturated (costs s.out);
-  unframed = cond (rejected s) [] (map item_shown (unframed s));
-  heard = cond s.closed [] (map item_shown (drop s.taken (items s.came)));
+  unframed = cond (rejected s) [] (map item_of (unframed s));
+  heard = cond s.closed [] (map item_of (drop s.taken (items s.came)));
   held = cond s.closed [] (left_in s.taken s.came);
   end = end_of s;
 }

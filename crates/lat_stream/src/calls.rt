@@ -8,7 +8,7 @@ ghost use Rattle.lat_model.specs.sessions.Slots.{Byte, Setting, items};
 ghost use Rattle.lat_model.specs.sessions.Session.{Session, put_open, take_open, unframed};
 ghost use Rattle.lat_model.specs.sessions.Calls.{put_items, put_count, take_count};
 ghost use Rattle.lat_stream.specs.declared.calls.SessionFault.TheVariants.{Full, Closed};
-ghost use Rattle.lat_stream.specs.Kept.{kept_of, item_shown};
+ghost use Rattle.lat_stream.specs.Kept.{kept_of, item_of};
 ghost use Rattle.lat_stream.specs.Sound.{Sound};
 ghost use Rattle.lat_stream.specs.Steps.{can_put, can_take, state_running, turned_away, took, closed, still_held};
 
@@ -166,7 +166,7 @@ impl Stream {
         ensures items { (master : Bool) (ceiling : ℕ) (s : Session) →
             Sound master ceiling s → self.old ≡ kept_of master ceiling s →
             out.new ≡ (if take_open s
-            then map item_shown (take (take_count s (length out.old)) (drop s.taken (items s.came)))
+            then map item_of (take (take_count s (length out.old)) (drop s.taken (items s.came)))
             ++ drop (take_count s (length out.old)) out.old
             else out.old) }
         ensures count { IfOk result (λ n.

@@ -11,7 +11,7 @@ use Rattle.lat_machines.specs.cores.Cores.{Seat}
 use Rattle.lat_machines.specs.cores.Lines.{session_of, seat_at}
 use Rattle.lat_laws.specs.rounds.Seated.{IsSeat}
 use Rattle.lat_laws.specs.tales.Items.{taken_of}
-use Rattle.lat_stream.specs.Kept.{item_shown}
+use Rattle.lat_stream.specs.Kept.{item_of}
 use Rattle.lat_switch.specs.declared.config.SwitchConfig.{SwitchConfig}
 use Rattle.lat_switch.specs.Switch.{Switch, line_on}
 use Rattle.lat_switch.specs.Pieces.{is_key}
@@ -74,7 +74,7 @@ bytes_in (model.Setting t ∷ items) = bytes_in items
 
 -- what was given of a session is what was taken of it, and the bytes that it got are those that were put on it
 pub record IsInOrder (s : Switch) (es : List Event) (x : Seat) : Type 0 where
-  pub taken : given x s es ≡ map item_shown (taken_of (session_of (switch_run s es).inner.state.core x))
+  pub taken : given x s es ≡ map item_of (taken_of (session_of (switch_run s es).inner.state.core x))
   pub put : received x s es ≡ bytes_in (session_of (switch_run s es).inner.state.core x).put
 
 -- whatever a switch is told, of each session that it ever had

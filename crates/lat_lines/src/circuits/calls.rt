@@ -7,7 +7,7 @@ ghost use Rattle.lat_model.specs.sessions.Calls.{take_count, took, Take, Answer,
 ghost use Rattle.lat_model.specs.sessions.Session.{take_open};
 ghost use Rattle.lat_model.specs.ends.End.{lives};
 ghost use Rattle.lat_machines.specs.cores.Cores.{Core};
-ghost use Rattle.lat_stream.specs.Kept.{item_shown};
+ghost use Rattle.lat_stream.specs.Kept.{item_of};
 ghost use Rattle.lat_session.specs.Calls.{call_of, bytes_in};
 ghost use Rattle.lat_lines.specs.circuits.Kept.{side_of, SameCircuits, IsClear};
 ghost use Rattle.lat_lines.specs.circuits.Stands.{Stands, calling};
@@ -53,7 +53,7 @@ impl Circuits {
             Stands self.old c →
             out.new ≡ (if lives (c.circuits.circuit_at circuit).end
             && take_open (session_at c circuit id)
-            then map item_shown (took (sessions_at c circuit) id (length out.old))
+            then map item_of (took (sessions_at c circuit) id (length out.old))
             ++ drop (take_count (session_at c circuit id) (length out.old)) out.old
             else out.old) }
         ensures count { IfOk result (λ n. n ≡ min (length out.old) (ready self.old circuit id)) }

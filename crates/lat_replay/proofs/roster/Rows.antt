@@ -6,7 +6,7 @@ use Rattle.std.specs.Prelude.{map, replicate, slice_get, Some}
 use Rattle.lat_base.specs.declared.item.Item.{Item}
 use Rattle.lat_base.specs.declared.item.Item.TheVariants.{Byte}
 use Rattle.lat_model.specs.sessions.Slots as slots
-use Rattle.lat_stream.specs.Kept.{item_shown}
+use Rattle.lat_stream.specs.Kept.{item_of}
 use Rattle.lat_replay.specs.declared.roster.row.Flow.{Flow}
 use Rattle.lat_laws.specs.tales.Keeping.{with_items, adds, lines_of}
 use Rattle.lat_laws.specs.tales.Rows as rows
@@ -165,15 +165,15 @@ connected k v r f b s row list line circuit id left h is n l m e g leaves new at
 
 -- what is put and taken more
 
-pub bytes_shown : (xs : List ℕ) → map item_shown (map slots.Byte xs) ≡ map Byte xs
+pub bytes_shown : (xs : List ℕ) → map item_of (map slots.Byte xs) ≡ map Byte xs
 bytes_shown [] = refl
 bytes_shown (x ∷ xs) = ap (λ z. Byte x ∷ z) (bytes_shown xs)
 
-more_bytes : (xs ys : List Item) (ps : List slots.Item) (bs : List ℕ) → ys ≡ xs ++ map Byte bs → xs ≡ map item_shown ps → ys ≡ map item_shown (ps ++ map slots.Byte bs)
-more_bytes xs ys ps bs e h = e ∙ (ap₂ (λ x y. x ++ y) h (sym (bytes_shown bs)) ∙ sym (map-append item_shown ps (map slots.Byte bs)))
+more_bytes : (xs ys : List Item) (ps : List slots.Item) (bs : List ℕ) → ys ≡ xs ++ map Byte bs → xs ≡ map item_of ps → ys ≡ map item_of (ps ++ map slots.Byte bs)
+more_bytes xs ys ps bs e h = e ∙ (ap₂ (λ x y. x ++ y) h (sym (bytes_shown bs)) ∙ sym (map-append item_of ps (map slots.Byte bs)))
 
-nothing_more : (xs : List Item) (ps : List slots.Item) → xs ≡ map item_shown ps → xs ≡ map item_shown (ps ++ [])
-nothing_more xs ps h = h ∙ ap (map item_shown) (sym (append-nil ps))
+nothing_more : (xs : List Item) (ps : List slots.Item) → xs ≡ map item_of ps → xs ≡ map item_of (ps ++ [])
+nothing_more xs ps h = h ∙ ap (map item_of) (sym (append-nil ps))
 
 pub puts_up : (k v : Row) (r : rows.RowAfter) (bs : List ℕ) → v.up.put.items ≡ k.up.put.items ++ map Byte bs → v.up.taken.items ≡ k.up.taken.items → v.down ≡ k.down → (v.line ≡ k.line) × (v.circuit ≡ k.circuit) × (v.id ≡ k.id) × (v.node_line ≡ k.node_line) × (v.server ≡ k.server) × (v.node ≡ k.node) → ShowsRow k r → ShowsRow v (with_items true (map slots.Byte bs) [] r)
 puts_up k v r bs e t d o h = record {

@@ -19,7 +19,7 @@ use Rattle.lat_machines.specs.node.Node.{node_side}
 use Rattle.lat_machines.specs.world.Machines.{Machines, core_of}
 use Rattle.lat_laws.specs.rounds.Seated.{IsSeat, Seated}
 use Rattle.lat_laws.proofs.rounds.ready.Seats.{over_parts}
-use Rattle.lat_stream.specs.Kept.{item_shown}
+use Rattle.lat_stream.specs.Kept.{item_of}
 use Rattle.lat_lines.specs.AnswerValues.{answer_of}
 use Rattle.lat_lines.specs.Events.{event_shown}
 use Rattle.lat_replay.specs.declared.roster.row.Row.{Row}
@@ -48,14 +48,14 @@ held_named m lines c line h o = ⊎_elim {C = named (sessions_of c s) s.id ≡ s
     there : IsSeat (seat_at c line) c.seats → (sessions_of c (seat_at c line)).at_id (seat_at c line).id ≡ (seat_at c line).serial
     there i = ap (sessions_of c (seat_at c line)).at_id (sym (h.placed (seat_at c line) i).id) ∙ (h.good.found (seat_at c line).circuit).holds (seat_at c line).serial going
 
-few_shown : (n : ℕ) (xs : List Item) → length (map item_shown (take n xs)) ≤ n
+few_shown : (n : ℕ) (xs : List Item) → length (map item_of (take n xs)) ≤ n
 few_shown n [] = go n
   where
-    go : (n : ℕ) → length (map item_shown (take n [])) ≤ n
+    go : (n : ℕ) → length (map item_of (take n [])) ≤ n
     go zero = omega arith
     go (suc n) = omega arith
 few_shown zero (x ∷ xs) = omega arith
-few_shown (suc n) (x ∷ xs) = let h : length (map item_shown (take n xs)) ≤ n = few_shown n xs in omega (arith, h)
+few_shown (suc n) (x ∷ xs) = let h : length (map item_of (take n xs)) ≤ n = few_shown n xs in omega (arith, h)
 
 line_took : (m : Bool) (lines many : ℕ) (k : Side) (c : Core) (line n : ℕ) → Seated m lines c → items_given (answer_of (on_line many c line (λ s. take_on k c s n)).answer) ≤ min n (waiting_at c line)
 line_took m lines many k c line n h = exists (line_exists many line)
@@ -76,7 +76,7 @@ line_took m lines many k c line n h = exists (line_exists many line)
     opens false o = omega arith
     opens true o =
         let e : Session = named (sessions_of c (seat_at c line)) (seat_at c line).id in
-        let f : length (map item_shown (take (take_count e n) (drop e.taken (items e.came)))) ≤ take_count e n = few_shown (take_count e n) (drop e.taken (items e.came)) in
+        let f : length (map item_of (take (take_count e n) (drop e.taken (items e.came)))) ≤ take_count e n = few_shown (take_count e n) (drop e.taken (items e.came)) in
         let q : take_count e n ≡ take_count (session_of c (seat_at c line)) n = ap (λ z. take_count z n) (held_named m lines c line h o) in
         omega (arith, f, q)
 

@@ -1,6 +1,6 @@
 -- What the rows of a roster show.
 use Rattle.std.specs.Prelude.{◌≡◌, ℕ, ◌+◌, ◌≤◌, Bool, true, false, map, option_map, vec_len, vec_capacity}
-use Rattle.lat_stream.specs.Kept.{item_shown, saturated}
+use Rattle.lat_stream.specs.Kept.{item_of, saturated}
 use Rattle.lat_lines.specs.Stands.{end_shown}
 use Rattle.lat_machines.specs.cores.Cores.{Seat}
 use Rattle.lat_laws.specs.tales.Rows as rows
@@ -18,10 +18,10 @@ pub record ShowsRow (k : Row) (r : rows.RowAfter) : Type 0 where
   pub circuit : k.circuit ≡ r.circuit
   pub id : k.id ≡ r.id
   pub node_line : k.node_line ≡ r.node_line
-  pub put_up : k.up.put.items ≡ map item_shown r.put_up
-  pub taken_up : k.up.taken.items ≡ map item_shown r.taken_up
-  pub put_down : k.down.put.items ≡ map item_shown r.put_down
-  pub taken_down : k.down.taken.items ≡ map item_shown r.taken_down
+  pub put_up : k.up.put.items ≡ map item_of r.put_up
+  pub taken_up : k.up.taken.items ≡ map item_of r.taken_up
+  pub put_down : k.down.put.items ≡ map item_of r.put_down
+  pub taken_down : k.down.taken.items ≡ map item_of r.taken_down
   pub server : ShowsFigures k.server r.server
   pub node : ShowsFigures k.node r.node
 

@@ -5,7 +5,7 @@ ghost use Rattle.lat_model.specs.sessions.Slots as slots;
 ghost use Rattle.lat_laws.specs.tales.Rows as rows;
 ghost use Rattle.lat_laws.specs.tales.Keeping.{change, with_items};
 ghost use Rattle.lat_replay.specs.roster.Rows.{ShowsFigures, HasReserved};
-ghost use Rattle.lat_stream.specs.Kept.{item_shown};
+ghost use Rattle.lat_stream.specs.Kept.{item_of};
 ghost use Rattle.lat_replay.specs.roster.Roster.{ShowsRows, Changes, ReservedAt};
 
 use crate::roster::figures::Figures;
@@ -78,8 +78,8 @@ pub(crate) fn add_at(list: &mut [Row], place: usize, server: bool, put: &[Item],
     requires place { place ≤ length list.old }
     requires reserved { ReservedAt list.old place server (length put.now) (length taken.now) }
     ensures { (rs : List rows.RowAfter) (ps ts : List slots.Item) →
-        put.now ≡ map item_shown ps →
-        taken.now ≡ map item_shown ts →
+        put.now ≡ map item_of ps →
+        taken.now ≡ map item_of ts →
         ShowsRows list.old rs →
         ShowsRows list.new (change place (with_items server ps ts) rs) }
 {

@@ -6,7 +6,7 @@ ghost use Rattle.lat_base.specs.declared.item.Item.TheVariants.{Byte};
 ghost use Rattle.lat_machines.specs.cores.Cores.{Seat};
 ghost use Rattle.lat_laws.specs.tales.Rows as rows;
 ghost use Rattle.lat_laws.specs.tales.Keeping.{new_row, with_items};
-ghost use Rattle.lat_stream.specs.Kept.{item_shown};
+ghost use Rattle.lat_stream.specs.Kept.{item_of};
 ghost use Rattle.lat_replay.specs.roster.Rows.{IsSeat, ShowsRow, HasReserved};
 
 use crate::roster::figures::Figures;
@@ -104,8 +104,8 @@ impl Row {
     pub(crate) fn adds(&mut self, server: bool, put: &[Item], taken: &[Item])
         requires { HasReserved server (length put.now) (length taken.now) self.old }
         ensures { (r : rows.RowAfter) (ps ts : List slots.Item) →
-            put.now ≡ map item_shown ps →
-            taken.now ≡ map item_shown ts →
+            put.now ≡ map item_of ps →
+            taken.now ≡ map item_of ts →
             ShowsRow self.old r →
             ShowsRow self.new (with_items server ps ts r) }
     {

@@ -13,7 +13,7 @@ use Rattle.lat_machines.specs.cores.Cores.{Seat}
 use Rattle.lat_machines.specs.cores.Lines.{session_of, has_session, line_exists}
 use Rattle.lat_machines.specs.server.Server.{ServerConfig, Server, open_server}
 use Rattle.lat_laws.specs.rounds.Seated.{IsSeat}
-use Rattle.lat_stream.specs.Kept.{item_shown}
+use Rattle.lat_stream.specs.Kept.{item_of}
 use Rattle.lat_laws.specs.tales.Items.{taken_of}
 use Rattle.lat_laws.proofs.tales.steps.Goes.{void_good}
 use Rattle.lat_laws.proofs.tales.seats.Sound.{Sound}
@@ -393,7 +393,7 @@ record HasRun (x : Seat) (s : Switch) (es : List Event) : Type 0 where
   pub sound : Sound true (switch_run s es).inner.config.lines (switch_run s es).inner.state.core
   pub gets : Gets x s.inner.state.core (switch_run s es).inner.state.core put took
   pub bytes_are : bytes_in put ≡ received x s es
-  pub items_are : map item_shown took ≡ given x s es
+  pub items_are : map item_of took ≡ given x s es
 
 run_told : (x : Seat) (s : Switch) (es : List Event) → Told x s.inner (begins s) [] [] → HasRun x s es
 run_told x s [] t = record { put = []; took = []; sound = t.tells.sound; gets = gets_none x s.inner.state.core; bytes_are = refl; items_are = refl }
@@ -409,7 +409,7 @@ run_told x s (e ∷ es) t =
           s.inner.state.core (next s e).inner.state.core (switch_run (next s e) es).inner.state.core
           one.put one.took rest.put rest.took rest.sound one.tells.gets rest.gets;
       bytes_are = bytes-append one.put rest.put ∙ ap₂ (λ y z. y ++ z) one.bytes_are rest.bytes_are;
-      items_are = map-append item_shown one.took rest.took ∙ ap₂ (λ y z. y ++ z) one.items_are rest.items_are;
+      items_are = map-append item_of one.took rest.took ∙ ap₂ (λ y z. y ++ z) one.items_are rest.items_are;
     }
 
 -- from the switch as it is opened
@@ -447,7 +447,7 @@ record IsOpened (s : Switch) : Type 0 where
   pub sessions : 0 < s.inner.config.timing.sessions
 
 opened_in_order : (s : Switch) (es : List Event) (x : Seat) → IsOpened s → IsSeat x (switch_run s es).inner.state.core.seats → IsInOrder s es x
-opened_in_order s es x h i = record { taken = sym run.items_are ∙ ap (map item_shown) (sym last.1); put = sym run.bytes_are ∙ ap bytes_in (sym last.0) }
+opened_in_order s es x h i = record { taken = sym run.items_are ∙ ap (map item_of) (sym last.1); put = sym run.bytes_are ∙ ap bytes_in (sym last.0) }
   where
     sound : Sound true s.inner.config.lines s.inner.state.core
     sound = subst (λ (z : Server). Sound true s.inner.config.lines z.core) (sym h.inner) (open_sound s.inner.config)

@@ -10,7 +10,7 @@ use Rattle.lat_machines.specs.values.Names.{Name}
 use Rattle.lat_machines.specs.cores.Cores.{Seat}
 use Rattle.lat_machines.specs.cores.Lines.{seat_at}
 use Rattle.lat_machines.specs.server.Server.{ServerConfig, Server, server_step}
-use Rattle.lat_stream.specs.Kept.{item_shown}
+use Rattle.lat_stream.specs.Kept.{item_of}
 use Rattle.lat_laws.specs.tales.Items.{line_of, put_by, taken_by, accepted_bytes, accepted_setting, taken_items}
 use Rattle.lat_laws.proofs.tales.seats.Sound.{Sound}
 use Rattle.lat_laws.proofs.tales.seats.Told.{server_tale}
@@ -65,7 +65,7 @@ pub record Told (x : Seat) (m : Machine) (c : Course) (bytes : List ℕ) (items 
   pub took : List Item
   pub tells : Tells x m c put took
   pub bytes_are : bytes_in put ≡ bytes
-  pub items_are : map item_shown took ≡ items
+  pub items_are : map item_of took ≡ items
 
 pub bytes-append : (xs ys : List Item) → bytes_in (xs ++ ys) ≡ bytes_in xs ++ bytes_in ys
 bytes-append [] ys = refl
@@ -90,14 +90,14 @@ none_of false = refl
 
 told_by : (x : Seat) (m : Machine) (e : base_event.Event) (c : Course) (bytes more : List ℕ) (items given : List base_item.Item) → Told x m c bytes items
     → bytes_in (put_in x e c) ≡ more
-    → map item_shown (took_in x e c) ≡ given
+    → map item_of (took_in x e c) ≡ given
     → Told x m (tells e c) (bytes ++ more) (items ++ given)
 told_by x m e c bytes more items given h p q = record {
   put = h.put ++ put_in x e c;
   took = h.took ++ took_in x e c;
   tells = tells_more x m e c h.put h.took h.tells;
   bytes_are = bytes-append h.put _ ∙ ap₂ (λ y z. y ++ z) h.bytes_are p;
-  items_are = map-append item_shown h.took _ ∙ ap₂ (λ y z. y ++ z) h.items_are q;
+  items_are = map-append item_of h.took _ ∙ ap₂ (λ y z. y ++ z) h.items_are q;
 }
 
 pub told_nothing : (x : Seat) (m : Machine) (e : base_event.Event) (c : Course) (bytes : List ℕ) (items : List base_item.Item) → Told x m c bytes items
@@ -110,7 +110,7 @@ told_nothing x m e c bytes items h p q =
     (subst (Told x m (tells e c) (bytes ++ [])) (append_nil items)
     (told_by x m e c bytes [] items [] h
     (ap (λ z. bytes_in (cond b z [])) p ∙ ap bytes_in (none_of b))
-    (ap (λ z. map item_shown (cond b z [])) q ∙ ap (map item_shown) (none_of b))))
+    (ap (λ z. map item_of (cond b z [])) q ∙ ap (map item_of) (none_of b))))
 
 -- a put
 
@@ -132,7 +132,7 @@ told_put x m y bs c bytes items h =
     let a : Answer = (stepped c.state.inner (events.Put y bs)).answer in
     let b : Bool = has x y c in
     subst (Told x m (tells (events.Put y bs) c) _) (append_nil items)
-    (told_by x m (events.Put y bs) c bytes _ items [] h (by b a) (ap (map item_shown) (none_of b)))
+    (told_by x m (events.Put y bs) c bytes _ items [] h (by b a) (ap (map item_of) (none_of b)))
   where
     by : (b : Bool) (a : Answer) → bytes_in (cond b (accepted_bytes bs a) []) ≡ cond b (take (accepted (answer_of a)) bs) []
     by true a = bytes_accepted bs a
@@ -147,7 +147,7 @@ told_set x m y setting c bytes items h =
     let b : Bool = has x y c in
     subst (λ z. Told x m (tells (events.Set y setting) c) z items) (append_nil bytes)
     (subst (Told x m (tells (events.Set y setting) c) (bytes ++ [])) (append_nil items)
-    (told_by x m (events.Set y setting) c bytes [] items [] h (by b a) (ap (map item_shown) (none_of b))))
+    (told_by x m (events.Set y setting) c bytes [] items [] h (by b a) (ap (map item_of) (none_of b))))
   where
     one : (a : Answer) → bytes_in (accepted_setting setting a) ≡ []
     one Done = refl
@@ -168,11 +168,11 @@ told_take x m y n c bytes items h =
     subst (λ z. Told x m (tells (events.Take y n) c) z (items ++ given)) (append_nil bytes)
     (told_by x m (events.Take y n) c bytes [] items given h (ap bytes_in (none_of b)) (by b a))
   where
-    one : (a : Answer) → map item_shown (taken_items a) ≡ items_in (answer_of a)
+    one : (a : Answer) → map item_of (taken_items a) ≡ items_in (answer_of a)
     one (Took xs) = refl
     one a = refl
 
-    by : (b : Bool) (a : Answer) → map item_shown (cond b (taken_items a) []) ≡ cond b (items_in (answer_of a)) []
+    by : (b : Bool) (a : Answer) → map item_of (cond b (taken_items a) []) ≡ cond b (items_in (answer_of a)) []
     by true a = one a
     by false a = refl
 

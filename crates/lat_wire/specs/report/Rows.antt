@@ -3,7 +3,7 @@ use Rattle.std.specs.Prelude.{List, map, option_map}
 use Rattle.lat_base.specs.declared.item.Item as base_item
 use Rattle.lat_model.specs.sessions.Slots.{Item}
 use Rattle.lat_machines.specs.world.Reports.{Direction, Row, RecordRow}
-use Rattle.lat_stream.specs.Kept.{item_in}
+use Rattle.lat_stream.specs.Kept.{item_shown}
 use Rattle.lat_lines.specs.Stands.{end_shown}
 use Rattle.lat_queue.specs.Histories.{key_in}
 use Rattle.lat_queue.specs.KeptValues.{kept_in}
@@ -12,7 +12,7 @@ use Rattle.lat_wire.specs.declared.report.rows.Flow.{Flow}
 use Rattle.lat_wire.specs.declared.report.rows.SessionRow.{SessionRow}
 
 abbrev pub items_in : List base_item.Item → List Item
-items_in items = map item_in items
+items_in items = map item_shown items
 
 abbrev pub direction_in : Flow → Direction
 direction_in f = record { put = items_in f.put.now; taken = items_in f.taken.now; given = f.given; used_up = f.used }

@@ -20,7 +20,7 @@ ghost use Rattle.lat_wire.specs.report.ReportText.{
   grant_text,
 };
 ghost use Rattle.lat_wire.specs.report.Rows.{items_in, direction_in, row_in, record_in};
-ghost use Rattle.lat_stream.specs.Kept.{item_in};
+ghost use Rattle.lat_stream.specs.Kept.{item_shown};
 ghost use Rattle.lat_lines.specs.Stands.{end_shown};
 
 use lat_base::{Item, Kept, SessionEnd};
@@ -65,7 +65,7 @@ pub fn frames_onto(text: &mut String, frames: u64) -> Result<(), AllocError>
 
 fn item_onto(alloc: Global, text: &mut String, item: Item) -> Result<(), AllocError>
     ensures { OnOk result (string_bytes text.new
-        ≡ string_bytes text.old ++ item_text (item_in item)) }
+        ≡ string_bytes text.old ++ item_text (item_shown item)) }
 {
     match item {
         Item::Byte(byte) => byte_onto(alloc, text, byte),
@@ -79,7 +79,7 @@ fn item_onto(alloc: Global, text: &mut String, item: Item) -> Result<(), AllocEr
 
 fn each_onto(alloc: Global, text: &mut String, items: &[Item]) -> Result<(), AllocError>
     ensures { OnOk result (string_bytes text.new
-        ≡ string_bytes text.old ++ flat_map (λ i. item_text (item_in i)) items.now) }
+        ≡ string_bytes text.old ++ flat_map (λ i. item_text (item_shown i)) items.now) }
 {
     for item in items {
         item_onto(alloc, text, *item)?;

@@ -5,7 +5,7 @@ use Rattle.lat_session.proofs.Results.{found_none}
 use Rattle.lat_model.specs.sessions.Calls.{take_count, took, Take}
 use Rattle.lat_model.specs.sessions.Session.{take_open}
 use Rattle.lat_model.specs.sessions.Sessions.{named}
-use Rattle.lat_stream.specs.Kept.{item_shown}
+use Rattle.lat_stream.specs.Kept.{item_of}
 use Rattle.lat_model.specs.ends.End.{End}
 use Rattle.lat_stream.specs.declared.calls.SessionFault.TheVariants.{Closed}
 use Rattle.lat_lines.specs.circuits.Kept.{Kept, Holds, side_of}
@@ -64,12 +64,12 @@ returns-clause-items c = λ d st.
     let q = c.index_mut-circuit.result.now in
     let is = living_is k c.args.circuit c.in_ok-at.at c.self.inside.held.items q (ap (λ (z : Kept). z.held) c.self.view_is) (place_found c.args.self.now c.args.circuit c.living_at.result c.in_ok-at.at c.living_at.ensures.place c.in_ok-at.ensures.ok_part) c.index_mut-circuit.ensures.value in
     c.take.ensures.items e (end_at k d c.args.circuit c.in_ok-at.at q is st)
-    ∙ ap (λ b. if b && take_open (named e.half.sessions c.args.id) then map item_shown (took e.half.sessions c.args.id (length c.args.out.now)) ++ drop (take_count (named e.half.sessions c.args.id) (length c.args.out.now)) c.args.out.now else c.args.out.now) (sym (lives_at k d c.args.circuit c.in_ok-at.at q is st))
+    ∙ ap (λ b. if b && take_open (named e.half.sessions c.args.id) then map item_of (took e.half.sessions c.args.id (length c.args.out.now)) ++ drop (take_count (named e.half.sessions c.args.id) (length c.args.out.now)) c.args.out.now else c.args.out.now) (sym (lives_at k d c.args.circuit c.in_ok-at.at q is st))
 
 pub returns-in_err-at-clause-items : goal.returns-in_err-at-clause-items
 returns-in_err-at-clause-items c = λ d st.
     let e : End = (d.circuits.circuit_at c.args.circuit).end in
-    ap (λ b. if b && take_open (named e.half.sessions c.args.id) then map item_shown (took e.half.sessions c.args.id (length c.args.out.now)) ++ drop (take_count (named e.half.sessions c.args.id) (length c.args.out.now)) c.args.out.now else c.args.out.now) (sym (living_told c.args.self.now d c.args.circuit _ refl st ∙ place_none c.args.self.now c.args.circuit c.living_at.result c.living_at.ensures.place c.in_err-at.ensures.ok_part))
+    ap (λ b. if b && take_open (named e.half.sessions c.args.id) then map item_of (took e.half.sessions c.args.id (length c.args.out.now)) ++ drop (take_count (named e.half.sessions c.args.id) (length c.args.out.now)) c.args.out.now else c.args.out.now) (sym (living_told c.args.self.now d c.args.circuit _ refl st ∙ place_none c.args.self.now c.args.circuit c.living_at.result c.living_at.ensures.place c.in_err-at.ensures.ok_part))
 
 pub take-requires : goal.take-requires
 take-requires c = grind (arith, elements)

@@ -2,7 +2,7 @@ use Rattle.std.proofs.Common.{◌≡◌, ◌+◌, ◌∙◌, sym, ap, refl, subs
 use Rattle.std.proofs.lemmas.Bool.{false≢true}
 use Rattle.std.proofs.lemmas.Result.{err_from_is_err_and}
 use Rattle.lat_model.specs.sessions.Slots.{items}
-use Rattle.lat_stream.specs.Kept.{item_shown}
+use Rattle.lat_stream.specs.Kept.{item_of}
 use Rattle.lat_model.specs.sessions.Session.{Session, take_open}
 use Rattle.lat_model.specs.sessions.Sessions.{named}
 use Rattle.lat_model.specs.sessions.Calls as calls
@@ -27,7 +27,7 @@ returns-clause-items c = λ e st.
     c.take.ensures.items e.master e.ceiling (named e c.args.id) (sound_at c.args.self.now e (e.at_id c.args.id) st) was
 
 pub returns-in_err-at-clause-items : goal.returns-in_err-at-clause-items
-returns-in_err-at-clause-items c = λ e st. ap (λ (s : Session). if take_open s then map item_shown (take (calls.take_count s (length c.args.out.now)) (drop s.taken (items s.came))) ++ drop (calls.take_count s (length c.args.out.now)) c.args.out.now else c.args.out.now) (sym (nothing_here c.args.self.now e c.args.id st (placed_nowhere c.args.self.now c.args.id c.place.result c.place.ensures c.in_err-at.ensures.ok_part)))
+returns-in_err-at-clause-items c = λ e st. ap (λ (s : Session). if take_open s then map item_of (take (calls.take_count s (length c.args.out.now)) (drop s.taken (items s.came))) ++ drop (calls.take_count s (length c.args.out.now)) c.args.out.now else c.args.out.now) (sym (nothing_here c.args.self.now e c.args.id st (placed_nowhere c.args.self.now c.args.id c.place.result c.place.ensures c.in_err-at.ensures.ok_part)))
 
 pub returns-clause-state : goal.returns-clause-state
 returns-clause-state c = λ e st.

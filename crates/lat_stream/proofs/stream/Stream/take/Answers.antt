@@ -3,7 +3,7 @@ use Rattle.std.proofs.lemmas.Grind.{elements}
 use Rattle.lat_model.specs.sessions.Slots.{items}
 use Rattle.lat_model.specs.sessions.Session.{take_open}
 use Rattle.lat_model.specs.sessions.Calls.{take_count}
-use Rattle.lat_stream.specs.Kept.{Kept, kept_of, item_shown}
+use Rattle.lat_stream.specs.Kept.{Kept, kept_of, item_of}
 use Rattle.lat_stream.specs.Steps.{can_take, took}
 use Rattle.lat_stream.proofs.Taken.{can_take_is, took_is, given_is, gives}
 use Rattle.lat_stream.proofs.stream.Stream.take.Goals as goal
@@ -27,7 +27,7 @@ returns-clause-items c = λ m ceiling s h e.
     c.give.ensures.items
     ∙ ap₂ (λ (n : ℕ) (k : Kept). take n k.heard ++ drop n c.args.out.now) n e
     ∙ ap (λ z. z ++ drop (take_count s (length c.args.out.now)) c.args.out.now) (gives m ceiling s (take_count s (length c.args.out.now)) o)
-    ∙ ap (λ b. cond b (map item_shown (take (take_count s (length c.args.out.now)) (drop s.taken (items s.came))) ++ drop (take_count s (length c.args.out.now)) c.args.out.now) c.args.out.now) (sym o)
+    ∙ ap (λ b. cond b (map item_of (take (take_count s (length c.args.out.now)) (drop s.taken (items s.came))) ++ drop (take_count s (length c.args.out.now)) c.args.out.now) c.args.out.now) (sym o)
 
 pub returns-clause-answer : goal.returns-clause-answer
 returns-clause-answer c = grind (arith, elements)
