@@ -1,7 +1,7 @@
 //! The local calls on the sessions of a circuit. They are applied at the latest moment that it was given, and make no frame.
 //! After a refusal nothing has changed, and none takes memory.
 
-ghost use Rattle.std.specs.Prelude.{◌≡◌, ◌≤◌, ◌++◌, not, true, map, length, drop, min, nat_eq, nat_lt, None, IfOk, if◌then◌else◌};
+ghost use Rattle.std.specs.Prelude.{◌≡◌, ◌≤◌, ◌++◌, not, true, map, length, drop, min, nat_eq, nat_lt, None, is_ok, IfOk, if◌then◌else◌};
 ghost use Rattle.lat_base.specs.declared.state.SessionState.TheVariants as states;
 ghost use Rattle.lat_model.specs.ends.End.{End, still, call_end};
 ghost use Rattle.lat_model.specs.ends.Timers.{note_empty};
@@ -10,7 +10,7 @@ ghost use Rattle.lat_model.specs.sessions.Session.{take_open};
 ghost use Rattle.lat_model.specs.sessions.Sessions.{named, held, least_free};
 ghost use Rattle.lat_stream.specs.Kept.{item_of};
 ghost use Rattle.lat_session.specs.Calls.{call_of, answer_of, bytes_in};
-ghost use Rattle.lat_session.specs.Table.{state_at, waiting_at};
+ghost use Rattle.lat_session.specs.Table.{state_at, waiting_at, has_room};
 ghost use Rattle.lat_circuit.specs.Stands.{Stands};
 ghost use Rattle.lat_circuit.specs.Steps.{Keeps};
 
@@ -52,6 +52,7 @@ impl Circuit {
             result ≡ (if nat_lt (held e.half.sessions) e.half.sessions.agreed
             then Ok (least_free e.half.sessions)
             else Err SessionFault.Full) }
+        ensures room { is_ok result ≡ has_room self.old.sessions }
         ensures state { (e : End) → Stands self.old e →
             Stands self.new (note_empty e (still (call_end (Connect service.now request) e))).end }
         ensures keeps { Keeps self.old self.new }

@@ -9,7 +9,7 @@ ghost use Rattle.lat_model.specs.sessions.Session.{state, peer, take_open, waits
 ghost use Rattle.lat_model.specs.sessions.Sessions.{named, held};
 ghost use Rattle.lat_model.specs.sessions.Slots.{items, credits, costs};
 ghost use Rattle.lat_stream.specs.Kept.{saturated, state_shown};
-ghost use Rattle.lat_session.specs.States.{asked_of, asked_at, is_asked};
+ghost use Rattle.lat_session.specs.States.{asked_of, asked_at, is_asked, held_in};
 ghost use Rattle.lat_session.specs.Table.{state_at, waiting_at};
 ghost use Rattle.lat_circuit.specs.Agrees.{span_of};
 ghost use Rattle.lat_circuit.specs.Stands.{Stands};
@@ -92,14 +92,16 @@ impl Circuit {
 
     /// How many sessions it may hold.
     pub fn agreed(&self) -> u8
-        ensures { (e : End) → Stands self.now e → result ≡ e.half.sessions.agreed }
+        ensures value { result ≡ self.now.sessions.agreed }
+        ensures model { (e : End) → Stands self.now e → result ≡ e.half.sessions.agreed }
     {
         self.sessions.agreed()
     }
 
     /// How many sessions aren't free, while it lives.
     pub fn held(&self) -> u8
-        ensures { (e : End) → Stands self.now e → result ≡ held e.half.sessions }
+        ensures value { result ≡ held_in self.now.sessions.sessions }
+        ensures model { (e : End) → Stands self.now e → result ≡ held e.half.sessions }
     {
         self.sessions.held()
     }

@@ -1,6 +1,6 @@
 //! The heads of RUNs, narrow and wide.
 
-ghost use Rattle.std.specs.Prelude.{◌≡◌, suc, ◌*◌, ◌<◌, ◌++◌, [], length};
+ghost use Rattle.std.specs.Prelude.{◌≡◌, suc, ◌*◌, ◌<◌, [], length};
 ghost use Rattle.lat_seq.specs.Spans.{half, field};
 ghost use Rattle.lat_circuit.specs.Payloads.{head_bytes, head_size};
 

@@ -5,7 +5,7 @@ ghost use Rattle.lat_model.specs.numbers.Link as model;
 ghost use Rattle.lat_model.specs.numbers.Near.{near};
 ghost use Rattle.lat_model.specs.sessions.Slots.{Slot};
 ghost use Rattle.lat_seq.specs.declared.sending.AckFact.TheVariants.{Unsent};
-ghost use Rattle.lat_seq.specs.Spans.{half, field};
+ghost use Rattle.lat_seq.specs.Spans.{half};
 ghost use Rattle.lat_seq.specs.Acks.{by_numbers};
 ghost use Rattle.lat_circuit.specs.Links.{Stands, acknowledged_by};
 

@@ -1,5 +1,5 @@
 -- Sessions that a server connects, and that a node accepts.
-use Rattle.std.specs.Prelude.{ℕ, suc, ◌<◌, cond, length, [], ◌∷◌, ◌++◌, Option, Some, None, Result, Ok, Err, nat_eq, nat_lt}
+use Rattle.std.specs.Prelude.{◌≡◌, ℕ, suc, ◌<◌, true, cond, length, [], ◌∷◌, ◌++◌, Option, Some, None, Result, Ok, Err, nat_eq, nat_lt}
 use Rattle.lat_model.specs.sessions.Calls.{Answer}
 use Rattle.lat_model.specs.sessions.Sessions.{least_free}
 use Rattle.lat_model.specs.circuits.Arriving.{living}
@@ -12,6 +12,7 @@ use Rattle.lat_lines.specs.circuits.Kept as circuits
 use Rattle.lat_lines.specs.circuits.Stands.{calling}
 use Rattle.lat_lines.specs.circuits.Opens.{called_core}
 use Rattle.lat_lines.specs.circuits.Info.{Telling}
+use Rattle.lat_lines.specs.circuits.Living.{has_room_at}
 use Rattle.lat_lines.specs.declared.opening.OpenFault.{OpenFault}
 use Rattle.lat_lines.specs.declared.opening.OpenFault.TheVariants.{SessionsFull, CircuitsFull, IdsOut}
 
@@ -35,10 +36,10 @@ way c address =
     (Err CircuitsFull))
     (cond (has_room c (circuit_to c address)) (Ok (Some (circuit_to c address))) (Err SessionsFull))
 
--- one may be called
-abbrev pub MayCall : circuits.Kept → Option ℕ → Type 0
-MayCall k None = (circuits.IsClear k → length k.held < 8) × (k.drawn < 65535)
-MayCall k (Some x) = Unit {0}
+-- one may be called, or the one that lives has room
+abbrev pub IsWay : circuits.Kept → Option ℕ → Type 0
+IsWay k None = (circuits.IsClear k → length k.held < 8) × (k.drawn < 65535)
+IsWay k (Some x) = has_room_at k x ≡ true
 
 -- one is called, where none is known
 abbrev pub reaches : Side → ℕ → Name → Option ℕ → Core → Doing

@@ -1,6 +1,6 @@
 //! The lines of a core.
 
-ghost use Rattle.std.specs.Prelude.{◌≡◌, ◌≤◌, [], length, replicate, None, IfOk};
+ghost use Rattle.std.specs.Prelude.{◌≡◌, ◌≤◌, [], replicate, None, IfOk};
 ghost use Rattle.lat_machines.specs.values.Addresses.{address};
 ghost use Rattle.lat_machines.specs.cores.Cores.{open_core, Core, at_moment};
 ghost use Rattle.lat_circuit.specs.Agrees.{IsTiming};

@@ -15,10 +15,11 @@ ghost use Rattle.lat_circuit.specs.Agrees.{IsTiming};
 ghost use Rattle.lat_lines.specs.circuits.Kept.{side_of as circuits_side, IsClear, SameCore, SameCircuits, has_id};
 ghost use Rattle.lat_lines.specs.circuits.Stands.{calling, Simulates, Stands as CircuitsStand};
 ghost use Rattle.lat_lines.specs.circuits.Info.{telling};
+ghost use Rattle.lat_lines.specs.circuits.Living.{has_room_at};
 ghost use Rattle.lat_lines.specs.Later.{Leads};
 ghost use Rattle.lat_lines.specs.Kept.{side_of, SameLines, IsLine};
 ghost use Rattle.lat_lines.specs.Stands.{Stands, freed_between, session_shown};
-ghost use Rattle.lat_lines.specs.Opens.{opening, way, MayCall, reaches, reached, seated_core, session_begun, accepted_core, request_of};
+ghost use Rattle.lat_lines.specs.Opens.{opening, way, IsWay, reaches, reached, seated_core, session_begun, accepted_core, request_of};
 
 use crate::circuits::{Circuits, Info};
 use crate::getters::seat_of;
@@ -49,7 +50,7 @@ impl Lines {
     // The living circuit to a station, `None` where one is to be called; or why no session can be had.
     fn opening(&self, peer: Addr) -> Result<Option<u16>, OpenFault>
         ensures way { (c : Core) → Stands self.now c → result ≡ way c (address peer.0) }
-        ensures room { IfOk result (MayCall self.now.circuits) }
+        ensures open { IfOk result (IsWay self.now.circuits) }
     {
         match self.circuits.to(peer) {
             Some(circuit) if self.circuits.has_room(circuit) => Ok(Some(circuit)),
@@ -186,11 +187,12 @@ fn reach(
 ) -> u16
     requires server { circuits.old.server ≡ true }
     requires clear { IsClear circuits.old }
-    requires way { MayCall circuits.old way }
+    requires way { IsWay circuits.old way }
     requires room { length out.old + 16 ≤ 256 }
     ensures did { Simulates (reaches (circuits_side circuits.old) (address peer.0) node.now way)
         circuits.old circuits.new out.old out.new }
     ensures id { result ≡ reached circuits.old.drawn way }
+    ensures free { has_room_at circuits.new result ≡ true }
     ensures timing { way ≡ None → IsTiming circuits.old.timing }
     ensures core { SameCore circuits.old circuits.new }
     ensures moment { circuits.new.moment ≡ circuits.old.moment }
@@ -207,6 +209,7 @@ fn reach(
 // Asks for a session on a living circuit with room, and gives its id.
 fn connect(circuits: &mut Circuits, circuit: u16, service: &Name, request: Option<u16>) -> u8
     requires server { circuits.old.server ≡ true }
+    requires room { has_room_at circuits.old circuit ≡ true }
     ensures id { (c : Core) →
         CircuitsStand circuits.old c →
         (lives (c.circuits.circuit_at circuit).end && has_room c circuit) ≡ true →
@@ -217,8 +220,10 @@ fn connect(circuits: &mut Circuits, circuit: u16, service: &Name, request: Optio
     ensures same { SameCircuits circuits.old circuits.new }
     ensures clear { IsClear circuits.old → IsClear circuits.new }
 {
-    // Such a circuit has an id that is free.
-    circuits.connect(circuit, service, request).unwrap_or(0)
+    let Ok(session) = circuits.connect(circuit, service, request) else {
+        unreachable!()
+    };
+    session
 }
 
 // What is known of a line session at its beginning.

@@ -1,7 +1,10 @@
 -- What a table tells of all its ids at once.
-use Rattle.std.proofs.Common.{◌≡◌, ℕ, zero, suc, ◌+◌, ◌-◌, ◌<◌, inr, sym, ap, ◌∙◌, refl, arith, Bool, true, false, not, cond, ◌||◌, length, map, position, count_by, nat_eq, Some, None, ne_eqb}
+use Rattle.std.proofs.Common.{◌≡◌, ℕ, zero, suc, ◌+◌, ◌-◌, ◌<◌, ◌≤◌, inr, sym, ap, subst, ◌∙◌, refl, arith, Bool, true, false, not, cond, ◌||◌, List, [], ◌∷◌, length, map, position, count_by, nat_eq, Some, None, is_some, ne_eqb}
 use Rattle.std.proofs.lemmas.Bool.{true≢false, false≢true}
 use Rattle.std.proofs.lemmas.Option.{same_Some, none-some}
+use Rattle.std.proofs.lemmas.List.Sums.{sum_by-cons}
+use Rattle.std.proofs.lemmas.Iterator.Adapters.{position_from-zero}
+use Rattle.std.specs.List.{position_from}
 use Rattle.lat_model.specs.Lists.{upwards, least}
 use Rattle.lat_model.specs.sessions.Slots.{has_stop}
 use Rattle.lat_model.specs.sessions.Session.{Session, Free, Calling, Asked, Live, Closing, Left, state, free, gone, answered, blank}
@@ -10,7 +13,7 @@ use Rattle.lat_model.proofs.sessions.Alone.{least_free_low}
 use Rattle.lat_model.proofs.sessions.Made.{least_some}
 use Rattle.lat_stream.specs.Kept.{Kept, kept_of, state_shown}
 use Rattle.lat_session.specs.Stands.{Stands}
-use Rattle.lat_session.specs.States.{is_free, is_asked, least_asked, asked_at, asked_of}
+use Rattle.lat_session.specs.States.{is_free, is_asked, held_in, least_asked, asked_at, asked_of}
 use Rattle.lat_session.specs.Table.{Table}
 use Rattle.lat_session.proofs.Runs.{keep_same}
 use Rattle.lat_session.proofs.Least.{position_least, least_cut, least_low, keep_low, count_keep}
@@ -62,6 +65,21 @@ held_is t e st =
     ∙ count_keep (λ (k : Kept). not (is_free k.state)) f (upwards 0 n)
     ∙ ap length (keep_same (λ i. not (is_free (f i).state)) q (upwards 0 n) (λ i. ap not (free_shown e.master (named e i))))
     ∙ sym (keep_low q n 64 st.low (λ i l. ap (λ s. not (free s)) (past_blank t e i st l)))
+
+-- one of the places is free where fewer of them are not
+left_from : (ks : List Kept) (at : ℕ) → held_in ks < length ks → is_some (position_from (λ (k : Kept). is_free k.state) at ks) ≡ true
+left_from [] at h = absurd (omega (arith, h))
+left_from (k ∷ ks) at h =
+    by (is_free k.state) (subst (λ n. n < suc (length ks)) (sum_by-cons (λ (a : Kept). cond (not (is_free a.state)) 1 0) k ks) h) (left_from ks (at + 1))
+  where
+    by : (b : Bool) → cond (not b) 1 0 + held_in ks < suc (length ks) → (held_in ks < length ks → is_some (position_from (λ (x : Kept). is_free x.state) (at + 1) ks) ≡ true)
+        → is_some (cond b (Some at) (position_from (λ (x : Kept). is_free x.state) (at + 1) ks)) ≡ true
+    by true l more = refl
+    by false l more = more (omega (arith, l))
+
+pub place_left : (ks : List Kept) (n : ℕ) → held_in ks < n → n ≤ length ks → is_some (position (λ (k : Kept). is_free k.state) ks) ≡ true
+place_left ks n less most =
+    ap is_some (position_from-zero (λ (k : Kept). is_free k.state) ks) ∙ left_from ks 0 (omega (arith, less, most))
 
 least_same : (p q : ℕ → Bool) (a n : ℕ) → ((i : ℕ) → p i ≡ q i) → least p (upwards a n) ≡ least q (upwards a n)
 least_same p q a zero h = refl

@@ -1,5 +1,5 @@
 -- States of sessions, and who has them.
-use Rattle.std.specs.Prelude.{◌≡◌, ℕ, Bool, true, false, cond, nat_eq, List, [], ◌∷◌, Option, None, Some}
+use Rattle.std.specs.Prelude.{◌≡◌, ℕ, Bool, true, false, not, cond, nat_eq, count_by, List, [], ◌∷◌, Option, None, Some}
 use Rattle.lat_base.specs.declared.state.SessionState.{SessionState}
 use Rattle.lat_base.specs.declared.state.SessionState.TheVariants.{Free, Asked}
 use Rattle.lat_model.specs.Lists.{upwards, least}
@@ -11,6 +11,10 @@ use Rattle.lat_session.specs.declared.getters.Asked as asking
 abbrev pub is_free : SessionState → Bool
 is_free Free = true
 is_free s = false
+
+-- how many of them are of a session that isn't free
+abbrev pub held_in : List Kept → ℕ
+held_in ks = count_by (λ (k : Kept). not (is_free k.state)) ks
 
 -- no place of them has a session
 abbrev pub AllFree : List Kept → Type 0

@@ -1,5 +1,5 @@
 -- What the table of an end's sessions keeps.
-use Rattle.std.specs.Prelude.{◌≡◌, ℕ, zero, suc, Bool, false, not, cond, ◌&&◌, ◌||◌, List, map, length, slice_get, Option, None, Some, nat_eq}
+use Rattle.std.specs.Prelude.{◌≡◌, ℕ, zero, suc, Bool, false, not, cond, ◌&&◌, ◌||◌, List, map, length, slice_get, Option, None, Some, nat_eq, nat_lt}
 use Rattle.lat_base.specs.declared.state.SessionState.{SessionState}
 use Rattle.lat_base.specs.declared.state.SessionState.TheVariants.{Free}
 use Rattle.lat_model.specs.Lists.{upwards, keep}
@@ -9,6 +9,7 @@ use Rattle.lat_stream.specs.Kept.{Kept, kept_of}
 use Rattle.lat_stream.specs.Steps.{can_take}
 use Rattle.lat_session.specs.declared.ask.Ask.{Ask}
 use Rattle.lat_session.specs.declared.ask.Ask.TheVariants.{Waits, Rejected}
+use Rattle.lat_session.specs.States.{held_in}
 
 pub record Table : Type 0 where
   pub master : Bool
@@ -37,6 +38,10 @@ waiting_in (Some k) = cond (can_take k) (length k.heard) 0
 
 abbrev pub waiting_at : Table → ℕ → ℕ
 waiting_at t id = waiting_in (session_at t id)
+
+-- fewer sessions are held than were agreed
+abbrev pub has_room : Table → Bool
+has_room t = nat_lt (held_in t.sessions) t.agreed
 
 -- the same side, ceiling and number of ids
 abbrev pub SameEnd : (old new : Table) → Type 0

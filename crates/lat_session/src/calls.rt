@@ -1,6 +1,6 @@
 //! The local calls. After a refusal nothing has changed, and none takes memory.
 
-ghost use Rattle.std.specs.Prelude.{◌≡◌, ◌≤◌, ◌++◌, ℕ, Bool, cond, true, map, length, drop, min, nat_lt, not, filter, vec_capacity, IfOk, if◌then◌else◌};
+ghost use Rattle.std.specs.Prelude.{◌≡◌, ◌≤◌, ◌++◌, ℕ, Bool, cond, true, map, length, drop, min, nat_lt, not, filter, vec_capacity, is_ok, IfOk, if◌then◌else◌};
 ghost use Rattle.lat_base.specs.declared.state.SessionState.TheVariants as states;
 ghost use Rattle.lat_model.specs.sessions.Calls.{call as called, take_count, took, Connect, Take, Answer, Refuse};
 ghost use Rattle.lat_model.specs.sessions.Session.{Session, take_open};
@@ -9,7 +9,7 @@ ghost use Rattle.lat_stream.specs.Kept.{item_of, kept_of};
 ghost use Rattle.lat_stream.specs.Sound.{Sound};
 ghost use Rattle.lat_session.specs.Calls.{call_of, answer_of, bytes_in, is_taken, after, without_bytes};
 ghost use Rattle.lat_session.specs.Stands.{Stands};
-ghost use Rattle.lat_session.specs.Table.{state_at, waiting_at, waits_as, SameEnd};
+ghost use Rattle.lat_session.specs.Table.{state_at, waiting_at, has_room, waits_as, SameEnd};
 
 use crate::ask::Ask;
 use crate::call::SessionCall;
@@ -26,6 +26,7 @@ impl Sessions {
             Stands self.old e →
             result ≡ (if nat_lt (held e) e.agreed then Ok (least_free e)
             else Err SessionFault.Full) }
+        ensures room { is_ok result ≡ has_room self.old }
         ensures state { (e : States) → Stands self.old e →
             Stands self.new (called e (Connect service.now request)) }
         ensures same { SameEnd self.old self.new }

@@ -1,7 +1,7 @@
 //! What the table tells of its sessions. No call takes memory. Of an id that no session had, each tells that there is
 //! none.
 
-ghost use Rattle.std.specs.Prelude.{◌≡◌, ◌+◌, ◌-◌, ◌<◌, ◌≤◌, cond, true, length, position, count_by, filter, false, not, nat_eq, MatchOption, IfSome};
+ghost use Rattle.std.specs.Prelude.{◌≡◌, ◌+◌, ◌-◌, ◌<◌, ◌≤◌, cond, length, position, count_by, filter, false, not, nat_eq, MatchOption, IfSome};
 ghost use Rattle.std.specs.List.{list_any};
 ghost use Rattle.std.specs.Option.{is_some, option_copied};
 ghost use Rattle.lat_base.specs.declared.state.SessionState.TheVariants as states;
@@ -12,8 +12,8 @@ ghost use Rattle.lat_model.specs.sessions.Sessions.{Sessions as States, named, h
 ghost use Rattle.lat_model.specs.sessions.Slots.{items, credits, costs};
 ghost use Rattle.lat_stream.specs.Kept.{Kept, state_shown, saturated, end_of};
 ghost use Rattle.lat_session.specs.Stands.{Stands};
-ghost use Rattle.lat_session.specs.States.{is_free, is_asked, asked_at, asked_of};
-ghost use Rattle.lat_session.specs.Table.{session_at, state_at, waiting_at};
+ghost use Rattle.lat_session.specs.States.{is_free, is_asked, held_in, asked_at, asked_of};
+ghost use Rattle.lat_session.specs.Table.{session_at, state_at, waiting_at, has_room};
 
 use crate::table::Sessions;
 use lat_base::{Name, SessionEnd, SessionState};
@@ -60,7 +60,8 @@ impl Sessions {
 
     /// How many sessions aren't free.
     pub fn held(&self) -> u8
-        ensures { (e : States) → Stands self.now e → result ≡ held e }
+        ensures value { result ≡ held_in self.now.sessions }
+        ensures model { (e : States) → Stands self.now e → result ≡ held e }
     {
         self.count_held()
     }
@@ -182,7 +183,7 @@ impl Sessions {
     }
 
     fn count_held(&self) -> u8
-        ensures { result ≡ count_by (λ (k : Kept). not (is_free k.state)) self.now.sessions }
+        ensures { result ≡ held_in self.now.sessions }
     {
         let reached = self.sessions.reached().iter();
         reached.filter(|session| !is_free(session)).count() as u8
@@ -228,6 +229,7 @@ impl Sessions {
     pub(crate) fn free_place(&self) -> Option<usize>
         ensures model { (e : States) → Stands self.now e →
             result ≡ cond (is_full e) None (Some (least_free e - 1)) }
+        ensures room { is_some result ≡ has_room self.now }
         ensures within { IfSome result (λ i. i < length self.now.sessions) }
     {
         if self.held() >= self.agreed {

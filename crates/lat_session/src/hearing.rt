@@ -1,7 +1,7 @@
 //! The slots that the peer's sessions send. It takes no memory.
 
 ghost use Rattle.std.specs.Prelude.{◌≡◌, ◌+◌, ◌≤◌, ◌<◌, ◌++◌, ◌∷◌, [], ◌&&◌};
-ghost use Rattle.std.specs.Prelude.{true, false, cond, ℕ, List, Option, Some, None, MatchOption, IfSome, OnErr, not, length, nat_eq, nat_lt};
+ghost use Rattle.std.specs.Prelude.{true, false, ℕ, List, Option, Some, None, MatchOption, IfSome, OnErr, not, length, nat_eq, nat_lt};
 ghost use Rattle.std.specs.List.{list_any};
 ghost use Rattle.std.specs.Option.{is_some};
 ghost use Rattle.lat_model.specs.Lists.{any_up_to};

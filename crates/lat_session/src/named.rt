@@ -1,6 +1,6 @@
 //! The calls of a session's user by their names: each is `call` with one `SessionCall`.
 
-ghost use Rattle.std.specs.Prelude.{◌≡◌, ◌≤◌, true, length, nat_lt, Ok, Err, IfOk, if◌then◌else◌};
+ghost use Rattle.std.specs.Prelude.{◌≡◌, ◌≤◌, length, nat_lt, Ok, Err, IfOk, if◌then◌else◌};
 ghost use Rattle.lat_model.specs.sessions.Calls.{call as called, put_count, Put, Set, Attend, Close};
 ghost use Rattle.lat_model.specs.sessions.Session.{put_open, take_open, unframed};
 ghost use Rattle.lat_model.specs.sessions.Sessions.{Sessions as States, named};

@@ -10,7 +10,7 @@ ghost use Rattle.lat_model.specs.sessions.Calls.{put_items, put_count, take_coun
 ghost use Rattle.lat_stream.specs.declared.calls.SessionFault.TheVariants.{Full, Closed};
 ghost use Rattle.lat_stream.specs.Kept.{kept_of, item_of};
 ghost use Rattle.lat_stream.specs.Sound.{Sound};
-ghost use Rattle.lat_stream.specs.Steps.{can_put, can_take, state_running, turned_away, took, closed, still_held};
+ghost use Rattle.lat_stream.specs.Steps.{can_take, state_running, turned_away, took, closed};
 
 use crate::rings::{let_go, let_go_all, push_bytes};
 use crate::stream::{Stream, UNFRAMED_ITEMS};

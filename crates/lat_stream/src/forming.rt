@@ -1,6 +1,6 @@
 //! The slots that a session forms.
 
-ghost use Rattle.std.specs.Prelude.{◌≡◌, ◌≢◌, ℕ, List, [], ◌∷◌, ◌+◌, ◌<◌, ◌≤◌, true, false, ◌++◌, ◌||◌, ◌&&◌, length, take, drop, min, nat_lt, nat_le, None};
+ghost use Rattle.std.specs.Prelude.{◌≡◌, ◌≢◌, ℕ, List, ◌+◌, ◌<◌, ◌≤◌, true, false, ◌++◌, ◌||◌, ◌&&◌, length, take, drop, min, nat_lt, None};
 ghost use Rattle.circular_buffer.specs.Buffer.{buffer};
 ghost use Rattle.lat_base.specs.Names.{IsName};
 ghost use Rattle.lat_base.specs.declared.state.SessionState.TheVariants as states;

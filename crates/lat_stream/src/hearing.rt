@@ -1,7 +1,7 @@
 //! The slots that a session hears.
 
-ghost use Rattle.std.specs.Prelude.{◌≡◌, ◌+◌, ◌-◌, ◌<◌, ◌≤◌, ◌++◌, [], ◌∷◌, ◌&&◌, ◌||◌};
-ghost use Rattle.std.specs.Prelude.{not, Bool, true, false, ℕ, List, Option, Some, map, length, nat_eq, nat_lt, nat_le, cond, is_ok, OnOk, OnErr};
+ghost use Rattle.std.specs.Prelude.{◌≡◌, ◌+◌, ◌-◌, ◌<◌, ◌≤◌, [], ◌∷◌, ◌&&◌, ◌||◌};
+ghost use Rattle.std.specs.Prelude.{Bool, true, ℕ, List, Option, Some, map, length, nat_eq, nat_le, is_ok, OnOk, OnErr};
 ghost use Rattle.lat_base.specs.declared.item.Item.TheVariants as kept_items;
 ghost use Rattle.lat_base.specs.declared.state.SessionState.TheVariants as kept_states;
 ghost use Rattle.lat_model.specs.sessions.Slots as slots;
@@ -9,7 +9,7 @@ ghost use Rattle.lat_model.specs.sessions.Session.{Session};
 ghost use Rattle.lat_model.specs.sessions.Hearing.{heard, behind_fits};
 ghost use Rattle.lat_stream.specs.Kept.{kept_of};
 ghost use Rattle.lat_stream.specs.Sound.{Sound};
-ghost use Rattle.lat_stream.specs.Steps.{can_hear, can_pay, is_left, ended_if_done, state_running, turned_away, held_more, kept_more, granted, silent};
+ghost use Rattle.lat_stream.specs.Steps.{can_hear, can_pay, ended_if_done, held_more, kept_more, granted, silent};
 ghost use Rattle.lat_model.specs.Lists.{is_empty};
 
 use crate::rings::push_bytes;

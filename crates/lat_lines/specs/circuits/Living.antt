@@ -1,11 +1,11 @@
--- Where circuits live, and which of their sessions wait for this end's answer.
+-- Where circuits live, which have room, and which of their sessions wait for this end's answer.
 use Rattle.std.specs.Prelude.{◌≡◌, ℕ, Bool, false, not, ◌&&◌, is_none, Option, Some, None, slice_get}
 use Rattle.lat_base.specs.declared.state.SessionState.TheVariants as states
 use Rattle.lat_model.specs.sessions.Session.{waits}
 use Rattle.lat_model.specs.sessions.Sessions.{named}
 use Rattle.lat_model.specs.ends.End.{End, lives}
 use Rattle.lat_machines.specs.cores.Cores.{Core}
-use Rattle.lat_session.specs.Table.{state_at}
+use Rattle.lat_session.specs.Table.{state_at, has_room}
 use Rattle.lat_circuit.specs.Kept as circuit
 use Rattle.lat_lines.specs.circuits.Kept.{Kept}
 use Rattle.lat_lines.specs.circuits.Stands.{Stands}
@@ -14,6 +14,14 @@ use Rattle.lat_lines.specs.circuits.Info.{held_circuit, is_asked_at}
 abbrev pub lives_in : Option circuit.Kept → Bool
 lives_in None = false
 lives_in (Some q) = is_none q.ended
+
+-- it lives and holds fewer sessions than were agreed
+abbrev pub room_in : Option circuit.Kept → Bool
+room_in None = false
+room_in (Some q) = is_none q.ended && has_room q.sessions
+
+abbrev pub has_room_at : Kept → ℕ → Bool
+has_room_at k x = room_in (held_circuit k x)
 
 -- the circuit of this id lives, and stands at this place
 pub record IsLiving (k : Kept) (x at : ℕ) (q : circuit.Kept) : Type 0 where

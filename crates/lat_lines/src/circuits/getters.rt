@@ -1,6 +1,6 @@
 //! What circuits tell. No call takes memory. Of a circuit that isn't held each tells that there is none.
 
-ghost use Rattle.std.specs.Prelude.{◌≡◌, ◌≤◌, ◌+◌, ◌-◌, ◌&&◌, cond, not, nat_eq, true, false};
+ghost use Rattle.std.specs.Prelude.{◌≡◌, ◌≤◌, ◌-◌, ◌&&◌, cond, nat_eq, true, false};
 ghost use Rattle.std.specs.Prelude.{length, filter, Some, None, is_none, IfSome};
 ghost use Rattle.std.specs.List.{find, position};
 ghost use Rattle.std.specs.Option.{is_some, option_copied};

@@ -1,7 +1,7 @@
 //! Circuits that a server calls.
 
-ghost use Rattle.std.specs.Prelude.{◌≡◌, ℕ, ◌≤◌, ◌<◌, ◌+◌, ◌&&◌, if◌then◌else◌, true, suc, cond, nat_eq, nat_lt};
-ghost use Rattle.std.specs.Prelude.{length, count_by, is_none, Ok, Err, IfSome};
+ghost use Rattle.std.specs.Prelude.{◌≡◌, ℕ, ◌≤◌, ◌<◌, ◌+◌, ◌&&◌, if◌then◌else◌, true, suc, nat_eq, nat_lt};
+ghost use Rattle.std.specs.Prelude.{length, count_by, is_none, is_ok, Ok, Err, IfSome};
 ghost use Rattle.std.specs.List.{find};
 ghost use Rattle.std.specs.Option.{option_map};
 ghost use Rattle.lat_model.specs.circuits.Arriving.{living};
@@ -11,12 +11,14 @@ ghost use Rattle.lat_model.specs.ends.End.{End, lives};
 ghost use Rattle.lat_machines.specs.values.Addresses.{address};
 ghost use Rattle.lat_machines.specs.cores.Cores.{Core, circuit_to};
 ghost use Rattle.lat_machines.specs.server.Server.{has_room};
+ghost use Rattle.lat_session.specs.Table as table;
 ghost use Rattle.lat_circuit.specs.Agrees.{IsTiming};
 ghost use Rattle.lat_circuit.specs.Kept.{Kept};
 ghost use Rattle.lat_circuit.specs.Stands as circuit_stands;
 ghost use Rattle.lat_lines.specs.circuits.Kept.{side_of, SameCore, SameCircuits, has_id, IsClear};
 ghost use Rattle.lat_lines.specs.circuits.Stands.{Stands, Simulates, calling};
 ghost use Rattle.lat_lines.specs.circuits.Info.{sessions_at};
+ghost use Rattle.lat_lines.specs.circuits.Living.{has_room_at};
 ghost use Rattle.lat_lines.specs.circuits.Opens.{id_or_zero, called_core};
 
 use crate::circuits::Circuits;
@@ -54,7 +56,8 @@ impl Circuits {
 
     /// Whether a living circuit holds fewer sessions than were agreed. False where no circuit of this id lives.
     pub fn has_room(&self, circuit: u16) -> bool
-        ensures { (c : Core) →
+        ensures value { result ≡ has_room_at self.now circuit }
+        ensures model { (c : Core) →
             Stands self.now c →
             result ≡ (lives (c.circuits.circuit_at circuit).end && has_room c circuit) }
     {
@@ -74,6 +77,7 @@ impl Circuits {
         ensures did { Simulates (called_core (side_of self.old)
             (address peer.0) node.now) self.old self.new out.old out.new }
         ensures id { result ≡ suc self.old.drawn }
+        ensures free { has_room_at self.new result ≡ true }
         ensures drawn { self.new.drawn ≡ suc self.old.drawn }
         ensures core { SameCore self.old self.new }
         ensures moment { self.new.moment ≡ self.old.moment }
@@ -108,6 +112,7 @@ impl Circuits {
             result ≡ (if lives (c.circuits.circuit_at circuit).end && has_room c circuit
             then Ok (least_free (sessions_at c circuit))
             else Err SessionFault.Full) }
+        ensures room { is_ok result ≡ has_room_at self.old circuit }
         ensures state { (c : Core) →
             Stands self.old c →
             Stands self.new (calling (side_of self.old) circuit (Connect service.now request) c) }
@@ -145,7 +150,8 @@ fn is_alive(circuit: &Circuit) -> bool
 }
 
 fn has_room(circuit: &Circuit) -> bool
-    ensures { (e : End) →
+    ensures value { result ≡ table.has_room circuit.now.sessions }
+    ensures model { (e : End) →
         circuit_stands.Stands circuit.now e →
         result ≡ nat_lt (held e.half.sessions) e.half.sessions.agreed }
 {

@@ -1,6 +1,6 @@
 //! What circuits do at a time event.
 
-ghost use Rattle.std.specs.Prelude.{◌≡◌, ◌≤◌, ◌<◌, ◌+◌, length, slice_index};
+ghost use Rattle.std.specs.Prelude.{◌≤◌, ◌<◌, ◌+◌, length, slice_index};
 ghost use Rattle.lat_machines.specs.cores.Cores.{passes_time};
 ghost use Rattle.lat_lines.specs.circuits.Kept.{side_of, SameCircuits, ids};
 ghost use Rattle.lat_lines.specs.circuits.Stands.{Simulates};

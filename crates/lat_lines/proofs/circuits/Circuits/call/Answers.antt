@@ -1,4 +1,4 @@
-use Rattle.std.proofs.Common.{◌∙◌, sym, ap, subst, arith, ◌+◌, ◌≤◌, ◌++◌, [], ◌∷◌, length, length-append}
+use Rattle.std.proofs.Common.{◌∙◌, sym, ap, subst, arith, ◌+◌, ◌<◌, ◌≤◌, ◌++◌, [], ◌∷◌, length, length-append}
 use Rattle.std.proofs.lemmas.Grind.{common_steps, elements}
 use Rattle.lat_model.specs.Lists.{Each}
 use Rattle.lat_machines.specs.values.Addresses.{address}
@@ -12,7 +12,7 @@ use Rattle.lat_lines.specs.circuits.Shown.{shown}
 use Rattle.lat_lines.specs.circuits.Stands.{Simulates}
 use Rattle.lat_lines.specs.circuits.Opens.{called_core}
 use Rattle.lat_lines.proofs.circuits.Called.{Calls, config_of, call_holds, call_did, held_now, each_last}
-use Rattle.lat_lines.proofs.circuits.Pushed.{ids_pushed, length_pushed, clear_pushed}
+use Rattle.lat_lines.proofs.circuits.Pushed.{ids_pushed, length_pushed, clear_pushed, room_pushed}
 use Rattle.lat_lines.proofs.circuits.Circuits.call.Goals as goal
 
 pub invariant_of-self : goal.invariant_of-self
@@ -71,6 +71,14 @@ returns-clause-timing c = (subst Holds c.self.view_is c.self.invariant.0).timing
 pub returns-clause-clear : goal.returns-clause-clear
 returns-clause-clear c =
     clear_pushed c.args.self.now c.self.inside.held.items c.push_reserved.new.self.items c.call_in-circuit.result (record { are = ap (λ (z : Kept). z.held) c.self.view_is; more = c.push_reserved.ensures.items }) c.call_in-circuit.ensures.begins.state.ended
+
+pub returns-clause-free : goal.returns-clause-free
+returns-clause-free c =
+    let k = c.args.self.now in
+    let h = subst Holds c.self.view_is c.self.invariant.0 in
+    let next : k.drawn < c.self.inside.drawn + 1 = omega (arith, ap (λ (z : Kept). z.drawn) c.self.view_is) in
+    let some : 1 ≤ c.config_to-config.result.timing.sessions = omega (arith, h.timing.sessions.0, ap (λ (z : CircuitConfig). z.timing.sessions) c.config_to-config.ensures) in
+    room_pushed k c.self.inside.held.items c.push_reserved.new.self.items _ (c.self.inside.drawn + 1) c.in-Some.room _ c.call_in-circuit.result _ _ (record { are = ap (λ (z : Kept). z.held) c.self.view_is; more = c.push_reserved.ensures.items }) c.call_in-circuit.ensures.begins h next some
 
 pub returns-clause-held : goal.returns-clause-held
 returns-clause-held c =

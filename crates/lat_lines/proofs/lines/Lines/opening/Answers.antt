@@ -18,7 +18,7 @@ returns-in-Some-clause-way c = λ d st.
     let s : Stands (shown c.self.inside) d = subst (λ z. Stands z d) (sym c.self.view_is) st in
     let is : x ≡ circuit_to d (address c.args.peer.0) = ap id_or_zero (sym c.in-Some.is) ∙ c.to.ensures.model d s.circuits in
     let l : lives (d.circuits.circuit_at x).end ≡ true = subst (λ o. IfSome o (λ i. lives (d.circuits.circuit_at i).end ≡ true)) c.in-Some.is (c.to.ensures.lives d s.circuits) in
-    let room = (and_parts (lives (d.circuits.circuit_at x).end) (has_room d x) (sym (c.has_room.ensures d s.circuits) ∙ c.if-has_room.true)).1 in
+    let room = (and_parts (lives (d.circuits.circuit_at x).end) (has_room d x) (sym (c.has_room.ensures.model d s.circuits) ∙ c.if-has_room.true)).1 in
     sym (way_living d (address c.args.peer.0) x is st.none l ∙ ap (λ b. cond b (Ok (Some x)) (Err SessionsFull)) room)
 
 pub returns-in-Some-2-clause-way : goal.returns-in-Some-2-clause-way
@@ -27,7 +27,7 @@ returns-in-Some-2-clause-way c = λ d st.
     let s : Stands (shown c.self.inside) d = subst (λ z. Stands z d) (sym c.self.view_is) st in
     let is : x ≡ circuit_to d (address c.args.peer.0) = ap id_or_zero (sym c.in-Some.is) ∙ c.to.ensures.model d s.circuits in
     let l : lives (d.circuits.circuit_at x).end ≡ true = subst (λ o. IfSome o (λ i. lives (d.circuits.circuit_at i).end ≡ true)) c.in-Some.is (c.to.ensures.lives d s.circuits) in
-    let room : has_room d x ≡ false = ap (λ b. b && has_room d x) (sym l) ∙ sym (c.has_room.ensures d s.circuits) ∙ c.if-has_room.false in
+    let room : has_room d x ≡ false = ap (λ b. b && has_room d x) (sym l) ∙ sym (c.has_room.ensures.model d s.circuits) ∙ c.if-has_room.false in
     sym (way_living d (address c.args.peer.0) x is st.none l ∙ ap (λ b. cond b (Ok (Some x)) (Err SessionsFull)) room)
 
 pub returns-in-None-clause-way : goal.returns-in-None-clause-way
