@@ -5,7 +5,7 @@ ghost use Rattle.std.specs.Prelude.{◌≤◌};
 use crate::play::{Play, Side, side_at};
 use crate::post::Post;
 use crate::station::Station;
-use lat_base::{Addr, Answer, Bytes, EVERYONE, Event, Memory, Name, OutBox, Payload};
+use lat_base::{Addr, Answer, Bytes, Event, Memory, Name, OutBox, Payload};
 use lat_script::{
     ScriptFault, address, answer_onto, bytes, name, number, number_within, short, word,
 };
@@ -68,7 +68,7 @@ impl<S: Station, N: Station> Play<S, N> {
             Side::Server => (Side::Node, self.server.own(), self.node.own()),
             Side::Node => (Side::Server, self.node.own(), self.server.own()),
         };
-        if frame.to != own && frame.to != EVERYONE {
+        if frame.to != own && !frame.to.is_everyone() {
             return None;
         }
         Some((side, from, frame.payload.copy()))

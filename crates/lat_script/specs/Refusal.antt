@@ -18,11 +18,16 @@ wanted_text wanted.Name = codes "a name"
 -- a word of a line, both counted from 1, isn't a number of so much at least and so much at most
 abbrev pub no_number : ℕ → ℕ → ℕ → ℕ → List ℕ
 no_number number word least most =
-    if least == 0 then line (codes "line " ∷ decimal number ∷ codes " word " ∷ decimal word ∷ codes " isn't a number up to " ∷ decimal most ∷ []) else line (codes "line " ∷ decimal number ∷ codes " word " ∷ decimal word ∷ codes " isn't a number from " ∷ decimal least ∷ codes " to " ∷ decimal most ∷ [])
+    if least == 0
+    then line (codes "line " ∷ decimal number ∷ codes " word " ∷ decimal word
+    ∷ codes " isn't a number up to " ∷ decimal most ∷ [])
+    else line (codes "line " ∷ decimal number ∷ codes " word " ∷ decimal word
+    ∷ codes " isn't a number from " ∷ decimal least ∷ codes " to " ∷ decimal most ∷ [])
 
 -- a word of a line, both counted from 1, isn't what is wanted
 abbrev pub no_word : ℕ → ℕ → Wanted → List ℕ
-no_word number word wanted = line (codes "line " ∷ decimal number ∷ codes " word " ∷ decimal word ∷ codes " isn't " ∷ wanted_text wanted ∷ [])
+no_word number word wanted =
+    line (codes "line " ∷ decimal number ∷ codes " word " ∷ decimal word ∷ codes " isn't " ∷ wanted_text wanted ∷ [])
 
 abbrev pub one_of : Pair → List ℕ
 one_of pairs.Ends = codes "m"

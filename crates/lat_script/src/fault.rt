@@ -93,7 +93,7 @@ fn wanted_text(wanted: Wanted) -> &'static str
     }
 }
 
-// The one of two words.
+/// The one of two words.
 pub fn one_of(pair: Pair) -> &'static str
     ensures { result.now ≡ one_of pair }
 {
@@ -105,7 +105,7 @@ pub fn one_of(pair: Pair) -> &'static str
     }
 }
 
-// The other of two words.
+/// The other of two words.
 pub fn other_of(pair: Pair) -> &'static str
     ensures { result.now ≡ other_of pair }
 {

@@ -35,10 +35,10 @@ pub fn put_datagram(to: Addr, from: Addr, payload: &[u8], place: &mut [u8; 1514]
 }
 
 // Whether a station with this address hears what is sent to that one.
-fn is_for(own: Addr, to: &[u8; 6]) -> bool
-    ensures { IsTrue result ↔ (to.now ≡ own.0) ⊎ (to.now ≡ EVERYONE.0) }
+fn is_for(own: Addr, to: Addr) -> bool
+    ensures { IsTrue result ↔ (to.0 ≡ own.0) ⊎ (to.0 ≡ EVERYONE.0) }
 {
-    *to == own.0 || *to == EVERYONE.0
+    to == own || to.is_everyone()
 }
 
 /// What a station hears of at most 1,514 bytes: the sender's address and the payload, where they are a datagram that is sent to
@@ -52,7 +52,7 @@ pub fn heard(own: Addr, bytes: &[u8]) -> Option<(Addr, &[u8])>
     let (to, behind) = bytes.split_first_chunk::<6>()?;
     let (from, behind) = behind.split_first_chunk::<6>()?;
     let (kind, payload) = behind.split_first_chunk::<2>()?;
-    if *kind != KIND || !is_for(own, to) {
+    if *kind != KIND || !is_for(own, Addr(*to)) {
         return None;
     }
     Some((Addr(*from), payload))

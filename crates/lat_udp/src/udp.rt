@@ -5,14 +5,12 @@ ghost use Rattle.lat_outside.specs.Causes.{Rose};
 
 use crate::datagram::{DATAGRAM_BYTES, heard, put_datagram};
 use crate::fault::{is_quiet, more};
-use lat_base::Addr;
+use lat_base::{Addr, PAYLOAD_BYTES};
 use lat_outside::{Failed, Got, Rx, Tx};
 use std::net::{Ipv4Addr, UdpSocket};
 
 /// How many peers a carrier has at most.
 pub const PEERS: usize = 8;
-
-const PAYLOAD_BYTES: usize = 1500;
 
 /// The sending half: each frame goes to each peer's port. It tells no frames. A frame that is too long, or that doesn't go out
 /// whole to some peer, is a fault.

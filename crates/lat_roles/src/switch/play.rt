@@ -3,7 +3,7 @@
 ghost use Rattle.std.specs.Prelude.{◌≡◌, []};
 
 use crate::switch::print::shown_onto;
-use lat_base::{Addr, Answer, Bytes, Core, EVERYONE, Event, Memory, OutBox, Payload};
+use lat_base::{Addr, Answer, Bytes, Core, Event, Memory, OutBox, Payload};
 use lat_node::{NodeCore, RatingRule};
 use lat_schedule::{WorldEvent, event_onto};
 use lat_script::answer_onto;
@@ -106,7 +106,7 @@ impl<H: RatingRule> Play<H> {
         } else {
             (self.node.own, self.switch.own)
         };
-        if frame.to != to && frame.to != EVERYONE {
+        if frame.to != to && !frame.to.is_everyone() {
             return Ok(());
         }
         let event = Event::Heard {
