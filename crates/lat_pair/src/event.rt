@@ -56,7 +56,8 @@ fn call_of(line: &str) -> Result<Event, ScriptFault> {
             line: place,
             flag: byte(line, 3)?,
         },
-        _ => Event::Close { line: place },
+        "close" => Event::Close { line: place },
+        _ => return Err(no_command(1)),
     })
 }
 

@@ -58,7 +58,8 @@ fn tell_line_onto<C: Station>(
     match word(line, 0) {
         "book" => Ok(book_onto(alloc, text, post.book(byte(line, 2)?))?),
         "state" => Ok(state_onto(text, post.state(byte(line, 2)?))?),
-        _ => Ok(number_onto(text, u64::from(post.waiting(byte(line, 2)?)))?),
+        "waiting" => Ok(number_onto(text, u64::from(post.waiting(byte(line, 2)?)))?),
+        _ => Err(no_command(0)),
     }
 }
 

@@ -140,7 +140,8 @@ impl End {
             "connect" => self.connect(&name(line, 1)?, text)?,
             "answer" => self.answer(byte(line, 1)?, text)?,
             "reject" => self.reject(byte(line, 1)?, byte(line, 2)?, text)?,
-            _ => self.asked(text)?,
+            "asked" => self.asked(text)?,
+            _ => return Err(no_command(0)),
         }
         Ok(())
     }
@@ -174,7 +175,8 @@ impl End {
         match word(line, 0) {
             "put" => self.put(id, &bytes(alloc, line, 3)?, text)?,
             "set" => self.set(id, setting(line, 3)?, text)?,
-            _ => self.put(id, &filling(alloc, line, 3)?, text)?,
+            "fill" => self.put(id, &filling(alloc, line, 3)?, text)?,
+            _ => return Err(no_command(0)),
         }
         Ok(())
     }
@@ -185,11 +187,12 @@ impl End {
         match word(line, 0) {
             "state" => state_onto(text, self.circuit.state(id))?,
             "waiting" => number_onto(text, u64::from(self.circuit.waiting(id)))?,
-            _ => {
+            "totals" => {
                 let (given, used) = self.circuit.totals(id);
                 totals_onto(text, u64::from(given), u64::from(used))?;
                 text.push_str("\n")?;
             }
+            _ => return Err(no_command(0)),
         }
         Ok(())
     }

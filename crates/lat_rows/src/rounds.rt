@@ -30,8 +30,8 @@ fn byte_of(number: u64) -> u8 {
 // Puts the next bytes at the master's session 1.
 fn put_next(master: &mut End, size: u8, came: &mut Came) {
     let mut bytes = [0; 255];
-    for i in 0..size {
-        bytes[usize::from(i)] = byte_of(came.put.wrapping_add(u64::from(i)));
+    for (place, byte) in bytes.iter_mut().enumerate() {
+        *byte = byte_of(came.put.wrapping_add(place as u64));
     }
     if !master.circuit.lives() {
         return;

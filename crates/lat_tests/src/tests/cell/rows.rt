@@ -89,6 +89,18 @@ fn fill_cell<E: Ledger, B: Ledger, F: Ledger>(alloc: Global, blanks: Blanks) -> 
     })
 }
 
+// Tells a cell of three moments.
+fn pass_three<C: Core, T: Tx, E: Ledger, B: Ledger, F: Ledger>(
+    alloc: Global,
+    cell: &mut Cell<C, T, E, B, F>,
+    clock: &mut LineShare<E, B, F>,
+) -> Option<()> {
+    for now in 0..3 {
+        act(alloc, cell, clock, Event::Time { now }).ok()?;
+    }
+    Some(())
+}
+
 // What an audit says of three time events and two takes: with all shares, and without the line's.
 fn audited<E: Ledger, B: Ledger, F: Ledger>(
     alloc: Global,
@@ -103,9 +115,7 @@ fn audited<E: Ledger, B: Ledger, F: Ledger>(
         mut line,
         mut clock,
     } = make_cell::<MemTx, E, B, F>(alloc, tx, blanks)?;
-    for now in 0..3 {
-        act(alloc, &mut cell, &mut clock, Event::Time { now }).ok()?;
-    }
+    pass_three(alloc, &mut cell, &mut clock)?;
     for _ in 0..2 {
         let take = Event::Take { line: 1, n: 5 };
         act(alloc, &mut cell, &mut line, take).ok()?;
