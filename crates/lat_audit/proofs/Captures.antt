@@ -11,13 +11,14 @@ use Rattle.lat_circuit.specs.Payloads.{slots_as_text}
 use Rattle.lat_captures.specs.Entries as captures
 use Rattle.lat_captures.specs.Audit.{IsLegal, audit, run_count}
 use Rattle.lat_captures.specs.Captured.{RunHead, first_up, is_between, entry_of, entries_of, capture_from}
+use Rattle.lat_captures.specs.Rules.{title_of}
 use Rattle.lat_captures.proofs.Audits.{verdict_of_legal}
 use Rattle.lat_captures.proofs.Machines.{every_capture}
 use Rattle.lat_audit.specs.Written.{IsTitle, IsEntry}
 use Rattle.lat_audit.proofs.WrittenRead.{capture_read}
 use Rattle.lat_audit.specs.Shown.{entry_shown}
 use Rattle.lat_audit.specs.AuditOf.{verdict_text, answer_of, audit_of}
-use Rattle.lat_audit.specs.Printed.{written_of, title_of, printed, GoesOut}
+use Rattle.lat_audit.specs.Printed.{written_of, printed, GoesOut}
 use Rattle.lat_audit.specs.Laws.{AllGoOut, PrintedIsLegal}
 use Rattle.lat_audit.proofs.Readings.{IdsFit, RunIsRead, run_is_read}
 

@@ -8,7 +8,7 @@ use Rattle.lat_payload.specs.Reads.{reading_of}
 use Rattle.lat_circuit.specs.Payloads.{slots_as_text}
 use Rattle.lat_captures.specs.Entries as captures
 use Rattle.lat_captures.specs.Captured.{captured}
-use Rattle.lat_captures.specs.declared.head.Title.{Title}
+use Rattle.lat_captures.specs.Rules.{title_of}
 use Rattle.lat_audit.specs.declared.entry.Entry.{Entry}
 use Rattle.lat_audit.specs.Written.{capture_text}
 
@@ -19,9 +19,6 @@ payload_in (Malformed field at) = []
 
 abbrev pub written_of : captures.Entry → Entry
 written_of e = record { by_master = e.by_master; payload = payload_in e.reading }
-
-abbrev pub title_of : captures.Title → Title
-title_of t = record { master = t.master; slave = t.slave; wide = t.wide }
 
 -- the whole text, or the word for none
 abbrev pub printed : Option captures.Capture → List ℕ

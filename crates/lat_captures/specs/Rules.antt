@@ -11,6 +11,9 @@ use Rattle.lat_captures.specs.declared.rule.Rule.TheVariants as rules
 abbrev pub title_shown : Title → entries.Title
 title_shown t = record { master = t.master; slave = t.slave; wide = t.wide }
 
+abbrev pub title_of : entries.Title → Title
+title_of t = record { master = t.master; slave = t.slave; wide = t.wide }
+
 -- the head of a RUN, which may ask for a reply
 abbrev pub head_shown : Bool → RunHead → Head
 head_shown ask h = record { master = h.master; ask = ask; to = h.to; from = h.from; seq = h.seq; ack = h.ack }
