@@ -1,6 +1,6 @@
 //! What a circuit does at a time event.
 
-ghost use Rattle.std.specs.Prelude.{◌≡◌, ◌+◌, ◌<◌, ◌≤◌, true, false, length, None};
+ghost use Rattle.std.specs.Prelude.{◌≡◌, ◌+◌, ◌<◌, ◌≤◌, true, false, length, nat_lt, None};
 ghost use Rattle.lat_model.specs.ends.End.{End, send_again, send_start};
 ghost use Rattle.lat_model.specs.ends.Timers.{note_empty, time_step, a_round, rounds_step, alive_step, due_step, living};
 ghost use Rattle.lat_session.specs.Table.{SameEnd};
@@ -104,6 +104,13 @@ impl Circuit {
         }
     }
 
+    // Whether one more round may go out.
+    fn has_rounds(&self) -> bool
+        ensures { result ≡ nat_lt self.now.rounds 8 }
+    {
+        self.rounds < ROUNDS
+    }
+
     fn round_again(&mut self, out: &mut OutBox)
         requires room { length out.old + 8 ≤ 256 }
         requires running { self.old.running ≡ true }
@@ -111,7 +118,7 @@ impl Circuit {
         ensures keeps { Keeps self.old self.new }
         ensures most { length out.new ≤ length out.old + 8 }
     {
-        if self.rounds < ROUNDS {
+        if self.has_rounds() {
             self.send_again(out);
         } else {
             self.finish(CircuitEnd::NoAnswer, out);
@@ -125,7 +132,7 @@ impl Circuit {
         ensures keeps { Keeps self.old self.new }
         ensures most { length out.new ≤ length out.old + 1 }
     {
-        if self.rounds < ROUNDS {
+        if self.has_rounds() {
             self.send_start(out);
         } else {
             self.finish(CircuitEnd::NoAnswer, out);
