@@ -52,7 +52,7 @@ payload_found kind_of layout [] v h =
     let s = bind_ok (wanted true Size 1500) (λ s. bad Kind 0) v h in
     absurd (let no : bad Kind 0 ≡ Ok v = s.2 in cc)
 payload_found {K = K} {V = V} kind_of layout (first ∷ tail) v h =
-    let end : (V × ℕ × List ℕ) → ℕ → Result V Bad = λ x t. Ok x.0 in
+    let end : (V × ℕ × List ℕ) → Unit {0} → Result V Bad = λ x t. Ok x.0 in
     let after : (V × ℕ × List ℕ) → Result V Bad = λ x. (wanted (eqb (length x.2) 0 || leb (length (first ∷ tail)) 46) Trailing x.1 >>= end x) in
     let body : K → Result V Bad = λ k. (layout k first tail >>= after) in
     let s = bind_ok (wanted (leb (length (first ∷ tail)) 1500) Size 1500) (λ s. (known (kind_of (first / 4)) Kind 0 >>= body)) v h in

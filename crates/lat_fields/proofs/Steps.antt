@@ -22,7 +22,7 @@ pub chosen : {A : Type 0} (b : Bool) (x y : A) (e : Bad) → cond b (Ok x) (Err 
 chosen true x y e h = (refl, cc)
 chosen false x y e h = absurd (let no : Err e ≡ Ok y = h in cc)
 
-pub wanted_ok : (b : Bool) (f : Field) (at u : ℕ) → wanted b f at ≡ Ok u → b ≡ true
+pub wanted_ok : (b : Bool) (f : Field) (at : ℕ) (u : Unit {0}) → wanted b f at ≡ Ok u → b ≡ true
 wanted_ok true f at u h = refl
 wanted_ok false f at u h = absurd (let no : bad f at ≡ Ok u = h in cc)
 

@@ -29,8 +29,8 @@ abbrev pub fault : Field → ℕ → LayoutFault
 fault field at = faults.Bad (record { field = field; at = at })
 
 -- the field is bad unless its condition holds
-abbrev pub wanted : Bool → Field → ℕ → Result ℕ Bad
-wanted holds field at = if holds then Ok 0 else bad field at
+abbrev pub wanted : Bool → Field → ℕ → Result (Unit {0}) Bad
+wanted holds field at = if holds then Ok tt else bad field at
 
 -- what the field stands for, which is bad where that is nothing
 abbrev pub known : {A : Type 0} → Option A → Field → ℕ → Result A Bad

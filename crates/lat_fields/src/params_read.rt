@@ -6,7 +6,7 @@ ghost use Rattle.lat_fields.specs.ParamsReading.{params_at};
 
 use crate::fault::LayoutFault;
 use crate::params::{Param, Params};
-use crate::read::{byte_of, counted_of, wanted};
+use crate::read::{bad, byte_of, counted_of};
 use lat_base::{Bytes, Field};
 use std::alloc::Global;
 
@@ -34,6 +34,5 @@ pub fn params_of(alloc: Global, bytes: &[u8], place: usize) -> Result<(Params, u
         entries.push(Param { code, bytes })?;
         at = behind;
     }
-    wanted(false, Field::Parameters, at)?;
-    Ok((entries, at))
+    Err(bad(Field::Parameters, at))
 }

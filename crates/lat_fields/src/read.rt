@@ -9,7 +9,8 @@ use crate::write::LEAST_PAYLOAD;
 use lat_base::{Bad, Bytes, Field, Name};
 use std::alloc::Global;
 
-fn bad(field: Field, at: usize) -> LayoutFault
+// The fault that names the field bad, at its place.
+pub(crate) fn bad(field: Field, at: usize) -> LayoutFault
     requires { at < 2 ^ 16 }
     ensures { result ≡ fault field at }
 {
@@ -20,14 +21,14 @@ fn bad(field: Field, at: usize) -> LayoutFault
 }
 
 /// Names the field bad, at its place, where its condition doesn't hold.
-pub fn wanted(holds: bool, field: Field, at: usize) -> Result<u8, LayoutFault>
+pub fn wanted(holds: bool, field: Field, at: usize) -> Result<(), LayoutFault>
     requires { at < 2 ^ 16 }
     ensures { Gives (λ x. x) result (wanted holds field at) }
 {
     if !holds {
         return Err(bad(field, at));
     }
-    Ok(0)
+    Ok(())
 }
 
 /// What the field stands for. It names the field bad, at its place, where that is nothing.

@@ -51,13 +51,13 @@ pub record FoundCircuits (kind : MessageKind) (master : Bool) (bytes : List ℕ)
 abbrev Read : Type 0
 Read = ℕ × ℕ × List ℕ
 
-abbrev after_source : Read → Read → Read → ℕ → Result (Circuits × ℕ × List ℕ) Bad
+abbrev after_source : Read → Read → Read → Unit {0} → Result (Circuits × ℕ × List ℕ) Bad
 after_source slots to from u = Ok (circuits slots.0 to.0 from.0, from.1, from.2)
 
 abbrev after_from : MessageKind → Read → Read → Read → Result (Circuits × ℕ × List ℕ) Bad
 after_from kind slots to from = wanted (source_fits kind from.0) SourceCircuit to.1 >>= after_source slots to from
 
-abbrev after_destination : MessageKind → Read → Read → ℕ → Result (Circuits × ℕ × List ℕ) Bad
+abbrev after_destination : MessageKind → Read → Read → Unit {0} → Result (Circuits × ℕ × List ℕ) Bad
 after_destination kind slots to u = number_at SourceCircuit to.1 to.2 >>= after_from kind slots to
 
 abbrev after_to : MessageKind → Bool → Read → Read → Result (Circuits × ℕ × List ℕ) Bad

@@ -30,13 +30,13 @@ limits_of size eco sessions extra timer keepalive =
     record { size = size; eco = eco; sessions = sessions; extra = extra; timer = timer; keepalive = keepalive }
 
 -- what follows each field
-abbrev end_l : Read → Read → Read → Read → Read → Read → ℕ → ReadLimits
+abbrev end_l : Read → Read → Read → Read → Read → Read → Unit {0} → ReadLimits
 end_l size eco sessions extra timer keepalive u = Ok (limits_of size.0 eco.0 sessions.0 extra.0 timer.0 keepalive.0, keepalive.1, keepalive.2)
 
 abbrev at_keepalive : Bool → Read → Read → Read → Read → Read → Read → ReadLimits
 at_keepalive master size eco sessions extra timer keepalive = wanted (keepalive_fits master keepalive.0) KeepAlive timer.1 >>= end_l size eco sessions extra timer keepalive
 
-abbrev timed : Bool → Read → Read → Read → Read → Read → ℕ → ReadLimits
+abbrev timed : Bool → Read → Read → Read → Read → Read → Unit {0} → ReadLimits
 timed master size eco sessions extra timer u = byte_at KeepAlive timer.1 timer.1 timer.2 >>= at_keepalive master size eco sessions extra timer
 
 abbrev at_timer : Bool → Read → Read → Read → Read → Read → ReadLimits
@@ -45,7 +45,7 @@ at_timer master size eco sessions extra timer = wanted (timer_fits master timer.
 abbrev at_extra : Bool → Read → Read → Read → Read → ReadLimits
 at_extra master size eco sessions extra = byte_at Timer extra.1 extra.1 extra.2 >>= at_timer master size eco sessions extra
 
-abbrev counted_sessions : Bool → Read → Read → Read → ℕ → ReadLimits
+abbrev counted_sessions : Bool → Read → Read → Read → Unit {0} → ReadLimits
 counted_sessions master size eco sessions u = byte_at Extra sessions.1 sessions.1 sessions.2 >>= at_extra master size eco sessions
 
 abbrev at_sessions : Bool → Read → Read → Read → ReadLimits
@@ -54,13 +54,13 @@ at_sessions master size eco sessions = wanted (ltb 0 sessions.0) Sessions eco.1 
 abbrev at_eco : Bool → Read → Read → ReadLimits
 at_eco master size eco = byte_at Sessions eco.1 eco.1 eco.2 >>= at_sessions master size eco
 
-abbrev versioned : Bool → Read → Read → ℕ → ReadLimits
+abbrev versioned : Bool → Read → Read → Unit {0} → ReadLimits
 versioned master size version u = byte_at Eco version.1 version.1 version.2 >>= at_eco master size
 
 abbrev at_version : Bool → Read → Read → ReadLimits
 at_version master size version = wanted (eqb version.0 5) Version size.1 >>= versioned master size version
 
-abbrev sized : Bool → Read → ℕ → ReadLimits
+abbrev sized : Bool → Read → Unit {0} → ReadLimits
 sized master size u = byte_at Version size.1 size.1 size.2 >>= at_version master size
 
 abbrev at_size : Bool → ℕ → Read → ReadLimits

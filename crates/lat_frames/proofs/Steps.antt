@@ -18,7 +18,7 @@ ok x = Ok x
 pub same_ok : {A : Type 0} (x y : A) → ok x ≡ ok y → x ≡ y
 same_ok x y h = cc
 
-pub wanted_then : {B : Type 0} (holds : Bool) (f : Field) (at : ℕ) (k : ℕ → Result B Bad) (y : B) (R : Type 0) → (wanted holds f at >>= k) ≡ Ok y → (holds ≡ true → k 0 ≡ Ok y → R) → R
+pub wanted_then : {B : Type 0} (holds : Bool) (f : Field) (at : ℕ) (k : Unit {0} → Result B Bad) (y : B) (R : Type 0) → (wanted holds f at >>= k) ≡ Ok y → (holds ≡ true → k tt ≡ Ok y → R) → R
 wanted_then true f at k y R h go = go refl h
 wanted_then false f at k y R h go = absurd (let no : bad f at ≡ Ok y = h in cc)
 

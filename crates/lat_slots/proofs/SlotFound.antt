@@ -25,17 +25,17 @@ record FoundHead (bytes : List ℕ) (h : SlotHead) : Type 0 where
   whole : h.count ≤ length tail
 
 -- what follows each field of the head
-abbrev after_source : ℕ → ℕ → ℕ → ℕ → ℕ → List ℕ → SlotKind → ℕ → Result SlotHead Bad
+abbrev after_source : ℕ → ℕ → ℕ → ℕ → ℕ → List ℕ → SlotKind → Unit {0} → Result SlotHead Bad
 after_source place a b n w tail k u =
     wanted (count_fits k n && leb (4 + n) (length (a ∷ b ∷ n ∷ w ∷ tail))) ByteCount (place + 2) >>= (λ x. Ok (headed k (w % 16) a b n))
 
-abbrev after_to : ℕ → ℕ → ℕ → ℕ → ℕ → List ℕ → SlotKind → ℕ → Result SlotHead Bad
+abbrev after_to : ℕ → ℕ → ℕ → ℕ → ℕ → List ℕ → SlotKind → Unit {0} → Result SlotHead Bad
 after_to place a b n w tail k u = wanted (source_fits k b) SourceSlot (place + 1) >>= after_source place a b n w tail k
 
 abbrev after_type : ℕ → ℕ → ℕ → ℕ → ℕ → List ℕ → SlotKind → Result SlotHead Bad
 after_type place a b n w tail k = wanted (destination_fits k a) DestinationSlot place >>= after_to place a b n w tail k
 
-abbrev after_room : ℕ → ℕ → ℕ → ℕ → ℕ → List ℕ → ℕ → Result SlotHead Bad
+abbrev after_room : ℕ → ℕ → ℕ → ℕ → ℕ → List ℕ → Unit {0} → Result SlotHead Bad
 after_room place a b n w tail u = known (kind_of (w / 16)) SlotType (place + 3) >>= after_type place a b n w tail
 
 head_found : (place : ℕ) (bytes : List ℕ) (h : SlotHead) → head_at place bytes ≡ Ok h → FoundHead bytes h

@@ -38,7 +38,7 @@ abbrev after_service : ℕ → SlotHead → ℕ → ℕ → (List ℕ × ℕ × 
 after_service most h attention size service =
     counted_at Subject service.1 service.1 service.2 >>= after_subject most h attention size service.0
 
-abbrev after_size : ℕ → SlotHead → ℕ → ℕ → ℕ → List ℕ → ℕ → Result Slot Bad
+abbrev after_size : ℕ → SlotHead → ℕ → ℕ → ℕ → List ℕ → Unit {0} → Result Slot Bad
 after_size most h attention size place bytes v = name_at Service (place + 1 + 1 + 1) bytes >>= after_service most h attention size
 
 pub start_found : (most : ℕ) (h : SlotHead) (place : ℕ) (bytes : List ℕ) (s : Slot) → IsBytes bytes → h.kind ≡ kinds.Start → 0 < h.from → start_at most h place bytes ≡ Ok s → FoundBody h bytes s
