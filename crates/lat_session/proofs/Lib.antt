@@ -24,6 +24,5 @@ pub mod HearNames
 pub mod HearAsk
 pub mod HearRoom
 pub mod HearReply
-pub mod HearStart
 pub mod HearAsked
 pub mod AskedIds

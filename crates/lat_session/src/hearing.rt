@@ -1,7 +1,7 @@
 //! The slots that the peer's sessions send. It takes no memory.
 
 ghost use Rattle.std.specs.Prelude.{◌≡◌, ◌+◌, ◌≤◌, ◌<◌, ◌++◌, ◌∷◌, [], ◌&&◌};
-ghost use Rattle.std.specs.Prelude.{true, false, ℕ, List, Option, Some, None, MatchOption, IfSome, OnErr, not, length, nat_eq, nat_lt};
+ghost use Rattle.std.specs.Prelude.{true, false, ℕ, List, Option, Some, None, MatchOption, IfSome, OnErr, not, length, nat_lt};
 ghost use Rattle.std.specs.List.{list_any};
 ghost use Rattle.std.specs.Option.{is_some};
 ghost use Rattle.lat_model.specs.Lists.{any_up_to};
@@ -10,7 +10,7 @@ ghost use Rattle.lat_model.specs.sessions.Session.{waits};
 ghost use Rattle.lat_model.specs.sessions.Sessions.{Sessions as States, named};
 ghost use Rattle.lat_model.specs.sessions.Slots as sessions;
 ghost use Rattle.lat_slots.specs.Layout.{IsWritable};
-ghost use Rattle.lat_stream.specs.Wire.{slot_heard, request_in, number_in};
+ghost use Rattle.lat_stream.specs.Wire.{slot_heard};
 ghost use Rattle.lat_session.specs.Hears.{Hears, has_peer, rejects_peer, is_calling};
 ghost use Rattle.lat_session.specs.Stands.{Stands};
 ghost use Rattle.lat_session.specs.Table.{SameEnd, state_at, table_of, reason_of};
@@ -18,11 +18,8 @@ ghost use Rattle.lat_session.specs.Table.{SameEnd, state_at, table_of, reason_of
 use crate::ask::Ask;
 use crate::table::{OPEN_ASKS, Sessions};
 use lat_base::SessionState;
-use lat_slots::{Param, Params, RejectReason, Slot};
-use lat_stream::{BadSlot, Opening, Stream};
-
-/// The code of the parameter that bears a request.
-const REQUEST: u8 = 5;
+use lat_slots::{RejectReason, Slot};
+use lat_stream::{BadSlot, Opening, Stream, request_of};
 
 impl Sessions {
     /// Hears a slot of a message. One that is bad is refused, and nothing has changed then: its message isn't taken, and its
@@ -303,30 +300,4 @@ fn setting_of(flag: u8, chars: &[u8; 4]) -> [u8; 5]
     ensures { result ≡ flag ∷ chars.now }
 {
     [flag, chars[0], chars[1], chars[2], chars[3]]
-}
-
-// The request of a start: the first parameter with code 5 and two bytes, of which the low one stands first.
-fn request_of(params: &Params) -> Option<u16>
-    ensures { result ≡ request_in params.now }
-{
-    for param in params.as_slice().iter() {
-        if is_request(param) {
-            return Some(number_of(param.bytes.as_slice()));
-        }
-    }
-    None
-}
-
-fn is_request(param: &Param) -> bool
-    ensures { result ≡ (nat_eq param.now.code 5 && nat_eq (length param.now.bytes) 2) }
-{
-    param.code == REQUEST && param.bytes.as_slice().len() == 2
-}
-
-#[tactic(auto, using(crate::proofs::HearStart::number_two))]
-fn number_of(bytes: &[u8]) -> u16
-    requires { length bytes.now ≡ 2 }
-    ensures { result ≡ number_in bytes.now }
-{
-    u16::from_le_bytes([bytes[0], bytes[1]])
 }

@@ -14,3 +14,4 @@ pub mod FormsAfter
 pub mod FormsTurns
 pub mod FormsLength
 pub mod FormsWritable
+pub mod Requests

@@ -2,13 +2,12 @@
 
 ghost use Rattle.std.specs.Prelude.{◌≡◌, ◌+◌, ◌<◌, ◌≤◌, [], ◌++◌, length};
 ghost use Rattle.lat_base.specs.Names.{IsName};
-ghost use Rattle.lat_fields.specs.Params.{params_text};
 ghost use Rattle.lat_model.specs.sessions.Slots as sessions;
 ghost use Rattle.lat_slots.specs.Layout.{slot_text};
-ghost use Rattle.lat_stream.specs.Wire.{formed_as, request_params};
+ghost use Rattle.lat_stream.specs.Wire.{formed_as};
 
+use crate::request::{request_len, write_request};
 use lat_base::{Name, Payload};
-use lat_fields::write_param;
 use lat_slots::{SlotKind, StopReason, write_slot_head, write_slot_pad, write_start_fields};
 
 /// The greatest data slot that an end takes, as its starts state.
@@ -16,30 +15,6 @@ const DATA_SIZE: u8 = 255;
 
 /// The greatest attention that an end takes, in bytes.
 const ATTENTION_SIZE: u8 = 1;
-
-/// The code of the parameter that bears a request.
-const REQUEST: u8 = 5;
-
-/// How many bytes the parameters of a start have.
-pub fn request_len(request: Option<u16>) -> u8
-    ensures value { result ≡ sessions.params_len request }
-    ensures text { result ≡ length (params_text (request_params request)) }
-{
-    match request {
-        None => 1,
-        Some(_) => 5,
-    }
-}
-
-fn write_request(out: &mut Payload, request: Option<u16>)
-    requires { length out.old + sessions.params_len request ≤ 1500 }
-    ensures { out.new ≡ out.old ++ params_text (request_params request) }
-{
-    if let Some(id) = request {
-        write_param(out, REQUEST, &id.to_le_bytes());
-    }
-    out.push(0);
-}
 
 /// How many bytes a start has, with its pad.
 pub fn start_len(service: &Name, request: Option<u16>) -> u16
@@ -78,9 +53,10 @@ pub fn write_setting(out: &mut Payload, to: u8, from: u8, credits: u8, setting: 
     ensures { out.new ≡ out.old
         ++ slot_text (formed_as (sessions.DataB to from credits setting.now)) }
 {
-    write_slot_head(out, to, from, 5, SlotKind::DataB, credits);
+    let count = 5;
+    write_slot_head(out, to, from, count, SlotKind::DataB, credits);
     out.append(setting);
-    out.push(0);
+    write_slot_pad(out, count);
 }
 
 /// Credits alone.
@@ -97,9 +73,10 @@ pub fn write_attention(out: &mut Payload, to: u8, from: u8, flag: u8)
     requires { length out.old + 6 ≤ 1500 }
     ensures { out.new ≡ out.old ++ slot_text (formed_as (sessions.Attention to from flag)) }
 {
-    write_slot_head(out, to, from, 1, SlotKind::Attention, 0);
+    let count = 1;
+    write_slot_head(out, to, from, count, SlotKind::Attention, 0);
     out.push(flag);
-    out.push(0);
+    write_slot_pad(out, count);
 }
 
 /// A stop, for its one reason: the user closed the session.

@@ -1,4 +1,4 @@
--- What a start says.
+-- The number of two bytes.
 use Rattle.std.proofs.Common.{◌≡◌, ℕ, ◌+◌, ◌*◌, arith, refl, List, [], ◌∷◌, length, get_or}
 use Rattle.lat_stream.specs.Wire.{number_in}
 
