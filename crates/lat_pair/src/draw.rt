@@ -3,14 +3,16 @@
 use crate::hear::hand;
 use crate::play::Play;
 use crate::station::Station;
-use lat_base::{Answer, Event, Memory, Name, OutBox};
+use lat_base::{Answer, Event, Memory, Name, OutBox, Payload};
+use lat_frames::write_stop;
 use lat_script::{ScriptFault, answer_onto, name, number};
 use std::alloc::Global;
 
 // A STOP of source 0 to this circuit, with reason 3.
-fn stop(circuit: u16) -> [u8; 10] {
-    let [low, high] = circuit.to_le_bytes();
-    [0x08, 0, low, high, 0, 0, 0, 0, 3, 0]
+fn stop(circuit: u16) -> Payload {
+    let mut payload = Payload::empty();
+    write_stop(false, false, circuit, 0, 3, &[], &mut payload);
+    payload
 }
 
 impl<S: Station, N: Station> Play<S, N> {
@@ -47,7 +49,7 @@ impl<S: Station, N: Station> Play<S, N> {
                 alloc,
                 &mut self.server,
                 from,
-                &stop(*circuit),
+                stop(*circuit).bytes(),
                 self.latest,
                 out,
             )?;

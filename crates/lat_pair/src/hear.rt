@@ -6,8 +6,10 @@ use crate::play::{Play, Side, side_at};
 use crate::post::Post;
 use crate::station::Station;
 use lat_base::{Addr, Answer, Bytes, Event, Memory, Name, OutBox, Payload};
+use lat_notices::Action;
+use lat_payload::command_frame;
 use lat_script::{
-    ScriptFault, address, answer_onto, bytes, name, number, number_within, short, word,
+    ScriptFault, address, answer_onto, bytes, known_name, name, number, number_within, short, word,
 };
 use std::alloc::Global;
 use std::ops::Range;
@@ -127,7 +129,8 @@ impl<S: Station, N: Station> Play<S, N> {
         Ok(answer_onto(alloc, text, &last)?)
     }
 
-    // Hands the server the commands of these requests below 65,536, all of one service; its last answer.
+    // Hands the server the commands of node N1, incarnation 1, which asks for one service by these requests below 65,536; its last
+    // answer.
     fn ask_all(
         &mut self,
         alloc: Global,
@@ -138,10 +141,13 @@ impl<S: Station, N: Station> Play<S, N> {
     {
         let mut out = OutBox::make(alloc)?;
         let mut last = Answer::Done;
+        let node = known_name(b"N1");
         for request in requests.start..requests.end {
-            let payload = command(alloc, request as u16, service)?;
             let (server, now) = (&mut self.server, self.latest);
-            last = hand(alloc, server, ANNOUNCERS, &payload, now, &mut out)?;
+            let (to, request) = (server.own(), request as u16);
+            let frame = command_frame(to, 1, request, Action::Ask, &node, service);
+            let payload = frame.payload.bytes();
+            last = hand(alloc, server, ANNOUNCERS, payload, now, &mut out)?;
         }
         Ok(last)
     }
@@ -158,15 +164,6 @@ impl<S: Station, N: Station> Play<S, N> {
         let last = self.ask_all(alloc, requests, &service)?;
         Ok(answer_onto(alloc, text, &last)?)
     }
-}
-
-// The command of node N1, incarnation 1, which asks for a service under this request id.
-fn command(alloc: Global, request: u16, service: &Name) -> Result<Vec<u8>, Memory> {
-    let [low, high] = request.to_le_bytes();
-    let mut payload = Vec::from_slice(alloc, &[0x30, 5, 1, 0, low, high, 1, 2, b'N', b'1'])?;
-    payload.push(service.bytes().len() as u8)?;
-    payload.extend_from_slice(service.bytes())?;
-    Ok(payload)
 }
 
 // The announcement of a service X with rating 1 by a node whose name is N and a number, counted from 1; its timer is 30.

@@ -2,9 +2,9 @@
 
 use lat_base::{LineBook, LineSession, Memory, OutFrame};
 use lat_queue::Record;
-use lat_script::{end_onto, kept_onto, payload_line, totals_onto};
+use lat_script::{end_onto, kept_onto, totals_onto};
 use lat_seq::Span;
-use lat_show::show;
+use lat_show::payload_onto;
 use lat_text::{address_onto, name_onto};
 use std::alloc::{AllocError, Global};
 
@@ -20,14 +20,7 @@ pub fn frame_onto(
     address_onto(alloc, text, frame.to)?;
     let circuit = frame.circuit;
     write!(text, " circuit {circuit}\n")?;
-    shown_onto(alloc, text, frame.payload.bytes())
-}
-
-// Adds what is shown of a payload.
-fn shown_onto(alloc: Global, text: &mut String, payload: &[u8]) -> Result<(), Memory> {
-    let line = payload_line(alloc, payload)?;
-    let (_, shown) = show(alloc, line.as_bytes())?;
-    Ok(text.push_str(&shown)?)
+    payload_onto(alloc, text, frame.payload.bytes())
 }
 
 /// The word of a circuit's span.

@@ -4,8 +4,8 @@ use crate::hear::hand;
 use crate::play::Play;
 use crate::post::Post;
 use crate::station::Station;
-use lat_base::{Addr, Answer, Bytes, Event, Item, Memory, OutBox, Payload};
-use lat_script::{ScriptFault, number, word};
+use lat_base::{Addr, Answer, Bytes, Event, Memory, OutBox, Payload};
+use lat_script::{Came, ScriptFault, byte_of, number, word};
 use std::alloc::Global;
 
 /// How many bytes are put at each end.
@@ -13,19 +13,6 @@ const BYTES: u64 = 1000;
 
 /// How many rounds there are at most.
 const ROUNDS: u64 = 20_000;
-
-// The byte that is put as the one of this number.
-fn byte_of(number: u64) -> u8 {
-    (number % 251) as u8
-}
-
-// The items that came to one end.
-#[derive(Clone, Copy)]
-struct Came {
-    items: u64,
-    // Those that weren't the bytes that were put, in order.
-    wrong: u64,
-}
 
 // Whence frames come, and when.
 #[derive(Clone, Copy)]
@@ -134,31 +121,21 @@ fn put_all<C: Station>(alloc: Global, post: &mut Post<C>, out: &mut OutBox) -> R
     Ok(())
 }
 
-impl Came {
-    // Looks at the next item.
-    fn look(&mut self, item: Item) {
-        if item != Item::Byte(byte_of(self.items)) {
-            self.wrong = self.wrong.saturating_add(1);
+// Takes what has come to line 1 of a core.
+fn take_all<C: Station>(
+    alloc: Global,
+    post: &mut Post<C>,
+    out: &mut OutBox,
+    came: &mut Came,
+) -> Result<(), Memory> {
+    out.clear();
+    let taking = Event::Take { line: 1, n: 4096 };
+    if let Answer::Took(items) = post.step(alloc, &taking, out)? {
+        for item in items.as_slice() {
+            came.look(*item);
         }
-        self.items = self.items.saturating_add(1);
     }
-
-    // Takes what has come to line 1 of a core.
-    fn take<C: Station>(
-        &mut self,
-        alloc: Global,
-        post: &mut Post<C>,
-        out: &mut OutBox,
-    ) -> Result<(), Memory> {
-        out.clear();
-        let taking = Event::Take { line: 1, n: 4096 };
-        if let Answer::Took(items) = post.step(alloc, &taking, out)? {
-            for item in items.as_slice() {
-                self.look(*item);
-            }
-        }
-        Ok(())
-    }
+    Ok(())
 }
 
 // The frames that are under way to each core, and the items that came to it.
@@ -195,10 +172,9 @@ impl<S: Station, N: Station> Play<S, N> {
             &mut self.server,
             &mut under.to_node,
         )?;
-        under
-            .at_server
-            .take(alloc, &mut self.server, &mut pump.out)?;
-        under.at_node.take(alloc, &mut self.node, &mut pump.out)
+        let out = &mut pump.out;
+        take_all(alloc, &mut self.server, out, &mut under.at_server)?;
+        take_all(alloc, &mut self.node, out, &mut under.at_node)
     }
 
     // Rounds until all items have come; tells how many there were.

@@ -2,8 +2,8 @@
 
 use lat_base::{Answer, Heard, Memory, OutFrame, SessionEnd};
 use lat_circuit::{Due, SessionFault};
-use lat_script::{answer_word, end_onto, heard_onto, number_onto, payload_line, put_onto};
-use lat_show::show;
+use lat_script::{answer_word, end_onto, heard_onto, number_onto, put_onto};
+use lat_show::payload_onto;
 use std::alloc::{AllocError, Global};
 
 /// Adds what came of a moment to the text.
@@ -73,7 +73,5 @@ pub fn frame_onto(
 ) -> Result<(), Memory> {
     lat_script::frame_onto(text, number as u64, frame.mark)?;
     text.push_str("\n")?;
-    let line = payload_line(alloc, frame.payload.bytes())?;
-    let (_, shown) = show(alloc, line.as_bytes())?;
-    Ok(text.push_str(&shown)?)
+    payload_onto(alloc, text, frame.payload.bytes())
 }

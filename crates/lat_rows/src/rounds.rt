@@ -3,6 +3,7 @@
 use crate::end::End;
 use lat_base::{Heard, Item, Memory, OutBox};
 use lat_frames::{FrameFault, message_ok, read_message};
+use lat_script::{Came, byte_of};
 use std::alloc::Global;
 
 /// How many bytes are put in a round, and how many items are taken.
@@ -12,32 +13,18 @@ pub struct Round {
     pub take: u16,
 }
 
-// What came so far.
-#[derive(Clone, Copy)]
-struct Came {
-    put: u64,
-    messages: u64,
-    items: u64,
-    // Items that weren't the bytes that were put, in order.
-    wrong: u64,
-}
-
-// The byte that is put as the one of this number.
-fn byte_of(number: u64) -> u8 {
-    (number % 251) as u8
-}
-
-// Puts the next bytes at the master's session 1.
-fn put_next(master: &mut End, size: u8, came: &mut Came) {
+// Puts the next bytes, behind so many, at the master's session 1, and tells how many were taken.
+fn put_next(master: &mut End, size: u8, before: u64) -> u64 {
     let mut bytes = [0; 255];
     for (place, byte) in bytes.iter_mut().enumerate() {
-        *byte = byte_of(came.put.wrapping_add(place as u64));
+        *byte = byte_of(before.saturating_add(place as u64));
     }
     if !master.circuit.lives() {
-        return;
+        return 0;
     }
-    if let Ok(count) = master.circuit.put(1, &bytes[..usize::from(size)]) {
-        came.put = came.put.wrapping_add(count as u64);
+    match master.circuit.put(1, &bytes[..usize::from(size)]) {
+        Ok(count) => count as u64,
+        Err(_) => 0,
     }
 }
 
@@ -50,10 +37,7 @@ fn take_next(slave: &mut End, items: &mut [Item], came: &mut Came) {
         return;
     };
     for item in &items[..count] {
-        if *item != Item::Byte(byte_of(came.items)) {
-            came.wrong = came.wrong.saturating_add(1);
-        }
-        came.items = came.items.wrapping_add(1);
+        came.look(*item);
     }
 }
 
@@ -136,31 +120,22 @@ pub fn rounds_onto(
     let mut there = OutBox::make(alloc)?;
     let mut back = OutBox::make(alloc)?;
     let mut items = vec![in alloc; Item::Byte(0); usize::from(round.take)]?;
-    let mut came = Came {
-        put: 0,
-        messages: 0,
-        items: 0,
-        wrong: 0,
-    };
+    let (mut put, mut messages) = (0u64, 0u64);
+    let mut came = Came { items: 0, wrong: 0 };
     for _ in 0..rounds {
         let now = next_moment(master, slave);
-        put_next(master, round.size, &mut came);
+        put = put.saturating_add(put_next(master, round.size, put));
         there.clear();
         back.clear();
         pass(master, now, &mut there);
         let taken = hand_all(alloc, &there, slave, now, &mut back)?;
-        came.messages = came.messages.saturating_add(taken);
+        messages = messages.saturating_add(taken);
         pass(slave, now, &mut back);
         there.clear();
         hand_all(alloc, &back, master, now, &mut there)?;
         take_next(slave, &mut items, &mut came);
     }
-    let Came {
-        put,
-        messages,
-        items,
-        wrong,
-    } = came;
+    let Came { items, wrong } = came;
     write!(
         text,
         "put {put} messages {messages} items {items} wrong {wrong}\n"

@@ -2,4 +2,5 @@ pub mod Words
 pub mod Lines
 pub mod Refusal
 pub mod Printed
+pub mod Pattern
 pub mod Runs

@@ -21,15 +21,17 @@
 
 mod fault;
 mod lines;
+mod pattern;
 mod print;
 mod program;
 mod words;
 
 pub use fault::{Pair, ScriptFault, Wanted, refused_onto};
 pub use lines::{Part, is_command, line_behind};
+pub use pattern::{Came, byte_of};
 pub use print::{
     answer_onto, answer_word, bad_onto, end_onto, frame_onto, heard_onto, kept_onto, number_onto,
-    payload_line, put_onto, state_onto, state_word, took_onto, totals_onto,
+    put_onto, state_onto, state_word, took_onto, totals_onto,
 };
 pub use program::{INPUT_BYTES, run};
 pub use words::{

@@ -1,7 +1,6 @@
 //! Answers in print.
 
-ghost use Rattle.std.specs.Prelude.{◌≡◌, [], ◌∷◌, ◌++◌, OnOk, IfOk, decimal, string_bytes};
-ghost use Rattle.lat_text.specs.HexText.{hex_text};
+ghost use Rattle.std.specs.Prelude.{◌≡◌, [], ◌∷◌, ◌++◌, OnOk, decimal, string_bytes};
 ghost use Rattle.lat_text.specs.Line.{line};
 ghost use Rattle.lat_script.specs.Printed.{
   answer_text,
@@ -167,16 +166,6 @@ pub fn frame_onto(text: &mut String, number: u64, mark: Mark) -> Result<(), Allo
 {
     write!(text, "{number} ")?;
     mark_onto(text, mark)
-}
-
-/// A payload as a line that is read: its hex digits and a line feed.
-pub fn payload_line(alloc: Global, payload: &[u8]) -> Result<String, AllocError>
-    ensures { IfOk result (λ text. string_bytes text ≡ line (hex_text payload.now ∷ [])) }
-{
-    let mut text = String::new(alloc);
-    hex_onto(alloc, &mut text, payload)?;
-    text.push_str("\n")?;
-    Ok(text)
 }
 
 /// The word of a session's state.

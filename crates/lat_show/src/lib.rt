@@ -12,4 +12,5 @@ mod slot;
 mod start;
 
 pub use choice::choose;
+pub use payload::payload_onto;
 pub use print::show;

@@ -1,8 +1,8 @@
 //! A core that is told events, and what it sends to no circuit.
 
 use lat_base::{Addr, Bytes, Core, Event, Memory, OutBox, OutFrame};
-use lat_script::{Part, ScriptFault, bytes, no_command, payload_line, refused_onto, word};
-use lat_text::address_onto;
+use lat_script::{Part, ScriptFault, bytes, no_command, refused_onto, word};
+use lat_text::{address_onto, hex_onto};
 use std::alloc::Global;
 use std::marker::Model;
 
@@ -30,8 +30,8 @@ fn print(alloc: Global, frame: &OutFrame, text: &mut String) -> Result<(), Memor
     }
     address_onto(alloc, text, frame.to)?;
     text.push_str(" ")?;
-    let payload = payload_line(alloc, frame.payload.bytes())?;
-    Ok(text.push_str(&payload)?)
+    hex_onto(alloc, text, frame.payload.bytes())?;
+    Ok(text.push_str("\n")?)
 }
 
 impl<C: Core> Play<C> {
