@@ -9,16 +9,16 @@ use Rattle.lat_machines.specs.server.Server as servers
 use Rattle.lat_machines.specs.node.Node.{NodeStep, node_step}
 use Rattle.lat_machines.specs.node.Node as nodes
 use Rattle.lat_machines.specs.world.Histories.{HasHistories}
-use Rattle.lat_machines.specs.world.Machines.{Machines, run, server_did, node_did}
+use Rattle.lat_machines.specs.world.Machines.{Machines, run, open_machines, server_did, node_did}
 use Rattle.lat_machines.specs.world.Refusals.{server_moved, node_moved}
 use Rattle.lat_machines.specs.world.Safe.{StreamsInOrder, SlotsCredited, Safe}
 use Rattle.lat_machines.proofs.frames.Refused.{server_no_layout, node_no_layout}
 use Rattle.lat_machines.proofs.runs.Own.{histories_of}
 use Rattle.lat_machines.proofs.runs.Safety.{every_safe, every_stream, every_credit}
-use Rattle.lat_laws.specs.promises.Circuits.{RunningIsShared}
+use Rattle.lat_laws.specs.promises.Circuits.{RunningIsShared, NothingSaidBefore, WithinWindows}
 use Rattle.lat_laws.specs.promises.Rows.{RowsInOrder, RowsWithinCredit}
 use Rattle.lat_laws.proofs.promises.Rows.{rows_in_order, rows_in_credit}
-use Rattle.lat_laws.proofs.promises.Circuits.{running_shared, standing}
+use Rattle.lat_laws.proofs.promises.Circuits.{Standing, running_shared, standing}
 use Rattle.lat_replay.specs.Kept.{Kept, setups_of}
 use Rattle.lat_replay.specs.Promises.{OnlyNotes, NoLayoutChangesNothing, Promises}
 use Rattle.lat_replay.specs.Stands.{Stands}
@@ -63,7 +63,9 @@ no_layout k w s false from field at now rates =
 
 pub stands_promises : {H : Type 0} (k : Kept H) (w : Machines) → Stands k w → Promises (setups_of k) w
 stands_promises k w s = record {
-  running = subst (RunningIsShared (setups_of k)) (sym s.wire.run) (running_shared (setups_of k) _ (standing (setups_of k) s.wire.fit s.wire.moves));
+  running = subst (RunningIsShared (setups_of k)) (sym s.wire.run) (running_shared (setups_of k) _ stood);
+  before = subst (NothingSaidBefore (setups_of k)) (sym s.wire.run) stood.before;
+  windows = subst WithinWindows (sym s.wire.run) stood.windows;
   streams = subst (StreamsInOrder (setups_of k)) (sym s.wire.run) (every_stream (setups_of k) s.wire.moves s.wire.fit);
   credits = subst (SlotsCredited (setups_of k)) (sym s.wire.run) (every_credit (setups_of k) s.wire.moves s.wire.fit);
   rows = subst (RowsInOrder (setups_of k)) (sym s.wire.run) (rows_in_order (setups_of k) s.wire.moves s.wire.fit);
@@ -72,3 +74,6 @@ stands_promises k w s = record {
   grants = (stands_safe k w s).grants;
   layouts = no_layout k w s;
 }
+  where
+    stood : Standing (setups_of k) (run (setups_of k) s.wire.moves (open_machines (setups_of k)))
+    stood = standing (setups_of k) s.wire.fit s.wire.moves

@@ -7,7 +7,7 @@ use Rattle.lat_machines.specs.server.Queue.{LegalQueue}
 use Rattle.lat_machines.specs.world.Machines.{Setups, Machines, tell}
 use Rattle.lat_machines.specs.world.Refusals.{server_moved, node_moved}
 use Rattle.lat_machines.specs.world.Safe.{StreamsInOrder, SlotsCredited, NoGrant, Safe}
-use Rattle.lat_laws.specs.promises.Circuits.{RunningIsShared}
+use Rattle.lat_laws.specs.promises.Circuits.{RunningIsShared, NothingSaidBefore, WithinWindows}
 use Rattle.lat_laws.specs.promises.Rows.{RowsInOrder, RowsWithinCredit}
 use Rattle.lat_replay.specs.Kept.{Kept, setups_of}
 use Rattle.lat_replay.specs.Stands.{Stands}
@@ -27,11 +27,14 @@ NoLayoutChangesNothing u w =
     (server : Bool) (from field at now : ℕ) (rates : List ℕ) →
     OnlyNotes w server (Hears from (Malformed field at) None now) field at (tell u w server (Hears from (Malformed field at) None now) rates)
 
--- What both ends are promised: each circuit that runs is shared by both, each of its sessions takes a prefix of what the other
--- end put, and so it stands in the report; each credited slot had its credit; each request was granted at most once and as the
--- first that waited; no grant is left open; and a frame of no layout changes nothing
+-- What both ends are promised: each circuit that runs is shared by both, before that nothing is said, and no end has more
+-- messages on their way than its window; each of its sessions takes a prefix of what the other end put, and so it stands in the
+-- report; each credited slot had its credit; each request was granted at most once and as the first that waited; no grant is
+-- left open; and a frame of no layout changes nothing
 pub record Promises (u : Setups) (w : Machines) : Type 0 where
   pub running : RunningIsShared u w
+  pub before : NothingSaidBefore u w
+  pub windows : WithinWindows w
   pub streams : StreamsInOrder u w
   pub rows : RowsInOrder u w
   pub spent : RowsWithinCredit u w

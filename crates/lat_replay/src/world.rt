@@ -1,6 +1,6 @@
 //! The world.
 
-ghost use Rattle.std.specs.Prelude.{◌≡◌, ◌≢◌, ◌*◌, ◌↔◌, ◌++◌, IfOk, OnOk, IsTrue, MatchOption, None, length, slice_get, string_bytes};
+ghost use Rattle.std.specs.Prelude.{◌≡◌, ◌≢◌, ◌*◌, ◌↔◌, ◌++◌, IfOk, OnErr, OnOk, IsTrue, MatchOption, None, length, slice_get, string_bytes};
 ghost use Rattle.lat_machines.specs.values.Addresses.{address, everyone};
 ghost use Rattle.lat_machines.specs.cores.Lines.{has_session};
 ghost use Rattle.lat_machines.specs.world.Machines.{Machines, core_of, open_machines};
@@ -170,7 +170,7 @@ impl<H: RatingRule> World<H> {
     }
 
     /// Whether a line of the server or of the node exists and has a session.
-    pub fn has_session(&self, server: bool, line: u8) -> bool
+    pub fn held(&self, server: bool, line: u8) -> bool
         ensures { (w : Machines) → Stands self.now w →
             result ≡ has_session (core_of w server) line }
     {
@@ -178,14 +178,17 @@ impl<H: RatingRule> World<H> {
     }
 
     /// Appends the report. `Memory` where none is found, or where a count stands at the greatest number of 64 bits, where it
-    /// isn't exact any more; then a part of it may stand in the text.
+    /// isn't exact any more; then the text is as it was. It takes memory for the report twice.
     pub fn report(&self, alloc: Global, out: &mut String) -> Result<(), Memory>
-        ensures { OnOk result ((w : Machines) →
+        ensures ok { OnOk result ((w : Machines) →
             Stands self.now w →
             string_bytes out.new
             ≡ string_bytes out.old ++ report_text (report (setups_of self.now) w)) }
+        ensures err { OnErr result (string_bytes out.new ≡ string_bytes out.old) }
     {
-        report_onto(alloc, &self.wire, &self.roster, out)
+        let mut text = String::new(alloc);
+        report_onto(alloc, &self.wire, &self.roster, &mut text)?;
+        Ok(out.push_str(&text)?)
     }
 
     /// The frames sent so far, the sessions of the report, and the items put and taken over both directions of all of them.

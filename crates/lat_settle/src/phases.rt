@@ -142,7 +142,7 @@ fn take<H: RatingRule>(
     ensures moment { OnOk result (moment_of world.new ≡ moment_of world.old) }
     ensures setups { setups_of world.new ≡ setups_of world.old }
 {
-    if !world.has_session(server, line) {
+    if !world.held(server, line) {
         return Ok(());
     }
     tell(

@@ -18,11 +18,11 @@ pub struct Unsettled {
     pub fault: EventFault,
 }
 
-/// Runs so many rounds, up to the first event that is refused. The world stands as the last good event left it. Where nothing
-/// was lost before, no event is refused but for the number of frames, or for want of memory; and where the rounds are
-/// `4 * I + 20 * S + 20` or more, with I items put and S sessions in the report afterwards, each session between the two ends
-/// that the server still holds, and that neither end has closed, has taken what the other end put, both ways. The moment
-/// behind the rounds must be below 2^64. See "Rounds" in docs/PROTOCOL.md.
+/// Runs so many rounds, up to the first event that is refused. The world stands as the last good event left it. Where rounds
+/// may begin, as behind every schedule that lost nothing (law `schedules_begin`), no event is refused but for the number of
+/// frames, or for want of memory; and where the rounds are `4 * I + 20 * S + 20` or more, with I items put and S sessions in
+/// the report afterwards, each session between the two ends that the server still holds, and that neither end has closed, has
+/// taken what the other end put, both ways. The moment behind the rounds must be below 2^64. See "Rounds" in docs/PROTOCOL.md.
 pub fn run_rounds<H: RatingRule>(
     alloc: Global,
     world: &mut World<H>,

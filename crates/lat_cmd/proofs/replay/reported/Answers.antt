@@ -8,4 +8,4 @@ use Rattle.lat_cmd.proofs.replay.reported.Goals as goal
 pub returns : goal.returns
 returns g c = λ t stands.
     subst (λ o. IsOutcome (reported (setups_of c.args.world) t) o) (sym c.done.ensures)
-    (is_reported c.args.world _ (string_bytes c.new-text.result) c.new-text.ensures.bytes refl refl c.in_ok-report.ensures t stands)
+    (is_reported c.args.world _ (string_bytes c.new-text.result) c.new-text.ensures.bytes refl refl c.in_ok-report.ensures.ok t stands)

@@ -12,7 +12,7 @@ returns-in_ok-report-in-Ok-clause-prints g c = λ s h.
     (lossless_so (setups_of c.args.world.now) s.machines c.lossless-lossless.result (c.lossless-lossless.ensures s.machines h.machines))
     (c.in-Ok.ensures.runs s h)
     c.in_ok-lossless_onto-in-Ok.ensures
-    (λ w q. c.in_ok-report-in-Ok.ensures w q ∙ ap (λ z. string_bytes c.lossless_onto.new.text ++ report_text (report z w)) c.run_rounds.ensures.setups)
+    (λ w q. c.in_ok-report-in-Ok.ensures.ok w q ∙ ap (λ z. string_bytes c.lossless_onto.new.text ++ report_text (report z w)) c.run_rounds.ensures.setups)
 
 pub returns-in_ok-round_onto-in-Err-clause-prints : goal.returns-in_ok-round_onto-in-Err-clause-prints
 returns-in_ok-round_onto-in-Err-clause-prints g c = λ s h.
