@@ -8,7 +8,7 @@ use Rattle.lat_history.specs.CellView.{SeatView}
 use Rattle.lat_history.specs.Seats.{all_seats, fresh, seats_from}
 use Rattle.lat_cell.specs.declared.seat.Seat.{Seat}
 use Rattle.lat_cell.specs.declared.seat.LineDone.{LineDone}
-use Rattle.lat_live.specs.Seating.{EachPair, share_of, done_of, line_of, SamePlace, IsWorked, AreAllSeats, FaultsCounted}
+use Rattle.lat_live.specs.Seating.{EachPair, share_of, done_of, line_of, SamePlace, IsWorked, AreAllSeats, FaultsCounted, FullByShare}
 
 pub length_seats : (k seat : ℕ) → length (seats_from k seat) ≡ k
 unfolding seats_from
@@ -155,6 +155,18 @@ many_back faults lines f old new given told worked is =
     let same : length new ≡ length old = pair_length (IsWorked faults) old new worked in
     let count : length old ≡ lines = sym (length-map old share_of) ∙ ap length told ∙ length_seats lines 1 in
     long ∙ same ∙ count
+
+full_by_share : {L E B F : Type 0} (faults : L → ℕ) (old new : List (Seat L E B F)) (more : List SeatView) → EachPair (IsWorked faults) old new → FullByShare (map done_of new) (map share_of new ++ more)
+full_by_share faults [] (y ∷ ys) more worked = elim worked [ ]
+full_by_share faults (x ∷ xs) [] more worked = elim worked [ ]
+full_by_share faults [] [] more worked = tt
+full_by_share faults (x ∷ xs) (y ∷ ys) more worked = (worked.0.full, full_by_share faults xs ys more worked.1)
+
+-- each that ended for want of room has a share that says so
+pub full_back : {L E B F : Type 0} (faults : L → ℕ) (old new : List (Seat L E B F)) (wire clock : SeatView) (ends : List LineDone) (shares : List SeatView) →
+    EachPair (IsWorked faults) old new → ends ≡ map done_of new → shares ≡ wire ∷ map share_of new ++ clock ∷ [] → FullByShare ends (drop 1 shares)
+full_back faults old new wire clock ends shares worked e s =
+    subst₂ (λ a b. FullByShare a (drop 1 b)) (sym e) (sym s) (full_by_share faults old new (clock ∷ []) worked)
 
 -- and each that ended with a fault has counted one
 pub counted_back : {L E B F : Type 0} (faults : L → ℕ) (old new : List (Seat L E B F)) (ends : List LineDone) (lines : List L) →

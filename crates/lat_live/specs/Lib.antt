@@ -1,4 +1,5 @@
 pub mod Openings
+pub mod Plans
 pub mod Printed
 pub mod Seating
 pub mod Served

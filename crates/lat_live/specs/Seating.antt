@@ -1,5 +1,5 @@
 -- What the seats of a daemon have, and what their workers leave of them.
-use Rattle.std.specs.Prelude.{◌≡◌, ℕ, ◌+◌, ◌-◌, ◌<◌, ◌≤◌, List, [], ◌∷◌, length, map, sum_by, vec_len, vec_capacity, true}
+use Rattle.std.specs.Prelude.{◌≡◌, ℕ, ◌+◌, ◌-◌, ◌<◌, ◌≤◌, List, [], ◌∷◌, length, map, drop, sum_by, vec_len, vec_capacity, true}
 use Rattle.lat_outside.specs.Causes.{Rose}
 use Rattle.lat_history.specs.CellView.{SeatView}
 use Rattle.lat_history.specs.Seats.{all_seats, fresh, seats_from}
@@ -67,10 +67,18 @@ pub record AreAllSeats (lines : ℕ) (shares : List SeatView) : Type 0 where
 abbrev pub FaultsCounted : {L : Type 0} → (L → ℕ) → List LineDone → List L → Type 0
 FaultsCounted faults ends lines = EachPair (λ d line. d ≡ done.Fault → 0 < faults line) ends lines
 
--- what is handed back of a cell with so many lines: the shares of all seats, and of each line how its worker ended, and the line
+-- each of these ended for want of room only where the share at its place says so; there may be more shares
+abbrev pub FullByShare : List LineDone → List SeatView → Type 0
+FullByShare [] shares = Unit {0}
+FullByShare (d ∷ ds) [] = ⊥
+FullByShare (d ∷ ds) (share ∷ shares) = (d ≡ done.Full → share.full ≡ true) × FullByShare ds shares
+
+-- what is handed back of a cell with so many lines: the shares of all seats, and of each line how its worker ended, and the line.
+-- The share of line 1 stands behind the wire's
 pub record GivenBack {L : Type 0} (faults : L → ℕ) (count : ℕ) (shares : List SeatView) (ends : List LineDone)
     (lines : List L) : Type 0 where
   pub seats : AreAllSeats count shares
   pub each_ended : length ends ≡ count
   pub each_line : length lines ≡ count
   pub counted : FaultsCounted faults ends lines
+  pub full : FullByShare ends (drop 1 shares)

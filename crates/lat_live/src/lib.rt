@@ -13,6 +13,7 @@ mod seats;
 mod serving;
 
 pub use daemon::serve;
+pub use lat_cell::print_end;
 pub use lists::{Ends, Lines};
 pub use opening::StartFault;
 pub use ran::{Ran, Served};

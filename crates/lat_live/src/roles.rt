@@ -5,6 +5,7 @@ ghost use Rattle.lat_history.specs.Ledgers.{AreBlanks};
 ghost use Rattle.lat_words.specs.Configs.{Within};
 ghost use Rattle.lat_tariff.specs.Tariffs.{AreKnown};
 ghost use Rattle.lat_live.specs.declared.ran.Ran.TheVariants as ran;
+ghost use Rattle.lat_live.specs.Plans.{IsPlanOf};
 ghost use Rattle.lat_live.specs.Printed.{IsOwn, RoseIn};
 ghost use Rattle.lat_live.specs.Served.{HasPrinted, IsBack, role_of};
 
@@ -24,8 +25,7 @@ use std::thread::Threads;
 // What a daemon of these words is to do. A server and a switch connect each line, and end when all lines have
 // ended. A node's lines wait for sessions; it announces its services, and ends after so many sessions.
 fn plan_of<'a>(config: &'a Config) -> Plan<'a>
-    ensures { (result.lines ≡ config.entry.now.lines.count)
-        × (result.line_port ≡ config.entry.now.lines.port) }
+    ensures { IsPlanOf config.entry.now result }
 {
     let (service, announce, sessions) = match config.role {
         Role::Server | Role::Switch => (Some(config.lines.service), None, None),

@@ -10,7 +10,7 @@ returns-in-Server g c =
     record {
       role = came_role _ _ _ _ came c.in-Server.is;
       ended = came_printed g.S.Sink.written g.S.Sink.faults _ _ _ _ _ came core.ended;
-      back = came_back g.O.L.LineEnd.faults _ _ _ _ _ came c.plan_of-plan.ensures.0 core.back;
+      back = came_back g.O.L.LineEnd.faults _ _ _ _ _ came c.plan_of-plan.ensures.lines core.back;
       own = subst (λ n. IsOwn n ⊎ ((n ≡ 4) ⊎ (n ≡ 5))) (sym came.status) core.own;
       opener = λ four. core.opener (sym came.status ∙ four);
       sink = λ five. core.sink (sym came.status ∙ five);
@@ -27,7 +27,7 @@ returns-in-Switch g c =
     record {
       role = came_role _ _ _ _ came c.in-Switch.is;
       ended = came_printed g.S.Sink.written g.S.Sink.faults _ _ _ _ _ came core.ended;
-      back = came_back g.O.L.LineEnd.faults _ _ _ _ _ came c.plan_of-plan.ensures.0 core.back;
+      back = came_back g.O.L.LineEnd.faults _ _ _ _ _ came c.plan_of-plan.ensures.lines core.back;
       own = subst (λ n. IsOwn n ⊎ ((n ≡ 4) ⊎ (n ≡ 5))) (sym came.status) core.own;
       opener = λ four. core.opener (sym came.status ∙ four);
       sink = λ five. core.sink (sym came.status ∙ five);
@@ -44,7 +44,7 @@ returns-in-Node g c =
     record {
       role = came_role _ _ _ _ came c.in-Node.is;
       ended = came_printed g.S.Sink.written g.S.Sink.faults _ _ _ _ _ came core.ended;
-      back = came_back g.O.L.LineEnd.faults _ _ _ _ _ came c.plan_of-plan.ensures.0 core.back;
+      back = came_back g.O.L.LineEnd.faults _ _ _ _ _ came c.plan_of-plan.ensures.lines core.back;
       own = subst (λ n. IsOwn n ⊎ ((n ≡ 4) ⊎ (n ≡ 5))) (sym came.status) core.own;
       opener = λ four. core.opener (sym came.status ∙ four);
       sink = λ five. core.sink (sym came.status ∙ five);
@@ -61,7 +61,7 @@ returns-in-Tariff g c =
     record {
       role = came_role _ _ _ _ came c.in-Tariff.is;
       ended = came_printed g.S.Sink.written g.S.Sink.faults _ _ _ _ _ came core.ended;
-      back = came_back g.O.L.LineEnd.faults _ _ _ _ _ came c.plan_of-plan.ensures.0 core.back;
+      back = came_back g.O.L.LineEnd.faults _ _ _ _ _ came c.plan_of-plan.ensures.lines core.back;
       own = subst (λ n. IsOwn n ⊎ ((n ≡ 4) ⊎ (n ≡ 5))) (sym came.status) core.own;
       opener = λ four. core.opener (sym came.status ∙ four);
       sink = λ five. core.sink (sym came.status ∙ five);
