@@ -3,8 +3,8 @@
 //! docs/PROTOCOL.md.
 //!
 //! A line of the file is a command of this player, words with a blank between them. A line without a word and a line that
-//! begins with `#` are printed as they are. Of all others but `input`, `tail`, `feeds` and `many` the line itself is printed behind
-//! `> `, and then what came of it.
+//! begins with `#` are printed as they are. Of all others but `input`, `tail`, `feeds`, `many` and `hour` the line itself is printed
+//! behind `> `, and then what came of it.
 //!
 //! | Line | Does |
 //! |---|---|
@@ -13,6 +13,7 @@
 //! | `tail TEXT` | puts this text behind the input |
 //! | `feeds N` | puts N line feeds behind the input |
 //! | `many N TEXT` | puts this text and a line feed behind the input, N times |
+//! | `hour` | puts the schedule of an hour behind the input: eight lines at both ends, 320 turns of 10 bytes up and 1,920 down, 90,000 moments |
 //! | `lines N` | keeps the first N lines of the input |
 //! | `line K TEXT` | puts this text in the place of line K of the input, counted from 1 |
 //! | `words WORDS` | keeps the input; these are the words of the next runs |
@@ -30,6 +31,7 @@
 //! isn't hex digits`, `line 7 word 1 isn't a command`. Lines of the file and words of the line are counted from 1.
 #![tactic(auto)]
 
+mod hour;
 mod input;
 mod play;
 mod words;

@@ -1,5 +1,6 @@
 //! The lines of a file, in order.
 
+use crate::hour::hour_of;
 use crate::input::Input;
 use crate::words::behind;
 use lat_base::Memory;
@@ -205,12 +206,13 @@ impl Play {
     }
 
     // A line that puts something behind the input, which isn't printed; else false.
-    fn takes(&mut self, line: &str) -> Result<bool, ScriptFault> {
+    fn takes(&mut self, alloc: Global, line: &str) -> Result<bool, ScriptFault> {
         match word(line, 0) {
             "input" => self.input.repeat(1, behind(line, "input"))?,
             "tail" => self.input.put(behind(line, "tail"))?,
             "feeds" => self.input.repeat(number(line, 1)?, "")?,
             "many" => self.input.repeat(number(line, 1)?, behind_two(line))?,
+            "hour" => self.input.put(&hour_of(alloc)?)?,
             _ => return Ok(false),
         }
         Ok(true)
@@ -218,7 +220,7 @@ impl Play {
 
     // What one line does; it is printed, unless it puts something behind the input.
     fn line(&mut self, alloc: Global, line: &str, text: &mut String) -> Result<(), ScriptFault> {
-        if self.takes(line)? || !is_command(line, text)? {
+        if self.takes(alloc, line)? || !is_command(line, text)? {
             return Ok(());
         }
         if self.changes(alloc, line)? {
