@@ -122,13 +122,25 @@ if [ $# -eq 3 ]; then
     exit
 fi
 
+# block TITLE FILE: the input of the first run of the worked examples whose title begins so goes to the file
+block() {
+    awk -v title="# $1" 'index($0, title) == 1 { on = 1 } on && sub(/^input ?/, "") { print } on && $0 == "run" { exit }' \
+        "$top/crates/lat_play/stdin" > "$2"
+}
+
 # a cell that is told a hundred events
 echo "cell 100" > "$work/cell"
 each_allocation lat_roles "" "$work/cell"
 # the printed form of a message, a choice, a schedule played whole, one with a lost frame, its capture, and generated schedules
 each_allocation lat show "$top/examples/run.hex"
+block "START, with the least" "$work/starts"
+each_allocation lat show "$work/starts"
 each_allocation lat choose "$top/examples/choices.txt"
+block "Which node is chosen" "$work/nodes"
+each_allocation lat choose "$work/nodes"
 each_allocation lat replay "$top/crates/lat/stdin"
+block "Requests: granted" "$work/printers"
+each_allocation lat replay "$work/printers"
 each_allocation lat replay "$top/examples/lost.txt"
 each_allocation lat "capture 1" "$top/examples/lost.txt"
 each_allocation lat "settle 60" "$top/examples/unheard.txt"
