@@ -10,7 +10,7 @@ use Rattle.lat_captures.specs.Legal.{AcknowledgementFits}
 use Rattle.lat_captures.proofs.Growing.{all_slots-append, InReach}
 use Rattle.lat_captures.specs.declared.side.Side.{Side}
 use Rattle.lat_captures.specs.declared.checker.Checker.{Checker}
-use Rattle.lat_captures.specs.Facts.{kept_of}
+use Rattle.lat_captures.specs.Facts.{owned_slot_of}
 use Rattle.lat_captures.specs.Recent.{Message, last_eight, between}
 use Rattle.lat_captures.specs.Sums.{Sums, greatest, sums_of, takes_all, hears}
 use Rattle.lat_captures.specs.Stands.{Under, Holds, master_lists, slave_lists, SideStands, Bounded, Stands}
@@ -57,19 +57,19 @@ between_eight xs n a c e l k =
     ∙ ap (λ z. take (c - a) (drop z xs)) (ap (λ z. z - 8 + (a - (n - 8))) e ∙ from)
 
 -- the kept slots of those messages
-kept_between : (s : Side) (lists : List (List Owned)) (a c : ℕ) → s.count ≡ length lists → map (λ m. m.slots) s.recent ≡ last_eight (map (map kept_of) lists) → s.count ≤ a + 8 → a ≤ c
-    → flat_map (λ m. m.slots) (messages_between s a c) ≡ map kept_of (all_of (take (c - a) (drop a lists)))
+kept_between : (s : Side) (lists : List (List Owned)) (a c : ℕ) → s.count ≡ length lists → map (λ m. m.slots) s.recent ≡ last_eight (map (map owned_slot_of) lists) → s.count ≤ a + 8 → a ≤ c
+    → flat_map (λ m. m.slots) (messages_between s a c) ≡ map owned_slot_of (all_of (take (c - a) (drop a lists)))
 kept_between s lists a c e k l j =
     heard_slots (messages_between s a c)
     ∙ ap all_of (
     sym (drop-map (λ (m : Message). m.slots) (a - (s.count - 8)) (take (c - (s.count - 8)) s.recent))
     ∙ ap (drop (a - (s.count - 8))) (sym (take-map (λ (m : Message). m.slots) (c - (s.count - 8)) s.recent))
     ∙ ap (λ z. between z (a - (s.count - 8)) (c - (s.count - 8))) k
-    ∙ between_eight (map (map kept_of) lists) s.count a c (length-map lists (map kept_of) ∙ sym e) l j
-    ∙ ap (take (c - a)) (drop-map (map kept_of) a lists)
-    ∙ take-map (map kept_of) (c - a) (drop a lists)
+    ∙ between_eight (map (map owned_slot_of) lists) s.count a c (length-map lists (map owned_slot_of) ∙ sym e) l j
+    ∙ ap (take (c - a)) (drop-map (map owned_slot_of) a lists)
+    ∙ take-map (map owned_slot_of) (c - a) (drop a lists)
     )
-    ∙ all_of-map kept_of (take (c - a) (drop a lists))
+    ∙ all_of-map owned_slot_of (take (c - a) (drop a lists))
 
 -- what stands of a side where another one acknowledges
 side_stays : (tell : List ℕ → List Slot) (s : Side) (seen : Seen) (texts : List (List ℕ)) (lists more : List (List Owned)) → more ≡ lists → SideStands tell s seen texts lists → SideStands tell s seen texts more
@@ -77,7 +77,7 @@ side_stays tell s seen texts lists more e h = subst (SideStands tell s seen text
 
 side_acks : (tell : List ℕ → List Slot) (s : Side) (seen : Seen) (texts : List (List ℕ)) (lists more : List (List Owned)) (a : ℕ) → more ≡ lists → SideStands tell s seen texts lists
     → SideStands tell (acknowledging s a) (record { messages = seen.messages; beside = seen.beside; acknowledged = a }) texts more
-side_acks tell s seen texts lists more a e h = record { count = h.count; acknowledged = refl; told = h.told; texts_are = h.texts_are; slots_are = h.slots_are ∙ ap (λ z. last_eight (map (map kept_of) z)) (sym e) }
+side_acks tell s seen texts lists more a e h = record { count = h.count; acknowledged = refl; told = h.told; texts_are = h.texts_are; slots_are = h.slots_are ∙ ap (λ z. last_eight (map (map owned_slot_of) z)) (sym e) }
 
 each_rise : (n k : ℕ) (bs : List ℕ) → n ≤ k → Each (λ a. a ≤ n) bs → Each (λ a. a ≤ k) bs
 each_rise n k [] h e = tt
@@ -137,7 +137,7 @@ master_acks tell c d b x a h fit rise sent near k = record {
     whole = sym (ap all_slots (take_on b.master.acknowledged a ss rise) ∙ all_slots-append (take b.master.acknowledged ss) (take (a - b.master.acknowledged) (drop b.master.acknowledged ss)))
 
     taken : Sums
-    taken = takes_all true (sums_of c.accounts) (map kept_of (slave_owned b old new))
+    taken = takes_all true (sums_of c.accounts) (map owned_slot_of (slave_owned b old new))
 
     small : credits (all_slots ss) ≤ greatest
     small = omega (arith, h.slave_bounded.credits, fit)
@@ -165,7 +165,7 @@ master_acks tell c d b x a h fit rise sent near k = record {
         ∙ ap (λ z. hears true (sums_of c.accounts) (messages_between c.slave z a)) h.master.acknowledged
         ∙ ap (takes_all true (sums_of c.accounts)) (
         kept_between c.slave (slave_lists b [] ss) b.master.acknowledged a (h.slave.count ∙ sym (length_slave b [] ss)) h.slave.slots_are (omega (arith, h.slave.count, h.master_shows.near)) rise
-        ∙ ap (map kept_of) listed
+        ∙ ap (map owned_slot_of) listed
         )
 
 -- the slave acknowledges
@@ -258,7 +258,7 @@ slave_acks tell c d b x a h fit rise sent near k = record {
         omega (arith, asked, given, fewer, h.master_bounded.credits, fit)
 
     taken : Sums
-    taken = takes_all false (sums_of c.accounts) (map kept_of os)
+    taken = takes_all false (sums_of c.accounts) (map owned_slot_of os)
 
     held : Holds b (all_slots ss) ys (master_owned b ms bs) (old ++ os) taken
     held = holds_slave_takes_all b (all_slots ss) ys (master_owned b ms bs) old os (sums_of c.accounts) h.sums under none fits

@@ -8,7 +8,7 @@ use Rattle.lat_captures.specs.Seen.{Both}
 use Rattle.lat_captures.specs.Belonging.{word_at, session_at, slave_session, Owned, of_session, slave_owned, ask_credits}
 use Rattle.lat_captures.specs.declared.accounts.Account.{Account}
 use Rattle.lat_captures.specs.declared.slot.OwnedSlot.{OwnedSlot}
-use Rattle.lat_captures.specs.Facts.{is_reply, facts_of, kept_of}
+use Rattle.lat_captures.specs.Facts.{is_reply, facts_of, owned_slot_of}
 use Rattle.lat_captures.specs.Sums.{Sums, pays, opening, slave_account, slave_forms, master_forms}
 use Rattle.lat_captures.specs.Stands.{Under, session_under, AccountOf, Holds}
 use Rattle.lat_captures.proofs.Holding.{none_yet, each_push, slave_under, session_word, session_within, session_is, same_true, costs_stay, costs_come, spent_more}
@@ -73,7 +73,7 @@ abbrev pub SlaveFormsAs : Both → List Slot → List Slot → List Owned → Li
 SlaveFormsAs b F TM MO TS x None = covered (λ r. ask_credits b r + credits (of_session r TS)) (slave_owned b [] F) (record { session = slave_session b F x; slot = x }) ≡ false
 SlaveFormsAs b F TM MO TS x (Some r) =
     (covered (λ r. ask_credits b r + credits (of_session r TS)) (slave_owned b [] F) (record { session = slave_session b F x; slot = x }) ≡ true)
-    × (r.1 ≡ kept_of (record { session = slave_session b F x; slot = x })) × Holds b (F ++ x ∷ []) TM MO TS r.0
+    × (r.1 ≡ owned_slot_of (record { session = slave_session b F x; slot = x })) × Holds b (F ++ x ∷ []) TM MO TS r.0
 
 prefix_more : (TM F : List Slot) (x : Slot) → IsPrefixOf TM F → IsPrefixOf TM (F ++ x ∷ [])
 prefix_more TM F x p = (p.0 ++ x ∷ [], sym (append_assoc TM p.0 (x ∷ [])) ∙ ap (λ z. z ++ x ∷ []) p.1)
@@ -160,7 +160,7 @@ abbrev pub MasterFormsAs : Both → List Slot → List Slot → List Owned → L
 MasterFormsAs b F TM MO TS x None = covered (λ r. credits (of_session r (slave_owned b [] TM))) MO (sent_as b TM x) ≡ false
 MasterFormsAs b F TM MO TS x (Some r) =
     (covered (λ r. credits (of_session r (slave_owned b [] TM))) MO (sent_as b TM x) ≡ true)
-    × (r.1 ≡ kept_of (sent_as b TM x)) × Holds b F TM (MO ++ sent_as b TM x ∷ []) TS r.0
+    × (r.1 ≡ owned_slot_of (sent_as b TM x)) × Holds b F TM (MO ++ sent_as b TM x ∷ []) TS r.0
 
 asks_cost : (x : Slot) → is_ask x ≡ true → cost_of x ≡ 0
 asks_cost (Start to from c size service request) e = refl

@@ -7,7 +7,7 @@ use Rattle.lat_model.specs.sessions.Slots.{Slot, destination, source, credits_of
 use Rattle.lat_captures.specs.Seen.{Both}
 use Rattle.lat_captures.specs.Belonging.{place_on, last_place, word_at, asks_as, replies_as, ask_of, session_at, slave_session, Owned, of_session, slave_owned, ask_credits}
 use Rattle.lat_captures.specs.declared.accounts.Account.{Account}
-use Rattle.lat_captures.specs.Facts.{kept_of}
+use Rattle.lat_captures.specs.Facts.{owned_slot_of}
 use Rattle.lat_captures.specs.Sums.{greatest, Sums, credited, slave_takes}
 use Rattle.lat_captures.proofs.Growing.{place_bound, word_more}
 use Rattle.lat_captures.specs.Stands.{session_under, last_ask, AccountOf, Under, Holds}
@@ -153,7 +153,7 @@ at_most : (x y m : ℕ) → x ≡ y → y ≤ m → min x m ≡ y
 at_most x y m e l = omega arith
 
 pub credited_is : (a : Account) (o : Owned) (r : ℕ) (gives more spends : ℕ → ℕ) → AccountOf a r gives spends → (o.session ≡ r → more r ≡ gives r + credits_of o.slot) → (o.session ≢ r → more r ≡ gives r)
-    → more r ≤ greatest → AccountOf (credited a (kept_of o)) r more spends
+    → more r ≤ greatest → AccountOf (credited a (owned_slot_of o)) r more spends
 credited_is a o r gives more spends h same other fits = go (nat_eq o.session a.session) refl
   where
     go : (c : Bool) → nat_eq o.session a.session ≡ c → AccountOf (cond c (record a { given = min (a.given + credits_of o.slot) greatest }) a) r more spends
@@ -163,7 +163,7 @@ credited_is a o r gives more spends h same other fits = go (nat_eq o.session a.s
     go false e = given_more a r gives more spends h (λ n. other (λ q. eqb-false o.session a.session e (q ∙ sym h.session)))
 
 pub holds_slave_takes : (b : Both) (F TM : List Slot) (MO TS : List Owned) (s : Sums) (o : Owned) → Holds b F TM MO TS s → Under destination TM o → AskIsNone o
-    → ((r : ℕ) → ask_credits b r + credits (of_session r (TS ++ o ∷ [])) ≤ greatest) → Holds b F TM MO (TS ++ o ∷ []) (slave_takes s (kept_of o))
+    → ((r : ℕ) → ask_credits b r + credits (of_session r (TS ++ o ∷ [])) ≤ greatest) → Holds b F TM MO (TS ++ o ∷ []) (slave_takes s (owned_slot_of o))
 holds_slave_takes b F TM MO TS s o h u none fits = go (is_ask o.slot) refl
   where
     d : ℕ
@@ -181,7 +181,7 @@ holds_slave_takes b F TM MO TS s o h u none fits = go (is_ask o.slot) refl
     stay : (y : ℕ) → o.session ≢ session_under b y F → AccountOf (s.slave y) (session_under b y F) more spends
     stay y n = given_more (s.slave y) (session_under b y F) gives more spends (h.slave y) (λ m. ap (λ z. ask_credits b (session_under b y F) + z) (credits_stay (session_under b y F) TS o n))
 
-    go : (c : Bool) → is_ask o.slot ≡ c → Holds b F TM MO (TS ++ o ∷ []) (cond c (record s { asked = updated s.asked (source o.slot) (Some (credits_of o.slot)) }) (record s { slave = updated s.slave d (credited (s.slave d) (kept_of o)) }))
+    go : (c : Bool) → is_ask o.slot ≡ c → Holds b F TM MO (TS ++ o ∷ []) (cond c (record s { asked = updated s.asked (source o.slot) (Some (credits_of o.slot)) }) (record s { slave = updated s.slave d (credited (s.slave d) (owned_slot_of o)) }))
     go true e = record {
       asked = λ x. ap₂ (λ c z. cond c (Some (credits_of o.slot)) z) (nat_eq_comm x (source o.slot) ∙ sym (asks_here x o.slot e)) (h.asked x) ∙ sym (push_ask x TS o);
       slave = λ y. given_more (s.slave y) (session_under b y F) gives more spends (h.slave y)
@@ -200,13 +200,13 @@ holds_slave_takes b F TM MO TS s o h u none fits = go (is_ask o.slot) refl
       first = h.first;
     }
       where
-        here : AccountOf (credited (s.slave d) (kept_of o)) (session_under b d F) more spends
+        here : AccountOf (credited (s.slave d) (owned_slot_of o)) (session_under b d F) more spends
         here = credited_is (s.slave d) o (session_under b d F) gives more spends (h.slave d)
             (λ q. ap (λ z. ask_credits b (session_under b d F) + z) (credits_come (session_under b d F) TS o q) ∙ omega arith)
             (λ n. ap (λ z. ask_credits b (session_under b d F) + z) (credits_stay (session_under b d F) TS o n)) (fits (session_under b d F))
 
-        at : (y : ℕ) (c : Bool) → nat_eq y d ≡ c → AccountOf (cond c (credited (s.slave d) (kept_of o)) (s.slave y)) (session_under b y F) more spends
-        at y true q = subst (λ z. AccountOf (credited (s.slave d) (kept_of o)) (session_under b z F) more spends) (sym (eqb-true y d q)) here
+        at : (y : ℕ) (c : Bool) → nat_eq y d ≡ c → AccountOf (cond c (credited (s.slave d) (owned_slot_of o)) (s.slave y)) (session_under b y F) more spends
+        at y true q = subst (λ z. AccountOf (credited (s.slave d) (owned_slot_of o)) (session_under b z F) more spends) (sym (eqb-true y d q)) here
         at y false q = by (nat_eq (session_under b y F) 0) refl
           where
             by : (c : Bool) → nat_eq (session_under b y F) 0 ≡ c → AccountOf (s.slave y) (session_under b y F) more spends

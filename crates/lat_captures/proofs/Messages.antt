@@ -9,7 +9,7 @@ use Rattle.lat_captures.specs.Belonging.{Owned, of_session, slave_owned, slave_s
 use Rattle.lat_captures.specs.Audit.{paid_test}
 use Rattle.lat_captures.proofs.Growing.{of_session-append}
 use Rattle.lat_captures.specs.declared.slot.OwnedSlot.{OwnedSlot}
-use Rattle.lat_captures.specs.Facts.{is_reply, facts_of, kept_of}
+use Rattle.lat_captures.specs.Facts.{is_reply, facts_of, owned_slot_of}
 use Rattle.lat_captures.specs.Sums.{Sums, greatest, opening, slave_takes, takes_all, slave_forms, master_forms, next_place, kept_before, forms_all}
 use Rattle.lat_captures.specs.Stands.{last_ask, Under, Holds}
 use Rattle.lat_captures.proofs.Holding.{AskIsNone, holds_slave_takes}
@@ -23,17 +23,17 @@ front_less : (r : ℕ) (xs ys : List Owned) → credits (of_session r xs) ≤ cr
 front_less r xs ys = omega (arith, ap credits (of_session-append r xs ys), credits-append (of_session r xs) (of_session r ys))
 
 pub holds_slave_takes_all : (b : Both) (F TM : List Slot) (MO TS os : List Owned) (s : Sums) → Holds b F TM MO TS s → Each (Under destination TM) os → Each AskIsNone os
-    → ((r : ℕ) → ask_credits b r + credits (of_session r (TS ++ os)) ≤ greatest) → Holds b F TM MO (TS ++ os) (takes_all false s (map kept_of os))
+    → ((r : ℕ) → ask_credits b r + credits (of_session r (TS ++ os)) ≤ greatest) → Holds b F TM MO (TS ++ os) (takes_all false s (map owned_slot_of os))
 holds_slave_takes_all b F TM MO TS [] s h u n fits = subst (λ z. Holds b F TM MO z s) (sym (append-nil TS)) h
 holds_slave_takes_all b F TM MO TS (o ∷ os) s h u n fits =
     let whole : (TS ++ o ∷ []) ++ os ≡ TS ++ o ∷ os = append_assoc TS (o ∷ []) os in
     let rest : (r : ℕ) → ask_credits b r + credits (of_session r ((TS ++ o ∷ []) ++ os)) ≤ greatest = λ r. subst (λ z. ask_credits b r + credits (of_session r z) ≤ greatest) (sym whole) (fits r) in
-    let one : Holds b F TM MO (TS ++ o ∷ []) (slave_takes s (kept_of o)) =
+    let one : Holds b F TM MO (TS ++ o ∷ []) (slave_takes s (owned_slot_of o)) =
     holds_slave_takes b F TM MO TS s o h u.0 n.0 (λ r. le_trans (let l = front_less r (TS ++ o ∷ []) os in omega (arith, l)) (rest r)) in
-    subst (λ z. Holds b F TM MO z (takes_all false (slave_takes s (kept_of o)) (map kept_of os))) whole (holds_slave_takes_all b F TM MO (TS ++ o ∷ []) os (slave_takes s (kept_of o)) one u.1 n.1 rest)
+    subst (λ z. Holds b F TM MO z (takes_all false (slave_takes s (owned_slot_of o)) (map owned_slot_of os))) whole (holds_slave_takes_all b F TM MO (TS ++ o ∷ []) os (slave_takes s (owned_slot_of o)) one u.1 n.1 rest)
 
 pub holds_master_takes_all : (b : Both) (F TM : List Slot) (MO TS : List Owned) (xs : List Slot) (s : Sums) → Holds b F TM MO TS s → IsPrefixOf (TM ++ xs) F → credits F ≤ greatest
-    → Holds b F (TM ++ xs) MO TS (takes_all true s (map kept_of (slave_owned b TM xs)))
+    → Holds b F (TM ++ xs) MO TS (takes_all true s (map owned_slot_of (slave_owned b TM xs)))
 holds_master_takes_all b F TM MO TS [] s h p l = subst (λ z. Holds b F z MO TS s) (sym (append-nil TM)) h
 holds_master_takes_all b F TM MO TS (x ∷ xs) s h p l =
     let whole : (TM ++ x ∷ []) ++ xs ≡ TM ++ x ∷ xs = append_assoc TM (x ∷ []) xs in
@@ -43,7 +43,7 @@ holds_master_takes_all b F TM MO TS (x ∷ xs) s h p l =
     λ r. le_trans (credits_less r (slave_owned b [] (TM ++ x ∷ [])))
     (le_trans (subst (λ z. credits z ≤ credits F) (sym (slots_in-slave b [] (TM ++ x ∷ []))) (credits_prefix (TM ++ x ∷ []) F first)) l) in
     let o : Owned = record { session = slave_session b TM x; slot = x } in
-    subst (λ z. Holds b F z MO TS (takes_all true s (map kept_of (slave_owned b TM (x ∷ xs))))) whole
+    subst (λ z. Holds b F z MO TS (takes_all true s (map owned_slot_of (slave_owned b TM (x ∷ xs))))) whole
     (holds_master_takes_all b F (TM ++ x ∷ []) MO TS xs _ (holds_master_takes b F TM MO TS s x h first fits) q l)
 
 -- formed slots of the slave
@@ -55,7 +55,7 @@ abbrev pub SlaveFormsAll : Both → List Slot → List Slot → List Owned → L
 SlaveFormsAll b F TM MO TS xs None = paid_test (slave_gives b TS) (slave_owned b [] F) (slave_owned b F xs) ≡ false
 SlaveFormsAll b F TM MO TS xs (Some r) =
     (paid_test (slave_gives b TS) (slave_owned b [] F) (slave_owned b F xs) ≡ true)
-    × (r.1 ≡ map kept_of (slave_owned b F xs)) × Holds b (F ++ xs) TM MO TS r.0
+    × (r.1 ≡ map owned_slot_of (slave_owned b F xs)) × Holds b (F ++ xs) TM MO TS r.0
 
 -- each reply among them opens its session
 abbrev pub OpensAll : Both → List Slot → List Owned → List Slot → Type 0
@@ -92,7 +92,7 @@ holds_slave_forms_all b F TM MO TS (x ∷ xs) places s h e l w =
     here c d p q =
         ap₂ (λ u v. u && v) p (ap (λ z. paid_test (slave_gives b TS) z (slave_owned b (F ++ x ∷ []) xs)) (sym (owned_push b F x)) ∙ q)
 
-    behind : (r : Sums × OwnedSlot) → covered (slave_gives b TS) (slave_owned b [] F) o ≡ true → r.1 ≡ kept_of o → (q : Option (Sums × List OwnedSlot))
+    behind : (r : Sums × OwnedSlot) → covered (slave_gives b TS) (slave_owned b [] F) o ≡ true → r.1 ≡ owned_slot_of o → (q : Option (Sums × List OwnedSlot))
         → SlaveFormsAll b (F ++ x ∷ []) TM MO TS xs q → SlaveFormsAll b F TM MO TS (x ∷ xs) (kept_before r.1 q)
     behind r c k None v = here true false c v
     behind r c k (Some q) v =
@@ -115,7 +115,7 @@ all_sent b TM xs = map (sent_as b TM) xs
 abbrev pub MasterFormsAll : Both → List Slot → List Slot → List Owned → List Owned → List Slot → Option (Sums × List OwnedSlot) → Type 0
 MasterFormsAll b F TM MO TS xs None = paid_test (master_gives b TM) MO (all_sent b TM xs) ≡ false
 MasterFormsAll b F TM MO TS xs (Some r) =
-    (paid_test (master_gives b TM) MO (all_sent b TM xs) ≡ true) × (r.1 ≡ map kept_of (all_sent b TM xs)) × Holds b F TM (MO ++ all_sent b TM xs) TS r.0
+    (paid_test (master_gives b TM) MO (all_sent b TM xs) ≡ true) × (r.1 ≡ map owned_slot_of (all_sent b TM xs)) × Holds b F TM (MO ++ all_sent b TM xs) TS r.0
 
 pub holds_master_forms_all : (b : Both) (F TM : List Slot) (MO TS : List Owned) (xs : List Slot) (places : ℕ) (s : Sums) → Holds b F TM MO TS s → MasterFormsAll b F TM MO TS xs (forms_all true places s (map facts_of xs))
 holds_master_forms_all b F TM MO TS [] places s h = (refl, refl, subst (λ z. Holds b F TM z TS s) (sym (append-nil MO)) h)
@@ -125,7 +125,7 @@ holds_master_forms_all b F TM MO TS (x ∷ xs) places s h =
     o : Owned
     o = sent_as b TM x
 
-    behind : (r : Sums × OwnedSlot) → covered (master_gives b TM) MO o ≡ true → r.1 ≡ kept_of o → (q : Option (Sums × List OwnedSlot))
+    behind : (r : Sums × OwnedSlot) → covered (master_gives b TM) MO o ≡ true → r.1 ≡ owned_slot_of o → (q : Option (Sums × List OwnedSlot))
         → MasterFormsAll b F TM (MO ++ o ∷ []) TS xs q → MasterFormsAll b F TM MO TS (x ∷ xs) (kept_before r.1 q)
     behind r c k None v = ap₂ (λ u v. u && v) c v
     behind r c k (Some q) v = (ap₂ (λ u v. u && v) c v.0, ap₂ (λ y ys. y ∷ ys) k v.1, subst (λ z. Holds b F TM z TS q.0) (append_assoc MO (o ∷ []) (all_sent b TM xs)) v.2)

@@ -14,7 +14,7 @@ use Rattle.lat_captures.proofs.Growing.{all_slots-append, master_owned-append, I
 use Rattle.lat_captures.specs.declared.slot.OwnedSlot.{OwnedSlot}
 use Rattle.lat_captures.specs.declared.side.Side.{Side}
 use Rattle.lat_captures.specs.declared.checker.Checker.{Checker}
-use Rattle.lat_captures.specs.Facts.{facts_of, kept_of}
+use Rattle.lat_captures.specs.Facts.{facts_of, owned_slot_of}
 use Rattle.lat_captures.specs.Recent.{Message, last_eight, pushed}
 use Rattle.lat_captures.specs.Sums.{Sums, sums_of, forms_all}
 use Rattle.lat_captures.specs.Stands.{Holds, master_lists, slave_lists, SideStands, Bounded, Stands}
@@ -60,7 +60,7 @@ map_pushed f xs x = map-append f (cond (nat_le 8 (length xs)) (drop 1 xs) xs) (x
 -- a side that sent a message
 
 pub side_sends : (tell : List ℕ → List Slot) (s : Side) (seen : Seen) (texts : List (List ℕ)) (lists more : List (List Owned)) (text : List ℕ) (xs : List Slot) (kept : List OwnedSlot) (os : List Owned) (bs : List ℕ)
-    → more ≡ lists ++ os ∷ [] → kept ≡ map kept_of os → tell text ≡ xs → SideStands tell s seen texts lists
+    → more ≡ lists ++ os ∷ [] → kept ≡ map owned_slot_of os → tell text ≡ xs → SideStands tell s seen texts lists
     → SideStands tell (sending s text kept) (record { messages = seen.messages ++ xs ∷ []; beside = bs; acknowledged = seen.acknowledged }) (texts ++ text ∷ []) more
 side_sends tell s seen texts lists more text xs kept os bs e k t h = record {
   count = ap (λ z. z + 1) h.count ∙ sym (length-append seen.messages (xs ∷ []));
@@ -68,8 +68,8 @@ side_sends tell s seen texts lists more text xs kept os bs e k t h = record {
   told = map-append tell texts (text ∷ []) ∙ ap₂ (λ u v. u ++ v ∷ []) h.told t;
   texts_are = map_pushed (λ (m : Message). m.text) s.recent (record { text = text; slots = kept }) ∙ ap (λ z. pushed z text) h.texts_are ∙ pushed_eight texts text;
   slots_are =
-      map_pushed (λ (m : Message). m.slots) s.recent (record { text = text; slots = kept }) ∙ ap₂ pushed h.slots_are k ∙ pushed_eight (map (map kept_of) lists) (map kept_of os)
-      ∙ ap last_eight (sym (map-append (map kept_of) lists (os ∷ [])) ∙ ap (map (map kept_of)) (sym e));
+      map_pushed (λ (m : Message). m.slots) s.recent (record { text = text; slots = kept }) ∙ ap₂ pushed h.slots_are k ∙ pushed_eight (map (map owned_slot_of) lists) (map owned_slot_of os)
+      ∙ ap last_eight (sym (map-append (map owned_slot_of) lists (os ∷ [])) ∙ ap (map (map owned_slot_of)) (sym e));
 }
 
 -- what stands beside more messages than there are isn't looked at
@@ -179,11 +179,11 @@ master_sends tell c b x text xs h told small window = go (forms_all true c.place
     lists : master_lists b2 (ms ++ xs ∷ []) (bs ++ a ∷ []) ≡ master_lists b ms bs ++ message_owned b2 a xs ∷ []
     lists = master_lists_push b2 ms bs xs a h.master_shows.each ∙ ap (λ z. z ++ message_owned b2 a xs ∷ []) (master_lists_again b b2 ms bs keep reach.near_master)
 
-    stands : (r : Sums × List OwnedSlot) → r.1 ≡ map kept_of (all_sent b2 ys xs) → Holds b2 (all_slots ss) ys (os ++ all_sent b2 ys xs) ts r.0 → (d : Checker) → Sends true c d text r.0 r.1
+    stands : (r : Sums × List OwnedSlot) → r.1 ≡ map owned_slot_of (all_sent b2 ys xs) → Holds b2 (all_slots ss) ys (os ++ all_sent b2 ys xs) ts r.0 → (d : Checker) → Sends true c d text r.0 r.1
         → Stands tell d b2 (record { master = x.master ++ text ∷ []; slave = x.slave })
     stands r kept sums d k = record {
       master = subst (λ s. SideStands tell s b2.master (x.master ++ text ∷ []) (master_lists b2 (ms ++ xs ∷ []) (bs ++ a ∷ []))) (sym k.own)
-          (side_sends tell c.master b.master x.master (master_lists b ms bs) (master_lists b2 (ms ++ xs ∷ []) (bs ++ a ∷ [])) text xs r.1 (message_owned b2 a xs) (bs ++ a ∷ []) lists (kept ∙ ap (map kept_of) (sym (sent_all b2 a xs))) told h.master);
+          (side_sends tell c.master b.master x.master (master_lists b ms bs) (master_lists b2 (ms ++ xs ∷ []) (bs ++ a ∷ [])) text xs r.1 (message_owned b2 a xs) (bs ++ a ∷ []) lists (kept ∙ ap (map owned_slot_of) (sym (sent_all b2 a xs))) told h.master);
       slave = subst (λ s. SideStands tell s b.slave x.slave (slave_lists b2 [] ss)) (sym k.other) (subst (SideStands tell c.slave b.slave x.slave) (sym (slave_lists_again b b2 [] ss keep (omega arith))) h.slave);
       sums = subst (Holds b2 (all_slots ss) ys (master_owned b2 (ms ++ xs ∷ []) (bs ++ a ∷ [])) (master_owned b2 (take b.slave.acknowledged (ms ++ xs ∷ [])) (bs ++ a ∷ []))) (sym k.sums_are)
           (subst (λ z. Holds b2 (all_slots ss) ys z (master_owned b2 (take b.slave.acknowledged (ms ++ xs ∷ [])) (bs ++ a ∷ [])) r.0) all (subst (λ z. Holds b2 (all_slots ss) ys (os ++ all_sent b2 ys xs) z r.0) taken sums));

@@ -11,7 +11,7 @@ use Rattle.lat_captures.specs.Audit.{paid_test}
 use Rattle.lat_captures.proofs.Growing.{all_slots-append, word_more, place_bound, InReach}
 use Rattle.lat_captures.specs.declared.slot.OwnedSlot.{OwnedSlot}
 use Rattle.lat_captures.specs.declared.checker.Checker.{Checker}
-use Rattle.lat_captures.specs.Facts.{facts_of, kept_of}
+use Rattle.lat_captures.specs.Facts.{facts_of, owned_slot_of}
 use Rattle.lat_captures.specs.Sums.{Sums, greatest, opening, sums_of, forms_all}
 use Rattle.lat_captures.specs.Stands.{last_ask, Holds, master_lists, slave_lists, SideStands, Bounded, Stands}
 use Rattle.lat_captures.specs.Steps.{Sends}
@@ -87,7 +87,7 @@ opens_at b p (Some c) none some =
     let here : session_at b p ≡ p = ap (λ z. cond z 0 p) (differ_false (ask_of b p) 0 w.0) in
     record { session = sym here; given = λ n. sym w.1 ∙ ap (ask_credits b) (sym here); spent = λ n. refl }
 
-length_kept : (b : Both) (front xs : List Slot) → length (map kept_of (slave_owned b front xs)) ≡ length xs
+length_kept : (b : Both) (front xs : List Slot) → length (map owned_slot_of (slave_owned b front xs)) ≡ length xs
 length_kept b front [] = refl
 length_kept b front (x ∷ xs) = ap suc (length_kept b (front ++ x ∷ []) xs)
 
@@ -183,7 +183,7 @@ slave_sends tell c b x text xs h fit told small window =
     lists : slave_lists b2 [] (ss ++ xs ∷ []) ≡ slave_lists b [] ss ++ slave_owned b2 front xs ∷ []
     lists = slave_lists_push b2 [] ss xs ∙ ap (λ z. z ++ slave_owned b2 front xs ∷ []) (slave_lists_again b b2 [] ss keep (omega arith))
 
-    stands : (r : Sums × List OwnedSlot) → r.1 ≡ map kept_of (slave_owned b2 front xs) → Holds b2 (front ++ xs) ys os ts r.0 → (d : Checker) → Sends false c d text r.0 r.1
+    stands : (r : Sums × List OwnedSlot) → r.1 ≡ map owned_slot_of (slave_owned b2 front xs) → Holds b2 (front ++ xs) ys os ts r.0 → (d : Checker) → Sends false c d text r.0 r.1
         → Stands tell d b2 (record { master = x.master; slave = x.slave ++ text ∷ [] })
     stands r kept sums d k = record {
       master = subst (λ s. SideStands tell s b.master x.master (master_lists b2 ms bs)) (sym k.other) (subst (SideStands tell c.master b.master x.master) (sym (master_lists_again b b2 ms bs keep reach.near_master)) h.master);

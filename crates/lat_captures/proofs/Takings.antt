@@ -6,7 +6,7 @@ use Rattle.lat_model.specs.sessions.Slots.{Slot, destination, source, credits_of
 use Rattle.lat_captures.specs.Seen.{Both}
 use Rattle.lat_captures.specs.Belonging.{last_place, word_at, replies_as, session_at, slave_session, Owned, of_session, slave_owned}
 use Rattle.lat_captures.specs.declared.accounts.Account.{Account}
-use Rattle.lat_captures.specs.Facts.{is_reply, kept_of}
+use Rattle.lat_captures.specs.Facts.{is_reply, owned_slot_of}
 use Rattle.lat_captures.specs.Sums.{greatest, Sums, credited, taken_account, master_takes}
 use Rattle.lat_captures.proofs.Growing.{slave_owned-append}
 use Rattle.lat_captures.proofs.Summing.{push_place}
@@ -51,7 +51,7 @@ where_some a r gives spends more costs h f = go (nat_eq r 0) refl
 
 pub holds_master_takes : (b : Both) (F TM : List Slot) (MO TS : List Owned) (s : Sums) (x : Slot) → Holds b F TM MO TS s → IsPrefixOf (TM ++ x ∷ []) F
     → ((r : ℕ) → credits (of_session r (slave_owned b [] (TM ++ x ∷ []))) ≤ greatest)
-    → Holds b F (TM ++ x ∷ []) MO TS (master_takes s (kept_of (record { session = slave_session b TM x; slot = x })))
+    → Holds b F (TM ++ x ∷ []) MO TS (master_takes s (owned_slot_of (record { session = slave_session b TM x; slot = x })))
 holds_master_takes b F TM MO TS s x h p fits = record {
   asked = h.asked;
   slave = h.slave;
@@ -102,13 +102,13 @@ holds_master_takes b F TM MO TS s x h p fits = record {
         spent : o.session ≢ 0 → 0 ≡ spends o.session
         spent n = sym (ap costs (none_yet destination TM o.session MO h.sent (here n)))
 
-    here : (c : Bool) → is_reply x ≡ c → AccountOf (cond c (record { session = o.session; given = credits_of x; spent = 0 }) (credited (s.master d) (kept_of o))) o.session more spends
+    here : (c : Bool) → is_reply x ≡ c → AccountOf (cond c (record { session = o.session; given = credits_of x; spent = 0 }) (credited (s.master d) (owned_slot_of o))) o.session more spends
     here true e = opens e
     here false e =
         let q : session_under b d TM ≡ o.session = sym (same_under b TM x d (no_reply x d e)) in
         let old : AccountOf (s.master d) o.session gives spends = subst (λ r. AccountOf (s.master d) r gives spends) q (h.master d) in
         credited_is (s.master d) o o.session gives more spends old (λ r. comes o.session refl) (λ n. absurd (n refl)) (fits o.session)
 
-    at : (y : ℕ) (c : Bool) → nat_eq y d ≡ c → AccountOf (cond c (taken_account (s.master d) (kept_of o)) (s.master y)) (session_under b y (TM ++ x ∷ [])) more spends
-    at y true q = subst (λ z. AccountOf (taken_account (s.master d) (kept_of o)) (session_under b z (TM ++ x ∷ [])) more spends) (sym (eqb-true y d q)) (here (is_reply x) refl)
+    at : (y : ℕ) (c : Bool) → nat_eq y d ≡ c → AccountOf (cond c (taken_account (s.master d) (owned_slot_of o)) (s.master y)) (session_under b y (TM ++ x ∷ [])) more spends
+    at y true q = subst (λ z. AccountOf (taken_account (s.master d) (owned_slot_of o)) (session_under b z (TM ++ x ∷ [])) more spends) (sym (eqb-true y d q)) (here (is_reply x) refl)
     at y false q = other y (λ e. eqb-false y d q (sym e))

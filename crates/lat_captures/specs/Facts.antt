@@ -19,5 +19,5 @@ facts_of x = record {
 }
 
 -- with its session
-abbrev pub kept_of : Owned → OwnedSlot
-kept_of o = record { session = o.session; slot = facts_of o.slot }
+abbrev pub owned_slot_of : Owned → OwnedSlot
+owned_slot_of o = record { session = o.session; slot = facts_of o.slot }

@@ -7,7 +7,7 @@ use Rattle.lat_captures.specs.Belonging.{all_slots, last_place, word_at, asks_as
 use Rattle.lat_captures.specs.declared.accounts.Account.{Account}
 use Rattle.lat_captures.specs.declared.side.Side.{Side}
 use Rattle.lat_captures.specs.declared.checker.Checker.{Checker}
-use Rattle.lat_captures.specs.Facts.{kept_of}
+use Rattle.lat_captures.specs.Facts.{owned_slot_of}
 use Rattle.lat_captures.specs.Sums.{Sums, sums_of}
 use Rattle.lat_captures.specs.Recent.{last_eight}
 
@@ -69,7 +69,7 @@ pub record SideStands (tell : List ℕ → List Slot) (s : Side) (seen : Seen)
   pub acknowledged : s.acknowledged ≡ seen.acknowledged
   pub told : map tell texts ≡ seen.messages
   pub texts_are : map (λ m. m.text) s.recent ≡ last_eight texts
-  pub slots_are : map (λ m. m.slots) s.recent ≡ last_eight (map (map kept_of) lists)
+  pub slots_are : map (λ m. m.slots) s.recent ≡ last_eight (map (map owned_slot_of) lists)
 
 -- What an end has shown, beside the other: it has acknowledged messages that the other sent, and all but its last eight; the
 -- acknowledgement beside each of its messages isn't above its last one

@@ -11,6 +11,8 @@ use Rattle.lat_model.specs.ends.Timers.{living}
 use Rattle.lat_machines.specs.values.Messages.{Head}
 use Rattle.lat_machines.specs.values.Timing.{half_range}
 use Rattle.lat_machines.specs.values.Answers.{Heard, Taken, Again, AckOnly, Broke}
+use Rattle.lat_frames.specs.Reasons.{end_bits}
+use Rattle.lat_frames.specs.declared.reason.CircuitEnd.TheVariants as reasons
 use Rattle.lat_circuit.specs.Kept.{Kept}
 use Rattle.lat_circuit.specs.Stands.{Stands}
 use Rattle.lat_circuit.specs.Hears.{HeardStep, heard_shown}
@@ -56,7 +58,7 @@ slave_occasion e = living (λ d. cond d.master (still d) (occasion d)) e
 abbrev pub applied_step : Applied → HeardStep
 applied_step a =
     elim a.answer [
-      | None ↦ record { step = finish 2 a.end; answer = Broke 2 }
+      | None ↦ record { step = finish (end_bits reasons.Broken) a.end; answer = Broke (end_bits reasons.Broken) }
       | Some answer ↦ record { step = slave_occasion a.end; answer = answer }
     ]
 

@@ -6,7 +6,9 @@ ghost use Rattle.lat_base.specs.declared.outbox.Mark.TheVariants as marks;
 ghost use Rattle.lat_base.specs.Lending.{frame_of};
 ghost use Rattle.lat_fields.specs.Params.{params_text};
 ghost use Rattle.lat_fields.specs.Payloads.{padded};
+ghost use Rattle.lat_frames.specs.Reasons.{end_bits};
 ghost use Rattle.lat_frames.specs.Written.{message_text};
+ghost use Rattle.lat_frames.specs.declared.reason.CircuitEnd.TheVariants as reasons;
 ghost use Rattle.lat_circuit.specs.Messages.{message_of, param_of, IsFormed};
 ghost use Rattle.lat_machines.specs.values.Timing.{wide_params};
 ghost use Rattle.lat_machines.specs.values.Messages.{StopMessage};
@@ -109,8 +111,8 @@ fn write_stop(master: bool, to: u16, from: u16, reason: u8, out: &mut Payload)
 /// circuit's id there, and states no id of its own.
 #[tactic(auto, using(crate::proofs::Messages::stop_formed))]
 pub fn refusal(to: Addr, circuit: u16) -> OutFrame
-    ensures value { result ≡ frame_of to 0 marks.Plain (padded (message_text (message_of (StopMessage false false circuit 0 7 [])))) }
-    ensures formed { 0 < circuit → IsFormed (StopMessage false false circuit 0 7 []) }
+    ensures value { result ≡ frame_of to 0 marks.Plain (padded (message_text (message_of (StopMessage false false circuit 0 (end_bits reasons.NoResources) [])))) }
+    ensures formed { 0 < circuit → IsFormed (StopMessage false false circuit 0 (end_bits reasons.NoResources) []) }
 {
     let mut payload = Payload::empty();
     write_stop(

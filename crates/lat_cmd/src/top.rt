@@ -40,7 +40,7 @@ fn input_of<S: Source>(alloc: Global, command: Command, src: &mut S) -> Result<V
 }
 
 // Writes the answer of a command to an input.
-fn told<K: Sink, H: RatingRule>(
+fn write_answer<K: Sink, H: RatingRule>(
     alloc: Global,
     command: Command,
     rule: H,
@@ -89,7 +89,7 @@ fn obeyed<S: Source, K: Sink, H: RatingRule>(
     ensures later { (S.faults src.old ≤ S.faults src.new) × (K.faults out.old ≤ K.faults out.new) }
 {
     match input_of(alloc, command, src) {
-        Ok(input) => told(alloc, command, rule, &input, out),
+        Ok(input) => write_answer(alloc, command, rule, &input, out),
         Err(ReadEnd::Fault) => RunEnd::of(4),
         Err(ReadEnd::Limit) => end_with(out, 6, "limit bytes\n", None),
         Err(ReadEnd::Memory) => RunEnd::of(9),

@@ -15,7 +15,7 @@ use Rattle.lat_dir.specs.declared.node.Node.{Node}
 use Rattle.lat_dir.specs.Words.{Nodes, living, others, node_of, offer_of}
 use Rattle.lat_dir.specs.Stands.{Kept, Known, known, known_of, offer_in, Stands, heard, answer_to, at_moment, UnlessMemory}
 use Rattle.lat_dir.specs.Announcements.{service_shown, announcement_shown}
-use Rattle.lat_dir.specs.Steps.{turned_away, trimmed, is_full, answer_met, with_node, taken_in}
+use Rattle.lat_dir.specs.Steps.{forgotten, trimmed, is_full, answer_met, with_node, taken_in}
 use Rattle.lat_dir.proofs.Lists.{filter_map_is, filter_swap}
 use Rattle.lat_dir.proofs.Trimming.{living_later, living_trimmed, trimmed_many}
 use Rattle.lat_dir.proofs.Latest.{apart, live_push}
@@ -82,9 +82,9 @@ kept_list : (groups : List ℕ) (now : ℕ) (from : Addr) (a : notices.Announcem
 kept_list groups now from a h e = rw e refl
 
 -- an announcement whose groups aren't met
-pub turned_away_stands : (now : ℕ) (from : Addr) (a : notices.Announcement) (k : Kept) (h : List HeardAnnouncement) → k.moment ≤ now
-    → meets k.groups (announcement_shown a) ≡ false → Stands k h → Stands (turned_away now (folded a.node) k) (heard k.groups now from a h)
-turned_away_stands now from a k h before met stands next after =
+pub forgotten_stands : (now : ℕ) (from : Addr) (a : notices.Announcement) (k : Kept) (h : List HeardAnnouncement) → k.moment ≤ now
+    → meets k.groups (announcement_shown a) ≡ false → Stands k h → Stands (forgotten now (folded a.node) k) (heard k.groups now from a h)
+forgotten_stands now from a k h before met stands next after =
     let x = heard_as now from a in
     let refused : refuses k.groups now (announcement_shown a) h ≡ false = rw met refl in
     let list = ap (λ es. map known_of (live k.groups next es)) (kept_list k.groups now from a h refused) in

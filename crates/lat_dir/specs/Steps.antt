@@ -7,8 +7,8 @@ use Rattle.lat_dir.specs.Words.{Nodes, living, others}
 use Rattle.lat_dir.specs.Stands.{Kept}
 
 -- nothing of this name is kept
-abbrev pub turned_away : ℕ → List ℕ → Kept → Kept
-turned_away now name k = record { groups = k.groups; nodes = others name k.nodes; moment = now }
+abbrev pub forgotten : ℕ → List ℕ → Kept → Kept
+forgotten now name k = record { groups = k.groups; nodes = others name k.nodes; moment = now }
 
 -- where 256 are kept, those that live are left
 abbrev pub trimmed : ℕ → Nodes → Nodes

@@ -4,7 +4,7 @@ ghost use Rattle.std.specs.Prelude.{◌≡◌, ◌≤◌, ◌<◌, List, [], Err
 ghost use Rattle.lat_machines.specs.server.Directory.{HeardAnnouncement, best};
 ghost use Rattle.lat_dir.specs.Words.{best_shown};
 ghost use Rattle.lat_dir.specs.Stands.{Stands, heard, answer_to, at_moment, UnlessMemory};
-ghost use Rattle.lat_dir.specs.Steps.{turned_away, answer_met, taken_in};
+ghost use Rattle.lat_dir.specs.Steps.{forgotten, answer_met, taken_in};
 
 use crate::best::Best;
 use crate::groups::are_met;
@@ -85,8 +85,8 @@ impl Directory {
     }
 
     // Forgets the node.
-    fn turn_away(&mut self, name: &Name, now: u64)
-        ensures { self.new ≡ turned_away now name.now self.old }
+    fn forget_node(&mut self, name: &Name, now: u64)
+        ensures { self.new ≡ forgotten now name.now self.old }
     {
         self.nodes.forget(name);
         self.moment = now;
@@ -132,7 +132,7 @@ impl Directory {
     {
         let name = a.node.folded();
         if !are_met(a.groups.as_slice(), &self.groups) {
-            self.turn_away(&name, now);
+            self.forget_node(&name, now);
             return Ok(false);
         }
         let node = Node::heard(alloc, from, a, now)?;

@@ -4,14 +4,15 @@ use crate::hear::hand;
 use crate::play::Play;
 use crate::station::Station;
 use lat_base::{Answer, Event, Memory, Name, OutBox, Payload};
-use lat_frames::write_stop;
+use lat_frames::{CircuitEnd, write_stop};
 use lat_script::{ScriptFault, answer_onto, name, number};
 use std::alloc::Global;
 
-// A STOP of source 0 to this circuit, with reason 3.
+// A STOP of source 0 to this circuit, for want of use.
 fn stop(circuit: u16) -> Payload {
     let mut payload = Payload::empty();
-    write_stop(false, false, circuit, 0, 3, &[], &mut payload);
+    let reason = CircuitEnd::NoUse.bits();
+    write_stop(false, false, circuit, 0, reason, &[], &mut payload);
     payload
 }
 

@@ -18,7 +18,7 @@ impl<S: Station, N: Station> Play<S, N> {
                 Ok(record_onto(alloc, text, record)?)
             }
             "used" => {
-                let used = self.node.used().unwrap_or(0);
+                let used = self.node.used().ok_or(no_command(0))?;
                 Ok(number_onto(text, u64::from(used))?)
             }
             "moment" | "finished" | "span" | "names" | "book" | "state" | "waiting" => {

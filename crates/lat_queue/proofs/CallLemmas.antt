@@ -14,7 +14,7 @@ use Rattle.lat_machines.specs.values.Keys.{same_key}
 use Rattle.lat_machines.specs.values.Notices as answers
 use Rattle.lat_machines.specs.values.Notices.{Kept}
 use Rattle.lat_machines.specs.server.Queue.{QueueEvent, Asks, Cancels, Grants, Finishes, Request, cancels, grants, finishes, is_waiting, is_overfull, first_asks, records, waits, first, next_request, LegalQueue}
-use Rattle.lat_machines.specs.server.Records.{grants_of, grant_of, place_among, kept_of, record_of, is_granted}
+use Rattle.lat_machines.specs.server.Records.{grants_of, grant_of, place_among, kept_for, record_of, is_granted}
 use Rattle.lat_base.specs.declared.addr.Addr.{Addr}
 use Rattle.lat_base.specs.declared.kept.Kept as base
 use Rattle.lat_queue.specs.declared.key.Key.{Key}
@@ -23,7 +23,7 @@ use Rattle.lat_queue.specs.declared.entry.Standing.{Standing}
 use Rattle.lat_queue.specs.declared.entry.Standing.TheVariants as stands
 use Rattle.lat_queue.specs.KeyHash.{one_key}
 use Rattle.lat_queue.specs.Tables.{Table, waits_somewhere, waiters, info_of, entry_info, info, standing_at, new_standing, new_info, added, with_standing, restood, waiting_entry, waiting_found, cancelled_by, cancelled, given_by, given, finished_entry, finished_by, finished, first_of}
-use Rattle.lat_queue.specs.Histories.{Noted, noted, key_in, address_in, some_kept, some_first, some_request, request_key, waited, turned_away, line_of, standing_in, noted_in, is_first_answer, IsFirst, Stands, finish_history}
+use Rattle.lat_queue.specs.Histories.{Noted, noted, key_in, address_in, some_kept, some_first, some_request, request_key, waited, refused_as, line_of, standing_in, noted_in, is_first_answer, IsFirst, Stands, finish_history}
 use Rattle.lat_queue.specs.KeptValues.{kept_in}
 use Rattle.lat_queue.proofs.KeyLemmas.{key_self, key_turn, key_right}
 use Rattle.lat_queue.proofs.EventLemmas.{extend, Grows, grows_cancel, grows_grant, grows_finish, grows_again, full_asks, grows_new, grants_more, place_other, place_same}
@@ -81,7 +81,7 @@ stands_full t h k from s st n =
 record NewStands (o : List Name) (s : Name) (a : Kept) (standing : Standing) : Type 0 where
   pub not_full : is_overfull a ≡ false
   pub answered : is_first_answer a ≡ true
-  pub stands : standing ≡ cond (is_waiting a) (stands.Waits (line_of o s)) (turned_away a)
+  pub stands : standing ≡ cond (is_waiting a) (stands.Waits (line_of o s)) (refused_as a)
   pub offered : is_waiting a ≡ true → line_of o s < length o
 
 new_stands : (t : Table) (s : Name) → NewStands t.offered s (kept_in (new_info t (new_standing t s))) (new_standing t s)
@@ -130,7 +130,7 @@ stands_new t h k from s st l n =
     first = record { answered = is.answered; offered_then = is.offered; granted_then = ap is_some (sym no_grant); asked_then = λ m. no_grant; ended_then = λ m. refl }
 
     one : noted (k, entry) ≡ noted_in t.offered (h ++ e ∷ []) new
-    one = ap (λ z. record { key = key_in k; from = address_in from; service = s; standing = z }) (is.stands ∙ ap (λ z. cond (is_waiting answer) (waited z false false (stands.Waits (line_of t.offered s))) (turned_away answer)) (sym no_grant))
+    one = ap (λ z. record { key = key_in k; from = address_in from; service = s; standing = z }) (is.stands ∙ ap (λ z. cond (is_waiting answer) (waited z false false (stands.Waits (line_of t.offered s))) (refused_as answer)) (sym no_grant))
 
 -- a cancel
 
@@ -184,7 +184,7 @@ stands_finished t h k st = by (lookup (one_key k) t.entries) refl (info_right t 
     others : (r : Request) → same_key r.key (key_in k) ≡ false → g' r ≡ g r
     others r q = stays t.offered h e r (grant_still h e r.key refl) refl q
 
-    idle : is_granted (kept_of (key_in k) h) ≡ false → Stands t (finish_history (key_in k) h)
+    idle : is_granted (kept_for (key_in k) h) ≡ false → Stands t (finish_history (key_in k) h)
     idle q = subst (λ b. Stands t (cond b (h ++ e ∷ []) h)) (sym q) st
 
     granted_of : (n : ℕ) (x : Entry) → x.standing ≡ stands.Granted n → (f : Found g (records h) k x) → grant_of (key_in k) h ≡ Some n
@@ -200,7 +200,7 @@ stands_finished t h k st = by (lookup (one_key k) t.entries) refl (info_right t 
         still_stands t (insert_entry one_key t.entries k (with_standing x (stands.Done n))) h e st (grows_finish h (key_in k)) refl (λ j. refl) (λ r m. apart n (granted_of n x q f) r m (same_key r.key (key_in k)) refl)
         (moved (λ r. Unit {0}) g g' (λ r. refl) k x (stands.Done n) others (λ r u p s. finish_granted t.offered h (key_in k) r n p (s ∙ q)) t.entries (records h) st.entries (distinct_records h) (each_of (λ r. Unit {0}) (λ r. tt) (records h)) l) (legal_finish h (key_in k) st.legal)
 
-    at : (x : Entry) (s : Standing) → x.standing ≡ s → lookup (one_key k) t.entries ≡ Some x → Some (kept_in (info_of t.entries k s)) ≡ kept_of (key_in k) h → Stands (finished_entry t k x s) (finish_history (key_in k) h)
+    at : (x : Entry) (s : Standing) → x.standing ≡ s → lookup (one_key k) t.entries ≡ Some x → Some (kept_in (info_of t.entries k s)) ≡ kept_for (key_in k) h → Stands (finished_entry t k x s) (finish_history (key_in k) h)
     at x (stands.Granted n) q l r = subst (λ b. Stands (restood t k x (stands.Done n) t.granted) (cond b (h ++ e ∷ []) h)) (ap is_granted r) (ends x n q l)
     at x (stands.Waits i) q l r = idle (sym (ap is_granted r))
     at x (stands.Done n) q l r = idle (sym (ap is_granted r))
@@ -208,7 +208,7 @@ stands_finished t h k st = by (lookup (one_key k) t.entries) refl (info_right t 
     at x stands.QueueFull q l r = idle (sym (ap is_granted r))
     at x stands.NoService q l r = idle (sym (ap is_granted r))
 
-    by : (o : Option Entry) → lookup (one_key k) t.entries ≡ o → some_kept (info t k) ≡ kept_of (key_in k) h → Stands (finished_by t k o) (finish_history (key_in k) h)
+    by : (o : Option Entry) → lookup (one_key k) t.entries ≡ o → some_kept (info t k) ≡ kept_for (key_in k) h → Stands (finished_by t k o) (finish_history (key_in k) h)
     by None l r = idle (sym (ap is_granted (sym (ap (λ o. some_kept (entry_info t.entries k o)) l) ∙ r)))
     by (Some x) l r = at x x.standing refl l (sym (ap (λ o. some_kept (entry_info t.entries k o)) l) ∙ r)
 
@@ -269,7 +269,7 @@ waits_stands o h r first w = by (is_waiting r.answer) (grant_of r.key h) (list_a
     g : list_any (grants r.key) r.later ≡ false
     g = both.1
 
-    by : (a : Bool) (n : Option ℕ) (c f : Bool) → a ≡ true → c ≡ false → is_some n ≡ false → cond a (waited n c f (stands.Waits (line_of o r.service))) (turned_away r.answer) ≡ stands.Waits (line_of o r.service)
+    by : (a : Bool) (n : Option ℕ) (c f : Bool) → a ≡ true → c ≡ false → is_some n ≡ false → cond a (waited n c f (stands.Waits (line_of o r.service))) (refused_as r.answer) ≡ stands.Waits (line_of o r.service)
     by false n c f q p m = absurd (true≢false (sym q))
     by true None true f q p m = absurd (true≢false p)
     by true None false f q p m = refl

@@ -11,7 +11,7 @@ use Rattle.lat_machines.specs.values.Keys.{same_key}
 use Rattle.lat_machines.specs.values.Notices as answers
 use Rattle.lat_machines.specs.values.Notices.{Kept}
 use Rattle.lat_machines.specs.server.Queue.{QueueEvent, Request, cancels, finishes, is_waiting, records, waiting}
-use Rattle.lat_machines.specs.server.Records.{Record, grant_of, place_in, kept_now, kept_of, record_of, new_answer, ask_answer, shown, record_at}
+use Rattle.lat_machines.specs.server.Records.{Record, grant_of, place_in, kept_now, kept_for, record_of, new_answer, ask_answer, shown, record_at}
 use Rattle.lat_queue.specs.declared.key.Key.{Key}
 use Rattle.lat_queue.specs.declared.entry.Entry.{Entry}
 use Rattle.lat_queue.specs.declared.entry.Standing.{Standing}
@@ -21,14 +21,14 @@ use Rattle.lat_queue.specs.KeyHash.{one_key}
 use Rattle.lat_queue.specs.Lines.{place_of}
 use Rattle.lat_queue.specs.Tables as tables
 use Rattle.lat_queue.specs.Tables.{Table, waiters, info_of, entry_info, info, grant_info, shown_entry, standing_at, new_standing, new_info}
-use Rattle.lat_queue.specs.Histories.{Noted, noted, key_in, record_in, some_kept, some_record, waited, turned_away, line_of, standing_in, noted_in, is_first_answer, IsFirst, Stands}
+use Rattle.lat_queue.specs.Histories.{Noted, noted, key_in, record_in, some_kept, some_record, waited, refused_as, line_of, standing_in, noted_in, is_first_answer, IsFirst, Stands}
 use Rattle.lat_queue.specs.KeptValues.{kept_in}
 use Rattle.lat_queue.proofs.KeyLemmas.{key_self}
 use Rattle.lat_queue.proofs.RecordLemmas.{Found, look_found, look_none}
 use Rattle.lat_queue.proofs.WaitLemmas.{Stood, stood, not_stood, any_line, waiter_in, request_in, lines_wait, place_right}
 
 info_is : (es : List (Key × Entry)) (k : Key) (a : Bool) (g : Option ℕ) (c f : Bool) (l p : ℕ) (ans : Kept) → is_waiting ans ≡ a → is_first_answer ans ≡ true → (a ≡ true → place_of k (waiters l es) ≡ p)
-    → kept_in (info_of es k (cond a (waited g c f (stands.Waits l)) (turned_away ans))) ≡ cond a (cond (is_some g) (cond f answers.Done answers.Granted) (cond c answers.Cancelled (answers.Waiting p))) ans
+    → kept_in (info_of es k (cond a (waited g c f (stands.Waits l)) (refused_as ans))) ≡ cond a (cond (is_some g) (cond f answers.Done answers.Granted) (cond c answers.Cancelled (answers.Waiting p))) ans
 info_is es k true None true f l p ans w q m = refl
 info_is es k true None false f l p ans w q m = ap answers.Waiting (m refl)
 info_is es k true (Some n) c true l p ans w q m = refl
@@ -70,7 +70,7 @@ unknown t h k st l = look_none (noted_in t.offered h) (λ r. refl) k t.entries (
 pub found_info : (t : Table) (h : List QueueEvent) (k : Key) (e : Entry) → Stands t h → (f : Found (noted_in t.offered h) (records h) k e) → kept_in (info_of t.entries k e.standing) ≡ kept_now h f.request
 found_info t h k e st f = record_info t h k f.request e.standing st (each_found (IsFirst t.offered h) (λ (x : Request). same_key x.key (key_in k)) (records h) f.request st.firsts f.found) f.key f.standing
 
-pub info_right : (t : Table) (h : List QueueEvent) (k : Key) → Stands t h → some_kept (info t k) ≡ kept_of (key_in k) h
+pub info_right : (t : Table) (h : List QueueEvent) (k : Key) → Stands t h → some_kept (info t k) ≡ kept_for (key_in k) h
 info_right t h k st = by (lookup (one_key k) t.entries) refl
   where
     by : (o : Option Entry) → lookup (one_key k) t.entries ≡ o → some_kept (entry_info t.entries k o) ≡ kept_found h (record_of (key_in k) h)
@@ -127,7 +127,7 @@ new_right t h k s st l n =
 
 -- what is shown
 
-grant_is : (a : Bool) (g : Option ℕ) (c f : Bool) (l : ℕ) (ans : Kept) → (a ≡ false → g ≡ None) → grant_info (cond a (waited g c f (stands.Waits l)) (turned_away ans)) ≡ g
+grant_is : (a : Bool) (g : Option ℕ) (c f : Bool) (l : ℕ) (ans : Kept) → (a ≡ false → g ≡ None) → grant_info (cond a (waited g c f (stands.Waits l)) (refused_as ans)) ≡ g
 grant_is true None true f l ans m = refl
 grant_is true None false f l ans m = refl
 grant_is true (Some n) c true l ans m = refl

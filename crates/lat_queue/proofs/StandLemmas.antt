@@ -15,7 +15,7 @@ use Rattle.lat_queue.specs.declared.entry.Entry.{Entry}
 use Rattle.lat_queue.specs.declared.entry.Standing.{Standing}
 use Rattle.lat_queue.specs.declared.entry.Standing.TheVariants.{Waits, Granted, Done, Cancelled}
 use Rattle.lat_queue.specs.Tables.{Table, waits_somewhere}
-use Rattle.lat_queue.specs.Histories.{Noted, noted, turned_away, waited, line_of, standing_in, noted_in, IsFirst, Stands}
+use Rattle.lat_queue.specs.Histories.{Noted, noted, refused_as, waited, line_of, standing_in, noted_in, IsFirst, Stands}
 use Rattle.lat_queue.proofs.EventLemmas.{extend, any_more, any_not_more, grants_more, place_other, place_own, place_some, find_extend, find_front, find_same}
 use Rattle.lat_queue.proofs.RecordLemmas.{restand, each_all}
 
@@ -23,7 +23,7 @@ use Rattle.lat_queue.proofs.RecordLemmas.{restand, each_all}
 
 -- as it stands by its grant, and whether a cancel and an end came
 abbrev pub as_noted : List Name → Request → Option ℕ → Bool → Bool → Noted
-as_noted o r g c f = record { key = r.key; from = r.from; service = r.service; standing = cond (is_waiting r.answer) (waited g c f (Waits (line_of o r.service))) (turned_away r.answer) }
+as_noted o r g c f = record { key = r.key; from = r.from; service = r.service; standing = cond (is_waiting r.answer) (waited g c f (Waits (line_of o r.service))) (refused_as r.answer) }
 
 pub grant_still : (h : List QueueEvent) (e : QueueEvent) (k : keys.Key) → grants_of (e ∷ []) ≡ [] → grant_of k (h ++ e ∷ []) ≡ grant_of k h
 grant_still h e k q = ap (place_among k 1) (grants_more h e ∙ ap (λ z. grants_of h ++ z) q ∙ append-nil (grants_of h))
@@ -34,7 +34,7 @@ stays o h e r g c f =
     ∙ ap (λ z. as_noted o r (grant_of r.key h) z (list_any (finishes r.key) (r.later ++ e ∷ []))) (any_not_more (cancels r.key) r.later e c)
     ∙ ap (λ z. as_noted o r (grant_of r.key h) (list_any (cancels r.key) r.later) z) (any_not_more (finishes r.key) r.later e f)
 
-pub not_turned : (a : answers.Kept) → waits_somewhere (turned_away a) ≡ false
+pub not_turned : (a : answers.Kept) → waits_somewhere (refused_as a) ≡ false
 not_turned (answers.Waiting p) = refl
 not_turned answers.Granted = refl
 not_turned answers.Cancelled = refl
@@ -43,7 +43,7 @@ not_turned answers.NoService = refl
 not_turned answers.RecordsFull = refl
 not_turned answers.Done = refl
 
-turned_not : (a : answers.Kept) (i : ℕ) → turned_away a ≡ Waits i → ⊥
+turned_not : (a : answers.Kept) (i : ℕ) → refused_as a ≡ Waits i → ⊥
 turned_not a i q = true≢false (sym (ap waits_somewhere q) ∙ not_turned a)
 
 -- who waits was told so, has no grant, and was not cancelled
@@ -60,7 +60,7 @@ is_waiting_now true (Some m) c true w t n q = absurd (true≢false (sym q))
 is_waiting_now true (Some m) c false w t n q = absurd (true≢false (sym q))
 
 pub waiting_is : (o : List Name) (h : List QueueEvent) (r : Request) (i : ℕ) → standing_in o h r ≡ Waits i → IsWaiting (grant_of r.key h) (is_waiting r.answer) (list_any (cancels r.key) r.later)
-waiting_is o h r i q = is_waiting_now (is_waiting r.answer) (grant_of r.key h) (list_any (cancels r.key) r.later) (list_any (finishes r.key) r.later) (Waits (line_of o r.service)) (turned_away r.answer) (not_turned r.answer) (ap waits_somewhere q)
+waiting_is o h r i q = is_waiting_now (is_waiting r.answer) (grant_of r.key h) (list_any (cancels r.key) r.later) (list_any (finishes r.key) r.later) (Waits (line_of o r.service)) (refused_as r.answer) (not_turned r.answer) (ap waits_somewhere q)
 
 pub cancel_waits : (o : List Name) (h : List QueueEvent) (k : keys.Key) (r : Request) (i : ℕ) → same_key r.key k ≡ true → standing_in o h r ≡ Waits i → noted_in o (h ++ Cancels k ∷ []) (extend (Cancels k) r) ≡ restand Cancelled (noted_in o h r)
 cancel_waits o h k r i t q =
@@ -68,7 +68,7 @@ cancel_waits o h k r i t q =
     let e : QueueEvent = Cancels k in
     ap (λ z. as_noted o r z (list_any (cancels r.key) (r.later ++ e ∷ [])) (list_any (finishes r.key) (r.later ++ e ∷ []))) (grant_still h e r.key refl ∙ w.no_grant)
     ∙ ap (λ z. as_noted o r None z (list_any (finishes r.key) (r.later ++ e ∷ []))) (any_more (cancels r.key) r.later e ∙ ap₂ (λ a b. a || b) w.no_cancel t)
-    ∙ ap (λ z. record { key = r.key; from = r.from; service = r.service; standing = cond z Cancelled (turned_away r.answer) }) w.told
+    ∙ ap (λ z. record { key = r.key; from = r.from; service = r.service; standing = cond z Cancelled (refused_as r.answer) }) w.told
 
 cancel_other : (a : Bool) (g : Option ℕ) (c f : Bool) (i : ℕ) (t : Standing) → waits_somewhere (cond a (waited g c f (Waits i)) t) ≡ false → cond a (waited g (c || true) f (Waits i)) t ≡ cond a (waited g c f (Waits i)) t
 cancel_other false g c f i t q = refl
@@ -84,7 +84,7 @@ cancel_stays o h k r t q =
     ap (λ z. as_noted o r z (list_any (cancels r.key) (r.later ++ e ∷ [])) (list_any (finishes r.key) (r.later ++ e ∷ []))) (grant_still h e r.key refl)
     ∙ ap (λ z. as_noted o r (grant_of r.key h) (list_any (cancels r.key) (r.later ++ e ∷ [])) z) (any_not_more (finishes r.key) r.later e refl)
     ∙ ap (λ z. as_noted o r (grant_of r.key h) z (list_any (finishes r.key) r.later)) (any_more (cancels r.key) r.later e ∙ ap (λ z. list_any (cancels r.key) r.later || z) t)
-    ∙ ap (λ z. record { key = r.key; from = r.from; service = r.service; standing = z }) (cancel_other (is_waiting r.answer) (grant_of r.key h) (list_any (cancels r.key) r.later) (list_any (finishes r.key) r.later) (line_of o r.service) (turned_away r.answer) q)
+    ∙ ap (λ z. record { key = r.key; from = r.from; service = r.service; standing = z }) (cancel_other (is_waiting r.answer) (grant_of r.key h) (list_any (cancels r.key) r.later) (list_any (finishes r.key) r.later) (line_of o r.service) (refused_as r.answer) q)
 
 -- a grant of one that waits
 pub grant_waits : (o : List Name) (h : List QueueEvent) (k : keys.Key) (s : Name) (r : Request) (i : ℕ) → IsFirst o h r → same_key r.key k ≡ true → standing_in o h r ≡ Waits i → noted_in o (h ++ Grants k s ∷ []) (extend (Grants k s) r) ≡ restand (Granted (length (grants_of h) + 1)) (noted_in o h r)
@@ -94,9 +94,9 @@ grant_waits o h k s r i first t q =
     let n : 1 + length (grants_of h) ≡ length (grants_of h) + 1 = omega arith in
     ap (λ z. as_noted o r z (list_any (cancels r.key) (r.later ++ e ∷ [])) (list_any (finishes r.key) (r.later ++ e ∷ []))) (ap (place_among r.key 1) (grants_more h e) ∙ place_own r.key k 1 (grants_of h) t w.no_grant ∙ ap Some n)
     ∙ ap (λ z. as_noted o r (Some (length (grants_of h) + 1)) (list_any (cancels r.key) (r.later ++ e ∷ [])) z) (any_not_more (finishes r.key) r.later e refl ∙ first.ended_then w.no_grant)
-    ∙ ap (λ z. record { key = r.key; from = r.from; service = r.service; standing = cond z (Granted (length (grants_of h) + 1)) (turned_away r.answer) }) w.told
+    ∙ ap (λ z. record { key = r.key; from = r.from; service = r.service; standing = cond z (Granted (length (grants_of h) + 1)) (refused_as r.answer) }) w.told
 
-not_granted : (a : answers.Kept) (n : ℕ) → turned_away a ≢ Granted n
+not_granted : (a : answers.Kept) (n : ℕ) → refused_as a ≢ Granted n
 not_granted (answers.Waiting p) n q = let z : ⊥ = cc in z
 not_granted answers.Granted n q = let z : ⊥ = cc in z
 not_granted answers.Cancelled n q = let z : ⊥ = cc in z
@@ -118,7 +118,7 @@ granted_now true (Some m) c true i n t never q = let z : ⊥ = cc in absurd z
 granted_now true (Some m) c false i n t never q = let e : m ≡ n = cc in record { told = refl; grant = ap Some e; no_end = refl }
 
 pub granted_is : (o : List Name) (h : List QueueEvent) (r : Request) (n : ℕ) → standing_in o h r ≡ Granted n → IsGranted (grant_of r.key h) (is_waiting r.answer) (list_any (finishes r.key) r.later) n
-granted_is o h r n q = granted_now (is_waiting r.answer) (grant_of r.key h) (list_any (cancels r.key) r.later) (list_any (finishes r.key) r.later) (line_of o r.service) n (turned_away r.answer) (not_granted r.answer n) q
+granted_is o h r n q = granted_now (is_waiting r.answer) (grant_of r.key h) (list_any (cancels r.key) r.later) (list_any (finishes r.key) r.later) (line_of o r.service) n (refused_as r.answer) (not_granted r.answer n) q
 
 or_true : (b : Bool) → b || true ≡ true
 or_true true = refl
@@ -131,7 +131,7 @@ finish_granted o h k r n t q =
     let e : QueueEvent = Finishes k in
     ap (λ z. as_noted o r z (list_any (cancels r.key) (r.later ++ e ∷ [])) (list_any (finishes r.key) (r.later ++ e ∷ []))) (grant_still h e r.key refl ∙ w.grant)
     ∙ ap (λ z. as_noted o r (Some n) (list_any (cancels r.key) (r.later ++ e ∷ [])) z) (any_more (finishes r.key) r.later e ∙ ap (λ z. list_any (finishes r.key) r.later || z) t ∙ or_true (list_any (finishes r.key) r.later))
-    ∙ ap (λ z. record { key = r.key; from = r.from; service = r.service; standing = cond z (Done n) (turned_away r.answer) }) w.told
+    ∙ ap (λ z. record { key = r.key; from = r.from; service = r.service; standing = cond z (Done n) (refused_as r.answer) }) w.told
 
 -- first asks
 

@@ -17,7 +17,7 @@ use Rattle.lat_queue.specs.declared.entry.Standing.{Standing}
 use Rattle.lat_queue.specs.declared.entry.Standing.TheVariants.{Waits}
 use Rattle.lat_queue.specs.Lines.{has_key, place_at, place_of}
 use Rattle.lat_queue.specs.Tables.{Table, waits_at, waits_somewhere, waiters, waiter_info, first_waiter, first_of}
-use Rattle.lat_queue.specs.Histories.{Noted, noted, key_in, address_in, waited, turned_away, line_of, standing_in, noted_in, some_first, some_request, IsFirst, Stands}
+use Rattle.lat_queue.specs.Histories.{Noted, noted, key_in, address_in, waited, refused_as, line_of, standing_in, noted_in, some_first, some_request, IsFirst, Stands}
 use Rattle.lat_queue.proofs.KeyLemmas.{key_left, name_turn, name_left}
 use Rattle.lat_queue.proofs.TableLemmas.{not_at}
 use Rattle.lat_queue.proofs.RecordLemmas.{each_all}
@@ -110,7 +110,7 @@ waits_is true (Some k) false false i l t m n q = refl
 
 waits_test : (o : List Name) (h : List QueueEvent) (s : Name) (i : ℕ) (r : Request) → line_of o s ≡ i → i < length o → IsFirst o h r → waits_at i (standing_in o h r) ≡ (waits r && same r.service s)
 waits_test o h s i r l w first =
-    waits_is (is_waiting r.answer) (grant_of r.key h) (list_any (cancels r.key) r.later) (list_any (finishes r.key) r.later) i (line_of o r.service) (turned_away r.answer) (same r.service s) (not_turned r.answer)
+    waits_is (is_waiting r.answer) (grant_of r.key h) (list_any (cancels r.key) r.later) (list_any (finishes r.key) r.later) i (line_of o r.service) (refused_as r.answer) (same r.service s) (not_turned r.answer)
     (ap (λ z. nat_eq z (line_of o r.service)) (sym l) ∙ line_same o s r.service (subst (λ z. z < length o) (sym l) w))
     ∙ ap (λ z. (is_waiting r.answer && not z) && same r.service s) (ap (λ z. list_any (cancels r.key) r.later || z) (sym first.granted_then) ∙ sym (any_either (cancels r.key) (grants r.key) r.later))
 

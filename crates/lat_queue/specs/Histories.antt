@@ -11,7 +11,7 @@ use Rattle.lat_machines.specs.values.Keys as keys
 use Rattle.lat_machines.specs.values.Notices.{Kept, Waiting, Granted, Cancelled, QueueFull, NoService, Done}
 use Rattle.lat_machines.specs.server.Queue.{QueueEvent, Finishes, Request, cancels, grants, finishes, is_waiting, records, first_asks, LegalQueue}
 use Rattle.lat_machines.specs.server.Records as records
-use Rattle.lat_machines.specs.server.Records.{grants_of, grant_of, record_of, is_granted, kept_of}
+use Rattle.lat_machines.specs.server.Records.{grants_of, grant_of, record_of, is_granted, kept_for}
 use Rattle.lat_queue.specs.declared.key.Key.{Key}
 use Rattle.lat_queue.specs.declared.entry.Standing.{Standing}
 use Rattle.lat_queue.specs.declared.entry.Standing.TheVariants as stands
@@ -67,9 +67,9 @@ pub record Noted : Type 0 where
 abbrev pub noted : Key × Entry → Noted
 noted e = record { key = key_in e.0; from = address_in e.1.from; service = e.1.service; standing = e.1.standing }
 
-abbrev pub turned_away : Kept → Standing
-turned_away QueueFull = stands.QueueFull
-turned_away _ = stands.NoService
+abbrev pub refused_as : Kept → Standing
+refused_as QueueFull = stands.QueueFull
+refused_as _ = stands.NoService
 
 -- one that was told to wait: granted by number, or cancelled, or waiting still
 abbrev pub waited : Option ℕ → Bool → Bool → Standing → Standing
@@ -87,7 +87,7 @@ standing_in offered h r =
     cond (is_waiting r.answer)
     (waited (grant_of r.key h) (list_any (cancels r.key) r.later) (list_any (finishes r.key) r.later)
     (stands.Waits (line_of offered r.service)))
-    (turned_away r.answer)
+    (refused_as r.answer)
 
 abbrev pub noted_in : List Name → List QueueEvent → Request → Noted
 noted_in offered h r = record { key = r.key; from = r.from; service = r.service; standing = standing_in offered h r }
@@ -119,4 +119,4 @@ pub record Stands (t : Table) (h : List QueueEvent) : Type 0 where
 
 -- the end of a grant counts where the record is granted
 abbrev pub finish_history : keys.Key → List QueueEvent → List QueueEvent
-finish_history k h = cond (is_granted (kept_of k h)) (h ++ Finishes k ∷ []) h
+finish_history k h = cond (is_granted (kept_for k h)) (h ++ Finishes k ∷ []) h

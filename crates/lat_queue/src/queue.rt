@@ -2,7 +2,7 @@
 
 ghost use Rattle.std.specs.Prelude.{◌≡◌, ◌<◌, ◌≤◌, ◌+◌, [], ◌∷◌, ◌++◌, length, true, false, Some, None, replicate, OnOk, OnErr, IfOk, IfSome, IfNone, IsSome, OnSome, ◌↔◌, List, slice_get};
 ghost use Rattle.lat_machines.specs.server.Queue.{QueueEvent, Asks, Cancels, Grants, next_request};
-ghost use Rattle.lat_machines.specs.server.Records.{ask_answer, kept_of, record_at};
+ghost use Rattle.lat_machines.specs.server.Records.{ask_answer, kept_for, record_at};
 ghost use Rattle.lat_queue.specs.Histories.{Stands, key_in, address_in, some_kept, some_first, some_request, some_key, request_key, some_record, finish_history};
 ghost use Rattle.lat_queue.specs.KeptValues.{kept_in};
 ghost use Rattle.std.specs.Map.{lookup};
@@ -146,7 +146,7 @@ impl Queue {
     /// None where there is none.
     pub fn cancel(&mut self, key: &Key) -> Option<Kept>
         ensures answer { (h : List QueueEvent) → Stands self.old h →
-            some_kept result ≡ kept_of (key_in key.now) (h ++ Cancels (key_in key.now) ∷ []) }
+            some_kept result ≡ kept_for (key_in key.now) (h ++ Cancels (key_in key.now) ∷ []) }
         ensures stands { (h : List QueueEvent) → Stands self.old h →
             Stands self.new (h ++ Cancels (key_in key.now) ∷ []) }
         ensures place { IfSome result HasPlace }

@@ -69,8 +69,8 @@ ending_at at = do
   nothing_at behind
 
 -- a line number as it is told
-abbrev pub told_number : ℕ → ℕ
-told_number number = min number (2 ^ 32 - 1)
+abbrev pub saturated_number : ℕ → ℕ
+saturated_number number = min number (2 ^ 32 - 1)
 
 -- The schedule that lines say: the first four, the groups, the services, the offers, `go`, the events, and `end` with
 -- nothing behind it. Or the number of the first line that is wrong or missing
@@ -81,14 +81,14 @@ schedule_at at = do
   began ← word_at (codes "go") made.1
   events ← Ok (many (λ before. event_of front.0.server.own) began)
   ended ← ending_at events.1
-  Ok (record { setup = made.0; first = told_number began.number; events = events.0 })
+  Ok (record { setup = made.0; first = saturated_number began.number; events = events.0 })
 
 abbrev pub form_at : ℕ → ScheduleFault
-form_at number = Form (told_number number)
+form_at number = Form (saturated_number number)
 
 -- a schedule has 100,000 events at most
 abbrev pub within_limit : Schedule → Result Schedule ScheduleFault
-within_limit s = if nat_lt 100000 (length s.events) then Err (Events (told_number (s.first + 100000))) else Ok s
+within_limit s = if nat_lt 100000 (length s.events) then Err (Events (saturated_number (s.first + 100000))) else Ok s
 
 abbrev pub answer_of : Result Schedule ℕ → Result Schedule ScheduleFault
 answer_of (Ok schedule) = within_limit schedule

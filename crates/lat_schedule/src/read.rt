@@ -11,7 +11,7 @@ ghost use Rattle.lat_schedule.specs.Events.{IsEvent};
 ghost use Rattle.lat_schedule.specs.Front.{FitsFront};
 ghost use Rattle.lat_schedule.specs.Places.{place};
 ghost use Rattle.lat_schedule.specs.Setups.{IsSetup};
-ghost use Rattle.lat_schedule.specs.ScheduleText.{ReadsSchedule, told_number, form_at, word_at, ending_at, server_made, node_made, setup_at, schedule_at, within_limit};
+ghost use Rattle.lat_schedule.specs.ScheduleText.{ReadsSchedule, saturated_number, form_at, word_at, ending_at, server_made, node_made, setup_at, schedule_at, within_limit};
 ghost use Rattle.lat_schedule.specs.ReadsAll.{ReadsAll};
 
 use crate::front::{Front, front_of};
@@ -29,9 +29,9 @@ use std::alloc::Global;
 /// The greatest number of events.
 const EVENTS: usize = 100_000;
 
-// A line number as it is told.
-fn told_number(number: usize) -> u32
-    ensures { result ≡ told_number number }
+// A line number, saturated at the greatest of 32 bits.
+fn saturated_number(number: usize) -> u32
+    ensures { result ≡ saturated_number number }
 {
     number.min(u32::MAX as usize) as u32
 }
@@ -41,7 +41,7 @@ fn form_at(number: usize) -> ScheduleFault
     ensures { result ≡ form_at number }
 {
     ScheduleFault::Form {
-        line: told_number(number),
+        line: saturated_number(number),
     }
 }
 
@@ -175,7 +175,7 @@ fn schedule_at(alloc: Global, text: &[u8]) -> Result<Schedule, Stop>
     };
     let (setup, at) = setup_at(alloc, &front, at)?;
     let at = word_at("go", at)?;
-    let first = told_number(at.number);
+    let first = saturated_number(at.number);
     let (events, at) = events_of(alloc, front.server.own, at)?;
     ending_at(at)?;
     Ok(Schedule {

@@ -6,7 +6,7 @@ use Rattle.lat_machines.specs.values.Notices.{Granted, Done}
 use Rattle.lat_machines.specs.cores.Cores.{Seat, Core}
 use Rattle.lat_machines.specs.cores.Lines.{over}
 use Rattle.lat_machines.specs.server.Queue.{QueueEvent, Finishes, finishes}
-use Rattle.lat_machines.specs.server.Records.{kept_of, is_granted}
+use Rattle.lat_machines.specs.server.Records.{kept_for, is_granted}
 use Rattle.lat_machines.specs.server.Server.{finish_one, finish_all}
 use Rattle.lat_queue.specs.Histories.{finish_history}
 use Rattle.lat_queue.proofs.RecordLemmas.{each_all}
@@ -30,7 +30,7 @@ ends_one q k None b i = tt
 ends_one q k (Some j) b (inl d) = inl (done_stays j q (Finishes k) d)
 ends_one q k (Some j) b (inr g) = by (granted_goes_on j q (Finishes k) g.1)
   where
-    by : (kept_of j (q ++ Finishes k ∷ []) ≡ Some Done) ⊎ (kept_of j (q ++ Finishes k ∷ []) ≡ Some Granted) → IsConcluded (q ++ Finishes k ∷ []) (Some j) b
+    by : (kept_for j (q ++ Finishes k ∷ []) ≡ Some Done) ⊎ (kept_for j (q ++ Finishes k ∷ []) ≡ Some Granted) → IsConcluded (q ++ Finishes k ∷ []) (Some j) b
     by (inl d) = inl d
     by (inr h) = inr (g.0, h)
 
@@ -80,7 +80,7 @@ ends c d ss (Some k) a true q f (inr g) p =
 
 later_one : (d : Core) (j : Option Key) (n : Bool) (q : List QueueEvent) (o : Option Key) (b : Bool) → IsConcluded q o b → IsConcluded (finish_one d j n q) o b
 later_one d None n q o b i = i
-later_one d (Some k) n q o b i = go (n && is_granted (kept_of k q))
+later_one d (Some k) n q o b i = go (n && is_granted (kept_for k q))
   where
     go : (m : Bool) → IsConcluded (cond m (q ++ Finishes k ∷ []) q) o b
     go true = ends_one q k o b i

@@ -15,7 +15,7 @@ use Rattle.lat_machines.specs.values.Events.{Numbers, Event, Hears, Time, Connec
 use Rattle.lat_machines.specs.values.Answers.{Accepted, Took, Done, Full, Closed, NoLine, Busy, SessionsFull, CircuitsFull, IdsOut, Connected, NotKept, KeptIs, Ignored}
 use Rattle.lat_machines.specs.server.Directory.{Best, best}
 use Rattle.lat_machines.specs.server.Queue.{QueueEvent, Cancels}
-use Rattle.lat_machines.specs.server.Records.{kept_of}
+use Rattle.lat_machines.specs.server.Records.{kept_for}
 use Rattle.lat_machines.specs.cores.Acts.{time_at}
 use Rattle.lat_machines.specs.cores.Cores.{Seat, Core, Side, Doing, rests, then_doing, acts, at_moment, time_each, circuit_to}
 use Rattle.lat_machines.specs.cores.Lines.{sessions_of, session_of, seat_at, has_session, line_exists}
@@ -75,7 +75,7 @@ message_same config st from (StopMessage master ask to source reason text) k = r
 
 command_same : (config : ServerConfig) (st : Server) (from : ℕ) (m : Command) (a : Action) → Same st.core (hears_command config st from m a).state.core
 command_same config st from m Ask = refl
-command_same config st from m Cancel = by (kept_of (key_of m) q)
+command_same config st from m Cancel = by (kept_for (key_of m) q)
   where
     q : List QueueEvent
     q = st.queue ++ Cancels (key_of m) ∷ []

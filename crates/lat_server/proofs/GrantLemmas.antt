@@ -10,7 +10,7 @@ use Rattle.lat_machines.specs.values.Notices.{Waiting, Granted, Cancelled, Done}
 use Rattle.lat_machines.specs.cores.Cores.{Seat, Core}
 use Rattle.lat_machines.specs.cores.Lines.{over}
 use Rattle.lat_machines.specs.server.Queue.{QueueEvent, Grants, Request, cancels, grants, finishes, is_waiting, records, waits, waiting, first, next_request}
-use Rattle.lat_machines.specs.server.Records.{place_in, grant_of, kept_of}
+use Rattle.lat_machines.specs.server.Records.{place_in, grant_of, kept_for}
 use Rattle.lat_queue.specs.Tables.{Table}
 use Rattle.lat_queue.specs.Histories as queue
 use Rattle.lat_queue.specs.Histories.{IsFirst}
@@ -82,7 +82,7 @@ grants_it offered h s r first w =
     by true true true p q t = absurd (true≢false t)
     by true true false p q t = refl
 
-pub granted_then : (t : Table) (h : List QueueEvent) (s : Name) (r : Request) → queue.Stands t h → next_request s h ≡ Some r → kept_of r.key (h ++ Grants r.key s ∷ []) ≡ Some Granted
+pub granted_then : (t : Table) (h : List QueueEvent) (s : Name) (r : Request) → queue.Stands t h → next_request s h ≡ Some r → kept_for r.key (h ++ Grants r.key s ∷ []) ≡ Some Granted
 granted_then t h s r st q =
     let test : Request → Bool = λ x. waits x && same x.service s in
     let f : FirstFound test (records h) r = first_found test (records h) r (distinct_records h) q in
@@ -99,7 +99,7 @@ each_last : {A : Type 0} (P : A → Type 0) (xs : List A) (y : A) → Each P (xs
 each_last P [] y p = p.0
 each_last P (x ∷ xs) y p = each_last P xs y p.1
 
-pub grant_concluded : (m n : ℕ) (c d : Core) (h : List QueueEvent) (k : Key) (s : Name) → Opening c (Some k) d → Each (IsSeat m c) c.seats → Each (IsSeat n d) d.seats → kept_of k (h ++ Grants k s ∷ []) ≡ Some Granted → Concluded c h → Concluded d (h ++ Grants k s ∷ [])
+pub grant_concluded : (m n : ℕ) (c d : Core) (h : List QueueEvent) (k : Key) (s : Name) → Opening c (Some k) d → Each (IsSeat m c) c.seats → Each (IsSeat n d) d.seats → kept_for k (h ++ Grants k s ∷ []) ≡ Some Granted → Concluded c h → Concluded d (h ++ Grants k s ∷ [])
 grant_concluded m n c d h k s o i j g p =
     subst (AreConcluded d (h ++ Grants k s ∷ [])) (sym o.seats)
     (each_append (λ (t : Seat). IsConcluded (h ++ Grants k s ∷ []) t.key (over d t)) c.seats (o.seat ∷ [])

@@ -11,7 +11,7 @@ use Rattle.lat_machines.specs.values.Notices.{Kept as Known, Outcome, KeptAs, Un
 use Rattle.lat_machines.specs.values.Answers.{Answer, Announced, Apart, DirectoryFull, KeptIs, NotKept, Done}
 use Rattle.lat_machines.specs.server.Directory.{meets, refuses, hear}
 use Rattle.lat_machines.specs.server.Queue.{QueueEvent, Asks, Cancels}
-use Rattle.lat_machines.specs.server.Records.{ask_answer, kept_of}
+use Rattle.lat_machines.specs.server.Records.{ask_answer, kept_for}
 use Rattle.lat_machines.specs.cores.Cores.{Seat, Core, at_moment, passes_time}
 use Rattle.lat_machines.specs.cores.Lines.{over}
 use Rattle.lat_machines.specs.cores.LineCalls.{Said}
@@ -139,7 +139,7 @@ noting s from m n = record { state = record s { queue = n.events }; answer = ans
 
 command_is : (config : ServerConfig) (s : Server) (from : ℕ) (m : Command) (a : Action) → hears_command config s from m a ≡ noting s from m (noted (offered config) from m a s.queue)
 command_is config s from m Ask = refl
-command_is config s from m Cancel = by (kept_of (key_of m) q)
+command_is config s from m Cancel = by (kept_for (key_of m) q)
   where
     q : List QueueEvent
     q = s.queue ++ Cancels (key_of m) ∷ []

@@ -4,7 +4,7 @@ use Rattle.std.specs.List.{list_any}
 use Rattle.lat_machines.specs.values.Keys.{Key, same_key}
 use Rattle.lat_machines.specs.values.Notices.{Kept, Waiting, Granted, Cancelled, Done}
 use Rattle.lat_machines.specs.server.Queue.{QueueEvent, Asks, Cancels, Grants, Finishes, Request, cancels, grants, finishes, is_waiting, is_overfull, first_asks, records, waiting}
-use Rattle.lat_machines.specs.server.Records.{place_in, kept_now, record_of, kept_of}
+use Rattle.lat_machines.specs.server.Records.{place_in, kept_now, record_of, kept_for}
 use Rattle.lat_queue.specs.Histories.{is_first_answer}
 use Rattle.lat_queue.proofs.EventLemmas.{extend, Grows, grows_finish, any_more}
 use Rattle.lat_queue.proofs.StandLemmas.{each_map, each_append}
@@ -87,7 +87,7 @@ record KeptAs (k : Key) (h : List QueueEvent) (a : Kept) : Type 0 where
   pub found : record_of k h ≡ Some request
   pub is : kept_now h request ≡ a
 
-kept_as : (k : Key) (h : List QueueEvent) (a : Kept) → kept_of k h ≡ Some a → KeptAs k h a
+kept_as : (k : Key) (h : List QueueEvent) (a : Kept) → kept_for k h ≡ Some a → KeptAs k h a
 kept_as k h a q = by (record_of k h) refl q
   where
     by : (o : Option Request) → record_of k h ≡ o → elim o [ None ↦ None | Some r ↦ Some (kept_now h r) ] ≡ Some a → KeptAs k h a
@@ -99,7 +99,7 @@ kept_then h e r =
     kept_by (is_waiting r.answer) r.answer (list_any (grants r.key) r.later || grants r.key e) (list_any (finishes r.key) r.later || finishes r.key e) (list_any (cancels r.key) r.later || cancels r.key e)
     (place_in r.key (waiting r.service (h ++ e ∷ [])))
 
-pub kept_more : (k : Key) (h : List QueueEvent) (e : QueueEvent) (r : Request) → record_of k h ≡ Some r → kept_of k (h ++ e ∷ []) ≡ Some (kept_then h e r)
+pub kept_more : (k : Key) (h : List QueueEvent) (e : QueueEvent) (r : Request) → record_of k h ≡ Some r → kept_for k (h ++ e ∷ []) ≡ Some (kept_then h e r)
 kept_more k h e r q =
     let n : ℕ = place_in r.key (waiting r.service (h ++ e ∷ [])) in
     ap (λ o. elim o [ None ↦ None | Some x ↦ Some (kept_now (h ++ e ∷ []) x) ]) (record_more k h e r q)
@@ -108,27 +108,27 @@ kept_more k h e r q =
     ∙ ap (λ b. Some (kept_by (is_waiting r.answer) r.answer (list_any (grants r.key) r.later || grants r.key e) (list_any (finishes r.key) r.later || finishes r.key e) b n)) (any_more (cancels r.key) r.later e)
 
 -- a request that is done stays done
-pub done_stays : (k : Key) (h : List QueueEvent) (e : QueueEvent) → kept_of k h ≡ Some Done → kept_of k (h ++ e ∷ []) ≡ Some Done
+pub done_stays : (k : Key) (h : List QueueEvent) (e : QueueEvent) → kept_for k h ≡ Some Done → kept_for k (h ++ e ∷ []) ≡ Some Done
 done_stays k h e q =
     let a : KeptAs k h Done = kept_as k h Done q in
     let r : Request = a.request in
     kept_more k h e r a.found ∙ ap Some (done_by (is_waiting r.answer) r.answer (list_any (grants r.key) r.later) (list_any (finishes r.key) r.later) (list_any (cancels r.key) r.later) (grants r.key e) (finishes r.key e) (cancels r.key e) (place_in r.key (waiting r.service h)) (place_in r.key (waiting r.service (h ++ e ∷ []))) a.is)
 
 -- one that is granted stays granted until its end
-pub granted_stays : (k : Key) (h : List QueueEvent) (e : QueueEvent) → ((j : Key) → finishes j e ≡ false) → kept_of k h ≡ Some Granted → kept_of k (h ++ e ∷ []) ≡ Some Granted
+pub granted_stays : (k : Key) (h : List QueueEvent) (e : QueueEvent) → ((j : Key) → finishes j e ≡ false) → kept_for k h ≡ Some Granted → kept_for k (h ++ e ∷ []) ≡ Some Granted
 granted_stays k h e f q =
     let a : KeptAs k h Granted = kept_as k h Granted q in
     let r : Request = a.request in
     kept_more k h e r a.found ∙ ap Some (granted_by (is_waiting r.answer) r.answer (list_any (grants r.key) r.later) (list_any (finishes r.key) r.later) (list_any (cancels r.key) r.later) (grants r.key e) (finishes r.key e) (cancels r.key e) (place_in r.key (waiting r.service h)) (place_in r.key (waiting r.service (h ++ e ∷ []))) (f r.key) a.is)
 
 -- and is done then
-pub granted_goes_on : (k : Key) (h : List QueueEvent) (e : QueueEvent) → kept_of k h ≡ Some Granted → (kept_of k (h ++ e ∷ []) ≡ Some Done) ⊎ (kept_of k (h ++ e ∷ []) ≡ Some Granted)
+pub granted_goes_on : (k : Key) (h : List QueueEvent) (e : QueueEvent) → kept_for k h ≡ Some Granted → (kept_for k (h ++ e ∷ []) ≡ Some Done) ⊎ (kept_for k (h ++ e ∷ []) ≡ Some Granted)
 granted_goes_on k h e q =
     let a : KeptAs k h Granted = kept_as k h Granted q in
     let r : Request = a.request in
     by r a.found (either_by (is_waiting r.answer) r.answer (list_any (grants r.key) r.later) (list_any (finishes r.key) r.later) (list_any (cancels r.key) r.later) (grants r.key e) (finishes r.key e) (cancels r.key e) (place_in r.key (waiting r.service h)) (place_in r.key (waiting r.service (h ++ e ∷ []))) a.is)
   where
-    by : (r : Request) → record_of k h ≡ Some r → (kept_then h e r ≡ Done) ⊎ (kept_then h e r ≡ Granted) → (kept_of k (h ++ e ∷ []) ≡ Some Done) ⊎ (kept_of k (h ++ e ∷ []) ≡ Some Granted)
+    by : (r : Request) → record_of k h ≡ Some r → (kept_then h e r ≡ Done) ⊎ (kept_then h e r ≡ Granted) → (kept_for k (h ++ e ∷ []) ≡ Some Done) ⊎ (kept_for k (h ++ e ∷ []) ≡ Some Granted)
     by r f (inl d) = inl (kept_more k h e r f ∙ ap Some d)
     by r f (inr g) = inr (kept_more k h e r f ∙ ap Some g)
 
@@ -144,7 +144,7 @@ found_is k (x ∷ xs) r q = by (same_key x.key k) refl (found_is k xs r) q
     by true t m q = let i : x ≡ r = cc in subst (λ (y : Request). same_key y.key k ≡ true) i t
     by false t m q = m q
 
-pub granted_ends : (k : Key) (h : List QueueEvent) → Firsts h → kept_of k h ≡ Some Granted → kept_of k (h ++ Finishes k ∷ []) ≡ Some Done
+pub granted_ends : (k : Key) (h : List QueueEvent) → Firsts h → kept_for k h ≡ Some Granted → kept_for k (h ++ Finishes k ∷ []) ≡ Some Done
 granted_ends k h f q =
     let a : KeptAs k h Granted = kept_as k h Granted q in
     let r : Request = a.request in

@@ -9,7 +9,7 @@ use Rattle.lat_machines.specs.values.Names.{Name}
 use Rattle.lat_machines.specs.values.Notices.{Kept, Action, Ask, Cancel, Command}
 use Rattle.lat_machines.specs.values.Answers.{Answer, Announced, Apart, DirectoryFull}
 use Rattle.lat_machines.specs.server.Queue.{QueueEvent, Asks, Cancels}
-use Rattle.lat_machines.specs.server.Records.{ask_answer, kept_of}
+use Rattle.lat_machines.specs.server.Records.{ask_answer, kept_for}
 use Rattle.lat_machines.specs.server.Server.{key_of}
 use Rattle.lat_dir.specs.declared.directory.DirFault.{DirFault}
 use Rattle.lat_queue.specs.Tables.{Table}
@@ -26,7 +26,7 @@ noted offered from m Ask q =
     record { events = q ++ Asks (key_of m) from m.service k ∷ []; kept = Some k }
 noted offered from m Cancel q =
     let events : List QueueEvent = q ++ Cancels (key_of m) ∷ [] in
-    record { events = events; kept = kept_of (key_of m) events }
+    record { events = events; kept = kept_for (key_of m) events }
 
 pub record HasNoted (n : Noted) (new : Table) (kept : Option base_kept.Kept) : Type 0 where
   pub state : Stands new n.events

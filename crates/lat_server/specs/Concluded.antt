@@ -6,13 +6,13 @@ use Rattle.lat_machines.specs.values.Notices.{Granted, Done}
 use Rattle.lat_machines.specs.cores.Cores.{Seat, Core}
 use Rattle.lat_machines.specs.cores.Lines.{over}
 use Rattle.lat_machines.specs.server.Queue.{QueueEvent}
-use Rattle.lat_machines.specs.server.Records.{kept_of}
+use Rattle.lat_machines.specs.server.Records.{kept_for}
 use Rattle.lat_queue.specs.Histories.{finish_history}
 
 -- the request that a session was granted for is done, or it is granted still and the session isn't over
 abbrev pub IsConcluded : List QueueEvent → Option Key → (is_over : Bool) → Type 0
 IsConcluded q None is_over = Unit {0}
-IsConcluded q (Some k) is_over = (kept_of k q ≡ Some Done) ⊎ ((is_over ≡ false) × (kept_of k q ≡ Some Granted))
+IsConcluded q (Some k) is_over = (kept_for k q ≡ Some Done) ⊎ ((is_over ≡ false) × (kept_for k q ≡ Some Granted))
 
 abbrev pub AreConcluded : Core → List QueueEvent → List Seat → Type 0
 AreConcluded c q seats = Each (λ (s : Seat). IsConcluded q s.key (over c s)) seats

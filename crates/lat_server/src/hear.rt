@@ -67,13 +67,13 @@ impl ServerCore {
     {
         match read_value(alloc, payload) {
             Ok(value) => self.hear_value(alloc, from, &value, now, out),
-            Err(LayoutFault::Bad(bad)) => Ok(self.turn_away(Answer::Bad(bad), now)),
+            Err(LayoutFault::Bad(bad)) => Ok(self.pass_over(Answer::Bad(bad), now)),
             Err(LayoutFault::Memory) => Err(Memory),
         }
     }
 
     // Nothing but the moment moves on.
-    fn turn_away(&mut self, answer: Answer, now: u64) -> Answer
+    fn pass_over(&mut self, answer: Answer, now: u64) -> Answer
         requires rest { AtRest self.old }
         ensures does { (frames : List OutFrame) →
             DoesAt now (λ config s.
@@ -106,7 +106,7 @@ impl ServerCore {
         ensures err { OnErr result ((self.new ≡ self.old) × (out.new ≡ out.old)) }
     {
         if from.is_everyone() {
-            return Ok(self.turn_away(Answer::Ignored, now));
+            return Ok(self.pass_over(Answer::Ignored, now));
         }
         match value {
             Value::Circuit(message) => Ok(self.hear_message(from, message, now, out)),
@@ -151,9 +151,9 @@ impl ServerCore {
         match notice {
             Notice::Announcement(a) => self.hear_announcement(alloc, from, a, now),
             Notice::Command(c) => self.hear_command(alloc, from, c, now, out),
-            Notice::Response(_) => Ok(self.turn_away(Answer::Noted, now)),
-            Notice::Status(_) => Ok(self.turn_away(Answer::Ignored, now)),
-            Notice::Solicit(_) => Ok(self.turn_away(Answer::Ignored, now)),
+            Notice::Response(_) => Ok(self.pass_over(Answer::Noted, now)),
+            Notice::Status(_) => Ok(self.pass_over(Answer::Ignored, now)),
+            Notice::Solicit(_) => Ok(self.pass_over(Answer::Ignored, now)),
         }
     }
 

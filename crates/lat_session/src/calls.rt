@@ -64,8 +64,8 @@ impl Sessions {
         };
         let session = self.sessions.reach(at);
         let peer = session.peer();
-        session.refuse(reason);
-        turn_away(&mut self.asks, id, Ask::Rejected { peer, reason });
+        session.reject(reason);
+        reject_ask(&mut self.asks, id, Ask::Rejected { peer, reason });
     }
 
     /// Does a call on the session of an id, and tells how many bytes it took: 0 where it puts none. See `SessionCall` for what
@@ -155,17 +155,17 @@ fn let_go(asks: &mut Vec<Ask>, id: u8)
 }
 
 // The ask as it is once that of the session of this id is rejected.
-fn turned_away(ask: Ask, id: u8, rejected: Ask) -> Ask
+fn rejected_ask(ask: Ask, id: u8, rejected: Ask) -> Ask
     ensures { result ≡ cond (waits_as id ask) rejected ask }
 {
     if waits_as(ask, id) { rejected } else { ask }
 }
 
 // Puts `rejected` in the place of the ask of the session of this id.
-fn turn_away(asks: &mut [Ask], id: u8, rejected: Ask)
+fn reject_ask(asks: &mut [Ask], id: u8, rejected: Ask)
     ensures { asks.new ≡ map (λ a. cond (waits_as id a) rejected a) asks.old }
 {
     for ask in asks.iter_mut() {
-        *ask = turned_away(*ask, id, rejected);
+        *ask = rejected_ask(*ask, id, rejected);
     }
 }

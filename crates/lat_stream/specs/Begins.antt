@@ -2,6 +2,8 @@
 use Rattle.std.specs.Prelude.{ℕ, true, false, List, [], ◌∷◌, Option, None}
 use Rattle.lat_model.specs.sessions.Slots.{Start}
 use Rattle.lat_model.specs.sessions.Session.{Session}
+use Rattle.lat_slots.specs.Reasons.{reject_bits}
+use Rattle.lat_slots.specs.declared.reason.RejectReason.TheVariants.{NoRoom}
 use Rattle.lat_stream.specs.declared.opening.Opening.{Opening}
 
 -- a master connected it
@@ -32,7 +34,7 @@ asked id generation from credits size opening = record {
   request = opening.request;
   accepted = false;
   refused = false;
-  reason = 7;
+  reason = reject_bits NoRoom;
   closed = false;
   attention = None;
   mark = None;

@@ -78,8 +78,8 @@ closed k = ended_if_done (record k {
 })
 
 -- it is rejected
-abbrev pub turned_away : ℕ → Kept → Kept
-turned_away reason k = record k { state = Free; start = None; unframed = []; end = Some (ends.Rejected reason) }
+abbrev pub rejected_for : ℕ → Kept → Kept
+rejected_for reason k = record k { state = Free; start = None; unframed = []; end = Some (ends.Rejected reason) }
 
 -- a slot with n items came, for a credit; it is held unless the session closed
 abbrev pub held_more : ℕ → Kept → Kept

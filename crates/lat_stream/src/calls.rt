@@ -10,7 +10,7 @@ ghost use Rattle.lat_model.specs.sessions.Calls.{put_items, put_count, take_coun
 ghost use Rattle.lat_stream.specs.declared.calls.SessionFault.TheVariants.{Full, Closed};
 ghost use Rattle.lat_stream.specs.Kept.{kept_of, item_of};
 ghost use Rattle.lat_stream.specs.Sound.{Sound};
-ghost use Rattle.lat_stream.specs.Steps.{can_take, state_running, turned_away, took, closed};
+ghost use Rattle.lat_stream.specs.Steps.{can_take, state_running, rejected_for, took, closed};
 
 use crate::rings::{let_go, let_go_all, push_bytes};
 use crate::stream::{Stream, UNFRAMED_ITEMS};
@@ -48,18 +48,18 @@ impl Stream {
     }
 
     /// Rejects an ask: the session is free.
-    pub fn refuse(&mut self, reason: u8)
+    pub fn reject(&mut self, reason: u8)
         requires { self.old.state ≡ kept_states.Asked }
         ensures { (ceiling : ℕ) (s : Session) → Sound false ceiling s →
             self.old ≡ kept_of false ceiling s →
             self.new ≡ kept_of false ceiling (record s { refused = true; reason = reason }) }
     {
-        self.turn_away(reason);
+        self.end_rejected(reason);
     }
 
     // It is over, rejected by either end.
-    pub(crate) fn turn_away(&mut self, reason: u8)
-        ensures { self.new ≡ turned_away reason self.old }
+    pub(crate) fn end_rejected(&mut self, reason: u8)
+        ensures { self.new ≡ rejected_for reason self.old }
     {
         self.state = SessionState::Free;
         self.start = None;

@@ -72,7 +72,7 @@ impl Stream {
             self.old ≡ kept_of true ceiling s →
             self.new ≡ kept_of true ceiling (heard s (slots.Reject to from reason)) }
     {
-        self.turn_away(reason);
+        self.end_rejected(reason);
     }
 
     /// A data slot of at most 255 bytes. Refused exactly where it is bad, and nothing has changed then.

@@ -14,7 +14,7 @@ use Rattle.lat_machines.specs.values.Events.{Numbers, Event, Hears, Time, Connec
 use Rattle.lat_machines.specs.values.Answers.{Answer, Announced, Apart, DirectoryFull, Ignored, Busy, NoLine, NoService, SessionsFull, CircuitsFull, IdsOut, Closed, Full, Connected, NotKept, KeptIs}
 use Rattle.lat_machines.specs.server.Directory.{Best, best, refuses, meets}
 use Rattle.lat_machines.specs.server.Queue.{Asks, Cancels, Request, is_waiting, waits}
-use Rattle.lat_machines.specs.server.Records.{kept_now, kept_of, new_answer, ask_answer}
+use Rattle.lat_machines.specs.server.Records.{kept_now, kept_for, new_answer, ask_answer}
 use Rattle.lat_machines.specs.cores.Cores.{Seat, Core, Doing, at_moment, circuit_to}
 use Rattle.lat_machines.specs.cores.Lines.{session_of, seat_at, has_session, line_exists}
 use Rattle.lat_machines.specs.cores.LineCalls.{Said, says, put_on, set_on, attend_on, take_on, close_on, on_line}
@@ -139,7 +139,7 @@ module _ (config : ServerConfig) (st : Server) (from : ℕ) (m : Command) (numbe
   command_refused Ask q r =
       let k : Kept = ask_answer (offered config) (key_of m) m.service st.queue in
       inr (notes_by Ask (hears_command config st from m Ask) q refl r (turned_still st.queue (key_of m) from m.service k (ask_refused k r)))
-  command_refused Cancel q r = go (kept_of (key_of m) (st.queue ++ Cancels (key_of m) ∷ [])) refl r
+  command_refused Cancel q r = go (kept_for (key_of m) (st.queue ++ Cancels (key_of m) ∷ [])) refl r
     where
       told : Option Kept → ServerStep
       told o = elim o [
@@ -147,7 +147,7 @@ module _ (config : ServerConfig) (st : Server) (from : ℕ) (m : Command) (numbe
         | Some k ↦ record { state = record st { queue = st.queue ++ Cancels (key_of m) ∷ [] }; answer = KeptIs k; frames = status_to from m (KeptAs k) ∷ [] }
       ]
 
-      go : (o : Option Kept) → kept_of (key_of m) (st.queue ++ Cancels (key_of m) ∷ []) ≡ o → Refused config st heard (told o)
+      go : (o : Option Kept) → kept_for (key_of m) (st.queue ++ Cancels (key_of m) ∷ []) ≡ o → Refused config st heard (told o)
       go None i r = inr (notes_by Cancel (told None) q refl refl (unwaited_still st.queue (key_of m) None i tt))
       go (Some k) i r = inr (notes_by Cancel (told (Some k)) q refl r (unwaited_still st.queue (key_of m) (Some k) i (cancel_refused k r)))
 

@@ -12,7 +12,7 @@ use Rattle.lat_machines.specs.values.Names.{Name, folded, same}
 use Rattle.lat_machines.specs.values.Notices.{Kept, Waiting, Granted, Cancelled, QueueFull, NoService, RecordsFull, Done}
 use Rattle.lat_machines.specs.values.Keys.{Key, same_key}
 use Rattle.lat_machines.specs.server.Queue.{QueueEvent, Asks, Cancels, Grants, Finishes, Request, cancels, grants, finishes, first_asks, is_waiting, is_overfull, records, waits, waiting, first}
-use Rattle.lat_machines.specs.server.Records.{place_in, waited, kept_now, record_of, kept_of}
+use Rattle.lat_machines.specs.server.Records.{place_in, waited, kept_now, record_of, kept_for}
 use Rattle.lat_machines.proofs.queue.Grants.{extend, distinct_asks, distinct_filter, only_one, any_more}
 
 -- those that wait for each service are the same, but for the event behind them
@@ -275,7 +275,7 @@ module _ (h : List QueueEvent) (k : Key) (r : Request) (f : record_of k h ≡ So
           ∙ (ap (λ c. told (list_any (grants r.key) r.later) (list_any (finishes r.key) r.later) c (place_in r.key (waiting r.service after))) (any_more (cancels r.key) r.later (Cancels k))
           ∙ same_told (list_any (grants r.key) r.later) (list_any (finishes r.key) r.later) (list_any (cancels r.key) r.later) (cancels r.key (Cancels k)) (place_in r.key (waiting r.service after)) (place_in r.key (waiting r.service h)) (settled q))
 
-  pub resting_kept : kept_of k (h ++ Cancels k ∷ []) ≡ Some (kept_now h r)
+  pub resting_kept : kept_for k (h ++ Cancels k ∷ []) ≡ Some (kept_now h r)
   resting_kept = ap told there ∙ ap (λ z. Some z) kept_same
     where
       told : Option Request → Option Kept
@@ -306,7 +306,7 @@ never_waited h r q = go (is_waiting r.answer) q
     go false p = refl
 
 -- the cancel of a key without a record, or with such an answer
-pub unwaited_still : (h : List QueueEvent) (k : Key) (o : Option Kept) → kept_of k (h ++ Cancels k ∷ []) ≡ o → IsUnwaited o → Still h (Cancels k)
+pub unwaited_still : (h : List QueueEvent) (k : Key) (o : Option Kept) → kept_for k (h ++ Cancels k ∷ []) ≡ o → IsUnwaited o → Still h (Cancels k)
 unwaited_still h k o q u = go (find (keyed k) (records h)) refl
   where
     after : List QueueEvent

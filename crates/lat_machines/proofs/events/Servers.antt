@@ -20,7 +20,7 @@ use Rattle.lat_machines.specs.values.Timing.{agreed_by}
 use Rattle.lat_machines.specs.server.Directory.{HeardAnnouncement, Best, any_of, latest, live, is_live, refuses, rating_of, offer_of, beats, better, best_in, best}
 use Rattle.lat_machines.specs.values.Keys.{Key, same_key}
 use Rattle.lat_machines.specs.server.Queue.{QueueEvent, Asks, Cancels, Grants, Finishes, Request, first_asks, is_overfull, records, waits, waiting, first, next_request}
-use Rattle.lat_machines.specs.server.Records.{ask_answer, kept_of, is_granted}
+use Rattle.lat_machines.specs.server.Records.{ask_answer, kept_for, is_granted}
 use Rattle.lat_machines.specs.values.Events.{Numbers, Event, Hears, Time, Connects, Puts, Sets, Takes, Attends, Closes, Requests, Withdraws, Announces}
 use Rattle.lat_machines.specs.values.Answers.{Connected, NoLine, Busy, SessionsFull, CircuitsFull, IdsOut, Ignored, NotKept, KeptIs}
 use Rattle.lat_machines.specs.cores.Acts.{call_at}
@@ -242,7 +242,7 @@ did_message {L} {D} config w st from (StopMessage master ask to source reason te
 
 did_command : {L : List ℕ → Type 0} (config : ServerConfig) (w : World) (st : Server) (from : ℕ) (m : Command) (a : Action) → table w true ≡ st.core.circuits → ServerFits st → from ≢ everyone → Did L Quiet w (hears_command config st from m a).state (hears_command config st from m a).frames
 did_command {L} config w st from m Ask q f n = record { made = made_notice w true st.core _ [] _ refl (made_none w true st.core q); fits = record { heard = f.heard; queue = each_more AskFits st.queue (Asks (key_of m) from m.service (ask_answer (offered config) (key_of m) m.service st.queue) ∷ []) f.queue (n, tt) } }
-did_command {L} config w st from m Cancel q f n = go (kept_of (key_of m) (st.queue ++ Cancels (key_of m) ∷ []))
+did_command {L} config w st from m Cancel q f n = go (kept_for (key_of m) (st.queue ++ Cancels (key_of m) ∷ []))
   where
     fits : ServerFits (record st { queue = st.queue ++ Cancels (key_of m) ∷ [] })
     fits = record { heard = f.heard; queue = each_more AskFits st.queue (Cancels (key_of m) ∷ []) f.queue (tt, tt) }
@@ -300,7 +300,7 @@ finish_fits c (s ∷ ss) h p = finish_fits c ss (finish_one c s.key (over c s) h
   where
     go : (k : Option Key) (o : Bool) → Each AskFits (finish_one c k o h)
     go None o = p
-    go (Some k) o = step (o && is_granted (kept_of k h))
+    go (Some k) o = step (o && is_granted (kept_for k h))
       where
         step : (n : Bool) → Each AskFits (cond n (h ++ Finishes k ∷ []) h)
         step true = each_more AskFits h (Finishes k ∷ []) p (tt, tt)

@@ -20,7 +20,7 @@ use Rattle.lat_machines.specs.values.Notices.{Notice, AnnouncementNotice, Comman
 use Rattle.lat_machines.specs.values.Frames.{Value, OfCircuit, OfNotice, Whole, Malformed}
 use Rattle.lat_machines.specs.values.Timing.{agreed_by}
 use Rattle.lat_machines.specs.server.Queue.{Cancels}
-use Rattle.lat_machines.specs.server.Records.{kept_of}
+use Rattle.lat_machines.specs.server.Records.{kept_for}
 use Rattle.lat_machines.specs.values.Events.{Numbers}
 use Rattle.lat_machines.specs.values.Answers.{Ignored, NotKept, KeptIs, Ended, Again, Running}
 use Rattle.lat_machines.specs.cores.Acts.{Acted, idle, steps_at, local_at}
@@ -90,7 +90,7 @@ server_message config st x from (StopMessage master ask to source reason text) k
 
 server_command : (config : ServerConfig) (st : Server) (x from : ℕ) (m : Command) (a : Action) → (Server.hears_command config st from m a).state.core.circuits.circuit_at x ≡ st.core.circuits.circuit_at x
 server_command config st x from m Ask = refl
-server_command config st x from m Cancel = go (kept_of (key_of m) (st.queue ++ Cancels (key_of m) ∷ []))
+server_command config st x from m Cancel = go (kept_for (key_of m) (st.queue ++ Cancels (key_of m) ∷ []))
   where
     told : Option Kept → ServerStep
     told o = elim o [

@@ -18,7 +18,7 @@ use Rattle.lat_machines.specs.values.Keys.{Key}
 use Rattle.lat_machines.specs.values.Events.{Numbers, Hears}
 use Rattle.lat_machines.specs.values.Answers.{Again, Running, Ended, Ignored, NotKept, KeptIs}
 use Rattle.lat_machines.specs.server.Queue.{Cancels, Request}
-use Rattle.lat_machines.specs.server.Records.{kept_of}
+use Rattle.lat_machines.specs.server.Records.{kept_for}
 use Rattle.lat_machines.specs.cores.Acts.{Acted, idle, steps_at, call_at, called, local_at}
 use Rattle.lat_machines.specs.cores.Hearing.{HeardAct, foreign, names, fits_kind, numbers_at, run_frame, run_at, hear_run}
 use Rattle.lat_machines.specs.cores.Cores.{Core, Doing, rests, acts, setup_of, at_moment, circuit_to}
@@ -139,7 +139,7 @@ run_drawn t from wide h slots k now =
 
 command_drawn : (config : ServerConfig) (st : Server) (from : ℕ) (m : Command) (a : Action) → (hears_command config st from m a).state.core.circuits.drawn ≡ st.core.circuits.drawn
 command_drawn config st from m Ask = refl
-command_drawn config st from m Cancel = go (kept_of (key_of m) (st.queue ++ Cancels (key_of m) ∷ []))
+command_drawn config st from m Cancel = go (kept_for (key_of m) (st.queue ++ Cancels (key_of m) ∷ []))
   where
     told : Option Kept → ServerStep
     told o = elim o [

@@ -10,7 +10,7 @@ use Rattle.lat_machines.specs.values.Events.{Numbers}
 use Rattle.lat_machines.specs.values.Answers.{Bad, Announced, Apart, DirectoryFull, NotKept, KeptIs, Ignored}
 use Rattle.lat_machines.specs.server.Directory.{refuses, meets}
 use Rattle.lat_machines.specs.server.Queue.{Cancels}
-use Rattle.lat_machines.specs.server.Records.{kept_of}
+use Rattle.lat_machines.specs.server.Records.{kept_for}
 use Rattle.lat_machines.specs.cores.Hearing.{StartFact, Repeats, Makes, Refuses, start_fact}
 use Rattle.lat_machines.specs.cores.Cores.{at_moment}
 use Rattle.lat_machines.specs.server.Server.{ServerConfig, Server, ServerStep, key_of, server_step}
@@ -26,7 +26,7 @@ announced false false f a q = let z : ⊥ = cc in z
 
 command : (config : ServerConfig) (st : Server) (from : ℕ) (m : Command) (x : Action) (f a : ℕ) → (Server.hears_command config st from m x).answer ≢ Bad f a
 command config st from m Ask f a q = let z : ⊥ = cc in z
-command config st from m Cancel f a q = go (kept_of (key_of m) (st.queue ++ Cancels (key_of m) ∷ [])) q
+command config st from m Cancel f a q = go (kept_for (key_of m) (st.queue ++ Cancels (key_of m) ∷ [])) q
   where
     told : Option Kept → ServerStep
     told o = elim o [

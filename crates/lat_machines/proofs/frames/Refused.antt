@@ -13,7 +13,7 @@ use Rattle.lat_machines.specs.values.Events.{Numbers, Event, Hears, Time, Connec
 use Rattle.lat_machines.specs.values.Answers.{Answer, Announced, Apart, DirectoryFull, Ignored, Busy, NoLine, SessionsFull, CircuitsFull, IdsOut, Closed, Full, Connected, NotKept, KeptIs, IdUsed}
 use Rattle.lat_machines.specs.server.Directory.{Best, best, refuses, meets}
 use Rattle.lat_machines.specs.server.Queue.{Cancels}
-use Rattle.lat_machines.specs.server.Records.{kept_of}
+use Rattle.lat_machines.specs.server.Records.{kept_for}
 use Rattle.lat_machines.specs.cores.Hearing.{StartFact, Repeats, Makes, Refuses, start_fact}
 use Rattle.lat_machines.specs.cores.Cores.{Seat, Core, Doing, at_moment, circuit_to}
 use Rattle.lat_machines.specs.cores.Lines.{session_of, seat_at, has_session, line_exists}
@@ -97,7 +97,7 @@ announced_same config st from a = go (refuses config.groups st.core.moment a st.
 
 command_same : (config : ServerConfig) (st : Server) (from : ℕ) (m : Command) (a : Action) → Same st (hears_command config st from m a)
 command_same config st from m Ask h = absurd (false≢true h)
-command_same config st from m Cancel h = go (kept_of (key_of m) (st.queue ++ Cancels (key_of m) ∷ [])) h
+command_same config st from m Cancel h = go (kept_for (key_of m) (st.queue ++ Cancels (key_of m) ∷ [])) h
   where
     told : Option Kept → ServerStep
     told o = elim o [

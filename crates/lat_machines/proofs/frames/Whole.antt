@@ -19,7 +19,7 @@ use Rattle.lat_machines.specs.values.Runs.{slots_in, run_head}
 use Rattle.lat_machines.specs.values.Timing.{agreed_by}
 use Rattle.lat_machines.specs.server.Directory.{refuses, meets}
 use Rattle.lat_machines.specs.server.Queue.{Cancels}
-use Rattle.lat_machines.specs.server.Records.{kept_of}
+use Rattle.lat_machines.specs.server.Records.{kept_for}
 use Rattle.lat_machines.specs.values.Events.{Numbers, Hears}
 use Rattle.lat_machines.specs.values.Answers.{Heard, Again, Broke, Ended, Running, Circuit, Announced, Apart, DirectoryFull, NotKept, KeptIs, Ignored}
 use Rattle.lat_machines.specs.cores.Acts.{Acted, steps_at}
@@ -89,7 +89,7 @@ server_message config st from (StopMessage master ask to source reason text) k r
 
 server_command : (config : ServerConfig) (st : Server) (from : ℕ) (m : Command) (a : Action) (r : ℕ) → (Server.hears_command config st from m a).answer ≢ Circuit (Broke r)
 server_command config st from m Ask r q = let z : ⊥ = cc in z
-server_command config st from m Cancel r q = go (kept_of (key_of m) (st.queue ++ Cancels (key_of m) ∷ [])) q
+server_command config st from m Cancel r q = go (kept_for (key_of m) (st.queue ++ Cancels (key_of m) ∷ [])) q
   where
     told : Option Kept → ServerStep
     told o = elim o [

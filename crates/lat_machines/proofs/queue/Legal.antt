@@ -11,7 +11,7 @@ use Rattle.lat_machines.specs.values.Frames.{Value, OfCircuit, OfNotice, Reading
 use Rattle.lat_machines.specs.server.Directory.{Best, best}
 use Rattle.lat_machines.specs.values.Keys.{Key}
 use Rattle.lat_machines.specs.server.Queue.{QueueEvent, Asks, Cancels, Grants, Finishes, Request, next_request, LegalQueue}
-use Rattle.lat_machines.specs.server.Records.{ask_answer, kept_of, is_granted}
+use Rattle.lat_machines.specs.server.Records.{ask_answer, kept_for, is_granted}
 use Rattle.lat_machines.specs.values.Events.{Numbers, Event, Hears, Time, Connects, Puts, Sets, Takes, Attends, Closes, Requests, Withdraws, Announces, is_heard}
 use Rattle.lat_machines.specs.values.Answers.{Connected, NoLine, Busy, SessionsFull, CircuitsFull, IdsOut, Ignored, NotKept, KeptIs}
 use Rattle.lat_machines.specs.cores.Cores.{Seat, Core, Doing, at_moment, circuit_to}
@@ -91,7 +91,7 @@ keeps_connect config st line service = go (line_exists config.lines line) (has_s
 
 keeps_command : (config : ServerConfig) (st : Server) (from : ℕ) (m : Command) (a : Action) → Keeps st (hears_command config st from m a).state
 keeps_command config st from m Ask l = legal_ask st.queue (key_of m) from m.service (ask_answer (offered config) (key_of m) m.service st.queue) l
-keeps_command config st from m Cancel l = go (kept_of (key_of m) (st.queue ++ Cancels (key_of m) ∷ []))
+keeps_command config st from m Cancel l = go (kept_for (key_of m) (st.queue ++ Cancels (key_of m) ∷ []))
   where
     told : Option Kept → ServerStep
     told o = elim o [
@@ -146,7 +146,7 @@ keeps_finish c (s ∷ ss) h l = keeps_finish c ss (finish_one c s.key (over c s)
   where
     go : (k : Option Key) (o : Bool) → LegalQueue (finish_one c k o h)
     go None o = l
-    go (Some k) o = step (o && is_granted (kept_of k h))
+    go (Some k) o = step (o && is_granted (kept_for k h))
       where
         step : (n : Bool) → LegalQueue (cond n (h ++ Finishes k ∷ []) h)
         step true = legal_finish h k l

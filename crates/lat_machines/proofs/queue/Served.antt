@@ -8,7 +8,7 @@ use Rattle.lat_machines.specs.values.Names.{Name, folded, same}
 use Rattle.lat_machines.specs.values.Keys.{Key, same_key}
 use Rattle.lat_machines.specs.values.Notices.{Waiting, Granted, Cancelled, Done}
 use Rattle.lat_machines.specs.server.Queue.{QueueEvent, Asks, Cancels, Grants, Finishes, Request, cancels, grants, finishes, first_asks, is_waiting, is_overfull, records, waits, waiting, first, next_request}
-use Rattle.lat_machines.specs.server.Records.{place_in, kept_now, record_of, kept_of, is_granted}
+use Rattle.lat_machines.specs.server.Records.{place_in, kept_now, record_of, kept_for, is_granted}
 use Rattle.lat_machines.specs.cores.Cores.{Seat, Core}
 use Rattle.lat_machines.specs.cores.Lines.{over}
 use Rattle.lat_machines.specs.server.Server.{finish_one, finish_all}
@@ -168,10 +168,10 @@ grant_serves h service r q =
     }
 
 -- as it is kept
-kept_as : (h : List QueueEvent) (k : Key) (r : Request) → record_of k h ≡ Some r → kept_of k h ≡ Some (kept_now h r)
+kept_as : (h : List QueueEvent) (k : Key) (r : Request) → record_of k h ≡ Some r → kept_for k h ≡ Some (kept_now h r)
 kept_as h k r q = ap (λ (o : Option Request). elim o [ None ↦ None | Some r ↦ Some (kept_now h r) ]) q
 
-served_kept : (h : List QueueEvent) (k : Key) (p : Served_as h k) (b : Bool) → list_any (finishes p.request.key) p.request.later ≡ b → is_granted (kept_of k h) ≡ not b
+served_kept : (h : List QueueEvent) (k : Key) (p : Served_as h k) (b : Bool) → list_any (finishes p.request.key) p.request.later ≡ b → is_granted (kept_for k h) ≡ not b
 served_kept h k p b q =
     ap is_granted (kept_as h k p.request p.found)
     ∙ (ap₂ (λ x y. is_granted (Some (cond x (cond y (cond (list_any (finishes p.request.key) p.request.later) Done Granted) (cond (list_any (cancels p.request.key) p.request.later) Cancelled (Waiting (place_in p.request.key (waiting p.request.service h))))) p.request.answer))) p.waited p.granted
@@ -185,7 +185,7 @@ served_kept h k p b q =
 
 one_served : (c : Core) (key o : Option Key) (b : Bool) (h : List QueueEvent) → Served h o → Served (finish_one c key b h) o
 one_served c None o b h p = p
-one_served c (Some k) o b h p = go (b && is_granted (kept_of k h))
+one_served c (Some k) o b h p = go (b && is_granted (kept_for k h))
   where
     go : (n : Bool) → Served (cond n (h ++ Finishes k ∷ []) h) o
     go true = served_on h (Finishes k) o p
@@ -193,7 +193,7 @@ one_served c (Some k) o b h p = go (b && is_granted (kept_of k h))
 
 one_ended : (c : Core) (key o : Option Key) (b : Bool) (h : List QueueEvent) → Ended h o → Ended (finish_one c key b h) o
 one_ended c None o b h p = p
-one_ended c (Some k) o b h p = go (b && is_granted (kept_of k h))
+one_ended c (Some k) o b h p = go (b && is_granted (kept_for k h))
   where
     go : (n : Bool) → Ended (cond n (h ++ Finishes k ∷ []) h) o
     go true = ended_on h (Finishes k) o p
@@ -207,7 +207,7 @@ one_ends c (Some k) b h p q = go (list_any (finishes p.request.key) p.request.la
     after : Bool → List QueueEvent
     after n = cond n (h ++ Finishes k ∷ []) h
 
-    go : (n : Bool) → list_any (finishes p.request.key) p.request.later ≡ n → Ended (after (b && is_granted (kept_of k h))) (Some k)
+    go : (n : Bool) → list_any (finishes p.request.key) p.request.later ≡ n → Ended (after (b && is_granted (kept_for k h))) (Some k)
     go true i = subst (λ z. Ended (after z) (Some k)) (sym (ap₂ (λ x y. x && y) q (served_kept h k p true i))) (record { request = p.request; found = p.found; finished = i })
     go false i = subst (λ z. Ended (after z) (Some k)) (sym (ap₂ (λ x y. x && y) q (served_kept h k p false i)))
         (record { request = extend (Finishes k) p.request; found = record_on h (Finishes k) k p.request p.found; finished = any_last (finishes p.request.key) p.request.later (Finishes k) (found_key k p.request (records h) p.found) })

@@ -16,7 +16,7 @@ use Rattle.lat_machines.specs.values.Events.{Numbers, Event, Hears, Time, Connec
 use Rattle.lat_machines.specs.values.Answers.{Answer, Connected, Ignored, Closed, Busy, NoLine, SessionsFull, CircuitsFull, IdsOut, NotKept, KeptIs}
 use Rattle.lat_machines.specs.server.Directory.{Best, best}
 use Rattle.lat_machines.specs.server.Queue.{QueueEvent, Asks, Cancels, Grants, Request}
-use Rattle.lat_machines.specs.server.Records.{ask_answer, kept_of}
+use Rattle.lat_machines.specs.server.Records.{ask_answer, kept_for}
 use Rattle.lat_machines.specs.cores.Acts.{call_at, time_at}
 use Rattle.lat_machines.specs.cores.Cores.{Seat, Core, Doing, rests, then_doing, acts, setup_of, at_moment, time_each, circuit_to}
 use Rattle.lat_machines.specs.cores.Lines.{session_of, seat_at, over, has_session, line_exists}
@@ -85,7 +85,7 @@ connect_served config st line service = go (line_exists config.lines line) (has_
 
 command_served : (config : ServerConfig) (st : Server) (from : ℕ) (m : Command) (a : Action) → KeptServed st (hears_command config st from m a).state
 command_served config st from m Ask l = all_on st.queue (Asks (key_of m) from m.service (ask_answer (offered config) (key_of m) m.service st.queue)) st.core.seats l
-command_served config st from m Cancel l = go (kept_of (key_of m) (st.queue ++ Cancels (key_of m) ∷ []))
+command_served config st from m Cancel l = go (kept_for (key_of m) (st.queue ++ Cancels (key_of m) ∷ []))
   where
     told : Option Kept → ServerStep
     told o = elim o [

@@ -15,7 +15,7 @@ use Rattle.lat_machines.specs.values.Events.{Numbers, Event, Hears, Time, Connec
 use Rattle.lat_machines.specs.values.Answers.{Connected, Ignored, Busy, NoLine, SessionsFull, CircuitsFull, IdsOut, NotKept, KeptIs}
 use Rattle.lat_machines.specs.server.Directory.{Best, best}
 use Rattle.lat_machines.specs.server.Queue.{Cancels, Request}
-use Rattle.lat_machines.specs.server.Records.{kept_of}
+use Rattle.lat_machines.specs.server.Records.{kept_for}
 use Rattle.lat_machines.specs.cores.Acts.{call_at, local_at}
 use Rattle.lat_machines.specs.cores.Hearing.{hear_run, hear_stop_at, hear_reply_at}
 use Rattle.lat_machines.specs.cores.Cores.{Core, Doing, rests, acts, setup_of, at_moment, circuit_to}
@@ -81,7 +81,7 @@ connect_ok p config st line service i r = go (line_exists config.lines line) (ha
 
 command_ok : (p : Facts) (config : ServerConfig) (st : Server) (from : ℕ) (m : Command) (a : Action) → CircuitsOk true p st.core.circuits → StepOk p (hears_command config st from m a)
 command_ok p config st from m Ask r = record { table = r; frames = ((λ a. tt), tt) }
-command_ok p config st from m Cancel r = go (kept_of (key_of m) (st.queue ++ Cancels (key_of m) ∷ []))
+command_ok p config st from m Cancel r = go (kept_for (key_of m) (st.queue ++ Cancels (key_of m) ∷ []))
   where
     told : Option Kept → ServerStep
     told o = elim o [

@@ -16,7 +16,7 @@ use Rattle.lat_machines.specs.values.Events.{Numbers, Event, Hears, Time, Connec
 use Rattle.lat_machines.specs.values.Answers.{Heard, Running, Taken, Again, AckOnly, Foreign, Broke, Ended, Circuit, Connected, Ignored, Busy, NoLine, SessionsFull, CircuitsFull, IdsOut, NotKept, KeptIs}
 use Rattle.lat_machines.specs.server.Directory.{Best, best}
 use Rattle.lat_machines.specs.server.Queue.{Cancels, Request}
-use Rattle.lat_machines.specs.server.Records.{kept_of}
+use Rattle.lat_machines.specs.server.Records.{kept_for}
 use Rattle.lat_machines.specs.cores.Acts.{call_at}
 use Rattle.lat_machines.specs.cores.Hearing.{hear_run}
 use Rattle.lat_machines.specs.cores.Cores.{Core, Doing, rests, acts, setup_of, at_moment, circuit_to}
@@ -88,7 +88,7 @@ connect_counts config st line service r = go (line_exists config.lines line) (ha
 
 command_counts : (config : ServerConfig) (st : Server) (from : ℕ) (m : Command) (a : Action) → Steady st.core.circuits → StepSame st (hears_command config st from m a)
 command_counts config st from m Ask r = notice_more st.core st.core from _ [] (core_none st.core r)
-command_counts config st from m Cancel r = go (kept_of (key_of m) (st.queue ++ Cancels (key_of m) ∷ []))
+command_counts config st from m Cancel r = go (kept_for (key_of m) (st.queue ++ Cancels (key_of m) ∷ []))
   where
     told : Option Kept → ServerStep
     told o = elim o [

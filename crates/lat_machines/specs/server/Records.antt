@@ -24,8 +24,8 @@ kept_now h r = cond (is_waiting r.answer) (waited h r) r.answer
 abbrev pub record_of : Key → List QueueEvent → Option Request
 record_of k h = find (λ r. same_key r.key k) (records h)
 
-abbrev pub kept_of : Key → List QueueEvent → Option Kept
-kept_of k h = elim (record_of k h) [ None ↦ None | Some r ↦ Some (kept_now h r) ]
+abbrev pub kept_for : Key → List QueueEvent → Option Kept
+kept_for k h = elim (record_of k h) [ None ↦ None | Some r ↦ Some (kept_now h r) ]
 
 -- what a new request is answered
 abbrev pub new_answer : List Name → Name → List QueueEvent → Kept

@@ -13,7 +13,7 @@ use Rattle.lat_machines.specs.values.Timing.{Timing, agreed_by}
 use Rattle.lat_machines.specs.server.Directory.{HeardAnnouncement, Best, best, meets, refuses, hear}
 use Rattle.lat_machines.specs.values.Keys.{Key}
 use Rattle.lat_machines.specs.server.Queue.{QueueEvent, Asks, Cancels, Grants, Finishes, Request, next_request}
-use Rattle.lat_machines.specs.server.Records.{ask_answer, kept_of, is_granted}
+use Rattle.lat_machines.specs.server.Records.{ask_answer, kept_for, is_granted}
 use Rattle.lat_machines.specs.values.Events.{Numbers, Event, Hears, Time, Connects, Puts, Sets, Takes, Attends, Closes, Requests, Withdraws, Announces}
 use Rattle.lat_machines.specs.values.Answers.{Foreign, Answer, Circuit, Announced, Apart, DirectoryFull, KeptIs, NotKept, Noted, Ignored, Bad, Done, Connected, NoLine, Busy, NoService, SessionsFull, CircuitsFull, IdsOut, NotHere}
 use Rattle.lat_machines.specs.cores.Hearing.{HeardAct, hear_run, hear_stop_at, hear_reply_at}
@@ -174,7 +174,7 @@ asks_for config state from m =
     }
 
 abbrev pub cancelled : Server → ℕ → Command → List QueueEvent → ServerStep
-cancelled state from m q = elim (kept_of (key_of m) q) [
+cancelled state from m q = elim (kept_for (key_of m) q) [
   | None ↦ record { state = record state { queue = q }; answer = NotKept; frames = status_frame from m Unknown ∷ [] }
   | Some k ↦ record { state = record state { queue = q }; answer = KeptIs k; frames = status_frame from m (KeptAs k) ∷ [] }
 ]
@@ -225,7 +225,7 @@ server_event config state Announces = tells state NotHere
 -- granted requests whose sessions have become free are finished
 abbrev pub finish_one : Core → Option Key → Bool → List QueueEvent → List QueueEvent
 finish_one c None ended q = q
-finish_one c (Some k) ended q = cond (ended && is_granted (kept_of k q)) (q ++ Finishes k ∷ []) q
+finish_one c (Some k) ended q = cond (ended && is_granted (kept_for k q)) (q ++ Finishes k ∷ []) q
 
 abbrev pub finish_all : Core → List Seat → List QueueEvent → List QueueEvent
 finish_all c [] q = q

@@ -6,7 +6,7 @@ use Rattle.lat_cmd.proofs.top.obeyed.Goals as goal
 
 pub returns-in-Ok-clause-run : goal.returns-in-Ok-clause-run
 returns-in-Ok-clause-run g c =
-    c.told.ensures.run _
+    c.write_answer.ensures.run _
     (input_read c.args.command _ c.in-Ok.input.items c.deref.result.now c.deref.ensures.value c.in-Ok.ensures.all)
 
 pub returns-in-Err-Fault-clause-run : goal.returns-in-Err-Fault-clause-run

@@ -15,7 +15,7 @@ use Rattle.lat_machines.specs.values.Events.{Numbers, Event, Hears, Time, Connec
 use Rattle.lat_machines.specs.values.Answers.{Connected, Ignored, Busy, NoLine, SessionsFull, CircuitsFull, IdsOut, NotKept, KeptIs}
 use Rattle.lat_machines.specs.server.Directory.{Best, best}
 use Rattle.lat_machines.specs.server.Queue.{Cancels, Request}
-use Rattle.lat_machines.specs.server.Records.{kept_of}
+use Rattle.lat_machines.specs.server.Records.{kept_for}
 use Rattle.lat_machines.specs.cores.Acts.{call_at}
 use Rattle.lat_machines.specs.cores.Cores.{Core, Doing, rests, acts, setup_of, at_moment, circuit_to}
 use Rattle.lat_machines.specs.cores.Lines.{has_session, line_exists}
@@ -67,7 +67,7 @@ module _ (n : ℕ) (R : ℕ → Sessions → Sessions → Type 0) (A : Call → 
 
   command_holds : (st : Server) (from : ℕ) (m : Command) (a : Action) → P st.core → P (hears_command config st from m a).state.core
   command_holds st from m Ask p = p
-  command_holds st from m Cancel p = go (kept_of (key_of m) (st.queue ++ Cancels (key_of m) ∷ []))
+  command_holds st from m Cancel p = go (kept_for (key_of m) (st.queue ++ Cancels (key_of m) ∷ []))
     where
       told : Option Kept → ServerStep
       told o = elim o [

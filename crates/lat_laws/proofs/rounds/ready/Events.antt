@@ -18,7 +18,7 @@ use Rattle.lat_machines.specs.values.Events.{Numbers, Event, Hears, Time, Connec
 use Rattle.lat_machines.specs.values.Answers.{Answer, Connected, Ignored, Closed, Busy, NoLine, SessionsFull, CircuitsFull, IdsOut, IdUsed, NotKept, KeptIs}
 use Rattle.lat_machines.specs.server.Directory.{Best, best}
 use Rattle.lat_machines.specs.server.Queue.{Cancels, Request, next_request}
-use Rattle.lat_machines.specs.server.Records.{kept_of}
+use Rattle.lat_machines.specs.server.Records.{kept_for}
 use Rattle.lat_machines.specs.cores.Acts.{Acted, time_at}
 use Rattle.lat_machines.specs.cores.Hearing.{HeardAct, names, hear_run, hear_stop_at, hear_reply_at, Makes, Repeats, Refuses, start_fact}
 use Rattle.lat_machines.specs.cores.Cores.{Seat, Core, Side, Doing, rests, then_doing, acts, setup_of, at_moment, time_each, circuit_to}
@@ -109,7 +109,7 @@ connect_event_seated config st line service pos r = go (line_exists config.lines
 
 command_seated : (config : ServerConfig) (st : Server) (from : ℕ) (m : Command) (a : Action) → Seated true config.lines st.core → Seated true config.lines (hears_command config st from m a).state.core
 command_seated config st from m Ask r = r
-command_seated config st from m Cancel r = go (kept_of (key_of m) (st.queue ++ Cancels (key_of m) ∷ []))
+command_seated config st from m Cancel r = go (kept_for (key_of m) (st.queue ++ Cancels (key_of m) ∷ []))
   where
     told : Option Kept → ServerStep
     told o = elim o [

@@ -20,7 +20,7 @@ use Rattle.lat_machines.specs.values.Events.{Numbers, Event, Hears, Time, Connec
 use Rattle.lat_machines.specs.values.Answers.{Connected, Ignored, Busy, NoLine, SessionsFull, CircuitsFull, IdsOut, IdUsed, NotKept, KeptIs}
 use Rattle.lat_machines.specs.server.Directory.{Best, best}
 use Rattle.lat_machines.specs.server.Queue.{Cancels, Request}
-use Rattle.lat_machines.specs.server.Records.{kept_of}
+use Rattle.lat_machines.specs.server.Records.{kept_for}
 use Rattle.lat_machines.specs.cores.Acts.{Acted, call_at, local_at, time_at}
 use Rattle.lat_machines.specs.cores.Hearing.{hear_run, hear_stop_at, hear_reply_at, StartFact, start_fact, start_at}
 use Rattle.lat_machines.specs.cores.Cores.{Core, Side, Doing, rests, then_doing, acts, with_circuits, setup_of, at_moment, time_each, circuit_to, sent_frame}
@@ -115,7 +115,7 @@ connect_fine config st line service = go (line_exists config.lines line) (has_se
 
 command_fine : (config : ServerConfig) (st : Server) (from : ℕ) (m : Command) (a : Action) → FramesFine config.timing.timer (hears_command config st from m a).frames
 command_fine config st from m Ask = (tt, tt)
-command_fine config st from m Cancel = go (kept_of (key_of m) (st.queue ++ Cancels (key_of m) ∷ []))
+command_fine config st from m Cancel = go (kept_for (key_of m) (st.queue ++ Cancels (key_of m) ∷ []))
   where
     told : Option Kept → ServerStep
     told o = elim o [

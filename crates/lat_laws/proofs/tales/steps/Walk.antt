@@ -25,7 +25,7 @@ use Rattle.lat_machines.specs.values.Events.{Numbers, Event, Hears, Time, Connec
 use Rattle.lat_machines.specs.values.Answers.{Answer, Done, Connected, Ignored, Closed, Busy, NoLine, SessionsFull, CircuitsFull, IdsOut, IdUsed, NotKept, KeptIs, Full}
 use Rattle.lat_machines.specs.server.Directory.{Best, best}
 use Rattle.lat_machines.specs.server.Queue.{Cancels, Request, next_request}
-use Rattle.lat_machines.specs.server.Records.{kept_of}
+use Rattle.lat_machines.specs.server.Records.{kept_for}
 use Rattle.lat_machines.specs.cores.Acts.{idle, steps_at, time_at, local_at}
 use Rattle.lat_machines.specs.cores.Hearing.{names, hear_run, hear_stop_at, hear_reply_at, StartFact, Makes, Repeats, Refuses, start_fact, start_at}
 use Rattle.lat_machines.specs.cores.Cores.{Seat, Core, Side, Doing, rests, then_doing, acts, with_circuits, setup_of, at_moment, time_each, circuit_to}
@@ -137,7 +137,7 @@ module _ (config : ServerConfig) (A : Call → Type 0) (P : Core → Type 0) (Q 
 
   command_keeps : (st : Server) (from : ℕ) (m : Command) (a : Action) → P st.core → P (hears_command config st from m a).state.core
   command_keeps st from m Ask r = r
-  command_keeps st from m Cancel r = go (kept_of (key_of m) (st.queue ++ Cancels (key_of m) ∷ []))
+  command_keeps st from m Cancel r = go (kept_for (key_of m) (st.queue ++ Cancels (key_of m) ∷ []))
     where
       told : Option Kept → ServerStep
       told o = elim o [

@@ -5,8 +5,8 @@ use Rattle.lat_machines.specs.values.Names.{folded}
 use Rattle.lat_dir.specs.Words.{living, node_of}
 use Rattle.lat_dir.specs.Stands.{Stands, heard}
 use Rattle.lat_dir.specs.Announcements.{announcement_shown}
-use Rattle.lat_dir.specs.Steps.{turned_away, taken_in, answer_met}
-use Rattle.lat_dir.proofs.Standing.{turned_away_stands, taken_in_stands, answer_is, unless_map}
+use Rattle.lat_dir.specs.Steps.{forgotten, taken_in, answer_met}
+use Rattle.lat_dir.proofs.Standing.{forgotten_stands, taken_in_stands, answer_is, unless_map}
 use Rattle.lat_dir.proofs.directory.Directory.hear.Goals as goal
 
 pub returns-then-not-are_met-clause-stands : goal.returns-then-not-are_met-clause-stands
@@ -18,8 +18,8 @@ returns-then-not-are_met-clause-stands c h stands =
     ∙ ap (λ mask. is_empty mask || share_group mask c.self.inside.groups) (sym c.as_slice.ensures)
     ∙ sym c.are_met.ensures
     ∙ c.if-not-are_met.true in
-    let is = c.turn_away.ensures ∙ ap (λ name. turned_away c.args.now name k) c.folded-name.ensures in
-    subst (λ d. Stands d (heard k.groups c.args.now c.args.from a h)) (sym is) (turned_away_stands c.args.now c.args.from a k h c.requires met stands)
+    let is = c.forget_node.ensures ∙ ap (λ name. forgotten c.args.now name k) c.folded-name.ensures in
+    subst (λ d. Stands d (heard k.groups c.args.now c.args.from a h)) (sym is) (forgotten_stands c.args.now c.args.from a k h c.requires met stands)
 
 pub returns-clause-stands : goal.returns-clause-stands
 returns-clause-stands c h stands =

@@ -14,8 +14,8 @@ use Rattle.lat_server.proofs.server.ServerCore.hear.Goals as goal
 pub returns-in-Err-Bad-clause-does : goal.returns-in-Err-Bad-clause-does
 returns-in-Err-Bad-clause-does c = λ s st.
     let is : reading_of c.args.payload.now ≡ malformed c.in-Err-Bad.bad = subst (λ (f : LayoutFault). Answers (Err f) (reading_of c.args.payload.now)) c.in-Err-Bad.field-0-is (answers_as_read c.args.payload.now (Err c.in-Err-Bad.field-0) c.in-Err-Bad.ensures.reading) in
-    let d = rw c.in-Err-Bad.field-0-is at (c.turn_away.ensures.does c.args.out.now s st) in
-    subst (λ (r : Reading). HasDone s (hears (config_of c.args.self.now) (with_core s (at_moment c.args.now s.core)) (address c.args.from.0) r None) c.turn_away.new.self c.turn_away.result c.args.out.now c.args.out.now) (sym is) d
+    let d = rw c.in-Err-Bad.field-0-is at (c.pass_over.ensures.does c.args.out.now s st) in
+    subst (λ (r : Reading). HasDone s (hears (config_of c.args.self.now) (with_core s (at_moment c.args.now s.core)) (address c.args.from.0) r None) c.pass_over.new.self c.pass_over.result c.args.out.now c.args.out.now) (sym is) d
 
 pub returns-in-Ok-clause-does : goal.returns-in-Ok-clause-does
 returns-in-Ok-clause-does c =

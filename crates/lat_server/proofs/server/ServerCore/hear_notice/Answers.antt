@@ -20,10 +20,10 @@ returns-in-Announcement-clause-does c =
     (c.hear_announcement.ensures.does c.args.out.now)
 
 pub returns-in-Response-clause-does : goal.returns-in-Response-clause-does
-returns-in-Response-clause-does c = λ s st. subst (λ (n : Notice). HasDone s (hears_notice (config_of c.args.self.now) (with_core s (at_moment c.args.now s.core)) (address c.args.from.0) (notice_shown n)) c.turn_away.new.self c.turn_away.result c.args.out.now c.args.out.now) (sym c.in-Response.is) (c.turn_away.ensures.does c.args.out.now s st)
+returns-in-Response-clause-does c = λ s st. subst (λ (n : Notice). HasDone s (hears_notice (config_of c.args.self.now) (with_core s (at_moment c.args.now s.core)) (address c.args.from.0) (notice_shown n)) c.pass_over.new.self c.pass_over.result c.args.out.now c.args.out.now) (sym c.in-Response.is) (c.pass_over.ensures.does c.args.out.now s st)
 
 pub returns-in-Status-clause-does : goal.returns-in-Status-clause-does
-returns-in-Status-clause-does c = λ s st. subst (λ (n : Notice). HasDone s (hears_notice (config_of c.args.self.now) (with_core s (at_moment c.args.now s.core)) (address c.args.from.0) (notice_shown n)) c.turn_away-in-Status.new.self c.turn_away-in-Status.result c.args.out.now c.args.out.now) (sym c.in-Status.is) (c.turn_away-in-Status.ensures.does c.args.out.now s st)
+returns-in-Status-clause-does c = λ s st. subst (λ (n : Notice). HasDone s (hears_notice (config_of c.args.self.now) (with_core s (at_moment c.args.now s.core)) (address c.args.from.0) (notice_shown n)) c.pass_over-in-Status.new.self c.pass_over-in-Status.result c.args.out.now c.args.out.now) (sym c.in-Status.is) (c.pass_over-in-Status.ensures.does c.args.out.now s st)
 
 pub returns-in-Solicit-clause-does : goal.returns-in-Solicit-clause-does
-returns-in-Solicit-clause-does c = λ s st. subst (λ (n : Notice). HasDone s (hears_notice (config_of c.args.self.now) (with_core s (at_moment c.args.now s.core)) (address c.args.from.0) (notice_shown n)) c.turn_away-in-Solicit.new.self c.turn_away-in-Solicit.result c.args.out.now c.args.out.now) (sym c.in-Solicit.is) (c.turn_away-in-Solicit.ensures.does c.args.out.now s st)
+returns-in-Solicit-clause-does c = λ s st. subst (λ (n : Notice). HasDone s (hears_notice (config_of c.args.self.now) (with_core s (at_moment c.args.now s.core)) (address c.args.from.0) (notice_shown n)) c.pass_over-in-Solicit.new.self c.pass_over-in-Solicit.result c.args.out.now c.args.out.now) (sym c.in-Solicit.is) (c.pass_over-in-Solicit.ensures.does c.args.out.now s st)

@@ -20,7 +20,7 @@ returns-then-is_everyone-clause-does c = λ s st.
     let t : Server = with_core s (at_moment c.args.now s.core) in
     let x = address c.args.from.0 in
     let e : nat_eq x everyone ≡ true = sym (everyone_is c.args.from.0 (search rules)) ∙ sym c.if-is_everyone.ensures in
-    subst (λ b. HasDone s (cond b (tells t Ignored) (hears_value (config_of c.args.self.now) t x (value_shown c.args.value.now) None)) c.turn_away.new.self c.turn_away.result c.args.out.now c.args.out.now) (sym e) (c.turn_away.ensures.does c.args.out.now s st)
+    subst (λ b. HasDone s (cond b (tells t Ignored) (hears_value (config_of c.args.self.now) t x (value_shown c.args.value.now) None)) c.pass_over.new.self c.pass_over.result c.args.out.now c.args.out.now) (sym e) (c.pass_over.ensures.does c.args.out.now s st)
 
 pub returns-in-Circuit-clause-does : goal.returns-in-Circuit-clause-does
 returns-in-Circuit-clause-does c = λ s st.

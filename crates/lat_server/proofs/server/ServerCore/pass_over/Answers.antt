@@ -3,7 +3,7 @@ use Rattle.lat_server.specs.Kept.{Kept, AtRest}
 use Rattle.lat_server.specs.Shown.{shown}
 use Rattle.lat_server.specs.Stands.{Stands}
 use Rattle.lat_server.proofs.Hearing.{did_pass}
-use Rattle.lat_server.proofs.server.ServerCore.turn_away.Goals as goal
+use Rattle.lat_server.proofs.server.ServerCore.pass_over.Goals as goal
 
 pub returns-clause-does : goal.returns-clause-does
 returns-clause-does c = λ frames s st.

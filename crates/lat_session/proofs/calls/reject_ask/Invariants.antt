@@ -1,6 +1,6 @@
 use Rattle.std.proofs.Common.{◌≡◌, ◌++◌, cond, map, take, drop}
 use Rattle.lat_session.specs.Table.{waits_as}
-use Rattle.lat_session.proofs.calls.turn_away.Given as goal
+use Rattle.lat_session.proofs.calls.reject_ask.Given as goal
 
 abbrev pub invariant-loop-ask : goal.invariant-loop-ask
 invariant-loop-ask l =

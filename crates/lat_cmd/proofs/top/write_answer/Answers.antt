@@ -1,6 +1,6 @@
 use Rattle.std.proofs.Common.{◌∙◌, arith}
 use Rattle.lat_cmd.proofs.Running.{not_four, not_five, not_nine, stays, memory_run, told_run}
-use Rattle.lat_cmd.proofs.top.told.Goals as goal
+use Rattle.lat_cmd.proofs.top.write_answer.Goals as goal
 
 pub end_with-requires : goal.end_with-requires
 end_with-requires g c = not_five c.args.command c.args.input.now _ c.in-Ok.ensures.answer.status
