@@ -43,10 +43,17 @@ ports_of (suc most) (text ∷ texts) = option_and_then (λ port. option_map (λ 
 abbrev pub peers_of : List Text → Option (List ℕ)
 peers_of texts = ports_of 8 texts
 
+-- the number that an option has, so much at least and so much at most
+abbrev pub number_of : Text → (least most : ℕ) → List Row → Option ℕ
+number_of option least most rows = first_of option rows >>= number_within least most
+
+-- the name that an option has
+abbrev pub name_at : Text → List Row → Option (List ℕ)
+name_at option rows = first_of option rows >>= name_of
+
 abbrev pub station_of : List Row → Option Station
 station_of rows = do
-  name ← first_of (codes "name") rows
-  name ← name_of name
+  name ← name_at (codes "name") rows
   address ← first_of (codes "address") rows
   address ← address_of address
   port ← first_of (codes "port") rows
@@ -58,14 +65,10 @@ station_of rows = do
 -- line k listens on the port k - 1 above the first, and all have one
 abbrev pub lines_of : Role → List Row → Option Lines
 lines_of role rows = do
-  count ← first_of (codes "lines") rows
-  count ← number_within 1 (most_lines role) count
-  port ← first_of (codes "line-port") rows
-  port ← number_within 1 (65536 - count) port
-  service ← first_of (codes "service") rows
-  service ← name_of service
-  sessions ← first_of (codes "sessions") rows
-  sessions ← number_within 1 1000000 sessions
+  count ← number_of (codes "lines") 1 (most_lines role) rows
+  port ← number_of (codes "line-port") 1 (65536 - count) rows
+  service ← name_at (codes "service") rows
+  sessions ← number_of (codes "sessions") 1 1000000 rows
   Some (record { count = count; port = port; service = service; sessions = sessions })
 
 abbrev pub config_in : List Row → Option Config

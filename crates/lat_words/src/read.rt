@@ -2,13 +2,13 @@
 
 ghost use Rattle.std.specs.Prelude.{◌≡◌, ◌≤◌, IfOk, IfSome, map, string_bytes, length};
 ghost use Rattle.clap.specs.Words.{rows_of, found_of};
-ghost use Rattle.lat_words.specs.Configs.{role_of, port_of, peers_of, most_lines, station_of, lines_of, config_in, config_of, Within};
+ghost use Rattle.lat_words.specs.Configs.{role_of, port_of, peers_of, most_lines, station_of, lines_of, number_of, name_at, config_in, config_of, Within};
 
 use crate::config::{Config, Lines, Role, Station};
 use crate::matching::matched;
 use crate::peers::Peers;
 use clap::ArgMatches;
-use lat_base::Memory;
+use lat_base::{Memory, Name};
 use lat_text::{address_of, name_of, number_within};
 use std::alloc::Global;
 
@@ -58,11 +58,28 @@ fn peers_of(texts: &[&str]) -> Option<Peers>
     Some(peers)
 }
 
+// The number that an option has, so much at least and so much at most.
+#[tactic(auto, using(crate::proofs::Rows::in_rows))]
+fn number_of(found: &ArgMatches<'_>, option: &str, least: u64, most: u64) -> Option<u64>
+    ensures value { result ≡ number_of option.now least most (rows_of (found_of found.now)) }
+    ensures within { IfSome result (λ n. (least ≤ n) × (n ≤ most)) }
+{
+    number_within(least, most, found.get_str(option)?.as_bytes())
+}
+
+// The name that an option has.
+#[tactic(auto, using(crate::proofs::Rows::in_rows))]
+fn name_at(found: &ArgMatches<'_>, option: &str) -> Option<Name>
+    ensures { result ≡ name_at option.now (rows_of (found_of found.now)) }
+{
+    name_of(found.get_str(option)?.as_bytes())
+}
+
 #[tactic(auto, using(crate::proofs::Rows::in_rows))]
 fn station_of(found: &ArgMatches<'_>) -> Option<Station>
     ensures { result ≡ station_of (rows_of (found_of found.now)) }
 {
-    let name = name_of(found.get_str("name")?.as_bytes())?;
+    let name = name_at(found, "name")?;
     let address = address_of(found.get_str("address")?.as_bytes())?;
     let port = port_of(found.get_str("port")?.as_bytes())?;
     let peers = peers_of(found.get_raw("peer")?)?;
@@ -79,10 +96,10 @@ fn lines_of(role: Role, found: &ArgMatches<'_>) -> Option<Lines>
     ensures value { result ≡ lines_of role (rows_of (found_of found.now)) }
     ensures within { IfSome result (λ lines. Within role lines) }
 {
-    let count = number_within(1, most_lines(role), found.get_str("lines")?.as_bytes())?;
-    let port = number_within(1, 65_536 - count, found.get_str("line-port")?.as_bytes())?;
-    let service = name_of(found.get_str("service")?.as_bytes())?;
-    let sessions = number_within(1, 1_000_000, found.get_str("sessions")?.as_bytes())?;
+    let count = number_of(found, "lines", 1, most_lines(role))?;
+    let port = number_of(found, "line-port", 1, 65_536 - count)?;
+    let service = name_at(found, "service")?;
+    let sessions = number_of(found, "sessions", 1, 1_000_000)?;
     Some(Lines {
         count: count as u8,
         port: port as u16,
