@@ -111,7 +111,8 @@ fn write_stop(master: bool, to: u16, from: u16, reason: u8, out: &mut Payload)
 /// circuit's id there, and states no id of its own.
 #[tactic(auto, using(crate::proofs::Messages::stop_formed))]
 pub fn refusal(to: Addr, circuit: u16) -> OutFrame
-    ensures value { result ≡ frame_of to 0 marks.Plain (padded (message_text (message_of (StopMessage false false circuit 0 (end_bits reasons.NoResources) [])))) }
+    ensures value { result ≡ frame_of to 0 marks.Plain (padded (message_text (message_of
+        (StopMessage false false circuit 0 (end_bits reasons.NoResources) [])))) }
     ensures formed { 0 < circuit → IsFormed (StopMessage false false circuit 0 (end_bits reasons.NoResources) []) }
 {
     let mut payload = Payload::empty();
