@@ -21,7 +21,7 @@ use Rattle.lat_captures.specs.declared.checker.Checker.{Checker}
 use Rattle.lat_captures.specs.Rules.{title_shown, head_shown}
 use Rattle.lat_captures.specs.Stands.{Stands}
 use Rattle.lat_captures.specs.Answers.{runs_of, title_of, IsRun, AnswersRun}
-use Rattle.lat_audit.specs.Tells.{tell, facts_in}
+use Rattle.lat_audit.specs.TextSlots.{tell, facts_in}
 use Rattle.lat_audit.specs.Steps.{after_test, run_outcome, Knows, OutcomeIs, ChecksRun}
 use Rattle.lat_audit.proofs.Telling.{is_run}
 

@@ -14,7 +14,7 @@ use Rattle.lat_stream.specs.Wire.{slot_heard}
 use Rattle.lat_captures.specs.declared.slot.SlotFacts.{SlotFacts}
 use Rattle.lat_captures.specs.Facts.{facts_of}
 use Rattle.lat_captures.specs.Answers.{IsRun}
-use Rattle.lat_audit.specs.Tells.{first_heard, slots_heard, tell, facts_in}
+use Rattle.lat_audit.specs.TextSlots.{first_heard, slots_heard, tell, facts_in}
 
 tells : (ss : List Slot) (n : ℕ) → AllByRecursion IsWritable ss → length (slots_text ss) ≤ n → slots_heard n (slots_text ss) ≡ map slot_heard ss
 tells [] zero ok room = refl

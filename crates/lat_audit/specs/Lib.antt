@@ -5,7 +5,7 @@ pub mod Written
 pub mod Lines
 pub mod CaptureText
 pub mod Shown
-pub mod Tells
+pub mod TextSlots
 pub mod Steps
 pub mod AuditOf
 pub mod Follows

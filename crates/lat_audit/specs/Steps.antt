@@ -17,7 +17,7 @@ use Rattle.lat_captures.specs.declared.checker.Checker.{Checker}
 use Rattle.lat_captures.specs.Rules.{title_shown, head_shown, rule_shown}
 use Rattle.lat_captures.specs.Answers.{runs_of, title_of}
 use Rattle.lat_captures.specs.Stands.{Stands}
-use Rattle.lat_audit.specs.Tells.{tell}
+use Rattle.lat_audit.specs.TextSlots.{tell}
 
 -- what is known behind a RUN that passes
 abbrev pub after_test : Place → Entry → List Slot → Tested → Result Place legal.Rule

@@ -7,7 +7,7 @@ ghost use Rattle.lat_frames.specs.Written.{slots_text};
 ghost use Rattle.lat_stream.specs.Wire.{slot_heard};
 ghost use Rattle.lat_captures.specs.Facts.{facts_of};
 ghost use Rattle.lat_captures.specs.Answers.{runs_of, title_of};
-ghost use Rattle.lat_audit.specs.Tells.{facts_in};
+ghost use Rattle.lat_audit.specs.TextSlots.{facts_in};
 ghost use Rattle.lat_audit.specs.Steps.{ChecksRun};
 
 use lat_base::{Memory, Payload};

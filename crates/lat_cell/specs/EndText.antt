@@ -55,11 +55,11 @@ status_of None None = 0
 
 -- What was written and answered at the end of a cell with these shares and ends: the whole text; or status 5, where the sink's
 -- count of faults rose and a prefix was written; or status 9, want of memory, where nothing was
-pub record Ended (told_before told_now : Option (List ℕ)) (faults_before faults_now : ℕ) (h : List Past)
+pub record Ended (written_before written_now : Option (List ℕ)) (faults_before faults_now : ℕ) (h : List Past)
     (full : Option FullAt) (shares : List SeatView) (ends : List LineDone) (status : ℕ) : Type 0 where
   pub written : (status ≡ 5) ⊎ ((status ≡ 9)
-      ⊎ (Appends told_before told_now (shown_of (audit_of h shares) h ends)
+      ⊎ (Appends written_before written_now (shown_of (audit_of h shares) h ends)
       × (status ≡ status_of (audit_of h shares) full)))
   pub fault : status ≡ 5 → Rose faults_before faults_now
-  pub part : status ≡ 5 → (n : ℕ) × Appends told_before told_now (take n (shown_of (audit_of h shares) h ends))
-  pub silent : status ≡ 9 → told_now ≡ told_before
+  pub part : status ≡ 5 → (n : ℕ) × Appends written_before written_now (take n (shown_of (audit_of h shares) h ends))
+  pub silent : status ≡ 9 → written_now ≡ written_before

@@ -2,7 +2,7 @@ mod Numbers
 mod Texts
 mod Runs
 mod LinkSteps
-pub mod Dids
+pub mod StepsThen
 pub mod Messages
 pub mod Hears
 pub mod Sending

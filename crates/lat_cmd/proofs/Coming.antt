@@ -18,7 +18,7 @@ use Rattle.lat_replay.specs.Played.{State, Played, Through, Refused, open_state,
 use Rattle.lat_cmd.specs.generate.Grown as gen
 use Rattle.lat_cmd.specs.declared.command.Command.{Command}
 use Rattle.lat_cmd.specs.declared.command.Command.TheVariants.{Show, Choose, Replay, Capture, Settle, Audit, Gen, Bench}
-use Rattle.lat_cmd.specs.Answers.{Ended, Answer, Tale, plain, with_world, told_to, answered_of, told_at, answered_behind, reported, captured, settled}
+use Rattle.lat_cmd.specs.Answers.{Ended, Answer, Tale, plain, with_world, tale_answer, answered_of, tale_answer_at, answered_behind, reported, captured, settled}
 use Rattle.lat_cmd.specs.Answers.{settled_to, gen_of, bench_of, answer_to, HandsBack}
 use Rattle.lat_cmd.specs.Commands.{ComesTo, makes_world}
 
@@ -59,7 +59,7 @@ settle_fits : (count : ℕ) (u : Setups) (t : State) → Fits Replay (settled co
 unfolding settled
 settle_fits count u t = settled_fits u t (rounds.settled u t count)
 
-played_fits : (tale : Tale) (u : Setups) (first : ℕ) (p : Played) → ((t : State) → Fits Replay (tale u t)) → Fits Replay (told_to tale u first p)
+played_fits : (tale : Tale) (u : Setups) (first : ℕ) (p : Played) → ((t : State) → Fits Replay (tale u t)) → Fits Replay (tale_answer tale u first p)
 played_fits tale u first (Through t) told = told t
 played_fits tale u first (Refused index faults.FramesFull t) told = (inr (inr (inr refl)), refl)
 played_fits tale u first (Refused index (faults.Backward at last) t) told = (inr (inr (inl refl)), refl)
@@ -78,10 +78,10 @@ either : (P : Result Schedule ScheduleFault → Type 0) (b : Bool) (x y : Result
 either P true x y p q = p
 either P false x y p q = q
 
-schedule_fits : (tale : Tale) (r : Result Schedule ℕ) → ((u : Setups) (t : State) → Fits Replay (tale u t)) → Fits Replay (told_at tale (schedules.answer_of r))
+schedule_fits : (tale : Tale) (r : Result Schedule ℕ) → ((u : Setups) (t : State) → Fits Replay (tale u t)) → Fits Replay (tale_answer_at tale (schedules.answer_of r))
 schedule_fits tale (Err number) told = (inr (inl refl), refl)
 schedule_fits tale (Ok s) told =
-    let P : Result Schedule ScheduleFault → Type 0 = λ x. Fits Replay (told_at tale x) in
+    let P : Result Schedule ScheduleFault → Type 0 = λ x. Fits Replay (tale_answer_at tale x) in
     either P (nat_lt 100000 (length s.events)) _ _ (inr (inr (inr refl)), refl) (of_fits tale s told)
 
 tale_fits : (tale : Tale) (input : List ℕ) → ((u : Setups) (t : State) → Fits Replay (tale u t)) → Fits Replay (answered_behind tale input)

@@ -8,7 +8,7 @@ use Rattle.lat_cmd.specs.declared.command.Command.TheVariants.{Show, Choose, Rep
 use Rattle.lat_cmd.specs.declared.end.RunEnd.{RunEnd}
 use Rattle.lat_cmd.specs.Answers.{Answer, plain, answer_of, answer_to, capture_of, input_of}
 use Rattle.lat_cmd.specs.Laws.{SettleTakesAll, IsLawful, ObeysLaw}
-use Rattle.lat_cmd.specs.Outcomes.{IsEarly, Tells, Answers}
+use Rattle.lat_cmd.specs.Outcomes.{IsEarly, WritesAnswer, Answers}
 use Rattle.lat_cmd.specs.Runs.{IsRead}
 
 -- an input past the limit
@@ -45,19 +45,19 @@ early c left end before now is none = if_known _ (input_of c left) (λ xs e. inl
 
 pub limit_told :
     {H : Type 0} (c : Command) (left : Option (List ℕ)) (end : RunEnd H) (before now : Option (List ℕ)) →
-    IfSome (input_of c left) (λ xs. 16777216 < length xs) → Tells (plain (6, codes "limit bytes\n")) end before now →
+    IfSome (input_of c left) (λ xs. 16777216 < length xs) → WritesAnswer (plain (6, codes "limit bytes\n")) end before now →
     AnswersInput left end before now c
 limit_told c left end before now past tells =
-    if_known _ (input_of c left) (λ xs e. inr (subst (λ (a : Answer). Tells a end before now)
+    if_known _ (input_of c left) (λ xs e. inr (subst (λ (a : Answer). WritesAnswer a end before now)
     (sym (past_limit c xs (known (λ ys. 16777216 < length ys) (input_of c left) xs e past))) tells))
 
 pub input_told :
     {H : Type 0} (c : Command) (left : Option (List ℕ)) (end : RunEnd H) (before now : Option (List ℕ)) (input : List ℕ) →
-    IsRead c left input → Tells (answer_to c input) end before now → AnswersInput left end before now c
+    IsRead c left input → WritesAnswer (answer_to c input) end before now → AnswersInput left end before now c
 input_told c left end before now input read tells =
     if_known _ (input_of c left) (λ xs e.
     let r : (input ≡ xs) × (length xs ≤ 16777216) = known (λ ys. (input ≡ ys) × (length ys ≤ 16777216)) (input_of c left) xs e read in
-    inr (subst (λ (a : Answer). Tells a end before now) (ap (answer_to c) r.0 ∙ sym (within_limit c xs r.1)) tells))
+    inr (subst (λ (a : Answer). WritesAnswer a end before now) (ap (answer_to c) r.0 ∙ sym (within_limit c xs r.1)) tells))
 
 -- the input, by the slice that is read
 pub input_read : (c : Command) (left : Option (List ℕ)) (input now : List ℕ) → now ≡ input → IsRead c left input → IsRead c left now
@@ -81,7 +81,7 @@ failed c left status before now five = lawless c left status before now (λ e. o
 -- the law of an answer is that of the run that told it
 pub lawful_told :
     {H : Type 0} (c : Command) (left : Option (List ℕ)) (input : List ℕ) (end : RunEnd H) (before now : Option (List ℕ)) →
-    IsRead c left input → IsLawful c input → Tells (answer_to c input) end before now → ObeysLaw c left end.status before now
+    IsRead c left input → IsLawful c input → WritesAnswer (answer_to c input) end before now → ObeysLaw c left end.status before now
 lawful_told c left input end before now read law (inr stopped) = failed c left end.status before now stopped.0
 lawful_told (Capture p) left input end before now read law (inl told) = λ done. ((capture_of p input).text, told.1, law (sym told.0 ∙ done))
 lawful_told (Settle count) left input end before now read law (inl told) =

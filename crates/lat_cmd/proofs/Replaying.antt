@@ -25,7 +25,7 @@ use Rattle.lat_replay.specs.Played.{State, open_state, next, refusal, Played, Th
 use Rattle.lat_cmd.specs.declared.course.Course.{Course}
 use Rattle.lat_cmd.specs.declared.course.Course.TheVariants as courses
 use Rattle.lat_cmd.specs.declared.outcome.Outcome.{Outcome}
-use Rattle.lat_cmd.specs.Answers.{Answer, Tale, plain, misread, told_to, answered_of, told_at, answered_behind}
+use Rattle.lat_cmd.specs.Answers.{Answer, Tale, plain, misread, tale_answer, answered_of, tale_answer_at, answered_behind}
 use Rattle.lat_cmd.specs.Courses.{Leaves, Runs}
 use Rattle.lat_cmd.specs.Outcomes.{IsOutcome}
 use Rattle.lat_cmd.proofs.Coming.{none_of}
@@ -43,7 +43,7 @@ unfolding answered_of
 through tale s u v t made same all =
     let w : Setups = setups_shown s.setup in
     let here : played w (open_state w) s.events ≡ Through t = subst (λ x. played x (open_state x) s.events ≡ Through t) made all in
-    ap (λ (p : Played). told_to tale w s.first p) here ∙ ap (λ (x : Setups). tale x t) (sym (same ∙ made))
+    ap (λ (p : Played). tale_answer tale w s.first p) here ∙ ap (λ (x : Setups). tale x t) (sym (same ∙ made))
 
 leaves :
     (s : Schedule) (u v : Setups) (t : State) → IsSetup s.setup → Each (IsEvent s.setup.server.own) s.events → u ≡ setups_shown s.setup → v ≡ u →
@@ -106,7 +106,7 @@ refuses tale s u t index line fault r o made all same at is =
     let here : IsOutcome (plain (status (refused_of fault), refused_text (s.first + index) (refused_of fault))) o =
     subst (λ n. IsOutcome (plain (status (refused_of fault), refused_text n (refused_of fault))) o) at
     (subst (λ (x : Refused). IsOutcome (plain (status x, refused_text line x)) o) same is) in
-    subst (λ (p : Played). IsOutcome (told_to tale w s.first p) o) (sym there) here
+    subst (λ (p : Played). IsOutcome (tale_answer tale w s.first p) o) (sym there) here
 
 pub runs_stopped :
     {H : Type 0} (s : Schedule) (u : Setups) (es : List WorldEvent) (index line : ℕ) (fault : EventFault) (r : Refused) (t : State) (o : Outcome H) →
@@ -121,10 +121,10 @@ runs_stopped s u es index line fault r t o made are by other same at is = (
 
 -- a text that is a schedule
 read_course :
-    {H : Type 0} (x : Result Schedule ScheduleFault) (input : List ℕ) (c : Course H) → x ≡ schedule_of input → Runs (λ tale. told_at tale x) c →
+    {H : Type 0} (x : Result Schedule ScheduleFault) (input : List ℕ) (c : Course H) → x ≡ schedule_of input → Runs (λ tale. tale_answer_at tale x) c →
     Runs (λ tale. answered_behind tale input) c
 unfolding answered_behind
-read_course x input c is runs = subst (λ (z : Result Schedule ScheduleFault). Runs (λ tale. told_at tale z) c) is runs
+read_course x input c is runs = subst (λ (z : Result Schedule ScheduleFault). Runs (λ tale. tale_answer_at tale z) c) is runs
 
 pub read_as :
     {H : Type 0} (s : Schedule) (input : List ℕ) (r : Result (Course H) memory.Memory) → ReadsSchedule (Ok s) input →

@@ -11,7 +11,7 @@ use Rattle.lat_cmd.specs.declared.end.RunEnd.{RunEnd}
 use Rattle.lat_cmd.specs.Answers.{Ended, Answer, plain, answer_to, input_of, HandsBack}
 use Rattle.lat_cmd.specs.Commands.{ComesTo, IsStatusOf, makes_world, reads}
 use Rattle.lat_cmd.specs.Laws.{IsLawful, ObeysLaw, KeepsPromises}
-use Rattle.lat_cmd.specs.Outcomes.{IsEarly, Tells, WorldWhereDone}
+use Rattle.lat_cmd.specs.Outcomes.{IsEarly, WritesAnswer, WorldWhereDone}
 use Rattle.lat_cmd.specs.Runs.{IsRead, IsRunOf}
 use Rattle.lat_cmd.proofs.Coming.{fits, same_some, none_of}
 use Rattle.lat_cmd.proofs.Ending.{early, limit_told, input_told, lawless, lawful_told}
@@ -76,7 +76,7 @@ none_keeps : {H : Type 0} (w : Option (Kept H)) → w ≡ None → IfSome w (λ 
 none_keeps w none = subst (λ (x : Option (Kept _)). IfSome x (λ k. KeepsPromises k)) (sym none) tt
 
 pub told_keeps :
-    {H : Type 0} (a : Answer) (end : RunEnd H) (before now : Option (List ℕ)) → Tells a end before now → IfSome end.world (λ k. KeepsPromises k)
+    {H : Type 0} (a : Answer) (end : RunEnd H) (before now : Option (List ℕ)) → WritesAnswer a end before now → IfSome end.world (λ k. KeepsPromises k)
 told_keeps a end before now (inl told) = back_keeps a.world end.world told.2
 told_keeps a end before now (inr stopped) = none_keeps end.world stopped.2
 
@@ -133,13 +133,13 @@ memory_run c left end before now is =
 -- a run that told the answer
 
 told_status :
-    {H : Type 0} (c : Command) (input : List ℕ) (end : RunEnd H) (before now : Option (List ℕ)) → Tells (answer_to c input) end before now →
+    {H : Type 0} (c : Command) (input : List ℕ) (end : RunEnd H) (before now : Option (List ℕ)) → WritesAnswer (answer_to c input) end before now →
     IsStatusOf c end.status
 told_status c input end before now (inl told) = inl (subst (λ s. ComesTo c s) (sym told.0) (fits c input).0)
 told_status c input end before now (inr stopped) = inr (inl stopped.0)
 
 told_world :
-    {H : Type 0} (c : Command) (input : List ℕ) (end : RunEnd H) (before now : Option (List ℕ)) → Tells (answer_to c input) end before now →
+    {H : Type 0} (c : Command) (input : List ℕ) (end : RunEnd H) (before now : Option (List ℕ)) → WritesAnswer (answer_to c input) end before now →
     WorldWhereDone c end.status end.world
 told_world c input end before now (inl told) =
     same_some (answer_to c input).world end.world told.2 ∙ (fits c input).1 ∙ ap (λ s. makes_world c && nat_eq s 0) (sym told.0)
@@ -147,7 +147,7 @@ told_world c input end before now (inr stopped) = no_world c end.status end.worl
 
 pub told_run :
     {H : Type 0} (c : Command) (input : List ℕ) (end : RunEnd H) (before now : Option (List ℕ)) → IsLawful c input →
-    Tells (answer_to c input) end before now → (left : Option (List ℕ)) → IsRead c left input → IsRunOf c left end before now
+    WritesAnswer (answer_to c input) end before now → (left : Option (List ℕ)) → IsRead c left input → IsRunOf c left end before now
 told_run c input end before now law tells left read = record {
   answer = input_told c left end before now input read tells;
   status = told_status c input end before now tells;
@@ -160,12 +160,12 @@ told_run c input end before now law tells left read = record {
 
 limit_status :
     {H : Type 0} (c : Command) (text : List ℕ) (end : RunEnd H) (before now : Option (List ℕ)) → reads c ≡ true →
-    Tells (plain (6, text)) end before now → IsStatusOf c end.status
+    WritesAnswer (plain (6, text)) end before now → IsStatusOf c end.status
 limit_status c text end before now read (inl told) = inr (inr (inr (read, inr told.0)))
 limit_status c text end before now read (inr stopped) = inr (inl stopped.0)
 
 limit_world :
-    {H : Type 0} (c : Command) (text : List ℕ) (end : RunEnd H) (before now : Option (List ℕ)) → Tells (plain (6, text)) end before now →
+    {H : Type 0} (c : Command) (text : List ℕ) (end : RunEnd H) (before now : Option (List ℕ)) → WritesAnswer (plain (6, text)) end before now →
     WorldWhereDone c end.status end.world
 limit_world c text end before now (inl told) =
     no_world c end.status end.world (ap (λ s. nat_eq s 0) told.0) (none_of end.world told.2)
@@ -173,7 +173,7 @@ limit_world c text end before now (inr stopped) = no_world c end.status end.worl
 
 limit_law :
     {H : Type 0} (c : Command) (left : Option (List ℕ)) (text : List ℕ) (end : RunEnd H) (before now : Option (List ℕ)) →
-    Tells (plain (6, text)) end before now → ObeysLaw c left end.status before now
+    WritesAnswer (plain (6, text)) end before now → ObeysLaw c left end.status before now
 limit_law c left text end before now (inl told) =
     lawless c left end.status before now (λ e. omega (arith, e, told.0)) (λ e. omega (arith, e, told.0))
 limit_law c left text end before now (inr stopped) =
@@ -181,7 +181,7 @@ limit_law c left text end before now (inr stopped) =
 
 pub limit_run :
     {H : Type 0} (c : Command) (left : Option (List ℕ)) (end : RunEnd H) (before now : Option (List ℕ)) → reads c ≡ true →
-    IfSome (input_of c left) (λ xs. 16777216 < length xs) → Tells (plain (6, codes "limit bytes\n")) end before now → IsRunOf c left end before now
+    IfSome (input_of c left) (λ xs. 16777216 < length xs) → WritesAnswer (plain (6, codes "limit bytes\n")) end before now → IsRunOf c left end before now
 limit_run c left end before now read past tells = record {
   answer = limit_told c left end before now past tells;
   status = limit_status c (codes "limit bytes\n") end before now read tells;

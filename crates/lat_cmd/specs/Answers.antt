@@ -54,20 +54,20 @@ abbrev pub Tale : Type 0
 Tale = Setups → State → Answer
 
 -- where a schedule leads: to the tale, or to the line of the first event that is refused
-abbrev pub told_to : Tale → Setups → (first : ℕ) → Played → Answer
-told_to tale u first (Through t) = tale u t
-told_to tale u first (Refused index fault t) = plain (status (refused_of fault), refused_text (first + index) (refused_of fault))
+abbrev pub tale_answer : Tale → Setups → (first : ℕ) → Played → Answer
+tale_answer tale u first (Through t) = tale u t
+tale_answer tale u first (Refused index fault t) = plain (status (refused_of fault), refused_text (first + index) (refused_of fault))
 
 unfoldable pub answered_of : Tale → Schedule → Answer
-answered_of tale s = told_to tale (setups_shown s.setup) s.first (played (setups_shown s.setup) (open_state (setups_shown s.setup)) s.events)
+answered_of tale s = tale_answer tale (setups_shown s.setup) s.first (played (setups_shown s.setup) (open_state (setups_shown s.setup)) s.events)
 
-abbrev pub told_at : Tale → Result Schedule ScheduleFault → Answer
-told_at tale (Ok s) = answered_of tale s
-told_at tale (Err fault) = misread fault
+abbrev pub tale_answer_at : Tale → Result Schedule ScheduleFault → Answer
+tale_answer_at tale (Ok s) = answered_of tale s
+tale_answer_at tale (Err fault) = misread fault
 
 -- what a command on schedules answers to a text
 unfoldable pub answered_behind : Tale → List ℕ → Answer
-answered_behind tale input = told_at tale (schedule_of input)
+answered_behind tale input = tale_answer_at tale (schedule_of input)
 
 -- the report, with the world
 unfoldable pub reported : Tale

@@ -20,14 +20,14 @@ IsEarly status = (status ≡ 4) ⊎ (status ≡ 9)
 
 -- It answered so, and the whole text was written; or a write failed, and a prefix of it was. What was written before and is
 -- now is known of some sinks alone.
-abbrev pub Tells : {H : Type 0} → Answer → RunEnd H → (before now : Option (List ℕ)) → Type 0
-Tells a end before now =
+abbrev pub WritesAnswer : {H : Type 0} → Answer → RunEnd H → (before now : Option (List ℕ)) → Type 0
+WritesAnswer a end before now =
     ((end.status ≡ a.status) × Appends before now a.text × HandsBack a.world end.world)
     ⊎ ((end.status ≡ 5) × ((n : ℕ) × Appends before now (take n a.text)) × (end.world ≡ None))
 
 -- It ended early, or it told the answer.
 abbrev pub Answers : {H : Type 0} → Answer → RunEnd H → (before now : Option (List ℕ)) → Type 0
-Answers a end before now = (IsEarly end.status × (end.world ≡ None)) ⊎ Tells a end before now
+Answers a end before now = (IsEarly end.status × (end.world ≡ None)) ⊎ WritesAnswer a end before now
 
 -- a world is there exactly where the command makes one and the status is 0
 abbrev pub WorldWhereDone : {H : Type 0} → Command → (status : ℕ) → Option (Kept H) → Type 0

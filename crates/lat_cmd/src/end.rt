@@ -3,7 +3,7 @@
 ghost use Rattle.std.specs.Prelude.{◌≡◌, ◌≢◌, ◌⊎◌, ◌≤◌, None};
 ghost use Rattle.lat_outside.specs.Causes.{Rose};
 ghost use Rattle.lat_cmd.specs.Answers.{Answer, HandsBack};
-ghost use Rattle.lat_cmd.specs.Outcomes.{Tells};
+ghost use Rattle.lat_cmd.specs.Outcomes.{WritesAnswer};
 
 use lat_node::RatingRule;
 use lat_outside::{Sink, write_all};
@@ -40,7 +40,7 @@ pub(crate) fn end_with<H: RatingRule, K: Sink>(
         status ≡ a.status →
         text.now ≡ a.text →
         HandsBack a.world world →
-        Tells a result (K.written out.old) (K.written out.new) }
+        WritesAnswer a result (K.written out.old) (K.written out.new) }
     ensures status { (result.status ≡ status) ⊎ (result.status ≡ 5) }
     ensures fault { result.status ≡ 5 → Rose (K.faults out.old) (K.faults out.new) }
     ensures later { K.faults out.old ≤ K.faults out.new }

@@ -7,7 +7,7 @@ ghost use Rattle.lat_wire.specs.Rates.{RatesWhatIsLeft};
 ghost use Rattle.lat_cmd.specs.Answers.{plain, answer_of, input_of};
 ghost use Rattle.lat_cmd.specs.Commands.{command_of, reads, IsBounded, IsStatusOf};
 ghost use Rattle.lat_cmd.specs.Laws.{ObeysLaw, KeepsPromises};
-ghost use Rattle.lat_cmd.specs.Outcomes.{IsEarly, Tells, Answers, WorldWhereDone};
+ghost use Rattle.lat_cmd.specs.Outcomes.{IsEarly, WritesAnswer, Answers, WorldWhereDone};
 ghost use Rattle.lat_cmd.specs.Runs.{IsRead, IsRunOf};
 
 use crate::answer::answered;
@@ -123,7 +123,7 @@ pub fn run<S: Source, K: Sink, H: RatingRule>(
 
     // The words are no command: nothing is read.
     ensures words { command_of (map string_bytes words.now) ≡ None →
-        Tells (plain (1, codes "words\n")) result (K.written out.old) (K.written out.new)
+        WritesAnswer (plain (1, codes "words\n")) result (K.written out.old) (K.written out.new)
         × (src.new ≡ src.old) }
 
     // They are one: unless a read or a write fails or no memory is found, the answer to the input, and the world that it tells of.

@@ -79,13 +79,13 @@ impl<C: Core, T: Tx, E: Ledger, B: Ledger, F: Ledger> Cell<C, T, E, B, F> {
             bytes,
             ..
         } = self;
-        let room = room_for(alloc, &event, history)?;
+        let reserved = reserved_for(alloc, &event, history)?;
         let answer = core.step(alloc, &event, out)?;
         let frames = out.frames();
         *sent += frames.len() as u64;
         send_all(tx, frames);
         out.clear();
-        let copy = answer.copy_in(room);
+        let copy = answer.copy_in(reserved);
         share.count(events, bytes, put(&answer));
         keep(history, event, copy);
         *kept += more;
@@ -150,11 +150,15 @@ fn send_all<T: Tx>(tx: &mut T, frames: &[OutFrame])
     }
 }
 
-// Makes room for an event, and gives that for the items that its answer may have.
-fn room_for(alloc: Global, event: &Event, history: &mut Vec<Past>) -> Result<ItemsMemory, Memory>
+// Takes the memory of an event, and gives that for the items that its answer may have.
+fn reserved_for(
+    alloc: Global,
+    event: &Event,
+    history: &mut Vec<Past>,
+) -> Result<ItemsMemory, Memory>
     ensures history { history.new.items ≡ history.old.items }
     ensures more { OnOk result (vec_len history.new < vec_capacity history.new) }
-    ensures items { IfOk result (λ room. items_asked event.now ≤ room) }
+    ensures items { IfOk result (λ reserved. items_asked event.now ≤ reserved) }
 {
     history.reserve(1)?;
     ItemsMemory::take(alloc, event.asked())

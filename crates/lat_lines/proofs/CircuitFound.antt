@@ -172,13 +172,13 @@ slave_of q e st slave = sym (ap (λ (t : Table). t.master) st.sessions.is) ∙ s
 
 -- what is told of an id: by a rule for a circuit that is held, and a default where none is
 
-pub told : {R : Type 0} (r y d : R) (k : Kept) (id : ℕ) (o : Option (Bor circuit.Kept)) {Tells : Bor circuit.Kept → Type 0} → option_copied o ≡ held_circuit k id → MatchOption o (r ≡ d) Tells
-    → (held_circuit k id ≡ None → d ≡ y) → ((q : Bor circuit.Kept) → held_circuit k id ≡ Some q.now → Tells q → r ≡ y) → r ≡ y
+pub told : {R : Type 0} (r y d : R) (k : Kept) (id : ℕ) (o : Option (Bor circuit.Kept)) {Known : Bor circuit.Kept → Type 0} → option_copied o ≡ held_circuit k id → MatchOption o (r ≡ d) Known
+    → (held_circuit k id ≡ None → d ≡ y) → ((q : Bor circuit.Kept) → held_circuit k id ≡ Some q.now → Known q → r ≡ y) → r ≡ y
 told r y d k id None e h n s = h ∙ n (sym e)
 told r y d k id (Some q) e h n s = s q (sym e) h
 
-pub told_own : {R : Type 0} (r y d : R) (k : Kept) (id : ℕ) (o : Option (Bor circuit.Kept)) {Tells : Bor circuit.Kept → Type 0} → option_copied o ≡ held_circuit k id → IfSome o (λ q. IsOwn k q.now) → MatchOption o (r ≡ d) Tells
-    → (held_circuit k id ≡ None → d ≡ y) → ((q : Bor circuit.Kept) → held_circuit k id ≡ Some q.now → IsOwn k q.now → Tells q → r ≡ y) → r ≡ y
+pub told_own : {R : Type 0} (r y d : R) (k : Kept) (id : ℕ) (o : Option (Bor circuit.Kept)) {Known : Bor circuit.Kept → Type 0} → option_copied o ≡ held_circuit k id → IfSome o (λ q. IsOwn k q.now) → MatchOption o (r ≡ d) Known
+    → (held_circuit k id ≡ None → d ≡ y) → ((q : Bor circuit.Kept) → held_circuit k id ≡ Some q.now → IsOwn k q.now → Known q → r ≡ y) → r ≡ y
 told_own r y d k id None e own h n s = h ∙ n (sym e)
 told_own r y d k id (Some q) e own h n s = s q (sym e) own h
 

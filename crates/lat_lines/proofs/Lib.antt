@@ -15,7 +15,7 @@ pub mod Covered
 pub mod Acting
 pub mod resting
 pub mod Calling
-pub mod Says
+pub mod CallSteps
 pub mod Seating
 pub mod Ways
 pub mod Accepting

@@ -15,9 +15,9 @@ own_status None (Some at) = inr (inl refl)
 own_status None None = inl refl
 
 -- the status of a last text is one of the daemon's own, or 5
-pub printed_status : (told_before told_now : Option (List ℕ)) (faults_before faults_now : ℕ) (h : List Past) (full : Option FullAt) (shares : List SeatView) (ends : List LineDone) (status : ℕ) →
-    Ended told_before told_now faults_before faults_now h full shares ends status → IsOwn status ⊎ (status ≡ 5)
-printed_status told_before told_now faults_before faults_now h full shares ends status printed =
+pub printed_status : (written_before written_now : Option (List ℕ)) (faults_before faults_now : ℕ) (h : List Past) (full : Option FullAt) (shares : List SeatView) (ends : List LineDone) (status : ℕ) →
+    Ended written_before written_now faults_before faults_now h full shares ends status → IsOwn status ⊎ (status ≡ 5)
+printed_status written_before written_now faults_before faults_now h full shares ends status printed =
     ⊎_elim {C = IsOwn status ⊎ (status ≡ 5)} (λ five. inr five)
     (λ rest. ⊎_elim {C = IsOwn status ⊎ (status ≡ 5)} (λ nine. inl (inr (inr (inr nine))))
     (λ whole. inl (subst IsOwn (sym whole.1) (own_status (audit_of h shares) full))) rest)

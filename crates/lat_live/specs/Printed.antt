@@ -34,5 +34,5 @@ RoseIn faults old new = Rose (faults old) (faults new)
 -- what a sink was given, and the status, are those of the last text of a cell that tells this, with these shares and these ends
 abbrev pub IsPrinted : {S : Type 0} → (S → Option (List ℕ)) → (S → ℕ) → S → S → Printed → List SeatView
     → List LineDone → ℕ → Type 0
-IsPrinted told_by faults old new t shares ends status =
-    Ended (told_by old) (told_by new) (faults old) (faults new) t.history t.full shares ends status
+IsPrinted written_by faults old new t shares ends status =
+    Ended (written_by old) (written_by new) (faults old) (faults new) t.history t.full shares ends status

@@ -30,14 +30,14 @@ role_of ran.Not = None
 -- what is written, and the status, are those of the last text of the cell that is handed back
 abbrev pub HasPrinted : {H P T L E B F S : Type 0} → (S → Option (List ℕ)) → (S → ℕ) → S → S
     → Served H P T L E B F → Type 0
-HasPrinted told_by faults old new served =
-    IfSome (printed_of served.ran) (λ t. IsPrinted told_by faults old new t served.shares served.ends served.status)
+HasPrinted written_by faults old new served =
+    IfSome (printed_of served.ran) (λ t. IsPrinted written_by faults old new t served.shares served.ends served.status)
 
 abbrev pub CoreHasPrinted : {C T L E B F S : Type 0} → (S → Option (List ℕ)) → (S → ℕ) → S → S
     → CoreServed C T L E B F → Type 0
-CoreHasPrinted told_by faults old new done =
+CoreHasPrinted written_by faults old new done =
     IfSome (printed_in done.ran)
-    (λ t. IsPrinted told_by faults old new t done.given.shares.items done.given.ends.items done.status)
+    (λ t. IsPrinted written_by faults old new t done.given.shares.items done.given.ends.items done.status)
 
 -- where a cell is handed back: the shares of all seats, and of each of so many lines how its worker ended, and the line
 abbrev pub IsBack : {H P T L E B F : Type 0} → (L → ℕ) → ℕ → Served H P T L E B F → Type 0

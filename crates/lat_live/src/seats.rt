@@ -74,8 +74,8 @@ impl<L: LineEnd, E: Ledger, B: Ledger, F: Ledger> Given<L, E, B, F> {
         }
     }
 
-    /// Room for so many lines.
-    pub fn room(alloc: Global, lines: usize) -> Result<Given<L, E, B, F>, AllocError>
+    /// Memory for so many lines.
+    pub fn reserved(alloc: Global, lines: usize) -> Result<Given<L, E, B, F>, AllocError>
         requires { lines ≤ 64 }
         ensures empty { IfOk result IsNothing }
         ensures room { IfOk result (λ g. lines + 2 ≤ vec_capacity g.shares) }
@@ -88,7 +88,7 @@ impl<L: LineEnd, E: Ledger, B: Ledger, F: Ledger> Given<L, E, B, F> {
         })
     }
 
-    /// What the seats have, in the room that was taken before.
+    /// What the seats have, in the memory that was taken before.
     pub fn filled(self, seated: Seated<L, E, B, F>) -> Given<L, E, B, F>
         requires empty { IsNothing self }
         requires room { vec_len seated.lines + 2 ≤ vec_capacity self.shares }

@@ -47,7 +47,7 @@ pub struct CoreServed<C: Core, T: Tx, L: LineEnd, E: Ledger, B: Ledger, F: Ledge
     pub given: Given<L, E, B, F>,
 }
 
-// All that the workers need, and the room for what they give back.
+// All that the workers need, and the memory for what they give back.
 #[derive(Drop)]
 struct Start<C: Core, T: Tx, X: Rx, L: LineEnd, E: Ledger, B: Ledger, F: Ledger> {
     cell: Cell<C, T, E, B, F>,
@@ -97,7 +97,7 @@ fn started<C: Core, T: Tx, X: Rx, L: LineEnd, E: Ledger, B: Ledger, F: Ledger>(
     ensures { IfOk result (λ s. AreFresh plan.now.lines s.seated s.given) }
 {
     let Outside { tx, rx, lines } = outside;
-    let given = Given::room(alloc, lines.len())?;
+    let given = Given::reserved(alloc, lines.len())?;
     let (cell, shares) = Cell::make(alloc, core, tx, plan.lines, blanks)?;
     let seated = take_seats(alloc, shares, lines, &plan.service)?;
     Ok(Start {

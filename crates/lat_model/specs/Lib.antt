@@ -1,4 +1,5 @@
 pub mod Lists
+pub mod Reasons
 pub mod numbers
 pub mod sessions
 pub mod ends

@@ -21,7 +21,7 @@
 //! |---|---|
 //! | `server ADDRESS NAME LINES` | the server, without an offer |
 //! | `node ADDRESS NAME LINES INCARNATION TIMER` | the node |
-//! | `circuit TIMER KEEPALIVE SESSIONS EXTRA CEILING` (and perhaps `wide` or `narrow`, which is the same as nothing) | the timing of both |
+//! | `circuit TIMER KEEPALIVE SESSIONS EXTRA CEILING` (and perhaps `word`, or `byte`, which is the same as nothing) | the timing of both |
 //! | `groups SERVER NODE` | the groups that the server listens to, and the mask of the node's announcements, in hex; without it all groups, and the empty mask |
 //! | `service NAME` | the node offers it; 32 at most |
 //! | `offer LINE NAME` | the server's line offers it; a line offers once |

@@ -11,8 +11,8 @@ use lat_base::{Addr, Bytes, Memory};
 use lat_node::NodeConfig;
 use lat_queue::Services16;
 use lat_script::{
-    Pair, ScriptFault, Wanted, address, byte, byte_within, bytes, choice, known_name, name,
-    no_command, short, word,
+    ScriptFault, Wanted, address, byte_within, bytes, known_name, name, no_command, short, timing,
+    word,
 };
 use lat_server::{Offer, Offers, ServerConfig, Timing};
 use std::alloc::Global;
@@ -46,28 +46,6 @@ const USUAL: Timing = Timing {
     wide: false,
 };
 
-// Whether the numbers of a circuit's messages are wide: by the last word, where there is one.
-fn is_wide(line: &str) -> Result<bool, ScriptFault> {
-    if word(line, 6) == "" {
-        return Ok(false);
-    }
-    choice(Pair::Widths, line, 6)
-}
-
-// The timing that a line states.
-fn timing_of(line: &str) -> Result<Timing, ScriptFault>
-    ensures { IfOk result IsTiming }
-{
-    Ok(Timing {
-        timer: byte_within(1, 100, line, 1)?,
-        keepalive: byte_within(1, 255, line, 2)?,
-        sessions: byte_within(1, 64, line, 3)?,
-        extra: byte(line, 4)?,
-        ceiling: byte_within(1, 15, line, 5)?,
-        wide: is_wide(line)?,
-    })
-}
-
 impl Setup {
     /// What they are made of where nothing is said.
     pub fn usual(alloc: Global) -> Result<Setup, Memory> {
@@ -100,7 +78,7 @@ impl Setup {
             "server" => self.tell_server(alloc, line)?,
             "node" => self.tell_node(line)?,
             "circuit" => {
-                let timing = timing_of(line)?;
+                let timing = timing(line)?;
                 self.server.timing = timing;
                 self.node.timing = timing;
             }

@@ -1,7 +1,6 @@
 //! Blocks over a node with a tariff.
 
 mod play;
-mod rules;
 
 ghost use Rattle.std.specs.Prelude.{◌≡◌, ◌≤◌, true, is_ok};
 ghost use Rattle.lat_base.specs.Names.{name_read};
@@ -9,10 +8,12 @@ ghost use Rattle.lat_tariff.specs.Tariffs.{AreKnown};
 
 use crate::names::{NODE, USUAL};
 use crate::tariff::play::Play;
-use crate::tariff::rules::{ByRoom, Flat, Unseen};
 use lat_base::{Bytes, Memory};
+use lat_node::FreeLines;
 use lat_script::{Part, ScriptFault, byte_within, known_name, no_command, word};
-use lat_tariff::{NodeConfig, Rule, SteadyRule, Tariff, TariffCore, are_apart};
+use lat_tariff::{
+    NodeConfig, Rule, SteadyRule, Tariff, TariffCore, TwentyPerFreeLine, WhileFree, are_apart,
+};
 use std::alloc::Global;
 
 // One rule more.
@@ -55,7 +56,7 @@ fn play_rules<R: SteadyRule>(
         groups: Bytes::copy(alloc, &[])?,
         timing: USUAL,
     };
-    let core = TariffCore::make(alloc, &config, Unseen, tariff)?;
+    let core = TariffCore::make(alloc, &config, FreeLines, tariff)?;
     Play::new(core).act_all(alloc, block, text)
 }
 
@@ -63,8 +64,8 @@ fn play_rules<R: SteadyRule>(
 fn play_two(alloc: Global, lines: u8, block: Part, text: &mut String) -> Result<(), Memory>
     requires { (1 ≤ lines) × (lines ≤ 64) }
 {
-    let login: Box<dyn SteadyRule + Send> = Box::new(alloc, ByRoom)?;
-    let print: Box<dyn SteadyRule + Send> = Box::new(alloc, Flat { rating: 9 })?;
+    let login: Box<dyn SteadyRule + Send> = Box::new(alloc, TwentyPerFreeLine)?;
+    let print: Box<dyn SteadyRule + Send> = Box::new(alloc, WhileFree { rating: 9 })?;
     let mut rules = Vec::new(alloc);
     add(&mut rules, b"LOGIN", login)?;
     add(&mut rules, b"PRINT", print)?;
@@ -78,7 +79,7 @@ fn play_many(alloc: Global, lines: u8, block: Part, text: &mut String) -> Result
     let mut rules = Vec::new(alloc);
     for rating in 1..33_u8 {
         let service = [b'N', b'0' + rating / 10, b'0' + rating % 10];
-        add(&mut rules, &service, Flat { rating })?;
+        add(&mut rules, &service, WhileFree { rating })?;
     }
     play_rules(alloc, rules, lines, block, text)
 }

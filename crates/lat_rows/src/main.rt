@@ -16,7 +16,7 @@
 //!
 //! | Command | Does |
 //! |---|---|
-//! | `ends TIMER KEEPALIVE SESSIONS EXTRA CEILING byte` (or `word`) | forgets all, and says what both ends state in their STARTs |
+//! | `ends TIMER KEEPALIVE SESSIONS EXTRA CEILING` (and perhaps `word`, or `byte`, which is the same as nothing) | forgets all, and says what both ends state in their STARTs |
 //! | `call ID` | makes the master, with this id of the circuit, at moment 0 |
 //! | `room N` | a circuit that is called connects so many sessions; its memory goes into a new call, which tells how many it holds |
 //! | `deliver N [T]` | hands frame N to the end that it was not made by, at that end's moment or at T |

@@ -6,9 +6,9 @@ ghost use Rattle.lat_circuit.specs.Agrees.{IsTiming};
 
 use crate::end::End;
 use lat_base::{Addr, Memory, OutBox};
-use lat_circuit::{Circuit, CircuitConfig, Timing};
+use lat_circuit::{Circuit, CircuitConfig};
 use lat_frames::StartInfo;
-use lat_script::{Pair, ScriptFault, byte, byte_within, choice, known_name};
+use lat_script::{ScriptFault, known_name, timing};
 use std::alloc::Global;
 
 const SERVER: Addr = Addr([0xaa, 0x00, 0x04, 0x00, 0x01, 0x04]);
@@ -22,26 +22,12 @@ pub struct Setup {
     pub slave: CircuitConfig,
 }
 
-// The timing that a line states.
-fn timing_of(line: &str) -> Result<Timing, ScriptFault>
-    ensures { IfOk result IsTiming }
-{
-    Ok(Timing {
-        timer: byte_within(1, 100, line, 1)?,
-        keepalive: byte_within(1, 255, line, 2)?,
-        sessions: byte_within(1, 64, line, 3)?,
-        extra: byte(line, 4)?,
-        ceiling: byte_within(1, 15, line, 5)?,
-        wide: choice(Pair::Spans, line, 6)?,
-    })
-}
-
 /// The server TS1 and the node VAX1, with the numbers that a line states.
 pub fn setup_of(line: &str) -> Result<Setup, ScriptFault>
     ensures master { IfOk result (λ setup. IsTiming setup.master.timing) }
     ensures slave { IfOk result (λ setup. IsTiming setup.slave.timing) }
 {
-    let timing = timing_of(line)?;
+    let timing = timing(line)?;
     let (server, node) = (known_name(b"TS1"), known_name(b"VAX1"));
     Ok(Setup {
         master: CircuitConfig {

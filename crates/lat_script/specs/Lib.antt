@@ -4,3 +4,4 @@ pub mod Refusal
 pub mod Printed
 pub mod Pattern
 pub mod Runs
+pub mod Timings

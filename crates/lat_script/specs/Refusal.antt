@@ -33,13 +33,11 @@ abbrev pub one_of : Pair → List ℕ
 one_of pairs.Ends = codes "m"
 one_of pairs.Cores = codes "s"
 one_of pairs.Spans = codes "word"
-one_of pairs.Widths = codes "wide"
 
 abbrev pub other_of : Pair → List ℕ
 other_of pairs.Ends = codes "s"
 other_of pairs.Cores = codes "n"
 other_of pairs.Spans = codes "byte"
-other_of pairs.Widths = codes "narrow"
 
 -- a word of a line, both counted from 1, is neither of two
 abbrev pub no_choice : ℕ → ℕ → Pair → List ℕ

@@ -28,10 +28,8 @@ pub enum Pair {
     Ends,
     /// `s`, the server, and `n`, the node.
     Cores,
-    /// `word` and `byte`: how far numbers count.
+    /// `word` and `byte`: how many bytes a message number has.
     Spans,
-    /// `wide` and `narrow`: the same.
-    Widths,
 }
 
 /// Why a line of a script isn't done. Words are counted from 0.
@@ -101,7 +99,6 @@ pub fn one_of(pair: Pair) -> &'static str
         Pair::Ends => "m",
         Pair::Cores => "s",
         Pair::Spans => "word",
-        Pair::Widths => "wide",
     }
 }
 
@@ -113,7 +110,6 @@ pub fn other_of(pair: Pair) -> &'static str
         Pair::Ends => "s",
         Pair::Cores => "n",
         Pair::Spans => "byte",
-        Pair::Widths => "narrow",
     }
 }
 

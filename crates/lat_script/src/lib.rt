@@ -1,5 +1,5 @@
-//! What the script programs share: the input that is read and the text that is written, the words of a line, why a line is
-//! refused, and answers in print.
+//! What the script programs share: the input that is read and the text that is written, the words of a line, the timing of a
+//! circuit, why a line is refused, and answers in print.
 //!
 //! A line of a script is words with one blank between them. Where a line wants a number, its word is the number in decimal,
 //! without a sign or a needless 0, and within the bounds that the line says; where it wants bytes, an even number of hex digits;
@@ -19,6 +19,7 @@
 //! | `line N word M isn't a command` | a command of the program, or what the command is told to do |
 #![tactic(auto)]
 
+mod circuit;
 mod fault;
 mod lines;
 mod pattern;
@@ -26,6 +27,7 @@ mod print;
 mod program;
 mod words;
 
+pub use circuit::timing;
 pub use fault::{Pair, ScriptFault, Wanted, refused_onto};
 pub use lines::{Part, is_command, line_behind};
 pub use pattern::{Came, byte_of};

@@ -8,7 +8,7 @@ use Rattle.lat_model.specs.sessions.Offers.{Offer, Nothing, Unfit, Offers, fit, 
 use Rattle.lat_model.specs.sessions.Packing.{Packing, turn_by, turn, turn_all}
 use Rattle.lat_model.proofs.sessions.Forms.{formed_as, formed_free}
 use Rattle.lat_session.specs.Packed.{NoRejects}
-use Rattle.lat_stream.specs.Does.{reject_due}
+use Rattle.lat_stream.specs.FormsOffer.{reject_due}
 use Rattle.lat_session.proofs.PackForm.{forms}
 use Rattle.lat_session.proofs.PackTurn.{turn_turned}
 

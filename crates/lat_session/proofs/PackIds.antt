@@ -23,7 +23,7 @@ use Rattle.lat_session.specs.declared.packing.Progress.{Progress}
 use Rattle.lat_session.specs.Table.{Table, table_of, ask_is_open}
 use Rattle.lat_session.specs.Stands.{Stands}
 use Rattle.lat_session.specs.Packed.{Packed, NoRejects, is_held, counted, served_next, slots_text}
-use Rattle.lat_stream.specs.Does.{Does, reject_due}
+use Rattle.lat_stream.specs.FormsOffer.{FormsOffer, reject_due}
 use Rattle.lat_session.proofs.PackTable.{kept_at, kept_here, changed_sessions, changed_asks}
 use Rattle.lat_session.proofs.PackForm.{Forms, forms}
 use Rattle.lat_session.proofs.PackTurn.{free_offers_nothing, unfree_unrefused, form_asks, turn_stands}
@@ -207,7 +207,7 @@ pub id_packed : (before : List ℕ) (t u : Table) (w v : Progress) (payload afte
     1 ≤ id →
     id ≤ length t.sessions →
     (not w.ended && nat_lt w.formed 255) ≡ true →
-    Does t.master p.after.ceiling (named p.after id) (offer t.master p.after.ceiling w.room (named p.after id)) (get_or t.sessions (id - 1) d) new payload after formed →
+    FormsOffer t.master p.after.ceiling (named p.after id) (offer t.master p.after.ceiling w.room (named p.after id)) (get_or t.sessions (id - 1) d) new payload after formed →
     ((x : sessions.Slot) → offer t.master p.after.ceiling w.room (named p.after id) ≡ offers.Offers x → length after ≡ length payload + sessions.slot_len x) →
     ((x : sessions.Slot) → offer t.master p.after.ceiling w.room (named p.after id) ≡ offers.Offers x → IsFormed x) →
     u ≡ record t { served = served_next formed id t.served; sessions = set t.sessions (id - 1) new } →
@@ -226,7 +226,7 @@ id_packed before t u w v payload after p id d new formed pk s lo hi g does len f
     none q = omega (arith, ap length q)
 
     go : (o : Offer) → offer t.master p.after.ceiling w.room (named p.after id) ≡ o →
-        Does t.master p.after.ceiling (named p.after id) o (get_or t.sessions (id - 1) d) new payload after formed →
+        FormsOffer t.master p.after.ceiling (named p.after id) o (get_or t.sessions (id - 1) d) new payload after formed →
         ((x : sessions.Slot) → o ≡ offers.Offers x → length after ≡ length payload + sessions.slot_len x) →
         Packed before u v after (turn p (p.after.at_id id))
     go offers.Nothing q h len =

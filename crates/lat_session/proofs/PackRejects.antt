@@ -13,7 +13,7 @@ use Rattle.lat_model.specs.sessions.EndOk.{EndOk}
 use Rattle.lat_session.specs.Table.{ask_is_open}
 use Rattle.lat_session.specs.Stands.{AllBegun}
 use Rattle.lat_session.specs.Packed.{NoRejects, open_serials}
-use Rattle.lat_stream.specs.Does.{reject_due}
+use Rattle.lat_stream.specs.FormsOffer.{reject_due}
 use Rattle.lat_session.proofs.PackIds.{turn_nothing}
 use Rattle.lat_session.proofs.PackTurn.{turn_turned}
 use Rattle.lat_session.proofs.PackAll.{turn_other, turn_tells, turn_going}

@@ -19,7 +19,7 @@ use Rattle.lat_model.proofs.sessions.Offers.{offer_fine}
 use Rattle.lat_model.proofs.sessions.Packs.{accepted_named}
 use Rattle.lat_session.specs.Table.{Table, table_of, ask_is_open}
 use Rattle.lat_session.specs.Stands.{Stands}
-use Rattle.lat_stream.specs.Does.{reject_due}
+use Rattle.lat_stream.specs.FormsOffer.{reject_due}
 use Rattle.lat_session.proofs.PackForm.{Forms, forms}
 
 -- a free session with no reject to tell has nothing to send

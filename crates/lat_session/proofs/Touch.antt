@@ -87,13 +87,13 @@ kept_found t e (suc i) k st h =
     same_Some k (kept_of e.master e.ceiling (named e (suc i))) (sym h ∙ kept_here t e i (suc i) st next (slice_get_within t.sessions i k h))
 
 -- by a rule for a session that is there, and a default where none is
-pub told : {R : Type 0} (f : Session → R) (t : Table) (e : Sessions) (id : ℕ) (o : Option (Bor Kept)) (d r : R) {Tells : Bor Kept → Type 0}
-    → Stands t e → option_copied o ≡ session_at t id → d ≡ f blank → MatchOption o (r ≡ d) Tells
-    → ((x : Bor Kept) → Tells x → x.now ≡ kept_of e.master e.ceiling (named e id) → r ≡ f (named e id)) → r ≡ f (named e id)
+pub told : {R : Type 0} (f : Session → R) (t : Table) (e : Sessions) (id : ℕ) (o : Option (Bor Kept)) (d r : R) {Known : Bor Kept → Type 0}
+    → Stands t e → option_copied o ≡ session_at t id → d ≡ f blank → MatchOption o (r ≡ d) Known
+    → ((x : Bor Kept) → Known x → x.now ≡ kept_of e.master e.ceiling (named e id) → r ≡ f (named e id)) → r ≡ f (named e id)
 told f t e id None d r st c b h g = h ∙ b ∙ ap f (sym (nothing_here t e id st (sym c)))
 told f t e id (Some x) d r st c b h g = g x h (kept_found t e id x.now st (sym c))
 
-pub told_value : {R : Type 0} (f : Option Kept → R) (k : Option Kept) (o : Option (Bor Kept)) (d r : R) {Tells : Bor Kept → Type 0}
-    → option_copied o ≡ k → d ≡ f None → MatchOption o (r ≡ d) Tells → ((x : Bor Kept) → Tells x → r ≡ f (Some x.now)) → r ≡ f k
+pub told_value : {R : Type 0} (f : Option Kept → R) (k : Option Kept) (o : Option (Bor Kept)) (d r : R) {Known : Bor Kept → Type 0}
+    → option_copied o ≡ k → d ≡ f None → MatchOption o (r ≡ d) Known → ((x : Bor Kept) → Known x → r ≡ f (Some x.now)) → r ≡ f k
 told_value f k None d r c b h g = h ∙ b ∙ ap f c
 told_value f k (Some x) d r c b h g = g x h ∙ ap f c

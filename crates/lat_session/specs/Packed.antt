@@ -11,7 +11,7 @@ use Rattle.lat_model.specs.sessions.Sessions.{Sessions}
 use Rattle.lat_model.specs.sessions.Packing.{Packing}
 use Rattle.lat_model.specs.sessions.Slots as sessions
 use Rattle.lat_slots.specs.Layout.{slot_text}
-use Rattle.lat_stream.specs.Does.{reject_due}
+use Rattle.lat_stream.specs.FormsOffer.{reject_due}
 use Rattle.lat_stream.specs.Wire.{IsFormed, formed_as}
 use Rattle.lat_session.specs.declared.packing.Progress.{Progress}
 use Rattle.lat_session.specs.Table.{Table, ask_is_open}

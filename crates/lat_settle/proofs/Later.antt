@@ -43,12 +43,12 @@ in_front k (x ∷ xs) ys e = go (nat_eq k x) e (λ r. in_front k xs ys r)
     go false r f = f r
 
 -- what a delivery adds
-record Adds (i : ℕ) (w v : Machines) : Type 0 where
+record IsDelivered (i : ℕ) (w v : Machines) : Type 0 where
   pub sent : List Posted
   pub posts : v.posts ≡ w.posts ++ sent
   pub delivered : v.delivered ≡ w.delivered ++ i ∷ []
 
-tell_adds : (u : Setups) (w : Machines) (i : ℕ) (b : Bool) (e : Event) (rates : List ℕ) → Adds i w (tell u (marked_delivered i w) b e rates)
+tell_adds : (u : Setups) (w : Machines) (i : ℕ) (b : Bool) (e : Event) (rates : List ℕ) → IsDelivered i w (tell u (marked_delivered i w) b e rates)
 tell_adds u w i true e rates = record { sent = post_all true (server_step u.server w.server e).frames; posts = refl; delivered = refl }
 tell_adds u w i false e rates = record { sent = post_all false (node_step u.node rates w.node e).frames; posts = refl; delivered = refl }
 
@@ -63,9 +63,9 @@ rises u now rates w i j e f =
     at : slice_get w.posts i ≡ Some n.post
     at = subst (λ z. slice_get w.posts z ≡ Some n.post) (omega (arith, n.at)) n.there
 
-    told : Adds i w (cond (is_for_other u n.post) (tell u (marked_delivered i w) (not n.post.by_server) (heard_as u n.post now) rates) (counted (marked_delivered i w)))
-    told = subst (λ z. Adds i w (cond z (tell u (marked_delivered i w) (not n.post.by_server) (heard_as u n.post now) rates) (counted (marked_delivered i w)))) (sym n.other)
+    told : IsDelivered i w (cond (is_for_other u n.post) (tell u (marked_delivered i w) (not n.post.by_server) (heard_as u n.post now) rates) (counted (marked_delivered i w)))
+    told = subst (λ z. IsDelivered i w (cond z (tell u (marked_delivered i w) (not n.post.by_server) (heard_as u n.post now) rates) (counted (marked_delivered i w)))) (sym n.other)
         (tell_adds u w i (not n.post.by_server) (heard_as u n.post now) rates)
 
-    a : Adds i w (happens u w (HearsFrame i now rates))
-    a = subst (λ z. Adds i w (comes u w i now rates z)) (sym at) told
+    a : IsDelivered i w (happens u w (HearsFrame i now rates))
+    a = subst (λ z. IsDelivered i w (comes u w i now rates z)) (sym at) told

@@ -7,7 +7,7 @@ use Rattle.lat_laws.specs.rounds.Rounds.{next_moment}
 use Rattle.lat_wire.specs.declared.fault.EventFault.{EventFault}
 use Rattle.lat_wire.specs.declared.fault.EventFault.TheVariants.{FramesFull, Backward, OwnAddress, NoFrame, Old, Memory}
 use Rattle.lat_settle.specs.Events.{behind, round_events}
-use Rattle.lat_settle.specs.Told.{Stops, Tells}
+use Rattle.lat_settle.specs.Told.{Stops, ToldAll}
 use Rattle.lat_settle.specs.Rounds.{in_round, settled_behind, settled, Wants, StopsIn, rounds_moment}
 use Rattle.lat_settle.proofs.Passing.{played_through, played_refused, take_front, is_before}
 
@@ -47,9 +47,9 @@ pub running_none : {H : Type 0} (u : Setups) (s : State) (k : Kept H) → Stands
 unfolding settled_behind
 running_none u s k h = record { state = s; whole = refl; stands = h }
 
-pub running_more : {H : Type 0} (u : Setups) (s : State) (n : ℕ) (k new : Kept H) → Running u s n k → ((t : State) → StandsAt k t → Tells u t (round_events u t) new) → Running u s (suc n) new
+pub running_more : {H : Type 0} (u : Setups) (s : State) (n : ℕ) (k new : Kept H) → Running u s n k → ((t : State) → StandsAt k t → ToldAll u t (round_events u t) new) → Running u s (suc n) new
 running_more u s n k new r go =
-    let q : Tells u r.state (round_events u r.state) new = go r.state r.stands in
+    let q : ToldAll u r.state (round_events u r.state) new = go r.state r.stands in
     record {
       state = behind u r.state (round_events u r.state);
       whole = settled_more u 0 n s r.state (Through (behind u r.state (round_events u r.state))) r.whole (played_through u 0 r.state (round_events u r.state) q.none);

@@ -11,7 +11,7 @@ use Rattle.lat_schedule.specs.declared.event.WorldEvent.{WorldEvent}
 use Rattle.lat_schedule.specs.declared.event.WorldEvent.TheVariants.{Deliver}
 use Rattle.lat_wire.specs.declared.fault.EventFault.{EventFault}
 use Rattle.lat_settle.specs.Events.{behind, followed, tell_time, time_events, delivers, deliver_events, take_on, take_events, round_events}
-use Rattle.lat_settle.specs.Told.{NoneRefused, Stops, Tells, TellsAs}
+use Rattle.lat_settle.specs.Told.{NoneRefused, Stops, ToldAll, ToldAs}
 use Rattle.lat_settle.proofs.Along.{Half, half_none, half_more, half_stops, half_all, stops_then, tells_then}
 
 -- deliveries
@@ -51,7 +51,7 @@ one_less n (suc left) e l = record { less = left; is = refl; count = omega (arit
 next_cut : {H : Type 0} (u : Setups) (i left less : ℕ) (k : Kept H) → left ≡ suc less → ((t : State) → StandsAt k t → Some i ≡ undelivered u t.machines) → (t : State) → StandsAt k t → deliver_events u left t ≡ followed u t (Deliver i ∷ []) (deliver_events u less)
 next_cut u i left less k is found t h = ap (λ z. deliver_events u z t) is ∙ deliver_cut u less i t (sym (found t h))
 
-pub delivering_more : {H : Type 0} (u : Setups) (s : State) (n m i : ℕ) (k new : Kept H) → m ≡ suc n → n < 199745 → ((t : State) → StandsAt k t → Some i ≡ undelivered u t.machines) → ((t : State) → StandsAt k t → Tells u t (Deliver i ∷ []) new) → Delivering u s n k → Delivering u s m new
+pub delivering_more : {H : Type 0} (u : Setups) (s : State) (n m i : ℕ) (k new : Kept H) → m ≡ suc n → n < 199745 → ((t : State) → StandsAt k t → Some i ≡ undelivered u t.machines) → ((t : State) → StandsAt k t → ToldAll u t (Deliver i ∷ []) new) → Delivering u s n k → Delivering u s m new
 delivering_more u s n m i k new q l found go d =
     let o : OneLess n d.left = one_less n d.left d.count l in
     record {
@@ -65,10 +65,10 @@ delivering_stops u s n i fault k new l found go d =
     let o : OneLess n d.left = one_less n d.left d.count l in
     half_stops u s (deliver_events u 199745 s) (λ t. Deliver i ∷ []) (deliver_events u d.left) (deliver_events u o.less) fault k new d.half (next_cut u i d.left o.less k o.is found) go
 
-pub delivering_all : {H : Type 0} (u : Setups) (s : State) (n : ℕ) (k : Kept H) → ((t : State) → StandsAt k t → None ≡ undelivered u t.machines) → Delivering u s n k → Tells u s (deliver_events u 199745 s) k
+pub delivering_all : {H : Type 0} (u : Setups) (s : State) (n : ℕ) (k : Kept H) → ((t : State) → StandsAt k t → None ≡ undelivered u t.machines) → Delivering u s n k → ToldAll u s (deliver_events u 199745 s) k
 delivering_all u s n k found d = half_all u s (deliver_events u 199745 s) (deliver_events u d.left) k d.half (λ t h. deliver_none u d.left t (sym (found t h)))
 
-pub delivering_most : {H : Type 0} (u : Setups) (s : State) (n : ℕ) (k : Kept H) → 199745 ≤ n → Delivering u s n k → Tells u s (deliver_events u 199745 s) k
+pub delivering_most : {H : Type 0} (u : Setups) (s : State) (n : ℕ) (k : Kept H) → 199745 ≤ n → Delivering u s n k → ToldAll u s (deliver_events u 199745 s) k
 delivering_most u s n k l d = half_all u s (deliver_events u 199745 s) (deliver_events u d.left) k d.half (λ t h. ap (λ z. deliver_events u z t) (let q : d.left ≡ 0 = omega (arith, d.count, l) in q) ∙ deliver_end u t)
 
 -- takes
@@ -106,7 +106,7 @@ line_less n (suc left) lines e l = record { less = left; is = refl; count = omeg
 line_cut : {H : Type 0} (u : Setups) (b : Bool) (n left less : ℕ) (k : Kept H) → left ≡ suc less → (t : State) → StandsAt k t → take_events u b (upwards n left) t ≡ followed u t (take_events u b (suc n ∷ []) t) (take_events u b (upwards (suc n) less))
 line_cut u b n left less k is t h = ap (λ z. take_events u b (upwards n z) t) is ∙ take_cut u b (suc n) (upwards (suc n) less) t
 
-pub taking_more : {H : Type 0} (u : Setups) (s : State) (b : Bool) (lines n m : ℕ) (k new : Kept H) → m ≡ suc n → n < lines → ((t : State) → StandsAt k t → Tells u t (take_events u b (suc n ∷ []) t) new) → Taking u s b lines n k → Taking u s b lines m new
+pub taking_more : {H : Type 0} (u : Setups) (s : State) (b : Bool) (lines n m : ℕ) (k new : Kept H) → m ≡ suc n → n < lines → ((t : State) → StandsAt k t → ToldAll u t (take_events u b (suc n ∷ []) t) new) → Taking u s b lines n k → Taking u s b lines m new
 taking_more u s b lines n m k new q l go d =
     let o : LineLess n d.left lines = line_less n d.left lines d.count l in
     record {
@@ -121,19 +121,19 @@ taking_stops u s b lines n fault k new l go d =
     let o : LineLess n d.left lines = line_less n d.left lines d.count l in
     half_stops u s (take_events u b (upwards 0 lines) s) (take_events u b (suc n ∷ [])) (take_events u b (upwards n d.left)) (take_events u b (upwards (suc n) o.less)) fault k new d.half (line_cut u b n d.left o.less k o.is) go
 
-pub taking_all : {H : Type 0} (u : Setups) (s : State) (b : Bool) (lines n : ℕ) (k : Kept H) → lines ≤ n → Taking u s b lines n k → Tells u s (take_events u b (upwards 0 lines) s) k
+pub taking_all : {H : Type 0} (u : Setups) (s : State) (b : Bool) (lines n : ℕ) (k : Kept H) → lines ≤ n → Taking u s b lines n k → ToldAll u s (take_events u b (upwards 0 lines) s) k
 taking_all u s b lines n k l d = half_all u s (take_events u b (upwards 0 lines) s) (take_events u b (upwards n d.left)) k d.half (λ t h. ap (λ z. take_events u b (upwards n z) t) (let q : d.left ≡ 0 = omega (arith, d.count, l) in q) ∙ take_end u b t)
 
 -- a line without a session doesn't take
-pub takes_none : {H : Type 0} (u : Setups) (s : State) (b : Bool) (line : ℕ) (k : Kept H) → has_session (core_of s.machines b) line ≡ false → StandsAt k s → Tells u s (take_events u b (line ∷ []) s) k
+pub takes_none : {H : Type 0} (u : Setups) (s : State) (b : Bool) (line : ℕ) (k : Kept H) → has_session (core_of s.machines b) line ≡ false → StandsAt k s → ToldAll u s (take_events u b (line ∷ []) s) k
 unfolding take_events behind NoneRefused
 takes_none u s b line k e h =
-    subst (λ z. Tells u s (cond z (take_on b line ∷ []) []) k) (sym e) (record { none = tt; stands = h })
+    subst (λ z. ToldAll u s (cond z (take_on b line ∷ []) []) k) (sym e) (record { none = tt; stands = h })
 
 -- one with a session does
-pub takes_one : {A H : Type 0} (u : Setups) (s : State) (b : Bool) (line : ℕ) (r : Result A EventFault) (k : Kept H) → has_session (core_of s.machines b) line ≡ true → TellsAs u s (take_on b line ∷ []) r k → TellsAs u s (take_events u b (line ∷ []) s) r k
+pub takes_one : {A H : Type 0} (u : Setups) (s : State) (b : Bool) (line : ℕ) (r : Result A EventFault) (k : Kept H) → has_session (core_of s.machines b) line ≡ true → ToldAs u s (take_on b line ∷ []) r k → ToldAs u s (take_events u b (line ∷ []) s) r k
 unfolding take_events
-takes_one {A = A} {H = H} u s b line r k e q = subst (λ z. TellsAs u s (cond z (take_on b line ∷ []) []) r k) (sym e) q
+takes_one {A = A} {H = H} u s b line r k e q = subst (λ z. ToldAs u s (cond z (take_on b line ∷ []) []) r k) (sym e) q
 
 -- one event, then another: both ends are told the moment
 pub time_cut : (u : Setups) (s : State) (e f : WorldEvent) → followed u s (e ∷ []) (λ t. f ∷ []) ≡ e ∷ f ∷ []
@@ -142,14 +142,14 @@ time_cut u s e f = refl
 
 -- clauses of a call, by what the world was made of before
 
-pub setups_same : {H : Type 0} (u v : Setups) (es : Setups → State → List WorldEvent) (r : Result (Unit {0}) EventFault) (k new : Kept H) → v ≡ u → ((t : State) → StandsAt k t → TellsAs v t (es v t) r new) → (t : State) → StandsAt k t → TellsAs u t (es u t) r new
-setups_same u v es r k new same f t h = subst (λ z. TellsAs z t (es z t) r new) same (f t h)
+pub setups_same : {H : Type 0} (u v : Setups) (es : Setups → State → List WorldEvent) (r : Result (Unit {0}) EventFault) (k new : Kept H) → v ≡ u → ((t : State) → StandsAt k t → ToldAs v t (es v t) r new) → (t : State) → StandsAt k t → ToldAs u t (es u t) r new
+setups_same u v es r k new same f t h = subst (λ z. ToldAs z t (es z t) r new) same (f t h)
 
-pub line_so : {H : Type 0} (u v : Setups) (b : Bool) (n m : ℕ) (r : Result (Unit {0}) EventFault) (k new : Kept H) → v ≡ u → m ≡ suc n → ((t : State) → StandsAt k t → TellsAs v t (take_events v b (m ∷ []) t) r new) → (t : State) → StandsAt k t → TellsAs u t (take_events u b (suc n ∷ []) t) r new
-line_so u v b n m r k new same q f t h = subst (λ z. TellsAs u t (take_events u b (z ∷ []) t) r new) q (setups_same u v (λ z. take_events z b (m ∷ [])) r k new same f t h)
+pub line_so : {H : Type 0} (u v : Setups) (b : Bool) (n m : ℕ) (r : Result (Unit {0}) EventFault) (k new : Kept H) → v ≡ u → m ≡ suc n → ((t : State) → StandsAt k t → ToldAs v t (take_events v b (m ∷ []) t) r new) → (t : State) → StandsAt k t → ToldAs u t (take_events u b (suc n ∷ []) t) r new
+line_so u v b n m r k new same q f t h = subst (λ z. ToldAs u t (take_events u b (z ∷ []) t) r new) q (setups_same u v (λ z. take_events z b (m ∷ [])) r k new same f t h)
 
-pub lines_so : {H : Type 0} (u v : Setups) (b : Bool) (n m : ℕ) (r : Result (Unit {0}) EventFault) (k new : Kept H) → v ≡ u → n ≡ m → ((t : State) → StandsAt k t → TellsAs v t (take_events v b (upwards 0 n) t) r new) → (t : State) → StandsAt k t → TellsAs u t (take_events u b (upwards 0 m) t) r new
-lines_so u v b n m r k new same q f t h = subst (λ z. TellsAs u t (take_events u b (upwards 0 z) t) r new) q (setups_same u v (λ z. take_events z b (upwards 0 n)) r k new same f t h)
+pub lines_so : {H : Type 0} (u v : Setups) (b : Bool) (n m : ℕ) (r : Result (Unit {0}) EventFault) (k new : Kept H) → v ≡ u → n ≡ m → ((t : State) → StandsAt k t → ToldAs v t (take_events v b (upwards 0 n) t) r new) → (t : State) → StandsAt k t → ToldAs u t (take_events u b (upwards 0 m) t) r new
+lines_so u v b n m r k new same q f t h = subst (λ z. ToldAs u t (take_events u b (upwards 0 z) t) r new) q (setups_same u v (λ z. take_events z b (upwards 0 n)) r k new same f t h)
 
 -- the times
 
@@ -158,10 +158,10 @@ time_stops u s now fault k e q =
     subst (λ z. Stops u s (time_events z) fault k) e
     (subst (λ z. Stops u s z fault k) (time_cut u s (tell_time true now) (tell_time false now)) (stops_then u s (tell_time true now ∷ []) (λ t. tell_time false now ∷ []) fault k q))
 
-pub time_tells : {H : Type 0} (u : Setups) (s : State) (now : ℕ) (r : Result (Unit {0}) EventFault) (mid new : Kept H) → now ≡ next_moment u s.moment → Tells u s (tell_time true now ∷ []) mid → ((t : State) → StandsAt mid t → TellsAs u t (tell_time false now ∷ []) r new) → TellsAs u s (time_events (next_moment u s.moment)) r new
+pub time_tells : {H : Type 0} (u : Setups) (s : State) (now : ℕ) (r : Result (Unit {0}) EventFault) (mid new : Kept H) → now ≡ next_moment u s.moment → ToldAll u s (tell_time true now ∷ []) mid → ((t : State) → StandsAt mid t → ToldAs u t (tell_time false now ∷ []) r new) → ToldAs u s (time_events (next_moment u s.moment)) r new
 time_tells u s now r mid new e p f =
-    subst (λ z. TellsAs u s (time_events z) r new) e
-    (subst (λ z. TellsAs u s z r new) (time_cut u s (tell_time true now) (tell_time false now)) (tells_then u s (tell_time true now ∷ []) (λ t. tell_time false now ∷ []) mid new r p f))
+    subst (λ z. ToldAs u s (time_events z) r new) e
+    (subst (λ z. ToldAs u s z r new) (time_cut u s (tell_time true now) (tell_time false now)) (tells_then u s (tell_time true now ∷ []) (λ t. tell_time false now ∷ []) mid new r p f))
 
 pub now_is : (u : Setups) (at moment timer last : ℕ) → moment ≡ at → timer ≡ 10 * u.server.timing.timer → at ≡ last → moment + timer ≡ next_moment u last
 now_is u at moment timer last a b c = omega (arith, a, b, c)
@@ -178,20 +178,20 @@ pub round_stops : {H : Type 0} (u : Setups) (s : State) (fault : EventFault) (k 
 unfolding round_events
 round_stops u s fault k q = stops_then u s (time_events (next_moment u s.moment)) (behind_times u) fault k q
 
-pub round_tells : {H : Type 0} (u : Setups) (s : State) (r : Result (Unit {0}) EventFault) (mid new : Kept H) → Tells u s (time_events (next_moment u s.moment)) mid → ((t : State) → StandsAt mid t → TellsAs u t (behind_times u t) r new) → TellsAs u s (round_events u s) r new
+pub round_tells : {H : Type 0} (u : Setups) (s : State) (r : Result (Unit {0}) EventFault) (mid new : Kept H) → ToldAll u s (time_events (next_moment u s.moment)) mid → ((t : State) → StandsAt mid t → ToldAs u t (behind_times u t) r new) → ToldAs u s (round_events u s) r new
 unfolding round_events
 round_tells u s r mid new p f = tells_then u s (time_events (next_moment u s.moment)) (behind_times u) mid new r p f
 
 pub frames_stop : {H : Type 0} (u : Setups) (fault : EventFault) (k new : Kept H) → ((t : State) → StandsAt k t → Stops u t (deliver_events u 199745 t) fault new) → (t : State) → StandsAt k t → Stops u t (behind_times u t) fault new
 frames_stop u fault k new f t h = stops_then u t (deliver_events u 199745 t) (behind_frames u) fault new (f t h)
 
-pub frames_tell : {H : Type 0} (u : Setups) (r : Result (Unit {0}) EventFault) (k mid new : Kept H) → ((t : State) → StandsAt k t → Tells u t (deliver_events u 199745 t) mid) → ((t : State) → StandsAt mid t → TellsAs u t (behind_frames u t) r new) → (t : State) → StandsAt k t → TellsAs u t (behind_times u t) r new
+pub frames_tell : {H : Type 0} (u : Setups) (r : Result (Unit {0}) EventFault) (k mid new : Kept H) → ((t : State) → StandsAt k t → ToldAll u t (deliver_events u 199745 t) mid) → ((t : State) → StandsAt mid t → ToldAs u t (behind_frames u t) r new) → (t : State) → StandsAt k t → ToldAs u t (behind_times u t) r new
 frames_tell u r k mid new f g t h = tells_then u t (deliver_events u 199745 t) (behind_frames u) mid new r (f t h) g
 
 pub takes_stop : {H : Type 0} (u : Setups) (fault : EventFault) (k new : Kept H) → ((t : State) → StandsAt k t → Stops u t (take_events u true (upwards 0 u.server.lines) t) fault new) → (t : State) → StandsAt k t → Stops u t (behind_frames u t) fault new
 takes_stop u fault k new f t h = stops_then u t (take_events u true (upwards 0 u.server.lines) t) (take_events u false (upwards 0 u.node.lines)) fault new (f t h)
 
-pub takes_tell : {H : Type 0} (u : Setups) (r : Result (Unit {0}) EventFault) (k mid new : Kept H) → ((t : State) → StandsAt k t → Tells u t (take_events u true (upwards 0 u.server.lines) t) mid) → ((t : State) → StandsAt mid t → TellsAs u t (take_events u false (upwards 0 u.node.lines) t) r new) → (t : State) → StandsAt k t → TellsAs u t (behind_frames u t) r new
+pub takes_tell : {H : Type 0} (u : Setups) (r : Result (Unit {0}) EventFault) (k mid new : Kept H) → ((t : State) → StandsAt k t → ToldAll u t (take_events u true (upwards 0 u.server.lines) t) mid) → ((t : State) → StandsAt mid t → ToldAs u t (take_events u false (upwards 0 u.node.lines) t) r new) → (t : State) → StandsAt k t → ToldAs u t (behind_frames u t) r new
 takes_tell u r k mid new f g t h = tells_then u t (take_events u true (upwards 0 u.server.lines) t) (take_events u false (upwards 0 u.node.lines)) mid new r (f t h) g
 
 pub found_so : {H : Type 0} (u v : Setups) (k : Kept H) (o : Option ℕ) → v ≡ u → ((w : Machines) → Stands k w → o ≡ undelivered v w) → (t : State) → StandsAt k t → o ≡ undelivered u t.machines

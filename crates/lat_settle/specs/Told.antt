@@ -24,10 +24,10 @@ pub record Stops {H : Type 0} (u : Setups) (s : State) (es : List WorldEvent) (f
   pub stands : StandsAt k (behind u s before)
 
 -- all of them were told
-pub record Tells {H : Type 0} (u : Setups) (s : State) (es : List WorldEvent) (k : Kept H) : Type 0 where
+pub record ToldAll {H : Type 0} (u : Setups) (s : State) (es : List WorldEvent) (k : Kept H) : Type 0 where
   pub none : NoneRefused u s es
   pub stands : StandsAt k (behind u s es)
 
-abbrev pub TellsAs : {A H : Type 0} → Setups → State → List WorldEvent → Result A EventFault → Kept H → Type 0
-TellsAs u s es (Ok a) k = Tells u s es k
-TellsAs u s es (Err fault) k = Stops u s es fault k
+abbrev pub ToldAs : {A H : Type 0} → Setups → State → List WorldEvent → Result A EventFault → Kept H → Type 0
+ToldAs u s es (Ok a) k = ToldAll u s es k
+ToldAs u s es (Err fault) k = Stops u s es fault k

@@ -8,7 +8,7 @@ ghost use Rattle.lat_replay.specs.Played.{State, StandsAt};
 ghost use Rattle.lat_laws.specs.rounds.Rounds.{next_moment};
 ghost use Rattle.lat_laws.specs.tales.Books.{lines_at};
 ghost use Rattle.lat_settle.specs.Events.{deliver_events, round_events, take_events, time_events};
-ghost use Rattle.lat_settle.specs.Told.{TellsAs};
+ghost use Rattle.lat_settle.specs.Told.{ToldAs};
 
 use lat_base::Event;
 use lat_replay::{EventFault, RatingRule, World, WorldEvent};
@@ -25,7 +25,7 @@ const ITEMS: u16 = 4_096;
 pub(crate) fn round<H: RatingRule>(alloc: Global, world: &mut World<H>) -> Result<(), EventFault>
     requires { next_moment (setups_of world.old) (moment_of world.old) < 2 ^ 64 }
     ensures tells { (s : State) → StandsAt world.old s →
-        TellsAs (setups_of world.old) s (round_events (setups_of world.old) s) result world.new }
+        ToldAs (setups_of world.old) s (round_events (setups_of world.old) s) result world.new }
     ensures moment { OnOk result (moment_of world.new
         ≡ next_moment (setups_of world.old) (moment_of world.old)) }
     ensures setups { setups_of world.new ≡ setups_of world.old }
@@ -57,7 +57,7 @@ fn tell<H: RatingRule>(
 ) -> Result<(), EventFault>
     requires { IsPlayable event }
     ensures tells { (s : State) → StandsAt world.old s →
-        TellsAs (setups_of world.old) s (event ∷ []) result world.new }
+        ToldAs (setups_of world.old) s (event ∷ []) result world.new }
     ensures moment { OnOk result (moment_of world.new ≡ moment_behind (moment_of world.old) event) }
     ensures setups { setups_of world.new ≡ setups_of world.old }
 {
@@ -69,7 +69,7 @@ fn tell_times<H: RatingRule>(alloc: Global, world: &mut World<H>) -> Result<(), 
     requires { next_moment (setups_of world.old) (moment_of world.old) < 2 ^ 64 }
     ensures tells { (s : State) →
         StandsAt world.old s →
-        TellsAs (setups_of world.old) s (time_events (next_moment (setups_of world.old) s.moment)) result world.new }
+        ToldAs (setups_of world.old) s (time_events (next_moment (setups_of world.old) s.moment)) result world.new }
     ensures moment { OnOk result (moment_of world.new
         ≡ next_moment (setups_of world.old) (moment_of world.old)) }
     ensures setups { setups_of world.new ≡ setups_of world.old }
@@ -96,7 +96,7 @@ fn tell_times<H: RatingRule>(alloc: Global, world: &mut World<H>) -> Result<(), 
 // Every frame that never came is delivered, the one that was sent first before the others.
 fn deliver_all<H: RatingRule>(alloc: Global, world: &mut World<H>) -> Result<(), EventFault>
     ensures tells { (s : State) → StandsAt world.old s →
-        TellsAs (setups_of world.old) s (deliver_events (setups_of world.old) 199745 s) result world.new }
+        ToldAs (setups_of world.old) s (deliver_events (setups_of world.old) 199745 s) result world.new }
     ensures moment { OnOk result (moment_of world.new ≡ moment_of world.old) }
     ensures setups { setups_of world.new ≡ setups_of world.old }
 {
@@ -118,7 +118,7 @@ fn take_all<H: RatingRule>(
 ) -> Result<(), EventFault>
     ensures tells { (s : State) →
         StandsAt world.old s →
-        TellsAs (setups_of world.old) s (take_events (setups_of world.old) server (upwards 0 lines) s) result world.new }
+        ToldAs (setups_of world.old) s (take_events (setups_of world.old) server (upwards 0 lines) s) result world.new }
     ensures moment { OnOk result (moment_of world.new ≡ moment_of world.old) }
     ensures setups { setups_of world.new ≡ setups_of world.old }
 {
@@ -137,7 +137,7 @@ fn take<H: RatingRule>(
 ) -> Result<(), EventFault>
     ensures tells { (s : State) →
         StandsAt world.old s →
-        TellsAs (setups_of world.old) s (take_events (setups_of world.old) server (line
+        ToldAs (setups_of world.old) s (take_events (setups_of world.old) server (line
         ∷ []) s) result world.new }
     ensures moment { OnOk result (moment_of world.new ≡ moment_of world.old) }
     ensures setups { setups_of world.new ≡ setups_of world.old }

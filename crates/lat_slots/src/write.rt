@@ -71,13 +71,6 @@ fn ids_ok(to: u8, from: u8) -> bool
     to > 0 && from > 0
 }
 
-// Four characters meet their condition by their type.
-fn setting_ok(to: u8, from: u8, chars: &[u8; 4]) -> bool
-    ensures { IsTrue result ↔ ((0 < to) × (0 < from) × (length chars.now ≡ 4)) }
-{
-    ids_ok(to, from) && chars.len() == 4
-}
-
 // How many bytes the body of a start has, up to the greatest `usize`. Its service is a name by its type.
 fn start_len(service: &Name, subject: &[u8], params: &Params) -> usize
     ensures len { result ≡ min (5 + length service.now + length subject.now + length (params_text params.now)) usize.MAX }
@@ -123,16 +116,10 @@ fn fits(slot: &Slot) -> bool
             from,
             chars,
             ..
-        } => setting_ok(*to, *from, chars),
+        } => ids_ok(*to, *from) && chars.as_slice().len() == 4,
         Slot::Attention { to, from, .. } => ids_ok(*to, *from),
         Slot::Reject { to, .. } | Slot::Stop { to, .. } => *to > 0,
     }
-}
-
-fn setting_len(chars: &[u8; 4]) -> usize
-    ensures { result ≡ 1 + length chars.now }
-{
-    1 + chars.len()
 }
 
 // How many bytes the body has, up to the greatest `usize`.
@@ -147,7 +134,7 @@ fn body_len(slot: &Slot) -> usize
             ..
         } => start_len(service, subject.as_slice(), params),
         Slot::DataA { bytes, .. } => bytes.as_slice().len(),
-        Slot::DataB { chars, .. } => setting_len(chars),
+        Slot::DataB { chars, .. } => 1 + chars.as_slice().len(),
         Slot::Attention { .. } => 1,
         Slot::Reject { .. } | Slot::Stop { .. } => 0,
     }

@@ -14,7 +14,7 @@ use Rattle.lat_stream.specs.declared.forming.Turn.{Turn}
 use Rattle.lat_stream.specs.declared.forming.Turn.TheVariants as turns
 use Rattle.lat_stream.specs.Kept.{Kept, kept_of, item_of, state_shown}
 use Rattle.lat_stream.specs.Sound.{Sound}
-use Rattle.lat_stream.specs.Does.{Does, reject_due}
+use Rattle.lat_stream.specs.FormsOffer.{FormsOffer, reject_due}
 use Rattle.lat_stream.specs.Turns.{Meets, data_turn, live_turn, turn_in, turn_of, leading, next_bytes, bytes_offer, offer_at, kept_after, framed, gave}
 use Rattle.lat_stream.proofs.FormsAfter.{open_kept, open_is, start_after, attention_after, stop_after, setting_after, bytes_after, credits_after}
 
@@ -283,14 +283,14 @@ turn_agrees m c room s ok rj = go s.refused (is_empty s.out) s.accepted (starts 
     go false false false st false so er ee ea es et eo = silent _ (called_turn m so sc s.closed nl o (live_turn k s.attention))
 
 does_by : (m : Bool) (c : ℕ) (s : Session) (o : Offer) (next old new : Kept) (before after : List ℕ) (result : Formed) →
-    ((x : Slot) → o ≡ Offers x → kept_of m c (formed s x) ≡ next) → Meets o next old new before after result → Does m c s o old new before after result
+    ((x : Slot) → o ≡ Offers x → kept_of m c (formed s x) ≡ next) → Meets o next old new before after result → FormsOffer m c s o old new before after result
 does_by m c s Nothing next old new before after result f h = (h.answer, h.kept, h.text ∙ append-nil before)
 does_by m c s Unfit next old new before after result f h = (h.answer, h.kept, h.text ∙ append-nil before)
 does_by m c s (Offers x) next old new before after result f h = (h.answer, h.kept ∙ sym (f x refl), h.text)
 
 -- what the turn of a kept session does is what the session does with its offer
 pub turn_does : (m : Bool) (c room id : ℕ) (s : Session) (old new : Kept) (before after : List ℕ) (result : Formed) → Sound m c s → old ≡ kept_of m c s → s.id ≡ id → reject_due s ≡ false →
-    Meets (offer_at m id room old (turn_of old)) (kept_after room old (turn_of old)) old new before after result → Does m c s (offer m c room s) old new before after result
+    Meets (offer_at m id room old (turn_of old)) (kept_after room old (turn_of old)) old new before after result → FormsOffer m c s (offer m c room s) old new before after result
 turn_does m c room id s old new before after result ok e i rj h =
     let k : Kept = kept_of m c s in
     let a : Agrees m c room s k (offer m c room s) (turn_of k) = turn_agrees m c room s ok rj in
@@ -298,6 +298,6 @@ turn_does m c room id s old new before after result ok e i rj h =
     subst (λ z. Meets (offer_at m s.id room z (turn_of z)) (kept_after room z (turn_of z)) z new before after result) e
     (subst (λ n. Meets (offer_at m n room old (turn_of old)) (kept_after room old (turn_of old)) old new before after result) (sym i) h)
     in
-    subst (λ z. Does m c s (offer m c room s) z new before after result) (sym e)
+    subst (λ z. FormsOffer m c s (offer m c room s) z new before after result) (sym e)
     (does_by m c s (offer m c room s) (kept_after room k (turn_of k)) k new before after result a.after
     (subst (λ z. Meets z (kept_after room k (turn_of k)) k new before after result) (sym a.offered) h'))

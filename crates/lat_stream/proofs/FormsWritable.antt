@@ -13,7 +13,7 @@ use Rattle.lat_model.specs.Lists.{is_empty}
 use Rattle.lat_stream.specs.declared.opening.Opening.{Opening}
 use Rattle.lat_stream.specs.declared.forming.Turn.{Turn}
 use Rattle.lat_stream.specs.declared.forming.Turn.TheVariants as turns
-use Rattle.lat_stream.specs.Does.{reject_due}
+use Rattle.lat_stream.specs.FormsOffer.{reject_due}
 use Rattle.lat_stream.specs.Kept.{Kept, kept_of, start_left, state_shown}
 use Rattle.lat_stream.specs.Sound.{Sound}
 use Rattle.lat_stream.specs.Steps.{runs_in}

@@ -4,4 +4,4 @@ pub mod Sound
 pub mod Begins
 pub mod Steps
 pub mod Turns
-pub mod Does
+pub mod FormsOffer

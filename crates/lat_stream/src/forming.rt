@@ -10,7 +10,7 @@ ghost use Rattle.lat_model.specs.sessions.Slots as sessions;
 ghost use Rattle.lat_model.specs.sessions.Session.{Session, peer};
 ghost use Rattle.lat_stream.specs.declared.forming.Turn.TheVariants as turns;
 ghost use Rattle.lat_stream.specs.declared.opening.Opening.{Opening};
-ghost use Rattle.lat_stream.specs.Does.{Does, reject_due};
+ghost use Rattle.lat_stream.specs.FormsOffer.{FormsOffer, reject_due};
 ghost use Rattle.lat_stream.specs.Kept.{kept_of};
 ghost use Rattle.lat_stream.specs.Sound.{Sound};
 ghost use Rattle.lat_stream.specs.Wire.{IsFormed};
@@ -60,7 +60,7 @@ impl Stream {
         ensures does { (ceiling : ℕ) (s : Session) → Sound master ceiling s →
             self.old ≡ kept_of master ceiling s →
             s.id ≡ id → reject_due s ≡ false →
-            Does master ceiling s (offers.offer master ceiling room s) self.old self.new out.old out.new result }
+            FormsOffer master ceiling s (offers.offer master ceiling room s) self.old self.new out.old out.new result }
         ensures len { (ceiling : ℕ) (s : Session) (x : sessions.Slot) →
             Sound master ceiling s → self.old ≡ kept_of master ceiling s →
             s.id ≡ id → reject_due s ≡ false →

@@ -1,4 +1,5 @@
 pub mod Rules
+pub mod Ratings
 pub mod Tariffs
 pub mod Kept
 pub mod Said

@@ -3,6 +3,7 @@
 
 pub mod laws;
 mod node;
+mod rules;
 mod said;
 mod services;
 mod steady;
@@ -11,5 +12,6 @@ mod tariff;
 
 pub use lat_node::{NodeConfig, RatingRule};
 pub use node::TariffCore;
+pub use rules::{TwentyPerFreeLine, WhileFree};
 pub use steady::{SteadyHook, SteadyRule};
 pub use tariff::{Rule, Tariff, are_apart};

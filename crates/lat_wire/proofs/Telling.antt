@@ -23,7 +23,7 @@ use Rattle.lat_wire.specs.ledger.Ways.{CameAtMost, Log}
 use Rattle.lat_wire.specs.declared.ledger.tallies.Tally.{Tally}
 use Rattle.lat_wire.specs.ledger.Tallies.{tally_at}
 use Rattle.lat_wire.specs.ledger.Logs.{IsLog}
-use Rattle.lat_wire.specs.ledger.Books.{ArePosts, Book, Counts, IsBook, IsBookOf, IsReadable, Tells, behind_all, counts_at, counts_of, took_one, tallies_of, tally_of, with_side}
+use Rattle.lat_wire.specs.ledger.Books.{ArePosts, Book, Counts, IsBook, IsBookOf, IsReadable, HaveCounts, behind_all, counts_at, counts_of, took_one, tallies_of, tally_of, with_side}
 use Rattle.lat_wire.proofs.ledger.Behind.{behind_formed, behind_taken, behind_shown, tells_same}
 use Rattle.lat_wire.specs.Ends.{MadeFrames, frames_by}
 use Rattle.lat_wire.specs.Kept.{Holds, Kept, setups_of}
@@ -42,7 +42,7 @@ tallies_at u w false e r = subst (λ a. TalliesOn w.node.core (node_step u.node 
 abbrev pub half_way : Core → Core → Counts
 half_way before after = record { formed = formed_in before; taken = taken_in after; shown = shown_in before }
 
-took_tells : (before after : Core) (e : Event) (a : Answer) (o : Option ℕ) (old new : List Tally) → ((x : ℕ) → taken_in after x ≡ taken_in before x + taken_by e a x) → ((x : ℕ) → taken_by e a x ≡ counted_at o x) → Took o old new → Tells old (counts_of before) → Tells new (half_way before after)
+took_tells : (before after : Core) (e : Event) (a : Answer) (o : Option ℕ) (old new : List Tally) → ((x : ℕ) → taken_in after x ≡ taken_in before x + taken_by e a x) → ((x : ℕ) → taken_by e a x ≡ counted_at o x) → Took o old new → HaveCounts old (counts_of before) → HaveCounts new (half_way before after)
 took_tells before after e a None old new t c k h x l =
     ap (λ z. tally_at z x) k ∙ (h x l ∙ ap (λ z. let r : Tally = record { formed = formed_in before x; taken = z; shown = shown_in before x } in r) (omega (arith, t x, c x)))
 took_tells before after e a (Some circuit) old new t c k h x l = k x ∙ go (nat_eq x circuit) refl (nat_eq circuit x) refl
@@ -67,10 +67,10 @@ took_book u w b e o k took r c g t n h = record {
   tallies = go b (λ z. took_tells (core_of w b) (core_of (tell u w b e (rates u w)) b) e (answer_by u w b e) o (tallies_of k b) (tallies_of took b) (tallies_at u w b e r).taken c t z) n;
 }
   where
-    go : (s : Bool) → (Tells (tallies_of k s) (counts_of (core_of w s)) → Tells (tallies_of took s) (half_way (core_of w s) (core_of (tell u w s e (rates u w)) s))) → tallies_of took (not s) ≡ tallies_of k (not s) → (x : Bool) → Tells (tallies_of took x) (with_side s (half_way (core_of w s) (core_of (tell u w s e (rates u w)) s)) (counts_at w) x)
+    go : (s : Bool) → (HaveCounts (tallies_of k s) (counts_of (core_of w s)) → HaveCounts (tallies_of took s) (half_way (core_of w s) (core_of (tell u w s e (rates u w)) s))) → tallies_of took (not s) ≡ tallies_of k (not s) → (x : Bool) → HaveCounts (tallies_of took x) (with_side s (half_way (core_of w s) (core_of (tell u w s e (rates u w)) s)) (counts_at w) x)
     go true f n true = f (h.tallies true)
-    go true f n false = subst (λ z. Tells z (counts_at w false)) (sym n) (h.tallies false)
-    go false f n true = subst (λ z. Tells z (counts_at w true)) (sym n) (h.tallies true)
+    go true f n false = subst (λ z. HaveCounts z (counts_at w false)) (sym n) (h.tallies false)
+    go false f n true = subst (λ z. HaveCounts z (counts_at w true)) (sym n) (h.tallies true)
     go false f n false = f (h.tallies false)
 
 -- the book behind the frames is the book of the world behind the event
@@ -87,7 +87,7 @@ told_book u w true e new r h = record {
     half : Counts
     half = half_way (core_of w true) (core_of (tell u w true e (rates u w)) true)
 
-    side : Tells new.server (counts_of (core_of (tell u w true e (rates u w)) true))
+    side : HaveCounts new.server (counts_of (core_of (tell u w true e (rates u w)) true))
     side = tells_same new.server (behind_all (frames_by u w true e) half) (counts_of (core_of (tell u w true e (rates u w)) true))
         (λ x. behind_formed (frames_by u w true e) half x ∙ sym (t.formed x))
         (λ x. behind_taken (frames_by u w true e) half x)
@@ -105,7 +105,7 @@ told_book u w false e new r h = record {
     half : Counts
     half = half_way (core_of w false) (core_of (tell u w false e (rates u w)) false)
 
-    side : Tells new.node (counts_of (core_of (tell u w false e (rates u w)) false))
+    side : HaveCounts new.node (counts_of (core_of (tell u w false e (rates u w)) false))
     side = tells_same new.node (behind_all (frames_by u w false e) half) (counts_of (core_of (tell u w false e (rates u w)) false))
         (λ x. behind_formed (frames_by u w false e) half x ∙ sym (t.formed x))
         (λ x. behind_taken (frames_by u w false e) half x)
@@ -118,8 +118,8 @@ delivered_book u w i old new h p l t = record {
   posts = subst (λ z. ArePosts z w.posts) (sym p) h.posts;
   log = l;
   tallies = elim [
-    | true ↦ subst (λ z. Tells z (counts_at w true)) (sym (t true)) (h.tallies true)
-    | false ↦ subst (λ z. Tells z (counts_at w false)) (sym (t false)) (h.tallies false)
+    | true ↦ subst (λ z. HaveCounts z (counts_at w true)) (sym (t true)) (h.tallies true)
+    | false ↦ subst (λ z. HaveCounts z (counts_at w false)) (sym (t false)) (h.tallies false)
   ];
 }
 

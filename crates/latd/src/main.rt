@@ -6,15 +6,12 @@ ghost use Rattle.std.specs.Prelude.{◌≡◌, codes};
 ghost use Rattle.lat_history.specs.Ledgers.{AreBlanks};
 ghost use Rattle.lat_tariff.specs.Tariffs.{AreKnown};
 
-mod rates;
-
-use crate::rates::{NineWhileFree, TwentyPerFreeLine};
 use lat_base::Name;
 use lat_cell::Blanks;
 use lat_live::{Served, serve};
 use lat_node::{FreeLines, RatingRule};
 use lat_outside::{FreeGate, LineEnd, StdSink, Tx};
-use lat_tariff::{Rule, SteadyRule, Tariff};
+use lat_tariff::{Rule, SteadyRule, Tariff, TwentyPerFreeLine, WhileFree};
 use lat_udp::{NetOpener, RealClock};
 use std::alloc::{AllocError, Global};
 use std::env::{Args, args};
@@ -113,7 +110,7 @@ fn status<
 {
     let (login, print) = services();
     let per_line: Box<dyn SteadyRule + Send> = Box::new(alloc, TwentyPerFreeLine)?;
-    let while_free: Box<dyn SteadyRule + Send> = Box::new(alloc, NineWhileFree)?;
+    let while_free: Box<dyn SteadyRule + Send> = Box::new(alloc, WhileFree { rating: 9 })?;
     let mut rules = Vec::new(alloc);
     rules.push(Rule {
         name: login,

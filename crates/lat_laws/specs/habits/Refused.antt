@@ -15,6 +15,7 @@ use Rattle.lat_machines.specs.server.Server.{ServerConfig, Server, ServerStep, o
 use Rattle.lat_machines.specs.node.Node.{NodeConfig, Node, NodeStep, open_node}
 use Rattle.lat_machines.specs.world.Histories.{server_run, RatedEvent, node_run}
 use Rattle.lat_machines.specs.world.Refusals.{server_moved, node_moved, server_after, node_after}
+use Rattle.lat_model.specs.Reasons as reasons
 
 -- a machine in front of an event that comes behind a history, at its moment
 abbrev pub server_before : ServerConfig → List Event → Event → Server
@@ -106,12 +107,12 @@ RepeatedCommandsGrantNothing =
     server_after config events (command_heard from m numbers now)
     ≡ answers_again (server_before config events (command_heard from m numbers now)) from m r
 
--- a START that a node refuses: a STOP with reason 7 goes back, under the id that the START came with
+-- a START that a node refuses: a STOP for want of resources goes back, under the id that the START came with
 abbrev pub stops_alone : Node → ℕ → ℕ → NodeStep
 stops_alone state from source = record {
   state = state;
   answer = StartRefused;
-  frames = plain from 0 (OfCircuit (StopMessage false false source 0 7 [])) ∷ [];
+  frames = plain from 0 (OfCircuit (StopMessage false false source 0 reasons.no_resources [])) ∷ [];
 }
 
 pub record IsTurnedAway (state : Node) (e : Event) (s : NodeStep) : Type 0 where

@@ -61,17 +61,17 @@ abbrev pub node_end : World → ℕ → End
 node_end w q = (w.node.circuit_at q).end
 
 -- what a frame says of its sender
-abbrev pub Tells : World → Bool → ℕ → ℕ → ℕ → ℕ → Sent → Type 0
-Tells w true x to destination source (Run mark ask f) =
+abbrev pub NamesSender : World → Bool → ℕ → ℕ → ℕ → ℕ → Sent → Type 0
+NamesSender w true x to destination source (Run mark ask f) =
     to ≡ w.node.own →
     ((server_end w x).running ≡ true) × (destination ≡ (server_end w x).peer)
-Tells w true x to destination source (Stopped r) = (lives (server_end w x) ≡ false) × (source ≡ x) × (x ≢ 0)
-Tells w false x to destination source (Stopped r) =
+NamesSender w true x to destination source (Stopped r) = (lives (server_end w x) ≡ false) × (source ≡ x) × (x ≢ 0)
+NamesSender w false x to destination source (Stopped r) =
     to ≡ w.server.own →
     x ≢ 0 →
     (source ≡ x) × (destination ≡ (node_end w x).peer)
-Tells w true x to destination source CallStart = source ≡ x
-Tells w b x to destination source s = Unit {0}
+NamesSender w true x to destination source CallStart = source ≡ x
+NamesSender w b x to destination source s = Unit {0}
 
 -- and of its receiver, once it was delivered
 abbrev pub Came : World → Bool → ℕ → ℕ → ℕ → Sent → Type 0
@@ -138,7 +138,7 @@ pub record Carried (w : World) (done : List ℕ) : Type 0 where
       q ≤ w.node.drawn →
       (w.node.circuit_at q).address ≡ w.server.own →
       (node_end w q).peer ≤ w.server.drawn
-  pub tells : Each (λ v. Tells w v.by_server v.circuit v.to v.destination v.source v.sent) w.frames
+  pub tells : Each (λ v. NamesSender w v.by_server v.circuit v.to v.destination v.source v.sent) w.frames
   pub came :
       (j : ℕ) (v : Wired) →
       slice_get w.frames j ≡ Some v →

@@ -25,53 +25,53 @@ use Rattle.lat_machines.proofs.events.Leads.{Quiet, Leads, leads_ignored, any_ag
 use Rattle.lat_machines.proofs.events.Mades.{Made, made_loud, acts_made, made_none, made_quiet, made_notice, local_made, passes_made, put_made, set_made, attend_made, take_made, close_made, line_made}
 use Rattle.lat_machines.proofs.events.Servers.{BroughtRun, Brought, BroughtIn, BroughtBy, read_quiet}
 
-abbrev Did : (List ℕ → Type 0) → (List ℕ → Type 0) → World → Node → List OutFrame → Type 0
-Did L D w st fs = Made L D w false st.core fs
+abbrev NodeMade : (List ℕ → Type 0) → (List ℕ → Type 0) → World → Node → List OutFrame → Type 0
+NodeMade L D w st fs = Made L D w false st.core fs
 
-did_cond : {L D : List ℕ → Type 0} (w : World) (n : Bool) (s t : NodeStep) → (n ≡ true → Did L D w s.state s.frames) → (n ≡ false → Did L D w t.state t.frames) → Did L D w (cond n s t).state (cond n s t).frames
+did_cond : {L D : List ℕ → Type 0} (w : World) (n : Bool) (s t : NodeStep) → (n ≡ true → NodeMade L D w s.state s.frames) → (n ≡ false → NodeMade L D w t.state t.frames) → NodeMade L D w (cond n s t).state (cond n s t).frames
 did_cond w true s t p q = p refl
 did_cond w false s t p q = q refl
 
 -- answering
 
-judge_did : {L : List ℕ → Type 0} (config : NodeConfig) (w : World) (st : Node) (x id : ℕ) (request : Option ℕ) (v : Verdict) → table w false ≡ st.core.circuits → Did L Quiet w (judged config st x id request v) []
+judge_did : {L : List ℕ → Type 0} (config : NodeConfig) (w : World) (st : Node) (x id : ℕ) (request : Option ℕ) (v : Verdict) → table w false ≡ st.core.circuits → NodeMade L Quiet w (judged config st x id request v) []
 judge_did {L} config w st x id request (Rejects reason) q = local_made (node_side config) st.core w false x (Refuse id reason) tt q
 judge_did {L} config w st x id request (Accepts line) q =
     let m : Made L Quiet w false (local_call config x (Calls.Answer id) st.core) [] = local_made (node_side config) st.core w false x (Calls.Answer id) tt q in
     record { wired = m.wired; leads = m.leads; shown = m.shown }
 
-one_did : {L : List ℕ → Type 0} (config : NodeConfig) (w : World) (x : ℕ) (st : Node) (id : ℕ) → table w false ≡ st.core.circuits → Did L Quiet w (answers_one config x st id) []
+one_did : {L : List ℕ → Type 0} (config : NodeConfig) (w : World) (x : ℕ) (st : Node) (id : ℕ) → table w false ≡ st.core.circuits → NodeMade L Quiet w (answers_one config x st id) []
 one_did {L} config w x st id q = go (waits s)
   where
     s : Session
     s = asked_at st x id
 
-    go : (n : Bool) → Did L Quiet w (cond n (judged config st x id s.request (verdict config st s.service s.request)) st) []
+    go : (n : Bool) → NodeMade L Quiet w (cond n (judged config st x id s.request (verdict config st s.service s.request)) st) []
     go true = judge_did config w st x id s.request (verdict config st s.service s.request) q
     go false = made_none w false st.core q
 
-all_did : {L D : List ℕ → Type 0} (config : NodeConfig) (w : World) (x : ℕ) (ids : List ℕ) (st : Node) (fs : List OutFrame) → Did L D w st fs → Did L D w (answers_in config x ids st) fs
+all_did : {L D : List ℕ → Type 0} (config : NodeConfig) (w : World) (x : ℕ) (ids : List ℕ) (st : Node) (fs : List OutFrame) → NodeMade L D w st fs → NodeMade L D w (answers_in config x ids st) fs
 all_did config w x [] st fs m = m
 all_did config w x (id ∷ ids) st fs m =
     all_did config w x ids (answers_one config x st id) fs
     (made_quiet w false st.core fs (answers_one config x st id).core m (one_did config (with_table w false st.core.circuits m.wired) x st id refl))
 
-asked_did : {L D : List ℕ → Type 0} (config : NodeConfig) (w : World) (x : ℕ) (st : Node) (fs : List OutFrame) → Did L D w st fs → Did L D w (answers_asked config x st) fs
+asked_did : {L D : List ℕ → Type 0} (config : NodeConfig) (w : World) (x : ℕ) (st : Node) (fs : List OutFrame) → NodeMade L D w st fs → NodeMade L D w (answers_asked config x st) fs
 asked_did {L} {D} config w x st fs m = go (lives (st.core.circuits.circuit_at x).end)
   where
     left : Node
     left = record st { turned_away = st.turned_away + asked_on st x }
 
-    go : (n : Bool) → Did L D w (cond n (answers_in config x (upwards 0 64) st) left) fs
+    go : (n : Bool) → NodeMade L D w (cond n (answers_in config x (upwards 0 64) st) left) fs
     go true = all_did config w x (upwards 0 64) st fs m
     go false = record { wired = m.wired; leads = m.leads; shown = m.shown }
 
 -- hearing
 
-did_heard : {L D : List ℕ → Type 0} (config : NodeConfig) (w : World) (st : Node) (h : HeardAct) → Leads L D w false h.act.table h.act.sent → Did L D w (heard_at config st h).state (heard_at config st h).frames
+did_heard : {L D : List ℕ → Type 0} (config : NodeConfig) (w : World) (st : Node) (h : HeardAct) → Leads L D w false h.act.table h.act.sent → NodeMade L D w (heard_at config st h).state (heard_at config st h).frames
 did_heard config w st h p = acts_made (node_side config) st.core w false h.act p
 
-did_run : {L D : List ℕ → Type 0} (config : NodeConfig) (w : World) (st : Node) (from : ℕ) (wide : Bool) (h : Head) (slots : List Slot) (k : Option Numbers) → table w false ≡ st.core.circuits → BroughtRun L D w false from k wide h slots → Did L D w (hears_run config st from wide h slots k).state (hears_run config st from wide h slots k).frames
+did_run : {L D : List ℕ → Type 0} (config : NodeConfig) (w : World) (st : Node) (from : ℕ) (wide : Bool) (h : Head) (slots : List Slot) (k : Option Numbers) → table w false ≡ st.core.circuits → BroughtRun L D w false from k wide h slots → NodeMade L D w (hears_run config st from wide h slots k).state (hears_run config st from wide h slots k).frames
 did_run {L} {D} config w st from wide h slots k q p = go (names st.core.circuits from h.to h.from)
   where
     act : HeardAct
@@ -80,19 +80,19 @@ did_run {L} {D} config w st from wide h slots k q p = go (names st.core.circuits
     s : NodeStep
     s = heard_at config st act
 
-    m : Did L D w s.state s.frames
+    m : NodeMade L D w s.state s.frames
     m = did_heard config w st act (subst (λ t. Leads L D w false (hear_run false t from wide h slots k st.core.moment).act.table (hear_run false t from wide h slots k st.core.moment).act.sent) q (run_leads w false from wide h slots k st.core.moment p.mark p.frame p.spans p.brings (p.same st.core.moment)))
 
-    go : (n : Bool) → Did L D w (cond n (answers_asked config h.to s.state) s.state) s.frames
+    go : (n : Bool) → NodeMade L D w (cond n (answers_asked config h.to s.state) s.state) s.frames
     go true = asked_did config w h.to s.state s.frames m
     go false = m
 
-did_start : {L D : List ℕ → Type 0} (config : NodeConfig) (w : World) (st : Node) (from to source : ℕ) (info : StartInfo) (fact : StartFact) → table w false ≡ st.core.circuits → Leads L D w false (start_at (setup_of config.timing) st.core.circuits from source st.core.moment (agreed_by config.timing info) fact).table (start_at (setup_of config.timing) st.core.circuits from source st.core.moment (agreed_by config.timing info) fact).sent → Did L D w (hears_start config st from source info fact).state (hears_start config st from source info fact).frames
+did_start : {L D : List ℕ → Type 0} (config : NodeConfig) (w : World) (st : Node) (from to source : ℕ) (info : StartInfo) (fact : StartFact) → table w false ≡ st.core.circuits → Leads L D w false (start_at (setup_of config.timing) st.core.circuits from source st.core.moment (agreed_by config.timing info) fact).table (start_at (setup_of config.timing) st.core.circuits from source st.core.moment (agreed_by config.timing info) fact).sent → NodeMade L D w (hears_start config st from source info fact).state (hears_start config st from source info fact).frames
 did_start config w st from to source info (Makes k) q p = acts_made (node_side config) (names_for (Makes k) info.name st.core) w false (start_at (setup_of config.timing) st.core.circuits from source st.core.moment (agreed_by config.timing info) (Makes k)) p
 did_start config w st from to source info (Repeats k) q p = acts_made (node_side config) st.core w false (start_at (setup_of config.timing) st.core.circuits from source st.core.moment (agreed_by config.timing info) (Repeats k)) p
 did_start config w st from to source info Refuses q p = acts_made (node_side config) st.core w false (start_at (setup_of config.timing) st.core.circuits from source st.core.moment (agreed_by config.timing info) Refuses) p
 
-did_message : {L D : List ℕ → Type 0} (config : NodeConfig) (w : World) (st : Node) (from : ℕ) (m : Message) (k : Option Numbers) → table w false ≡ st.core.circuits → w.other ≡ setup_of config.timing → Brought L D w false from k m → Did L D w (hears_message config st from m k).state (hears_message config st from m k).frames
+did_message : {L D : List ℕ → Type 0} (config : NodeConfig) (w : World) (st : Node) (from : ℕ) (m : Message) (k : Option Numbers) → table w false ≡ st.core.circuits → w.other ≡ setup_of config.timing → Brought L D w false from k m → NodeMade L D w (hears_message config st from m k).state (hears_message config st from m k).frames
 did_message {L} {D} config w st from (RunMessage h slots) k q s p = did_run config w st from false h slots k q p
 did_message {L} {D} config w st from (WideMessage h slots) k q s p = did_run config w st from true h slots k q p
 did_message {L} {D} config w st from (StartMessage true ask to source info) k q s p =
@@ -103,32 +103,32 @@ did_message {L} {D} config w st from (StartMessage true ask to source info) k q 
 did_message {L} {D} config w st from (StartMessage false ask to source info) k q s p = record { wired = []; leads = subst (λ t. Leads L D w false t []) q (leads_ignored w false (p.event st.core.moment any_agreed) (p.fits st.core.moment any_agreed) (p.gives st.core.moment any_agreed) (p.arrives st.core.moment any_agreed)); shown = refl }
 did_message {L} {D} config w st from (StopMessage master ask to source reason text) k q s p = did_heard config w st (hear_stop_at false st.core.circuits from to source st.core.moment reason) (subst (λ t. Leads L D w false (hear_stop_at false t from to source st.core.moment reason).act.table (hear_stop_at false t from to source st.core.moment reason).act.sent) q (stop_leads w false from to source st.core.moment reason master p))
 
-did_solicited : {L : List ℕ → Type 0} (config : NodeConfig) (rates : List ℕ) (w : World) (st : Node) (from id : ℕ) (o : Option Name) → table w false ≡ st.core.circuits → Did L Quiet w (solicited config rates st from id o).state (solicited config rates st from id o).frames
+did_solicited : {L : List ℕ → Type 0} (config : NodeConfig) (rates : List ℕ) (w : World) (st : Node) (from id : ℕ) (o : Option Name) → table w false ≡ st.core.circuits → NodeMade L Quiet w (solicited config rates st from id o).state (solicited config rates st from id o).frames
 did_solicited config rates w st from id None q = made_none w false st.core q
 did_solicited config rates w st from id (Some service) q = made_notice w false st.core _ _ _ refl (made_notice w false st.core _ [] _ refl (made_none w false st.core q))
 
-did_notice : {L : List ℕ → Type 0} (config : NodeConfig) (rates : List ℕ) (w : World) (st : Node) (from : ℕ) (n : Notice) → table w false ≡ st.core.circuits → Did L Quiet w (hears_notice config rates st from n).state (hears_notice config rates st from n).frames
+did_notice : {L : List ℕ → Type 0} (config : NodeConfig) (rates : List ℕ) (w : World) (st : Node) (from : ℕ) (n : Notice) → table w false ≡ st.core.circuits → NodeMade L Quiet w (hears_notice config rates st from n).state (hears_notice config rates st from n).frames
 did_notice config rates w st from (StatusNotice s) q = made_none w false st.core q
 did_notice config rates w st from (SolicitNotice s) q = did_solicited config rates w st from s.id (find (same s.service) config.services) q
 did_notice config rates w st from (AnnouncementNotice a) q = made_none w false st.core q
 did_notice config rates w st from (CommandNotice m) q = made_none w false st.core q
 did_notice config rates w st from (ResponseNotice r) q = made_none w false st.core q
 
-did_value : {L D : List ℕ → Type 0} (config : NodeConfig) (rates : List ℕ) (w : World) (st : Node) (from : ℕ) (v : Value) (k : Option Numbers) → table w false ≡ st.core.circuits → w.other ≡ setup_of config.timing → BroughtIn L D w false from k (Whole v) → Did L D w (hears_value config rates st from v k).state (hears_value config rates st from v k).frames
+did_value : {L D : List ℕ → Type 0} (config : NodeConfig) (rates : List ℕ) (w : World) (st : Node) (from : ℕ) (v : Value) (k : Option Numbers) → table w false ≡ st.core.circuits → w.other ≡ setup_of config.timing → BroughtIn L D w false from k (Whole v) → NodeMade L D w (hears_value config rates st from v k).state (hears_value config rates st from v k).frames
 did_value config rates w st from (OfCircuit m) k q s p = did_message config w st from m k q s p
 did_value config rates w st from (OfNotice m) k q s p = made_loud w false _ _ p (did_notice config rates w st from m q)
 
-did_hear : {L D : List ℕ → Type 0} (config : NodeConfig) (rates : List ℕ) (w : World) (st : Node) (from : ℕ) (r : Reading) (k : Option Numbers) → table w false ≡ st.core.circuits → w.other ≡ setup_of config.timing → (from ≡ everyone → D []) → (from ≢ everyone → BroughtIn L D w false from k r) → Did L D w (hears config rates st from r k).state (hears config rates st from r k).frames
+did_hear : {L D : List ℕ → Type 0} (config : NodeConfig) (rates : List ℕ) (w : World) (st : Node) (from : ℕ) (r : Reading) (k : Option Numbers) → table w false ≡ st.core.circuits → w.other ≡ setup_of config.timing → (from ≡ everyone → D []) → (from ≢ everyone → BroughtIn L D w false from k r) → NodeMade L D w (hears config rates st from r k).state (hears config rates st from r k).frames
 did_hear {L} {D} config rates w st from (Malformed field at) k q s o p = made_loud w false _ _ (read_quiet D from o p) (made_none w false st.core q)
 did_hear {L} {D} config rates w st from (Whole v) k q s o p = did_cond w (nat_eq from everyone) (tells st Ignored) (hears_value config rates st from v k) (λ i. made_loud w false _ _ (o (eqb-true from everyone i)) (made_none w false st.core q)) (λ i. did_value config rates w st from v k q s (p (eqb-false from everyone i)))
 
 -- requests
 
-did_request : {L : List ℕ → Type 0} (config : NodeConfig) (w : World) (st : Node) (to id : ℕ) (service : Name) (o : Option Requested) → table w false ≡ st.core.circuits → Did L Quiet w (requests_again config st to id service o).state (requests_again config st to id service o).frames
+did_request : {L : List ℕ → Type 0} (config : NodeConfig) (w : World) (st : Node) (to id : ℕ) (service : Name) (o : Option Requested) → table w false ≡ st.core.circuits → NodeMade L Quiet w (requests_again config st to id service o).state (requests_again config st to id service o).frames
 did_request config w st to id service None q = made_notice w false st.core _ [] _ refl (made_none w false st.core q)
 did_request config w st to id service (Some r) q = did_cond w (nat_eq r.to to && same r.service service) _ (tells st IdUsed) (λ i. made_notice w false st.core _ [] _ refl (made_none w false st.core q)) (λ i. made_none w false st.core q)
 
-did_withdraw : {L : List ℕ → Type 0} (config : NodeConfig) (w : World) (st : Node) (o : Option Requested) → table w false ≡ st.core.circuits → Did L Quiet w (withdraws config st o).state (withdraws config st o).frames
+did_withdraw : {L : List ℕ → Type 0} (config : NodeConfig) (w : World) (st : Node) (o : Option Requested) → table w false ≡ st.core.circuits → NodeMade L Quiet w (withdraws config st o).state (withdraws config st o).frames
 did_withdraw config w st None q = made_none w false st.core q
 did_withdraw config w st (Some r) q = made_notice w false st.core _ [] _ refl (made_none w false st.core q)
 

@@ -177,70 +177,70 @@ opens_made {L} config line address node service key request c w l q s f =
 
 -- one event
 
-pub record Did (L D : List ℕ → Type 0) (w : World) (st : Server) (fs : List OutFrame) : Type 0 where
+pub record ServerMade (L D : List ℕ → Type 0) (w : World) (st : Server) (fs : List OutFrame) : Type 0 where
   pub made : Made L D w true st.core fs
   pub fits : ServerFits st
 
-did_cond : {L D : List ℕ → Type 0} (w : World) (n : Bool) (s t : ServerStep) → (n ≡ true → Did L D w s.state s.frames) → (n ≡ false → Did L D w t.state t.frames) → Did L D w (cond n s t).state (cond n s t).frames
+did_cond : {L D : List ℕ → Type 0} (w : World) (n : Bool) (s t : ServerStep) → (n ≡ true → ServerMade L D w s.state s.frames) → (n ≡ false → ServerMade L D w t.state t.frames) → ServerMade L D w (cond n s t).state (cond n s t).frames
 did_cond w true s t p q = p refl
 did_cond w false s t p q = q refl
 
-did_none : {L : List ℕ → Type 0} (w : World) (st : Server) → table w true ≡ st.core.circuits → ServerFits st → Did L Quiet w st []
+did_none : {L : List ℕ → Type 0} (w : World) (st : Server) → table w true ≡ st.core.circuits → ServerFits st → ServerMade L Quiet w st []
 did_none w st q f = record { made = made_none w true st.core q; fits = f }
 
 -- what delivers nothing, where this may be
-did_loud : {L D : List ℕ → Type 0} (w : World) (st : Server) (fs : List OutFrame) → D [] → Did L Quiet w st fs → Did L D w st fs
+did_loud : {L D : List ℕ → Type 0} (w : World) (st : Server) (fs : List OutFrame) → D [] → ServerMade L Quiet w st fs → ServerMade L D w st fs
 did_loud w st fs l d = record { made = made_loud w true st.core fs l d.made; fits = d.fits }
 
-did_core : {L D : List ℕ → Type 0} (w : World) (st : Server) (c : Core) (fs : List OutFrame) → ServerFits st → Made L D w true c fs → Did L D w (record st { core = c }) fs
+did_core : {L D : List ℕ → Type 0} (w : World) (st : Server) (c : Core) (fs : List OutFrame) → ServerFits st → Made L D w true c fs → ServerMade L D w (record st { core = c }) fs
 did_core w st c fs f m = record { made = m; fits = record { heard = f.heard; queue = f.queue } }
 
-did_connect : {L : List ℕ → Type 0} (config : ServerConfig) (w : World) (st : Server) (line : ℕ) (service : Name) → L service → table w true ≡ st.core.circuits → w.setup ≡ setup_of config.timing → ServerFits st → Did L Quiet w (connect_event config st line service).state (connect_event config st line service).frames
+did_connect : {L : List ℕ → Type 0} (config : ServerConfig) (w : World) (st : Server) (line : ℕ) (service : Name) → L service → table w true ≡ st.core.circuits → w.setup ≡ setup_of config.timing → ServerFits st → ServerMade L Quiet w (connect_event config st line service).state (connect_event config st line service).frames
 did_connect {L} config w st line service l q s f = go (line_exists config.lines line) (has_session st.core line) (best config.groups service st.core.moment st.heard) (best_fits config.groups service st.core.moment st.heard f.heard)
   where
-    none : Did L Quiet w st []
+    none : ServerMade L Quiet w st []
     none = did_none w st q f
 
-    reaches : (b : Best) → b.from ≢ everyone → Did L Quiet w (connects_to config st line service b).state (connects_to config st line service b).frames
+    reaches : (b : Best) → b.from ≢ everyone → ServerMade L Quiet w (connects_to config st line service b).state (connects_to config st line service b).frames
     reaches b g =
         let x : ℕ = circuit_to st.core b.from in
         let d : Doing = opens config line b.from b.node service None None st.core in
-        let yes : Did L Quiet w (record st { core = d.core }) d.frames = did_core w st d.core d.frames f (opens_made config line b.from b.node service None None st.core w l q s g) in
+        let yes : ServerMade L Quiet w (record st { core = d.core }) d.frames = did_core w st d.core d.frames f (opens_made config line b.from b.node service None None st.core w l q s g) in
         step (nat_eq x 0) (nat_lt (living st.core.circuits) 8) (nat_lt st.core.circuits.drawn 65535) (has_room st.core x) d yes x
       where
-        step : (i j k l : Bool) (d : Doing) → Did L Quiet w (record st { core = d.core }) d.frames → (x : ℕ) → Did L Quiet w (cond i (cond j (cond k (does st (Connected (suc st.core.circuits.drawn) 1) d) (tells st IdsOut)) (tells st CircuitsFull)) (cond l (does st (Connected x (least_free (st.core.circuits.circuit_at x).end.half.sessions)) d) (tells st SessionsFull))).state (cond i (cond j (cond k (does st (Connected (suc st.core.circuits.drawn) 1) d) (tells st IdsOut)) (tells st CircuitsFull)) (cond l (does st (Connected x (least_free (st.core.circuits.circuit_at x).end.half.sessions)) d) (tells st SessionsFull))).frames
+        step : (i j k l : Bool) (d : Doing) → ServerMade L Quiet w (record st { core = d.core }) d.frames → (x : ℕ) → ServerMade L Quiet w (cond i (cond j (cond k (does st (Connected (suc st.core.circuits.drawn) 1) d) (tells st IdsOut)) (tells st CircuitsFull)) (cond l (does st (Connected x (least_free (st.core.circuits.circuit_at x).end.half.sessions)) d) (tells st SessionsFull))).state (cond i (cond j (cond k (does st (Connected (suc st.core.circuits.drawn) 1) d) (tells st IdsOut)) (tells st CircuitsFull)) (cond l (does st (Connected x (least_free (st.core.circuits.circuit_at x).end.half.sessions)) d) (tells st SessionsFull))).frames
         step true true true l d y x = y
         step true true false l d y x = none
         step true false k l d y x = none
         step false j k true d y x = y
         step false j k false d y x = none
 
-    solicits : Did L Quiet w (solicits_for config st service).state (solicits_for config st service).frames
+    solicits : ServerMade L Quiet w (solicits_for config st service).state (solicits_for config st service).frames
     solicits = record { made = made_notice w true st.core _ [] _ refl (made_none w true st.core q); fits = record { heard = f.heard; queue = f.queue } }
 
     asks : (o : Option Best) → ServerStep
     asks o = elim o [ None ↦ solicits_for config st service | Some b ↦ connects_to config st line service b ]
 
-    go : (n m : Bool) (o : Option Best) → BestFits o → Did L Quiet w (cond n (cond m (tells st Busy) (elim o [ None ↦ solicits_for config st service | Some b ↦ connects_to config st line service b ])) (tells st NoLine)).state (cond n (cond m (tells st Busy) (elim o [ None ↦ solicits_for config st service | Some b ↦ connects_to config st line service b ])) (tells st NoLine)).frames
+    go : (n m : Bool) (o : Option Best) → BestFits o → ServerMade L Quiet w (cond n (cond m (tells st Busy) (elim o [ None ↦ solicits_for config st service | Some b ↦ connects_to config st line service b ])) (tells st NoLine)).state (cond n (cond m (tells st Busy) (elim o [ None ↦ solicits_for config st service | Some b ↦ connects_to config st line service b ])) (tells st NoLine)).frames
     go false m o g = none
     go true true o g = none
     go true false None g = solicits
     go true false (Some b) g = reaches b g
 
-did_heard : {L D : List ℕ → Type 0} (config : ServerConfig) (w : World) (st : Server) (h : HeardAct) → ServerFits st → Leads L D w true h.act.table h.act.sent → Did L D w (heard_at config st h).state (heard_at config st h).frames
+did_heard : {L D : List ℕ → Type 0} (config : ServerConfig) (w : World) (st : Server) (h : HeardAct) → ServerFits st → Leads L D w true h.act.table h.act.sent → ServerMade L D w (heard_at config st h).state (heard_at config st h).frames
 did_heard config w st h f p = did_core w st (acts (server_side config) st.core h.act).core (acts (server_side config) st.core h.act).frames f (acts_made (server_side config) st.core w true h.act p)
 
-did_run : {L D : List ℕ → Type 0} (config : ServerConfig) (w : World) (st : Server) (from : ℕ) (wide : Bool) (h : Head) (slots : List Slot) (k : Option Numbers) → table w true ≡ st.core.circuits → ServerFits st → BroughtRun L D w true from k wide h slots → Did L D w (heard_at config st (hear_run true st.core.circuits from wide h slots k st.core.moment)).state (heard_at config st (hear_run true st.core.circuits from wide h slots k st.core.moment)).frames
+did_run : {L D : List ℕ → Type 0} (config : ServerConfig) (w : World) (st : Server) (from : ℕ) (wide : Bool) (h : Head) (slots : List Slot) (k : Option Numbers) → table w true ≡ st.core.circuits → ServerFits st → BroughtRun L D w true from k wide h slots → ServerMade L D w (heard_at config st (hear_run true st.core.circuits from wide h slots k st.core.moment)).state (heard_at config st (hear_run true st.core.circuits from wide h slots k st.core.moment)).frames
 did_run {L} {D} config w st from wide h slots k q f p = did_heard config w st (hear_run true st.core.circuits from wide h slots k st.core.moment) f (subst (λ t. Leads L D w true (hear_run true t from wide h slots k st.core.moment).act.table (hear_run true t from wide h slots k st.core.moment).act.sent) q (run_leads w true from wide h slots k st.core.moment p.mark p.frame p.spans p.brings (p.same st.core.moment)))
 
-did_message : {L D : List ℕ → Type 0} (config : ServerConfig) (w : World) (st : Server) (from : ℕ) (m : Message) (k : Option Numbers) → table w true ≡ st.core.circuits → ServerFits st → Brought L D w true from k m → Did L D w (hears_message config st from m k).state (hears_message config st from m k).frames
+did_message : {L D : List ℕ → Type 0} (config : ServerConfig) (w : World) (st : Server) (from : ℕ) (m : Message) (k : Option Numbers) → table w true ≡ st.core.circuits → ServerFits st → Brought L D w true from k m → ServerMade L D w (hears_message config st from m k).state (hears_message config st from m k).frames
 did_message {L} {D} config w st from (RunMessage h slots) k q f p = did_run config w st from false h slots k q f p
 did_message {L} {D} config w st from (WideMessage h slots) k q f p = did_run config w st from true h slots k q f p
 did_message {L} {D} config w st from (StartMessage true ask to source info) k q f p = record { made = record { wired = []; leads = subst (λ t. Leads L D w true t []) q (leads_ignored w true (p.event st.core.moment any_agreed) (p.fits st.core.moment any_agreed) (p.gives st.core.moment any_agreed) (p.arrives st.core.moment any_agreed)); shown = refl }; fits = f }
 did_message {L} {D} config w st from (StartMessage false ask to source info) k q f p = did_heard config w st (hear_reply_at st.core.circuits from to source st.core.moment (agreed_by config.timing info)) f (subst (λ t. Leads L D w true (hear_reply_at t from to source st.core.moment (agreed_by config.timing info)).act.table (hear_reply_at t from to source st.core.moment (agreed_by config.timing info)).act.sent) q (reply_leads w from to source st.core.moment (agreed_by config.timing info) false p))
 did_message {L} {D} config w st from (StopMessage master ask to source reason text) k q f p = did_heard config w st (hear_stop_at true st.core.circuits from to source st.core.moment reason) f (subst (λ t. Leads L D w true (hear_stop_at true t from to source st.core.moment reason).act.table (hear_stop_at true t from to source st.core.moment reason).act.sent) q (stop_leads w true from to source st.core.moment reason master p))
 
-did_command : {L : List ℕ → Type 0} (config : ServerConfig) (w : World) (st : Server) (from : ℕ) (m : Command) (a : Action) → table w true ≡ st.core.circuits → ServerFits st → from ≢ everyone → Did L Quiet w (hears_command config st from m a).state (hears_command config st from m a).frames
+did_command : {L : List ℕ → Type 0} (config : ServerConfig) (w : World) (st : Server) (from : ℕ) (m : Command) (a : Action) → table w true ≡ st.core.circuits → ServerFits st → from ≢ everyone → ServerMade L Quiet w (hears_command config st from m a).state (hears_command config st from m a).frames
 did_command {L} config w st from m Ask q f n = record { made = made_notice w true st.core _ [] _ refl (made_none w true st.core q); fits = record { heard = f.heard; queue = each_more AskFits st.queue (Asks (key_of m) from m.service (ask_answer (offered config) (key_of m) m.service st.queue) ∷ []) f.queue (n, tt) } }
 did_command {L} config w st from m Cancel q f n = go (kept_for (key_of m) (st.queue ++ Cancels (key_of m) ∷ []))
   where
@@ -253,33 +253,33 @@ did_command {L} config w st from m Cancel q f n = go (kept_for (key_of m) (st.qu
       | Some k ↦ record { state = record st { queue = st.queue ++ Cancels (key_of m) ∷ [] }; answer = KeptIs k; frames = status_frame from m (KeptAs k) ∷ [] }
     ]
 
-    go : (o : Option Kept) → Did L Quiet w (told o).state (told o).frames
+    go : (o : Option Kept) → ServerMade L Quiet w (told o).state (told o).frames
     go None = record { made = made_notice w true st.core _ [] _ refl (made_none w true st.core q); fits = fits }
     go (Some k) = record { made = made_notice w true st.core _ [] _ refl (made_none w true st.core q); fits = fits }
 
-did_announcement : {L : List ℕ → Type 0} (config : ServerConfig) (w : World) (st : Server) (from : ℕ) (a : Announcement) → table w true ≡ st.core.circuits → ServerFits st → from ≢ everyone → Did L Quiet w (hears_announcement config st from a).state (hears_announcement config st from a).frames
+did_announcement : {L : List ℕ → Type 0} (config : ServerConfig) (w : World) (st : Server) (from : ℕ) (a : Announcement) → table w true ≡ st.core.circuits → ServerFits st → from ≢ everyone → ServerMade L Quiet w (hears_announcement config st from a).state (hears_announcement config st from a).frames
 did_announcement config w st from a q f n = record { made = made_none w true st.core q; fits = record { heard = go (refuses config.groups st.core.moment a st.heard); queue = f.queue } }
   where
     go : (r : Bool) → Each (λ (e : HeardAnnouncement). e.from ≢ everyone) (cond r st.heard (st.heard ++ record { from = from; announcement = a; at = st.core.moment } ∷ []))
     go true = f.heard
     go false = each_more (λ (e : HeardAnnouncement). e.from ≢ everyone) st.heard (record { from = from; announcement = a; at = st.core.moment } ∷ []) f.heard (n, tt)
 
-did_notice : {L : List ℕ → Type 0} (config : ServerConfig) (w : World) (st : Server) (from : ℕ) (n : Notice) → table w true ≡ st.core.circuits → ServerFits st → from ≢ everyone → Did L Quiet w (hears_notice config st from n).state (hears_notice config st from n).frames
+did_notice : {L : List ℕ → Type 0} (config : ServerConfig) (w : World) (st : Server) (from : ℕ) (n : Notice) → table w true ≡ st.core.circuits → ServerFits st → from ≢ everyone → ServerMade L Quiet w (hears_notice config st from n).state (hears_notice config st from n).frames
 did_notice config w st from (AnnouncementNotice a) q f n = did_announcement config w st from a q f n
 did_notice config w st from (CommandNotice m) q f n = did_command config w st from m m.action q f n
 did_notice config w st from (ResponseNotice r) q f n = did_none w st q f
 did_notice config w st from (StatusNotice s) q f n = did_none w st q f
 did_notice config w st from (SolicitNotice s) q f n = did_none w st q f
 
-did_value : {L D : List ℕ → Type 0} (config : ServerConfig) (w : World) (st : Server) (from : ℕ) (v : Value) (k : Option Numbers) → table w true ≡ st.core.circuits → ServerFits st → from ≢ everyone → BroughtIn L D w true from k (Whole v) → Did L D w (hears_value config st from v k).state (hears_value config st from v k).frames
+did_value : {L D : List ℕ → Type 0} (config : ServerConfig) (w : World) (st : Server) (from : ℕ) (v : Value) (k : Option Numbers) → table w true ≡ st.core.circuits → ServerFits st → from ≢ everyone → BroughtIn L D w true from k (Whole v) → ServerMade L D w (hears_value config st from v k).state (hears_value config st from v k).frames
 did_value config w st from (OfCircuit m) k q f n p = did_message config w st from m k q f p
 did_value config w st from (OfNotice m) k q f n p = did_loud w (hears_notice config st from m).state (hears_notice config st from m).frames p (did_notice config w st from m q f n)
 
-did_hear : {L D : List ℕ → Type 0} (config : ServerConfig) (w : World) (st : Server) (from : ℕ) (r : Reading) (k : Option Numbers) → table w true ≡ st.core.circuits → ServerFits st → (from ≡ everyone → D []) → (from ≢ everyone → BroughtIn L D w true from k r) → Did L D w (hears config st from r k).state (hears config st from r k).frames
+did_hear : {L D : List ℕ → Type 0} (config : ServerConfig) (w : World) (st : Server) (from : ℕ) (r : Reading) (k : Option Numbers) → table w true ≡ st.core.circuits → ServerFits st → (from ≡ everyone → D []) → (from ≢ everyone → BroughtIn L D w true from k r) → ServerMade L D w (hears config st from r k).state (hears config st from r k).frames
 did_hear {L} {D} config w st from (Malformed field at) k q f o p = did_loud w st [] (read_quiet D from o p) (did_none w st q f)
 did_hear {L} {D} config w st from (Whole v) k q f o p = did_cond w (nat_eq from everyone) (tells st Ignored) (hears_value config st from v k) (λ i. did_loud w st [] (o (eqb-true from everyone i)) (did_none w st q f)) (λ i. did_value config w st from v k q f (eqb-false from everyone i) (p (eqb-false from everyone i)))
 
-pub did_event : {L D : List ℕ → Type 0} (config : ServerConfig) (w : World) (st : Server) (e : Event) → table w true ≡ st.core.circuits → w.setup ≡ setup_of config.timing → ServerFits st → BroughtBy L D w true e → Did L D w (server_event config st e).state (server_event config st e).frames
+pub did_event : {L D : List ℕ → Type 0} (config : ServerConfig) (w : World) (st : Server) (e : Event) → table w true ≡ st.core.circuits → w.setup ≡ setup_of config.timing → ServerFits st → BroughtBy L D w true e → ServerMade L D w (server_event config st e).state (server_event config st e).frames
 did_event config w st (Hears from payload k now) q s f p = did_hear config w (record st { core = at_moment now st.core }) from payload k q (record { heard = f.heard; queue = f.queue }) p.0 p.1
 did_event config w st (Time now) q s f p = did_loud w _ _ p (did_core w st _ _ f (passes_made (server_side config) (at_moment now st.core) w q))
 did_event config w st (Connects line service) q s f p = did_loud w _ _ p.0 (did_connect config w st line service p.1 q s f)
@@ -319,7 +319,7 @@ grantable_fits st line (Some service) f = go (has_session st.core line) (next_re
     go false None p = tt
     go false (Some r) p = fit (can_open st.core r.from) r p
 
-did_grant : {L D : List ℕ → Type 0} (config : ServerConfig) (w : World) (p : Passing) (line : ℕ) (o : Option Name) (r : Option Request) → NameFits L o → w.setup ≡ setup_of config.timing → RequestFits r → Did L D w p.state p.frames → Did L D w (grants_by config line o r p).state (grants_by config line o r p).frames
+did_grant : {L D : List ℕ → Type 0} (config : ServerConfig) (w : World) (p : Passing) (line : ℕ) (o : Option Name) (r : Option Request) → NameFits L o → w.setup ≡ setup_of config.timing → RequestFits r → ServerMade L D w p.state p.frames → ServerMade L D w (grants_by config line o r p).state (grants_by config line o r p).frames
 did_grant config w p line None r l s g d = d
 did_grant config w p line (Some service) None l s g d = d
 did_grant config w p line (Some service) (Some r) l s g d =
@@ -330,17 +330,17 @@ did_grant config w p line (Some service) (Some r) l s g d =
       fits = record { heard = d.fits.heard; queue = each_more AskFits p.state.queue (Grants r.key service ∷ []) d.fits.queue (tt, tt) };
     }
 
-did_lines : {L D : List ℕ → Type 0} (config : ServerConfig) (w : World) (lines : List ℕ) (p : Passing) → OffersFit L config.offers → w.setup ≡ setup_of config.timing → Did L D w p.state p.frames → Did L D w (grant_lines config lines p).state (grant_lines config lines p).frames
+did_lines : {L D : List ℕ → Type 0} (config : ServerConfig) (w : World) (lines : List ℕ) (p : Passing) → OffersFit L config.offers → w.setup ≡ setup_of config.timing → ServerMade L D w p.state p.frames → ServerMade L D w (grant_lines config lines p).state (grant_lines config lines p).frames
 did_lines {L} config w [] p l s d = d
 did_lines {L} config w (line ∷ lines) p l s d = did_lines config w lines (grant_line config p line) l s (did_grant config w p line (offer_on line config.offers) (grantable p.state line (offer_on line config.offers)) (offer_fits L line config.offers l) s (grantable_fits p.state line (offer_on line config.offers) d.fits) d)
 
 -- an event of the server, with what follows it
-pub did_step : {L D : List ℕ → Type 0} (config : ServerConfig) (w : World) (st : Server) (e : Event) → OffersFit L config.offers → table w true ≡ st.core.circuits → w.setup ≡ setup_of config.timing → ServerFits st → BroughtBy L D w true e → Did L D w (server_step config st e).state (server_step config st e).frames
+pub did_step : {L D : List ℕ → Type 0} (config : ServerConfig) (w : World) (st : Server) (e : Event) → OffersFit L config.offers → table w true ≡ st.core.circuits → w.setup ≡ setup_of config.timing → ServerFits st → BroughtBy L D w true e → ServerMade L D w (server_step config st e).state (server_step config st e).frames
 did_step {L} {D} config w st e l q s f p =
     let x : ServerStep = server_event config st e in
-    let d : Did L D w x.state x.frames = did_event config w st e q s f p in
+    let d : ServerMade L D w x.state x.frames = did_event config w st e q s f p in
     let v : World = with_table w true x.state.core.circuits d.made.wired in
     let y : Server = finished_requests x.state in
-    let n : Did L Quiet v y [] = record { made = made_none v true y.core refl; fits = record { heard = d.fits.heard; queue = finish_fits x.state.core x.state.core.seats x.state.queue d.fits.queue } } in
-    let g : Did L Quiet v (grant_pass config y).state (grant_pass config y).frames = did_lines config v (upwards 0 config.lines) (record { state = y; frames = [] }) l s n in
+    let n : ServerMade L Quiet v y [] = record { made = made_none v true y.core refl; fits = record { heard = d.fits.heard; queue = finish_fits x.state.core x.state.core.seats x.state.queue d.fits.queue } } in
+    let g : ServerMade L Quiet v (grant_pass config y).state (grant_pass config y).frames = did_lines config v (upwards 0 config.lines) (record { state = y; frames = [] }) l s n in
     record { made = made_then w true x.state.core x.frames (grant_pass config y).state.core (grant_pass config y).frames d.made g.made; fits = g.fits }

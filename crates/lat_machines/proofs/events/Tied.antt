@@ -29,7 +29,7 @@ use Rattle.lat_machines.specs.world.Safe.{Fit}
 use Rattle.lat_machines.specs.world.Ties.{Shown, IsNotice, Shows, Apart, Ties}
 use Rattle.lat_machines.proofs.events.Leads.{EventFits, Quiet, given_first, behind, Silent, Leads, Brings, each_more, go_on_more}
 use Rattle.lat_machines.proofs.events.Mades.{Made, shows_more}
-use Rattle.lat_machines.proofs.events.Servers.{OffersFit, BroughtRun, BroughtIn, BroughtBy, ServerFits, did_step, Did}
+use Rattle.lat_machines.proofs.events.Servers.{OffersFit, BroughtRun, BroughtIn, BroughtBy, ServerFits, did_step, ServerMade}
 use Rattle.lat_machines.proofs.events.Nodes.{node_did_step}
 
 -- nobody is called everyone
@@ -229,7 +229,7 @@ goes_to {L} u m w b t ws l q a f = record { events = l.events; fits = l.fits; gi
 
 pub tell_goes : {L D : List ℕ → Type 0} (u : Setups) (m : Machines) (w : World) (b : Bool) (e : Event) (rates : List ℕ) → OffersFit L u.server.offers → Beside u m w → BroughtBy L D w b e → GoesBy L D u (tell u m b e rates) w
 tell_goes {L} {D} u m w true e rates o p h =
-    let d : Did L D w (server_step u.server m.server e).state (server_step u.server m.server e).frames = did_step u.server w m.server e o p.ties.server p.ties.setup p.fits h in
+    let d : ServerMade L D w (server_step u.server m.server e).state (server_step u.server m.server e).frames = did_step u.server w m.server e o p.ties.server p.ties.setup p.fits h in
     goes_to u (tell u m true e rates) w true (server_step u.server m.server e).state.core.circuits d.made.wired d.made.leads
     (record { server = refl; node = p.ties.node; shows = shows_more m.posts (post_all true (server_step u.server m.server e).frames) w.frames d.made.wired p.ties.shows d.made.shown; setup = p.ties.setup; other = p.ties.other; server_own = d.made.leads.own ∙ p.ties.server_own; node_own = p.ties.node_own })
     p.apart d.fits

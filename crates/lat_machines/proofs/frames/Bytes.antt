@@ -7,7 +7,7 @@ use Rattle.lat_model.specs.numbers.NetOk.{Young, as_bytes}
 use Rattle.lat_model.specs.ends.End.{Mark, Sent, Run, CallStart, ReplyStart, Stopped, End}
 use Rattle.lat_model.specs.circuits.World.{Table, Wired, World, table}
 use Rattle.lat_model.specs.circuits.Comes.{Comes}
-use Rattle.lat_model.specs.circuits.WorldOk.{WorldOk, Says}
+use Rattle.lat_model.specs.circuits.WorldOk.{WorldOk, FromSender}
 use Rattle.lat_model.specs.circuits.Agree.{the_half}
 use Rattle.lat_model.proofs.circuits.Follows.{world_bytes}
 use Rattle.lat_model.proofs.numbers.Net.{each_at}
@@ -84,9 +84,9 @@ kind_is false false q = refl
 
 -- the circuit that a RUN names as its sender is its sender's
 src_is : (w : World) (ok : WorldOk w) (j : ℕ) (b : Bool) (to circuit destination source : ℕ) (m : Mark) (ask : Bool) (f : Frame (List Slot)) → slice_get w.frames j ≡ Some (record { by_server = b; circuit = circuit; to = to; destination = destination; source = source; sent = Run m ask f }) → to ≡ (table w (not b)).own → source ≡ circuit
-src_is w ok j b to circuit destination source m ask f q t = go b t (each_at (λ p. Says w p.by_server p.circuit p.to p.destination p.source p.sent) w.frames j (record { by_server = b; circuit = circuit; to = to; destination = destination; source = source; sent = Run m ask f }) ok.says q)
+src_is w ok j b to circuit destination source m ask f q t = go b t (each_at (λ p. FromSender w p.by_server p.circuit p.to p.destination p.source p.sent) w.frames j (record { by_server = b; circuit = circuit; to = to; destination = destination; source = source; sent = Run m ask f }) ok.says q)
   where
-    go : (b : Bool) → to ≡ (table w (not b)).own → Says w b circuit to destination source (Run m ask f) → source ≡ circuit
+    go : (b : Bool) → to ≡ (table w (not b)).own → FromSender w b circuit to destination source (Run m ask f) → source ≡ circuit
     go true t h = (h t).1.source
     go false t h = (h t).0.source
 

@@ -4,7 +4,7 @@ use Rattle.lat_model.specs.sessions.Slots.{Slot}
 use Rattle.lat_model.specs.numbers.NetOk.{FrameOf}
 use Rattle.lat_model.specs.ends.End.{Sent, Run, CallStart, ReplyStart, Stopped}
 use Rattle.lat_model.specs.circuits.World.{Table, Wired, World, table}
-use Rattle.lat_model.specs.circuits.WorldOk.{Says, WorldOk}
+use Rattle.lat_model.specs.circuits.WorldOk.{FromSender, WorldOk}
 use Rattle.lat_model.proofs.numbers.Net.{each_at}
 use Rattle.lat_machines.specs.values.Messages.{RunMessage, WideMessage}
 use Rattle.lat_machines.specs.values.Notices.{Notice}
@@ -24,7 +24,7 @@ TrueBy m b f = TrueValue (link_of m b f.circuit) f f.value
 abbrev BearsOn : Machines → Bool → OutFrame → Type 0
 BearsOn m b f = Bears (messages_of (core_of m b)) f
 
-run_true : (u : Setups) (m : Machines) (w : World) (b : Bool) (circuit to destination source : ℕ) (s : Sent) → Ties u m w → Says w b circuit to destination source s → to ≡ (table w (not b)).own → (k : Side) (c : Core) → BearsOn m b (sent_frame k c (record { by_server = b; circuit = circuit; to = to; destination = destination; source = source; sent = s })) → TrueBy m b (sent_frame k c (record { by_server = b; circuit = circuit; to = to; destination = destination; source = source; sent = s }))
+run_true : (u : Setups) (m : Machines) (w : World) (b : Bool) (circuit to destination source : ℕ) (s : Sent) → Ties u m w → FromSender w b circuit to destination source s → to ≡ (table w (not b)).own → (k : Side) (c : Core) → BearsOn m b (sent_frame k c (record { by_server = b; circuit = circuit; to = to; destination = destination; source = source; sent = s })) → TrueBy m b (sent_frame k c (record { by_server = b; circuit = circuit; to = to; destination = destination; source = source; sent = s }))
 run_true u m w true circuit to destination source (Run mark ask f) t y a k c g = go (c.circuits.circuit_at circuit).end.wide (c.circuits.circuit_at circuit).end.wide g
   where
     holds : FrameOf (List Slot) (link_of m true circuit) f
@@ -65,6 +65,6 @@ frames_true u m w h ok bears i p q t = ⊎_elim {C = TrueBy m p.by_server p.fram
 
     found : (j : ℕ) (v : Wired) → slice_get w.frames j ≡ Some v → Shown p v → TrueBy m p.by_server p.frame
     found j v e x =
-        let says : Says w v.by_server v.circuit v.to v.destination v.source v.sent = each_at (λ (f : Wired). Says w f.by_server f.circuit f.to f.destination f.source f.sent) w.frames j v ok.says e in
+        let says : FromSender w v.by_server v.circuit v.to v.destination v.source v.sent = each_at (λ (f : Wired). FromSender w f.by_server f.circuit f.to f.destination f.source f.sent) w.frames j v ok.says e in
         let y : TrueBy m v.by_server (sent_frame x.side x.core v) = run_true u m w v.by_server v.circuit v.to v.destination v.source v.sent h.ties says (to_other u m w p v j h e x t) x.side x.core (subst (λ (z : OutFrame). BearsOn m v.by_server z) x.frame (subst (λ z. BearsOn m z p.frame) x.by_server (bears i p q))) in
         subst (λ z. TrueBy m z p.frame) (sym x.by_server) (subst (λ (z : OutFrame). TrueBy m v.by_server z) (sym x.frame) y)

@@ -21,7 +21,7 @@ use Rattle.lat_machines.specs.server.Server.{ServerStep, server_event, finished_
 use Rattle.lat_machines.specs.world.Machines.{Setups, Posted, Machines, Move, Does, HearsFrame, HearsForeign, tell, is_for_other, heard_as, counted, marked_delivered, comes, is_own, happens, run, open_machines}
 use Rattle.lat_machines.specs.world.Safe.{Fit, circuits_open, NoGrant}
 use Rattle.lat_machines.proofs.events.Leads.{Quiet}
-use Rattle.lat_machines.proofs.events.Servers.{BroughtBy, Did, did_event}
+use Rattle.lat_machines.proofs.events.Servers.{BroughtBy, ServerMade, did_event}
 use Rattle.lat_machines.proofs.events.Tied.{Beside, Anything, any_own, Goes, happens_goes, open_beside, brought_local, brought_frame, foreign_in, marked_beside}
 use Rattle.lat_machines.proofs.queue.Rooms.{Ready}
 use Rattle.lat_machines.proofs.queue.Grants.{no_grant}
@@ -127,7 +127,7 @@ quiet_step : (L D : List ℕ → Type 0) (u : Setups) (m : Machines) (w : World)
 quiet_step L D u m w false e rates pos g h = g.quiet
 quiet_step L D u m w true e rates pos g h =
     let x : ServerStep = server_event u.server m.server e in
-    let d : Did L D w x.state x.frames = did_event u.server w m.server e g.beside.ties.server g.beside.ties.setup g.beside.fits h in
+    let d : ServerMade L D w x.state x.frames = did_event u.server w m.server e g.beside.ties.server g.beside.ties.setup g.beside.fits h in
     let at : (go_on d.made.leads.events w).server ≡ x.state.core.circuits = ap (λ (z : World). z.server) d.made.leads.there in
     let r : Ready x.state.core = ready_of (go_on d.made.leads.events w) x.state.core at (go_on_ok d.made.leads.events w g.ok) (masters_on d.made.leads.events w g.masters) in
     no_grant u.server (finished_requests x.state) pos (record { masters = r.masters; new = r.new })

@@ -74,22 +74,22 @@ foreign_event u b from (Whole v) now q = λ a. absurd (away b a)
 
 -- a frame of the other end says what its sender is
 
-abbrev Says : Setups → Bool → Value → Type 0
-Says u b v = ValueOk b u.server.timing.wide (u.server.timing.wide && u.node.timing.wide) v
+abbrev FitsSpan : Setups → Bool → Value → Type 0
+FitsSpan u b v = ValueOk b u.server.timing.wide (u.server.timing.wide && u.node.timing.wide) v
 
-notice_says : (u : Setups) (b : Bool) (v : Value) → ((n : Notice) × (v ≡ OfNotice n)) → Says u b v
-notice_says u b v n = subst (Says u b) (sym n.1) tt
+notice_says : (u : Setups) (b : Bool) (v : Value) → ((n : Notice) × (v ≡ OfNotice n)) → FitsSpan u b v
+notice_says u b v n = subst (FitsSpan u b) (sym n.1) tt
 
-frame_says : (u : Setups) (m : Machines) (w : World) (p : Posted) (i : ℕ) → Beside u m w → Spans u m → slice_get m.posts i ≡ Some p → is_for_other u p ≡ true → Says u p.by_server p.frame.value
-frame_says u m w p i h s q t = ⊎_elim {C = Says u p.by_server p.frame.value} (λ n. notice_says u p.by_server p.frame.value n) (λ f. found f.0 f.1 f.2 f.3) (shows_at m.posts w.frames i p h.ties.shows q)
+frame_says : (u : Setups) (m : Machines) (w : World) (p : Posted) (i : ℕ) → Beside u m w → Spans u m → slice_get m.posts i ≡ Some p → is_for_other u p ≡ true → FitsSpan u p.by_server p.frame.value
+frame_says u m w p i h s q t = ⊎_elim {C = FitsSpan u p.by_server p.frame.value} (λ n. notice_says u p.by_server p.frame.value n) (λ f. found f.0 f.1 f.2 f.3) (shows_at m.posts w.frames i p h.ties.shows q)
   where
-    found : (j : ℕ) (v : Wired) → slice_get w.frames j ≡ Some v → Shown p v → Says u p.by_server p.frame.value
+    found : (j : ℕ) (v : Wired) → slice_get w.frames j ≡ Some v → Shown p v → FitsSpan u p.by_server p.frame.value
     found j v e x =
         let to : p.frame.to ≡ v.to = ap (λ (z : OutFrame). z.to) x.frame ∙ sent_to x.side x.core v.by_server v.circuit v.to v.destination v.source v.sent in
         let own : v.to ≡ own_of u (not v.by_server) = to_other u m w p v j h e x t ∙ own_tied u m w (not v.by_server) h.ties in
         each_at (PostOk u) m.posts i p s.posts q (to ∙ (own ∙ ap (λ z. own_of u (not z)) (sym x.by_server)))
 
-delivered : (u : Setups) (b : Bool) (f : OutFrame) (now : ℕ) → Says u b f.value → EventOk (not b) (facts u (not b)) (heard_as u (record { by_server = b; frame = f }) now)
+delivered : (u : Setups) (b : Bool) (f : OutFrame) (now : ℕ) → FitsSpan u b f.value → EventOk (not b) (facts u (not b)) (heard_as u (record { by_server = b; frame = f }) now)
 delivered u true f now h = λ a. h
 delivered u false f now h = λ a. h
 

@@ -14,6 +14,7 @@ use Rattle.lat_machines.specs.values.Timing.{half_range}
 use Rattle.lat_machines.specs.values.Events.{Numbers}
 use Rattle.lat_machines.specs.values.Answers.{Heard, Running, Taken, Again, AckOnly, Foreign, Broke, Ended}
 use Rattle.lat_machines.specs.cores.Acts.{Acted, idle, put_at, steps_at, move_at}
+use Rattle.lat_model.specs.Reasons as reasons
 
 pub record HeardAct : Type 0 where
   pub act : Acted
@@ -26,7 +27,7 @@ abbrev pub answer_of : RunAnswer → Heard
 answer_of (RunTaken n) = Taken n
 answer_of RunRepeated = Again
 answer_of RunAckOnly = AckOnly
-answer_of RunBroke = Broke 2
+answer_of RunBroke = Broke reasons.broken
 
 -- a living circuit whose reply was heard, with this address and these ids
 abbrev pub names : Table → ℕ → ℕ → ℕ → Bool
@@ -99,5 +100,5 @@ start_at u t from source now g (Repeats k) = steps_at false t k (again_start now
 start_at u t from source now g (Makes k) = put_at false t k k from (make_slave now source g (first_end false false u))
 start_at u t from source now g Refuses = record {
   table = t;
-  sent = record { by_server = false; circuit = 0; to = from; destination = source; source = 0; sent = Stopped 7 } ∷ [];
+  sent = record { by_server = false; circuit = 0; to = from; destination = source; source = 0; sent = Stopped reasons.no_resources } ∷ [];
 }

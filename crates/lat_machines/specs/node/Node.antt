@@ -22,6 +22,7 @@ use Rattle.lat_machines.specs.cores.Cores.{Core, Side, setup_of, open_core, Doin
 use Rattle.lat_machines.specs.cores.Lines.{has_session, used, ended, saturated_count}
 use Rattle.lat_machines.specs.cores.LineCalls.{Said, put_on, set_on, attend_on, take_on, close_on, on_line}
 use Rattle.lat_model.specs.sessions.Calls as Calls
+use Rattle.lat_model.specs.Reasons as reasons
 
 pub record NodeConfig : Type 0 where
   pub own : ℕ
@@ -82,7 +83,7 @@ abbrev pub free_line : NodeConfig → Core → ℕ
 free_line config c = least (λ line. not (has_session c line)) (upwards 0 config.lines)
 
 abbrev pub on_free_line : ℕ → Verdict
-on_free_line line = cond (nat_eq line 0) (Rejects 7) (Accepts line)
+on_free_line line = cond (nat_eq line 0) (Rejects reasons.no_room) (Accepts line)
 
 abbrev pub was_requested : Name → Option Requested → Bool
 was_requested service None = false
@@ -95,11 +96,11 @@ abbrev pub verdict : NodeConfig → Node → Name → Option ℕ → Verdict
 verdict config state service None =
     cond (is_offered config service)
     (on_free_line (free_line config state.core))
-    (Rejects 4)
+    (Rejects reasons.not_offered)
 verdict config state service (Some id) =
     cond (was_requested service (request_of id state) && not (list_any (nat_eq id) state.accepted))
     (on_free_line (free_line config state.core))
-    (Rejects 5)
+    (Rejects reasons.not_requested)
 
 abbrev pub accepted_too : Option ℕ → List ℕ → List ℕ
 accepted_too None ids = ids

@@ -12,7 +12,7 @@ use Rattle.lat_model.specs.ends.Starting.{Agreed, reply_end, Setup, make_slave, 
 use Rattle.lat_model.specs.circuits.World.{CircuitEntry, Wired, World, table, with_table, put_circuit, at_end, first_end}
 use Rattle.lat_model.specs.circuits.Arriving.{is_of, run_in, stop_in, reply_in, living, slave_of, make_in, start_in, arrive}
 use Rattle.lat_model.specs.circuits.Events.{WorldEvent, Calls, Locally, Times, Moves, Delivers, Injects, deliver_in, occurs, go_on, open_world}
-use Rattle.lat_model.specs.circuits.WorldOk.{void_half, mate, Replied, ByServer, ByNode, Says, WorldOk}
+use Rattle.lat_model.specs.circuits.WorldOk.{void_half, mate, Replied, ByServer, ByNode, FromSender, WorldOk}
 use Rattle.lat_model.proofs.numbers.Net.{each_imp, each_append, each_at}
 use Rattle.lat_model.proofs.circuits.Pairs.{StepOk, run_ok, time_ok, again_start_ok, heard_stop_ok, heard_reply_ok}
 use Rattle.lat_model.proofs.circuits.Kin.{kin_time, kin_run, kin_again, kin_stop, idle_calm, calm_time, calm_again, calm_stop, idle_call}
@@ -132,7 +132,7 @@ least_passes p (x ∷ xs) n = go (p x) refl (least_passes p xs) n
     go false e ih n = ih n
 
 refuse_ok : (w : World) → WorldOk w → (from d : ℕ) → WorldOk (with_table w false w.node (record { by_server = false; circuit = 0; to = from; destination = d; source = 0; sent = Stopped 7 } ∷ []))
-refuse_ok w ok from d = record { apart = ok.apart; ceiling = ok.ceiling; other_ceiling = ok.other_ceiling; matched = ok.matched; replied = λ p h r. (let o : Replied w p = ok.replied p h r in record { some = o.some; drawn = o.drawn; address = o.address; peer = o.peer }); calling = ok.calling; idle = λ q h nj. ok.idle q h (λ j. nj (record { address = j.address; running = j.running; peer = j.peer })); says = each_append (λ f. Says v f.by_server f.circuit f.to f.destination f.source f.sent) w.frames (record { by_server = false; circuit = 0; to = from; destination = d; source = 0; sent = Stopped 7 } ∷ []) (each_imp (λ f. Says w f.by_server f.circuit f.to f.destination f.source f.sent) (λ f. Says v f.by_server f.circuit f.to f.destination f.source f.sent) (λ f. says f.by_server f.circuit f.to f.destination f.source f.sent) w.frames ok.says) (tt, tt); none_server = ok.none_server; none_node = ok.none_node; windows = ok.windows }
+refuse_ok w ok from d = record { apart = ok.apart; ceiling = ok.ceiling; other_ceiling = ok.other_ceiling; matched = ok.matched; replied = λ p h r. (let o : Replied w p = ok.replied p h r in record { some = o.some; drawn = o.drawn; address = o.address; peer = o.peer }); calling = ok.calling; idle = λ q h nj. ok.idle q h (λ j. nj (record { address = j.address; running = j.running; peer = j.peer })); says = each_append (λ f. FromSender v f.by_server f.circuit f.to f.destination f.source f.sent) w.frames (record { by_server = false; circuit = 0; to = from; destination = d; source = 0; sent = Stopped 7 } ∷ []) (each_imp (λ f. FromSender w f.by_server f.circuit f.to f.destination f.source f.sent) (λ f. FromSender v f.by_server f.circuit f.to f.destination f.source f.sent) (λ f. says f.by_server f.circuit f.to f.destination f.source f.sent) w.frames ok.says) (tt, tt); none_server = ok.none_server; none_node = ok.none_node; windows = ok.windows }
   where
     v : World
     v = with_table w false w.node (record { by_server = false; circuit = 0; to = from; destination = d; source = 0; sent = Stopped 7 } ∷ [])
@@ -140,7 +140,7 @@ refuse_ok w ok from d = record { apart = ok.apart; ceiling = ok.ceiling; other_c
     by_node : (y d s : ℕ) → ByNode w y d s → ByNode v y d s
     by_node y d s o = record { source = o.source; some = o.some; drawn = o.drawn; address = o.address; destination = o.destination }
 
-    says : (b : Bool) (y to d s : ℕ) (m : Sent) → Says w b y to d s m → Says v b y to d s m
+    says : (b : Bool) (y to d s : ℕ) (m : Sent) → FromSender w b y to d s m → FromSender v b y to d s m
     says true y to d s (Run k a f) h = λ t. let o : ((w.server.circuit_at y).address ≡ w.node.own) × ByServer w y d s f = h t in (o.0, record { source = o.1.source; destination = o.1.destination; drawn = o.1.drawn; frame = o.1.frame })
     says false y to d s (Run k a f) h = λ t. (by_node y d s (h t).0, (h t).1)
     says true y to d s ReplyStart h = tt
@@ -181,10 +181,10 @@ arrive_ok w ok false from bit d s now g (Stopped r) h = stop_ok w ok false from 
 
 -- the frames of the world are fair, and so is a foreign one
 
-pub says_fair : (w : World) (p : Wired) → p.to ≡ (table w (not p.by_server)).own → Says w p.by_server p.circuit p.to p.destination p.source p.sent → Fair w (not p.by_server) (table w p.by_server).own p.destination p.source p.sent
+pub says_fair : (w : World) (p : Wired) → p.to ≡ (table w (not p.by_server)).own → FromSender w p.by_server p.circuit p.to p.destination p.source p.sent → Fair w (not p.by_server) (table w p.by_server).own p.destination p.source p.sent
 says_fair w p t h = go p.by_server p.sent t h
   where
-    go : (b : Bool) (m : Sent) → p.to ≡ (table w (not b)).own → Says w b p.circuit p.to p.destination p.source m → Fair w (not b) (table w b).own p.destination p.source m
+    go : (b : Bool) (m : Sent) → p.to ≡ (table w (not b)).own → FromSender w b p.circuit p.to p.destination p.source m → Fair w (not b) (table w b).own p.destination p.source m
     go true (Run k a f) t h = λ q.
         let o : ((w.server.circuit_at p.circuit).address ≡ w.node.own) × ByServer w p.circuit p.destination p.source f = h t in
         let e : p.circuit ≡ p.source = sym o.1.source in
@@ -209,7 +209,7 @@ foreign_fair w false from d s CallStart n o = tt
 foreign_fair w true from d s (Stopped r) n o = tt
 foreign_fair w false from d s (Stopped r) n o = tt
 
-deliver_ok : (w : World) → WorldOk w → (now : ℕ) (g : Agreed) (o : Option Wired) → ((p : Wired) → o ≡ Some p → Says w p.by_server p.circuit p.to p.destination p.source p.sent) → WorldOk (deliver_in w now g o)
+deliver_ok : (w : World) → WorldOk w → (now : ℕ) (g : Agreed) (o : Option Wired) → ((p : Wired) → o ≡ Some p → FromSender w p.by_server p.circuit p.to p.destination p.source p.sent) → WorldOk (deliver_in w now g o)
 deliver_ok w ok now g None h = ok
 deliver_ok w ok now g (Some p) h =
     world_cond (nat_eq p.to (table w (not p.by_server)).own) (arrive w (not p.by_server) (table w p.by_server).own p.by_server p.destination p.source now g p.sent) w
@@ -236,7 +236,7 @@ occurs_ok w ok (Moves true x now) =
 occurs_ok w ok (Moves false x now) =
     let e : End = (w.node.circuit_at x).end in
     world_cond (lives e) (at_end w false x (record { end = record e { moment = now }; sent = [] })) w (λ l. quiet_node w x (record { end = record e { moment = now }; sent = [] }) ok l (record { peer = refl; running = refl; master = refl; window = refl; wide = refl; sessions = refl }) (moved_ok false now e) (λ i. record { link = i.link; agreed = i.agreed; ceiling = i.ceiling; agreed_low = i.agreed_low; ceiling_low = i.ceiling_low; sessions = i.sessions; heard_run = i.heard_run; master = i.master })) ok
-occurs_ok w ok (Delivers i now g) = deliver_ok w ok now g (slice_get w.frames i) (λ p e. each_at (λ f. Says w f.by_server f.circuit f.to f.destination f.source f.sent) w.frames i p ok.says e)
+occurs_ok w ok (Delivers i now g) = deliver_ok w ok now g (slice_get w.frames i) (λ p e. each_at (λ f. FromSender w f.by_server f.circuit f.to f.destination f.source f.sent) w.frames i p ok.says e)
 occurs_ok w ok (Injects b from bit d s now g m) = go (nat_eq from w.server.own) (nat_eq from w.node.own) refl refl
   where
     go : (x y : Bool) → nat_eq from w.server.own ≡ x → nat_eq from w.node.own ≡ y → WorldOk (cond (x || y) w (arrive w b from bit d s now g m))

@@ -12,7 +12,7 @@ use Rattle.lat_model.specs.ends.Starting.{Agreed, reply_end, make_slave}
 use Rattle.lat_model.specs.circuits.Together.{Together}
 use Rattle.lat_model.specs.circuits.World.{CircuitEntry, World, put_circuit, at_end, first_end, no_circuit}
 use Rattle.lat_model.specs.circuits.Events.{Calls, occurs}
-use Rattle.lat_model.specs.circuits.WorldOk.{void_half, mate, Idle, Joint, Replied, ByServer, ByNode, Says, WorldOk}
+use Rattle.lat_model.specs.circuits.WorldOk.{void_half, mate, Idle, Joint, Replied, ByServer, ByNode, FromSender, WorldOk}
 use Rattle.lat_model.proofs.sessions.Words.{upd_same, upd_other, upd_field, upd_all}
 use Rattle.lat_model.proofs.numbers.Net.{each_imp, each_append}
 use Rattle.lat_model.proofs.circuits.Halves.{Sides, sides_call}
@@ -77,8 +77,8 @@ calls_ok w ok address now = record {
   replied = λ p h r. replied p (nat_eq p x) refl h r (ok.replied p);
   calling = λ p. calling p (nat_eq p x);
   idle = λ q h nj. ok.idle q h (λ j. nj (joint q j (nat_eq (w.node.circuit_at q).end.peer x) refl));
-  says = each_append (λ f. Says v f.by_server f.circuit f.to f.destination f.source f.sent) w.frames (record { by_server = true; circuit = x; to = address; destination = 0; source = x; sent = CallStart } ∷ [])
-      (each_imp (λ f. Says w f.by_server f.circuit f.to f.destination f.source f.sent) (λ f. Says v f.by_server f.circuit f.to f.destination f.source f.sent) (λ f. says f.by_server f.circuit f.to f.destination f.source f.sent) w.frames ok.says)
+  says = each_append (λ f. FromSender v f.by_server f.circuit f.to f.destination f.source f.sent) w.frames (record { by_server = true; circuit = x; to = address; destination = 0; source = x; sent = CallStart } ∷ [])
+      (each_imp (λ f. FromSender w f.by_server f.circuit f.to f.destination f.source f.sent) (λ f. FromSender v f.by_server f.circuit f.to f.destination f.source f.sent) (λ f. says f.by_server f.circuit f.to f.destination f.source f.sent) w.frames ok.says)
       (tt, tt);
   none_server = λ k h. upd_other w.server.circuit_at x c' k (λ q. ⊎_elim {C = ⊥} (λ z. absurd (omega (arith, q, z))) (λ z. absurd (omega (arith, q, z))) h) ∙ ok.none_server k (older k h);
   none_node = ok.none_node;
@@ -128,7 +128,7 @@ calls_ok w ok address now = record {
         let same : v.server.circuit_at (w.node.circuit_at q).end.peer ≡ w.server.circuit_at (w.node.circuit_at q).end.peer = upd_other w.server.circuit_at x c' (w.node.circuit_at q).end.peer (eqb-false (w.node.circuit_at q).end.peer x i) in
         record { address = ap (λ (z : CircuitEntry). z.address) same ∙ j.address; running = ap (λ (z : CircuitEntry). z.end.running) same ∙ j.running; peer = ap (λ (z : CircuitEntry). z.end.peer) same ∙ j.peer }
 
-    says : (b : Bool) (y to d s : ℕ) (m : Sent) → Says w b y to d s m → Says v b y to d s m
+    says : (b : Bool) (y to d s : ℕ) (m : Sent) → FromSender w b y to d s m → FromSender v b y to d s m
     says true y to d s (Run k a f) h = λ t.
         let o : ((w.server.circuit_at y).address ≡ w.node.own) × ByServer w y d s f = h t in
         let same : v.server.circuit_at y ≡ w.server.circuit_at y = upd_other w.server.circuit_at x c' y (λ q. absurd (omega (arith, q, o.1.drawn))) in (
@@ -162,8 +162,8 @@ make_put w ok from source now g = record {
       record { some = o.some; drawn = omega (arith, o.drawn); address = ap (λ (z : CircuitEntry). z.address) same ∙ o.address; peer = ap (λ (z : CircuitEntry). z.end.peer) same ∙ o.peer };
   calling = ok.calling;
   idle = λ q h nj. idle q (nat_eq q x) refl h nj;
-  says = each_append (λ f. Says v f.by_server f.circuit f.to f.destination f.source f.sent) w.frames (record { by_server = false; circuit = x; to = from; destination = source; source = x; sent = ReplyStart } ∷ [])
-      (each_imp (λ f. Says w f.by_server f.circuit f.to f.destination f.source f.sent) (λ f. Says v f.by_server f.circuit f.to f.destination f.source f.sent) (λ f. says f.by_server f.circuit f.to f.destination f.source f.sent) w.frames ok.says)
+  says = each_append (λ f. FromSender v f.by_server f.circuit f.to f.destination f.source f.sent) w.frames (record { by_server = false; circuit = x; to = from; destination = source; source = x; sent = ReplyStart } ∷ [])
+      (each_imp (λ f. FromSender w f.by_server f.circuit f.to f.destination f.source f.sent) (λ f. FromSender v f.by_server f.circuit f.to f.destination f.source f.sent) (λ f. says f.by_server f.circuit f.to f.destination f.source f.sent) w.frames ok.says)
       (λ t. record { source = refl; some = λ q. absurd (omega (arith, q)); drawn = le_refl _; address = ap (λ (z : CircuitEntry). z.address) (upd_same w.node.circuit_at x c') ∙ t; destination = sym (ap (λ (z : CircuitEntry). z.end.peer) (upd_same w.node.circuit_at x c')) }, tt);
   none_server = ok.none_server;
   none_node = λ k h. upd_other w.node.circuit_at x c' k (λ q. ⊎_elim {C = ⊥} (λ z. absurd (omega (arith, q, z))) (λ z. absurd (omega (arith, q, z))) h) ∙ ok.none_node k (older k h);
@@ -205,7 +205,7 @@ make_put w ok from source now g = record {
     by_node : (y d s : ℕ) → ByNode w y d s → ByNode v y d s
     by_node y d s o = record { source = o.source; some = o.some; drawn = omega (arith, o.drawn); address = ap (λ (z : CircuitEntry). z.address) (old y o.drawn) ∙ o.address; destination = o.destination ∙ sym (ap (λ (z : CircuitEntry). z.end.peer) (old y o.drawn)) }
 
-    says : (b : Bool) (y to d s : ℕ) (m : Sent) → Says w b y to d s m → Says v b y to d s m
+    says : (b : Bool) (y to d s : ℕ) (m : Sent) → FromSender w b y to d s m → FromSender v b y to d s m
     says true y to d s (Run k a f) h = λ t. let o : ((w.server.circuit_at y).address ≡ w.node.own) × ByServer w y d s f = h t in (o.0, record { source = o.1.source; destination = o.1.destination; drawn = o.1.drawn; frame = o.1.frame })
     says false y to d s (Run k a f) h = λ t. let o : ByNode w y d s × FrameOf (List Slot) (w.node.circuit_at y).end.half.link f = h t in (by_node y d s o.0, subst (λ (z : CircuitEntry). FrameOf (List Slot) z.end.half.link f) (sym (old y o.0.drawn)) o.1)
     says true y to d s ReplyStart h = tt
@@ -226,8 +226,8 @@ reply_put w x now source g ok nz dr idle_yet facts = record {
   replied = λ p h r. replied p (nat_eq p x) refl h r;
   calling = λ p. calling p (nat_eq p x);
   idle = λ q h nj. ok.idle q h (λ j. nj (joint q j (nat_eq (w.node.circuit_at q).end.peer x) refl));
-  says = subst (Each (λ f. Says v f.by_server f.circuit f.to f.destination f.source f.sent)) (sym (append-nil w.frames))
-      (each_imp (λ f. Says w f.by_server f.circuit f.to f.destination f.source f.sent) (λ f. Says v f.by_server f.circuit f.to f.destination f.source f.sent) (λ f. says f.by_server f.circuit f.to f.destination f.source f.sent) w.frames ok.says);
+  says = subst (Each (λ f. FromSender v f.by_server f.circuit f.to f.destination f.source f.sent)) (sym (append-nil w.frames))
+      (each_imp (λ f. FromSender w f.by_server f.circuit f.to f.destination f.source f.sent) (λ f. FromSender v f.by_server f.circuit f.to f.destination f.source f.sent) (λ f. says f.by_server f.circuit f.to f.destination f.source f.sent) w.frames ok.says);
   none_server = λ k h. upd_other w.server.circuit_at x c' k (λ q. ⊎_elim {C = ⊥} (λ z. nz (sym q ∙ z)) (λ z. absurd (omega arith)) h) ∙ ok.none_server k h;
   none_node = ok.none_node;
   windows = λ k. (upd_all (λ (z : CircuitEntry). z.end.window ≤ 8) w.server.circuit_at x c' (omega arith) (λ j. (ok.windows j).0) k, (ok.windows k).1);
@@ -286,7 +286,7 @@ reply_put w x now source g ok nz dr idle_yet facts = record {
     destination y d true i h = ⊎_elim {C = (d ≡ 0) ⊎ ((true ≡ true) × (d ≡ source))} (λ z. inl z) (λ z. absurd (false≢true (sym (ap (λ u. (w.server.circuit_at u).end.running) (eqb-true y x i) ∙ idle_yet) ∙ z.0))) h
     destination y d false i h = h
 
-    says : (b : Bool) (y to d s : ℕ) (m : Sent) → Says w b y to d s m → Says v b y to d s m
+    says : (b : Bool) (y to d s : ℕ) (m : Sent) → FromSender w b y to d s m → FromSender v b y to d s m
     says true y to d s (Run k a f) h = λ t.
         let o : ((w.server.circuit_at y).address ≡ w.node.own) × ByServer w y d s f = h t in
         (upd_field (λ (z : CircuitEntry). z.address) w.server.circuit_at x c' refl y ∙ o.0, record { source = o.1.source; destination = destination y d (nat_eq y x) refl o.1.destination; drawn = o.1.drawn; frame = frame y f (nat_eq y x) refl o.1.frame })

@@ -10,7 +10,7 @@ use Rattle.lat_model.specs.ends.Starting.{Setup}
 use Rattle.lat_model.specs.circuits.Together.{Together}
 use Rattle.lat_model.specs.circuits.World.{CircuitEntry, Wired, World, table}
 use Rattle.lat_model.specs.circuits.Events.{WorldEvent, WorldRun, go_on, open_world}
-use Rattle.lat_model.specs.circuits.WorldOk.{mate, void_half, Joint, ByServer, ByNode, Says, WorldOk}
+use Rattle.lat_model.specs.circuits.WorldOk.{mate, void_half, Joint, ByServer, ByNode, FromSender, WorldOk}
 use Rattle.lat_model.specs.circuits.Arriving.{is_of}
 use Rattle.lat_model.specs.circuits.Agree.{Agree, the_half}
 use Rattle.lat_model.specs.circuits.Comes.{names_run, Comes}
@@ -37,7 +37,7 @@ pub record Met_frame (w : World) (p : Wired) (f : Frame (List Slot)) : Type 0 wh
   pub frame : FrameOf (List Slot) (the_half w p.by_server p.source).link f
   pub window : ((table w (not p.by_server)).circuit_at p.destination).end.window ≤ 8
 
-met_server : (w : World) → WorldOk w → (x to d s : ℕ) (k : Mark) (a : Bool) (f : Frame (List Slot)) → to ≡ w.server.own → Says w false x to d s (Run k a f) → names_run w true w.node.own false d s ≡ true → Met_frame w (record { by_server = false; circuit = x; to = to; destination = d; source = s; sent = Run k a f }) f
+met_server : (w : World) → WorldOk w → (x to d s : ℕ) (k : Mark) (a : Bool) (f : Frame (List Slot)) → to ≡ w.server.own → FromSender w false x to d s (Run k a f) → names_run w true w.node.own false d s ≡ true → Met_frame w (record { by_server = false; circuit = x; to = to; destination = d; source = s; sent = Run k a f }) f
 met_server w ok x to d s k a f t h n =
     let c : CircuitEntry = w.server.circuit_at d in
     let p : ((is_of c w.node.own s && lives c.end && c.end.running) ≡ true) × _ = and_parts (is_of c w.node.own s && lives c.end && c.end.running) _ n in
@@ -51,7 +51,7 @@ met_server w ok x to d s k a f t h n =
       window = (ok.windows d).0;
     }
 
-met_node : (w : World) → WorldOk w → (x to d s : ℕ) (k : Mark) (a : Bool) (f : Frame (List Slot)) → to ≡ w.node.own → Says w true x to d s (Run k a f) → names_run w false w.server.own true d s ≡ true → Met_frame w (record { by_server = true; circuit = x; to = to; destination = d; source = s; sent = Run k a f }) f
+met_node : (w : World) → WorldOk w → (x to d s : ℕ) (k : Mark) (a : Bool) (f : Frame (List Slot)) → to ≡ w.node.own → FromSender w true x to d s (Run k a f) → names_run w false w.server.own true d s ≡ true → Met_frame w (record { by_server = true; circuit = x; to = to; destination = d; source = s; sent = Run k a f }) f
 met_node w ok x to d s k a f t h n =
     let c : CircuitEntry = w.node.circuit_at d in
     let p : ((is_of c w.server.own s && lives c.end && c.end.running) ≡ true) × _ = and_parts (is_of c w.server.own s && lives c.end && c.end.running) _ n in
@@ -70,11 +70,11 @@ met_node w ok x to d s k a f t h n =
     }
 
 pub met_frame : (w : World) → WorldOk w → (i : ℕ) (p : Wired) (a : Bool) (f : Frame (List Slot)) → slice_get w.frames i ≡ Some p → Comes w p a f → Met_frame w p f
-met_frame w ok i p a f e c = go p.by_server p.sent c.to c.names c.run (each_at (λ q. Says w q.by_server q.circuit q.to q.destination q.source q.sent) w.frames i p ok.says e)
+met_frame w ok i p a f e c = go p.by_server p.sent c.to c.names c.run (each_at (λ q. FromSender w q.by_server q.circuit q.to q.destination q.source q.sent) w.frames i p ok.says e)
   where
-    go : (b : Bool) (m : Sent) → p.to ≡ (table w (not b)).own → names_run w (not b) (table w b).own b p.destination p.source ≡ true → m ≡ Run c.mark a f → Says w b p.circuit p.to p.destination p.source m → Met_frame w (record { by_server = b; circuit = p.circuit; to = p.to; destination = p.destination; source = p.source; sent = m }) f
-    go true m t n r h = subst (λ z. Met_frame w (record { by_server = true; circuit = p.circuit; to = p.to; destination = p.destination; source = p.source; sent = z }) f) (sym r) (met_node w ok p.circuit p.to p.destination p.source c.mark a f t (subst (Says w true p.circuit p.to p.destination p.source) r h) n)
-    go false m t n r h = subst (λ z. Met_frame w (record { by_server = false; circuit = p.circuit; to = p.to; destination = p.destination; source = p.source; sent = z }) f) (sym r) (met_server w ok p.circuit p.to p.destination p.source c.mark a f t (subst (Says w false p.circuit p.to p.destination p.source) r h) n)
+    go : (b : Bool) (m : Sent) → p.to ≡ (table w (not b)).own → names_run w (not b) (table w b).own b p.destination p.source ≡ true → m ≡ Run c.mark a f → FromSender w b p.circuit p.to p.destination p.source m → Met_frame w (record { by_server = b; circuit = p.circuit; to = p.to; destination = p.destination; source = p.source; sent = m }) f
+    go true m t n r h = subst (λ z. Met_frame w (record { by_server = true; circuit = p.circuit; to = p.to; destination = p.destination; source = p.source; sent = z }) f) (sym r) (met_node w ok p.circuit p.to p.destination p.source c.mark a f t (subst (FromSender w true p.circuit p.to p.destination p.source) r h) n)
+    go false m t n r h = subst (λ z. Met_frame w (record { by_server = false; circuit = p.circuit; to = p.to; destination = p.destination; source = p.source; sent = z }) f) (sym r) (met_server w ok p.circuit p.to p.destination p.source c.mark a f t (subst (FromSender w false p.circuit p.to p.destination p.source) r h) n)
 
 pub world_whole : (w : World) → WorldOk w → (i now : ℕ) (p : Wired) (a : Bool) (f : Frame (List Slot)) → slice_get w.frames i ≡ Some p → Comes w p a f → (run_end now a f ((table w (not p.by_server)).circuit_at p.destination).end).answer ≡ RunBroke → ⊥
 world_whole w ok i now p a f e c =

@@ -8,7 +8,7 @@ use Rattle.lat_model.specs.ends.Starting.{Agreed, make_master, make_slave, again
 use Rattle.lat_model.specs.circuits.World.{CircuitEntry, Wired, World, table, with_table, put_circuit, at_end, first_end}
 use Rattle.lat_model.specs.circuits.Arriving.{is_of, reply_in, living, slave_of, refusal, make_in, start_in, arrive}
 use Rattle.lat_model.specs.circuits.Events.{WorldEvent, Calls, Locally, Times, Moves, Delivers, Injects, WorldRun, deliver_in, occurs, go_on, open_world}
-use Rattle.lat_model.specs.circuits.WorldOk.{Joint, Replied, ByNode, Says, WorldOk}
+use Rattle.lat_model.specs.circuits.WorldOk.{Joint, Replied, ByNode, FromSender, WorldOk}
 use Rattle.lat_model.specs.circuits.Spans.{ReadsSpan, TellsSpan, TellSpans, OneSpan}
 use Rattle.lat_model.proofs.sessions.Words.{upd_all}
 use Rattle.lat_model.proofs.numbers.Net.{each_at}
@@ -95,7 +95,7 @@ and_again : (a b : Bool) → (a && (a && b)) ≡ (a && b)
 and_again true b = refl
 and_again false b = refl
 
-sent_reads : (a b : Bool) (w : World) → OneSpan a b w → (by : Bool) (x to d s : ℕ) (g : Agreed) (m : Sent) → to ≡ (table w (not by)).own → Says w by x to d s m → ReadsSpan a b w g x m → Reads a b w (not by) (table w by).own g m
+sent_reads : (a b : Bool) (w : World) → OneSpan a b w → (by : Bool) (x to d s : ℕ) (g : Agreed) (m : Sent) → to ≡ (table w (not by)).own → FromSender w by x to d s m → ReadsSpan a b w g x m → Reads a b w (not by) (table w by).own g m
 sent_reads a b w h by x to d s g (Run mark ask f) t y r = tt
 sent_reads a b w h by x to d s g (Stopped z) t y r = tt
 sent_reads a b w h by x to d s g CallStart t y r = λ e i. r
@@ -104,7 +104,7 @@ sent_reads a b w h false x to d s g ReplyStart t y r =
     let n : ByNode w x d s = y t in
     λ e i. r ∙ ap (λ z. a && z) (h.slaves x n.some n.drawn n.address) ∙ and_again a b
 
-deliver_span : (a b : Bool) (w : World) → WorldOk w → OneSpan a b w → (now : ℕ) (g : Agreed) (o : Option Wired) → ((p : Wired) → o ≡ Some p → Says w p.by_server p.circuit p.to p.destination p.source p.sent) → ((p : Wired) → o ≡ Some p → ReadsSpan a b w g p.circuit p.sent) → OneSpan a b (deliver_in w now g o)
+deliver_span : (a b : Bool) (w : World) → WorldOk w → OneSpan a b w → (now : ℕ) (g : Agreed) (o : Option Wired) → ((p : Wired) → o ≡ Some p → FromSender w p.by_server p.circuit p.to p.destination p.source p.sent) → ((p : Wired) → o ≡ Some p → ReadsSpan a b w g p.circuit p.sent) → OneSpan a b (deliver_in w now g o)
 deliver_span a b w ok h now g None y r = h
 deliver_span a b w ok h now g (Some p) y r =
     span_cond a b (nat_eq p.to (table w (not p.by_server)).own) (arrive w (not p.by_server) (table w p.by_server).own p.by_server p.destination p.source now g p.sent) w
@@ -131,7 +131,7 @@ occurs_span a b w ok h (Times c x now) t =
 occurs_span a b w ok h (Moves c x now) t =
     let e : End = ((table w c).circuit_at x).end in
     span_cond a b (lives e) (at_end w c x (record { end = record e { moment = now }; sent = [] })) w (λ l. kin_at a b w c x (record { end = record e { moment = now }; sent = [] }) h (record { peer = refl; running = refl; master = refl; window = refl; wide = refl; sessions = refl })) (λ l. h)
-occurs_span a b w ok h (Delivers i now g) t = deliver_span a b w ok h now g (slice_get w.frames i) (λ p e. each_at (λ f. Says w f.by_server f.circuit f.to f.destination f.source f.sent) w.frames i p ok.says e) t
+occurs_span a b w ok h (Delivers i now g) t = deliver_span a b w ok h now g (slice_get w.frames i) (λ p e. each_at (λ f. FromSender w f.by_server f.circuit f.to f.destination f.source f.sent) w.frames i p ok.says e) t
 occurs_span a b w ok h (Injects c from bit d s now g m) t =
     span_cond a b (nat_eq from w.server.own || nat_eq from w.node.own) w (arrive w c from bit d s now g m) (λ e. h) (λ e. arrive_span a b w c from bit d s now g m h (foreign_reads a b w c from g m e))
 

@@ -11,7 +11,7 @@ use Rattle.lat_model.specs.circuits.Pair.{Posted, posted}
 use Rattle.lat_model.specs.circuits.Together.{flat, Together, PostIs}
 use Rattle.lat_model.specs.ends.Starting.{void_sessions}
 use Rattle.lat_model.specs.circuits.World.{CircuitEntry, World, wire_all, at_end}
-use Rattle.lat_model.specs.circuits.WorldOk.{void_half, mate, Idle, Joint, Replied, ByServer, ByNode, Says, WorldOk}
+use Rattle.lat_model.specs.circuits.WorldOk.{void_half, mate, Idle, Joint, Replied, ByServer, ByNode, FromSender, WorldOk}
 use Rattle.lat_model.proofs.sessions.Words.{upd_same, upd_other, upd_field, upd_all}
 use Rattle.lat_model.proofs.numbers.Net.{each_imp, each_append, fresh_way}
 use Rattle.lat_model.proofs.circuits.Halves.{Sides}
@@ -156,8 +156,8 @@ server_put w x st ok nz dr kin win after = record {
       };
   calling = λ p r. peer p ∙ ok.calling p (sym (running p) ∙ r);
   idle = λ q h nj. ok.idle q h (λ j. nj (record { address = address _ ∙ j.address; running = running _ ∙ j.running; peer = peer _ ∙ j.peer }));
-  says = each_append (λ f. Says v f.by_server f.circuit f.to f.destination f.source f.sent) w.frames (wire_all true x c.address e.peer st.sent)
-      (each_imp (λ f. Says w f.by_server f.circuit f.to f.destination f.source f.sent) (λ f. Says v f.by_server f.circuit f.to f.destination f.source f.sent) (λ f. says f.by_server f.circuit f.to f.destination f.source f.sent) w.frames ok.says)
+  says = each_append (λ f. FromSender v f.by_server f.circuit f.to f.destination f.source f.sent) w.frames (wire_all true x c.address e.peer st.sent)
+      (each_imp (λ f. FromSender w f.by_server f.circuit f.to f.destination f.source f.sent) (λ f. FromSender v f.by_server f.circuit f.to f.destination f.source f.sent) (λ f. says f.by_server f.circuit f.to f.destination f.source f.sent) w.frames ok.says)
       (news st.sent (λ h. new_frames true st (mate w x) (after h [] (ok.matched x h))));
   none_server = λ k h. upd_other w.server.circuit_at x c' k (λ q. ⊎_elim {C = ⊥} (λ z. nz (sym q ∙ z)) (λ z. absurd (omega arith)) h) ∙ ok.none_server k h;
   none_node = ok.none_node;
@@ -208,7 +208,7 @@ server_put w x st ok nz dr kin win after = record {
             old_frame true c.end.half (mate w x) st k a f (after hx) (ok.matched x hx) (subst (λ z. FrameOf (List Slot) (w.server.circuit_at z).end.half.link f) j i)
         go false q = i
 
-    says : (b : Bool) (y to d s : ℕ) (m : Sent) → Says w b y to d s m → Says v b y to d s m
+    says : (b : Bool) (y to d s : ℕ) (m : Sent) → FromSender w b y to d s m → FromSender v b y to d s m
     says true y to d s (Run k a f) h = λ t.
         let o : ((w.server.circuit_at y).address ≡ w.node.own) × ByServer w y d s f = h t in
         (address y ∙ o.0, record { source = o.1.source; destination = ⊎_elim {C = (d ≡ 0) ⊎ (((v.server.circuit_at y).end.running ≡ true) × (d ≡ (v.server.circuit_at y).end.peer))} (λ z. inl z) (λ z. inr (running y ∙ z.0, z.1 ∙ sym (peer y))) o.1.destination; drawn = o.1.drawn; frame = frame y k a f o.0 o.1.frame })
@@ -227,7 +227,7 @@ server_put w x st ok nz dr kin win after = record {
         go true q = inr (running x ∙ q, kin.peer ∙ sym (peer x))
         go false q = inl (kin.peer ∙ ok.calling x q)
 
-    news : (ss : List Sent) → (c.address ≡ w.node.own → Each (SentOk st.end.half.link) ss) → Each (λ f. Says v f.by_server f.circuit f.to f.destination f.source f.sent) (wire_all true x c.address e.peer ss)
+    news : (ss : List Sent) → (c.address ≡ w.node.own → Each (SentOk st.end.half.link) ss) → Each (λ f. FromSender v f.by_server f.circuit f.to f.destination f.source f.sent) (wire_all true x c.address e.peer ss)
     news [] h = tt
     news (Run k a f ∷ ss) h = (λ t. new_run t f (h t).0, news ss (λ t. (h t).1))
     news (CallStart ∷ ss) h = (tt, news ss (λ t. (h t).1))
@@ -285,8 +285,8 @@ node_put w x st ok nz dr kin win kept = record {
       record { some = o.some; drawn = o.drawn; address = address _ ∙ o.address; peer = peer _ ∙ o.peer };
   calling = ok.calling;
   idle = λ q h nj. idle q (sym (address q) ∙ h) (λ j. nj (joint q j));
-  says = each_append (λ f. Says v f.by_server f.circuit f.to f.destination f.source f.sent) w.frames (wire_all false x c.address e.peer st.sent)
-      (each_imp (λ f. Says w f.by_server f.circuit f.to f.destination f.source f.sent) (λ f. Says v f.by_server f.circuit f.to f.destination f.source f.sent) (λ f. says f.by_server f.circuit f.to f.destination f.source f.sent) w.frames ok.says)
+  says = each_append (λ f. FromSender v f.by_server f.circuit f.to f.destination f.source f.sent) w.frames (wire_all false x c.address e.peer st.sent)
+      (each_imp (λ f. FromSender w f.by_server f.circuit f.to f.destination f.source f.sent) (λ f. FromSender v f.by_server f.circuit f.to f.destination f.source f.sent) (λ f. says f.by_server f.circuit f.to f.destination f.source f.sent) w.frames ok.says)
       (news st.sent (λ h. node_new w x st ok h (kept h)));
   none_server = ok.none_server;
   none_node = λ k h. upd_other w.node.circuit_at x c' k (λ q. ⊎_elim {C = ⊥} (λ z. nz (sym q ∙ z)) (λ z. absurd (omega arith)) h) ∙ ok.none_node k h;
@@ -350,7 +350,7 @@ node_put w x st ok nz dr kin win kept = record {
     by_node : (y d s : ℕ) → ByNode w y d s → ByNode v y d s
     by_node y d s o = record { source = o.source; some = o.some; drawn = o.drawn; address = address y ∙ o.address; destination = o.destination ∙ sym (peer y) }
 
-    says : (b : Bool) (y to d s : ℕ) (m : Sent) → Says w b y to d s m → Says v b y to d s m
+    says : (b : Bool) (y to d s : ℕ) (m : Sent) → FromSender w b y to d s m → FromSender v b y to d s m
     says true y to d s (Run k a f) h = λ t. let o : ((w.server.circuit_at y).address ≡ w.node.own) × ByServer w y d s f = h t in (o.0, record { source = o.1.source; destination = o.1.destination; drawn = o.1.drawn; frame = o.1.frame })
     says false y to d s (Run k a f) h = λ t. let o : ByNode w y d s × FrameOf (List Slot) (w.node.circuit_at y).end.half.link f = h t in (by_node y d s o.0, frame y k a f o.0.address o.1)
     says true y to d s ReplyStart h = tt
@@ -363,7 +363,7 @@ node_put w x st ok nz dr kin win kept = record {
     mine : c.address ≡ w.server.own → ByNode v x e.peer x
     mine h = record { source = refl; some = nz; drawn = dr; address = address x ∙ h; destination = sym (ap (λ (z : CircuitEntry). z.end.peer) (upd_same w.node.circuit_at x c')) }
 
-    news : (ss : List Sent) → (c.address ≡ w.server.own → Each (SentOk st.end.half.link) ss) → Each (λ f. Says v f.by_server f.circuit f.to f.destination f.source f.sent) (wire_all false x c.address e.peer ss)
+    news : (ss : List Sent) → (c.address ≡ w.server.own → Each (SentOk st.end.half.link) ss) → Each (λ f. FromSender v f.by_server f.circuit f.to f.destination f.source f.sent) (wire_all false x c.address e.peer ss)
     news [] h = tt
     news (Run k a f ∷ ss) h = (λ t. (mine t, subst (λ z. FrameOf (List Slot) z.end.half.link f) (sym (upd_same w.node.circuit_at x c')) (h t).0), news ss (λ t. (h t).1))
     news (CallStart ∷ ss) h = (tt, news ss (λ t. (h t).1))

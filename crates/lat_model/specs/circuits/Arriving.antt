@@ -7,6 +7,7 @@ use Rattle.lat_model.specs.ends.End.{Sent, Run, CallStart, ReplyStart, Stopped, 
 use Rattle.lat_model.specs.ends.Run.{run_end}
 use Rattle.lat_model.specs.ends.Starting.{Agreed, make_slave, again_start, hear_reply, hear_stop}
 use Rattle.lat_model.specs.circuits.World.{CircuitEntry, Table, Wired, World, table, with_table, put_circuit, at_end, first_end}
+use Rattle.lat_model.specs.Reasons as reasons
 
 abbrev pub is_of : CircuitEntry → ℕ → ℕ → Bool
 is_of c from source = nat_eq c.address from && nat_eq c.end.peer source
@@ -39,7 +40,7 @@ abbrev pub slave_of : Table → ℕ → ℕ → ℕ
 slave_of t from source =
     least (λ i. is_of (t.circuit_at i) from source && lives (t.circuit_at i).end) (upwards 0 t.drawn)
 
--- a STOP with reason 7, which comes from no circuit
+-- a STOP for want of resources, which comes from no circuit
 abbrev pub refusal : ℕ → ℕ → Wired
 refusal from source = record {
   by_server = false;
@@ -47,7 +48,7 @@ refusal from source = record {
   to = from;
   destination = source;
   source = 0;
-  sent = Stopped 7;
+  sent = Stopped reasons.no_resources;
 }
 
 -- a new slave, where fewer than 8 live and an id is left

@@ -56,17 +56,17 @@ pub record ByNode (w : World) (x : ℕ) (to_id : ℕ) (from_id : ℕ) : Type 0 w
   pub address : (w.node.circuit_at x).address ≡ w.server.own
   pub destination : to_id ≡ (w.node.circuit_at x).end.peer
 
-abbrev pub Says : World → Bool → ℕ → ℕ → ℕ → ℕ → Sent → Type 0
-Says w true x to destination source (Run k ask f) =
+abbrev pub FromSender : World → Bool → ℕ → ℕ → ℕ → ℕ → Sent → Type 0
+FromSender w true x to destination source (Run k ask f) =
     to ≡ w.node.own →
     ((w.server.circuit_at x).address ≡ w.node.own) × ByServer w x destination source f
-Says w false x to destination source (Run k ask f) =
+FromSender w false x to destination source (Run k ask f) =
     to ≡ w.server.own →
     ByNode w x destination source × FrameOf (List Slot) (w.node.circuit_at x).end.half.link f
-Says w true x to destination source ReplyStart = Unit {0}
-Says w false x to destination source ReplyStart = to ≡ w.server.own → ByNode w x destination source
-Says w b x to destination source CallStart = Unit {0}
-Says w b x to destination source (Stopped r) = Unit {0}
+FromSender w true x to destination source ReplyStart = Unit {0}
+FromSender w false x to destination source ReplyStart = to ≡ w.server.own → ByNode w x destination source
+FromSender w b x to destination source CallStart = Unit {0}
+FromSender w b x to destination source (Stopped r) = Unit {0}
 
 pub record WorldOk (w : World) : Type 0 where
   pub apart : w.server.own ≢ w.node.own
@@ -83,7 +83,7 @@ pub record WorldOk (w : World) : Type 0 where
       Replied w p
   pub calling : (p : ℕ) → (w.server.circuit_at p).end.running ≡ false → (w.server.circuit_at p).end.peer ≡ 0
   pub idle : (q : ℕ) → (w.node.circuit_at q).address ≡ w.server.own → (Joint w q → ⊥) → Idle (w.node.circuit_at q).end
-  pub says : Each (λ f. Says w f.by_server f.circuit f.to f.destination f.source f.sent) w.frames
+  pub says : Each (λ f. FromSender w f.by_server f.circuit f.to f.destination f.source f.sent) w.frames
   pub none_server : (k : ℕ) → (k ≡ 0) ⊎ (w.server.drawn < k) → w.server.circuit_at k ≡ no_circuit true w.setup
   pub none_node : (k : ℕ) → (k ≡ 0) ⊎ (w.node.drawn < k) → w.node.circuit_at k ≡ no_circuit false w.other
   pub windows : (k : ℕ) → ((w.server.circuit_at k).end.window ≤ 8) × ((w.node.circuit_at k).end.window ≤ 8)

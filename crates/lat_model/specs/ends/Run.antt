@@ -6,6 +6,7 @@ use Rattle.lat_model.specs.sessions.Hearing.{HeardAll, hear_all}
 use Rattle.lat_model.specs.numbers.Link.{Frame, is_unsent, ack_in, is_next, take_message}
 use Rattle.lat_model.specs.ends.End.{End, Step, still, then_do, finish, occasion}
 use Rattle.lat_model.specs.ends.Timers.{living}
+use Rattle.lat_model.specs.Reasons as reasons
 
 -- what an end answers to a RUN of its circuit: a message taken, with the number of its slots; another message; no
 -- message; or the circuit broke
@@ -35,7 +36,7 @@ taken_end slots after e = record {
 
 -- a bad slot breaks the circuit; the slots before it stay applied, and the message isn't taken
 abbrev pub broken_end : Sessions → End → RunStep
-broken_end after e = record { step = finish 2 (record e { half = record (e.half) { sessions = after } }); answer = RunBroke }
+broken_end after e = record { step = finish reasons.broken (record e { half = record (e.half) { sessions = after } }); answer = RunBroke }
 
 abbrev pub take_end : List Slot → End → RunStep
 take_end slots e =
@@ -60,5 +61,5 @@ abbrev pub run_end : ℕ → Bool → Frame (List Slot) → End → RunStep
 run_end now ask f e =
     let d : End = record e { moment = now; heard_at = now; heard_run = true } in
     cond (is_unsent d.half.link f.acknowledgement)
-    (record { step = finish 2 d; answer = RunBroke })
+    (record { step = finish reasons.broken d; answer = RunBroke })
     (after_run (body_end f.number ask f.body (ack_end f.acknowledgement d)))

@@ -2,6 +2,7 @@
 use Rattle.std.specs.Prelude.{ℕ, ◌+◌, ◌*◌, Bool, true, not, cond, ◌&&◌, ◌||◌, nat_eq, nat_lt, nat_le}
 use Rattle.lat_model.specs.sessions.Sessions.{held}
 use Rattle.lat_model.specs.ends.End.{End, Step, still, then_do, lives, finish, send_bare, all_known, occasion, send_again, send_start}
+use Rattle.lat_model.specs.Reasons as reasons
 
 abbrev pub passed : ℕ → ℕ → End → Bool
 passed since ms e = nat_le (since + ms) e.moment
@@ -13,7 +14,7 @@ abbrev pub unused : End → Bool
 unused e = e.master && e.running && nat_eq (held e.half.sessions) 0 && passed e.empty_at (1000 * e.keepalive) e
 
 abbrev pub a_round : (End → Step) → End → Step
-a_round f e = cond (nat_lt e.rounds 8) (f e) (finish 6 e)
+a_round f e = cond (nat_lt e.rounds 8) (f e) (finish reasons.no_answer e)
 
 abbrev pub rounds_step : End → Step
 rounds_step e =
@@ -48,4 +49,4 @@ note_empty e s = record {
 abbrev pub time_step : ℕ → End → Step
 time_step now e =
     let d : End = record e { moment = now } in
-    cond (silent d) (finish 6 d) (cond (unused d) (finish 3 d) (then_do (rounds_step d) (living due_step)))
+    cond (silent d) (finish reasons.no_answer d) (cond (unused d) (finish reasons.no_use d) (then_do (rounds_step d) (living due_step)))

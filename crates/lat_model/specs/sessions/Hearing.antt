@@ -4,6 +4,7 @@ use Rattle.lat_model.specs.sessions.Slots.{Slot, Start, DataA, DataB, Attention,
 use Rattle.lat_model.specs.sessions.Session.{Session, peer, gone, runs, waits, rejecting}
 use Rattle.lat_model.specs.sessions.Sessions.{Sessions, named, held, least_free}
 use Rattle.lat_model.specs.Lists.{updated, any_up_to}
+use Rattle.lat_model.specs.Reasons as reasons
 
 abbrev pub heard : Session → Slot → Session
 heard s x = record s { came = s.came ++ x ∷ []; mark = mark_after s.mark x }
@@ -22,7 +23,7 @@ names_running from s = starts s.came && (nat_eq (peer s) from && not (gone s))
 abbrev pub is_full : Sessions → Bool
 is_full e = nat_le e.agreed (held e)
 
--- the session that an ask makes. Where the agreed number is held it has no id, and a reject with reason 7 waits
+-- the session that an ask makes. Where the agreed number is held it has no id, and a reject waits
 abbrev pub asked_session : Sessions → Slot → List ℕ → Option ℕ → Session
 asked_session e x service request = record {
   id = cond (is_full e) 0 (least_free e);
@@ -31,7 +32,7 @@ asked_session e x service request = record {
   request = request;
   accepted = false;
   refused = is_full e;
-  reason = 7;
+  reason = reasons.no_room;
   closed = false;
   attention = None;
   mark = None;

@@ -3,6 +3,7 @@ use Rattle.std.specs.Prelude.{ℕ, zero, suc, ◌-◌, ◌%◌, Bool, true, fals
 use Rattle.lat_model.specs.sessions.Slots.{Item, Byte, Setting, Slot, Start, DataA, DataB, Attention, Reject, Stop, credits, costs, has_stop, turned, first_size, slot_len}
 use Rattle.lat_model.specs.sessions.Session.{Session, answered, peer, unframed, due}
 use Rattle.lat_model.specs.Lists.{is_empty}
+use Rattle.lat_model.specs.Reasons as reasons
 
 -- nothing to send, a slot that is too long for the room, or the slot to send
 pub data Offer : Type 0 where
@@ -65,7 +66,7 @@ stop_due s = has_stop s.came || (s.closed && is_empty (unframed s))
 abbrev pub live_offer : ℕ → ℕ → Session → Option ℕ → Offer
 live_offer ceiling room s (Some flag) = fit room (Attention (peer s) s.id flag)
 live_offer ceiling room s None =
-    cond (stop_due s) (fit room (Stop (peer s) s.id 1)) (data_offer ceiling room s (unframed s))
+    cond (stop_due s) (fit room (Stop (peer s) s.id reasons.closed)) (data_offer ceiling room s (unframed s))
 
 -- its reject, if that still waits
 abbrev pub reject_offer : ℕ → Session → Offer

@@ -25,7 +25,7 @@ use Rattle.lat_switch.specs.Reading.{accepted, connects_own}
 use Rattle.lat_switch.specs.Shown.{is_same, items_in, bytes_in}
 use Rattle.lat_switch.proofs.shown.Sessions.{put_to, took_from, Gets, gets_none, gets_then, step_gets}
 
-pub record Tells (x : Seat) (m : Machine) (c : Course) (put took : List Item) : Type 0 where
+pub record GetsAlong (x : Seat) (m : Machine) (c : Course) (put took : List Item) : Type 0 where
   pub sound : Sound true c.state.inner.config.lines c.state.inner.state.core
   pub sessions : 0 < c.state.inner.config.timing.sessions
   pub offers : c.state.inner.config.offers ≡ []
@@ -43,8 +43,8 @@ took_in x e c = took_from x c.state.inner.state.core (event_shown e) (stepped c.
 abbrev has : Seat → ℕ → Course → Bool
 has x y c = is_same (seat_at c.state.inner.state.core y) x
 
-tells_more : (x : Seat) (m : Machine) (e : base_event.Event) (c : Course) (put took : List Item) → Tells x m c put took
-    → Tells x m (tells e c) (put ++ put_in x e c) (took ++ took_in x e c)
+tells_more : (x : Seat) (m : Machine) (e : base_event.Event) (c : Course) (put took : List Item) → GetsAlong x m c put took
+    → GetsAlong x m (tells e c) (put ++ put_in x e c) (took ++ took_in x e c)
 tells_more x m e c put took h =
     let config : ServerConfig = c.state.inner.config in
     let st : Server = c.state.inner.state in
@@ -63,7 +63,7 @@ tells_more x m e c put took h =
 pub record Told (x : Seat) (m : Machine) (c : Course) (bytes : List ℕ) (items : List base_item.Item) : Type 0 where
   pub put : List Item
   pub took : List Item
-  pub tells : Tells x m c put took
+  pub tells : GetsAlong x m c put took
   pub bytes_are : bytes_in put ≡ bytes
   pub items_are : map item_of took ≡ items
 

@@ -3,7 +3,7 @@ use Rattle.std.proofs.Common.{◌≡◌, ℕ, ◌+◌, ◌∙◌, refl, arith, B
 use Rattle.lat_machines.specs.values.Frames.{OutFrame}
 use Rattle.lat_machines.specs.world.Tally.{new_messages, new_of, is_run, sends_run}
 use Rattle.lat_wire.specs.declared.ledger.tallies.Tally.{Tally}
-use Rattle.lat_wire.specs.ledger.Books.{Counts, behind, behind_all, Tells}
+use Rattle.lat_wire.specs.ledger.Books.{Counts, behind, behind_all, HaveCounts}
 
 pub behind_formed : (fs : List OutFrame) (n : Counts) (x : ℕ) → (behind_all fs n).formed x ≡ n.formed x + new_of x fs
 behind_formed [] n x = omega arith
@@ -23,7 +23,7 @@ behind_shown (f ∷ fs) n x = behind_shown fs (behind f n) x ∙ go (is_run f.ma
     go false true = refl
     go false false = refl
 
-pub tells_same : (ts : List Tally) (n m : Counts) → ((x : ℕ) → n.formed x ≡ m.formed x) → ((x : ℕ) → n.taken x ≡ m.taken x) → ((x : ℕ) → n.shown x ≡ m.shown x) → Tells ts n → Tells ts m
+pub tells_same : (ts : List Tally) (n m : Counts) → ((x : ℕ) → n.formed x ≡ m.formed x) → ((x : ℕ) → n.taken x ≡ m.taken x) → ((x : ℕ) → n.shown x ≡ m.shown x) → HaveCounts ts n → HaveCounts ts m
 tells_same ts n m f t s h x l =
     let a = f x in
     let b = t x in

@@ -13,7 +13,7 @@ use Rattle.lat_wire.specs.declared.ledger.tallies.Tally.{Tally}
 use Rattle.lat_wire.specs.ledger.Ways.{Log}
 use Rattle.lat_wire.specs.ledger.Logs.{IsLog}
 use Rattle.lat_wire.specs.ledger.Tallies.{tally_at}
-use Rattle.lat_wire.specs.ledger.Books.{Book, Counts, ArePosts, IsBook, IsPost, IsReadable, Tells, behind, behind_all, number_by, tallies_of, tally_of, tally_by, with_side}
+use Rattle.lat_wire.specs.ledger.Books.{Book, Counts, ArePosts, IsBook, IsPost, IsReadable, HaveCounts, behind, behind_all, number_by, tallies_of, tally_of, tally_by, with_side}
 
 pub are_more : (ss : List Post) (ps : List Posted) (s : Post) (p : Posted) → ArePosts ss ps → IsPost s p → ArePosts (ss ++ s ∷ []) (ps ++ p ∷ [])
 are_more [] [] s p h q = (q, tt)
@@ -41,7 +41,7 @@ pub record Enters (k new : Book) (by : Bool) (post : Post) (circuit : ℕ) (t : 
   pub side : (x : ℕ) → tally_at (tallies_of new by) x ≡ cond (nat_eq x circuit) t (tally_at (tallies_of k by) x)
   pub other : tallies_of new (not by) ≡ tallies_of k (not by)
 
-tells_behind : (old new : List Tally) (n : Counts) (f : OutFrame) (t : Tally) → Tells old n → f.circuit < 2 ^ 16 → t ≡ tally_by f.mark (tally_at old f.circuit) → ((x : ℕ) → tally_at new x ≡ cond (nat_eq x f.circuit) t (tally_at old x)) → Tells new (behind f n)
+tells_behind : (old new : List Tally) (n : Counts) (f : OutFrame) (t : Tally) → HaveCounts old n → f.circuit < 2 ^ 16 → t ≡ tally_by f.mark (tally_at old f.circuit) → ((x : ℕ) → tally_at new x ≡ cond (nat_eq x f.circuit) t (tally_at old x)) → HaveCounts new (behind f n)
 tells_behind old new n f t h c e s x l = s x ∙ go (nat_eq x f.circuit) refl (nat_eq f.circuit x) refl
   where
     told : (q : Bool) → tally_by f.mark (tally_of n x) ≡ (let r : Tally = record { formed = n.formed x + new_messages f.mark; taken = n.taken x; shown = cond (is_run f.mark) (n.taken x) (n.shown x) } in r)
@@ -70,10 +70,10 @@ entered u k new sent done counts by post f t h c e p l b = record {
   tallies = go by h.side h.other e;
 }
   where
-    go : (by : Bool) → ((x : ℕ) → tally_at (tallies_of new by) x ≡ cond (nat_eq x f.circuit) t (tally_at (tallies_of k by) x)) → tallies_of new (not by) ≡ tallies_of k (not by) → t ≡ tally_by f.mark (tally_at (tallies_of k by) f.circuit) → (s : Bool) → Tells (tallies_of new s) (with_side by (behind f (counts by)) counts s)
+    go : (by : Bool) → ((x : ℕ) → tally_at (tallies_of new by) x ≡ cond (nat_eq x f.circuit) t (tally_at (tallies_of k by) x)) → tallies_of new (not by) ≡ tallies_of k (not by) → t ≡ tally_by f.mark (tally_at (tallies_of k by) f.circuit) → (s : Bool) → HaveCounts (tallies_of new s) (with_side by (behind f (counts by)) counts s)
     go true s o e true = tells_behind k.server new.server (counts true) f t (b.tallies true) c e s
-    go true s o e false = subst (λ z. Tells z (counts false)) (sym o) (b.tallies false)
-    go false s o e true = subst (λ z. Tells z (counts true)) (sym o) (b.tallies true)
+    go true s o e false = subst (λ z. HaveCounts z (counts false)) (sym o) (b.tallies false)
+    go false s o e true = subst (λ z. HaveCounts z (counts true)) (sym o) (b.tallies true)
     go false s o e false = tells_behind k.node new.node (counts false) f t (b.tallies false) c e s
 
 -- the same, from the parts of the ledger
@@ -113,7 +113,7 @@ pub book_same : (u : Setups) (k : Book) (sent more : List Posted) (done : List �
 book_same u k sent more done counts others e c h = record {
   posts = subst (ArePosts k.log.posts) e h.posts;
   log = subst (λ z. IsLog u k.log z done) e h.log;
-  tallies = λ b. subst (Tells (tallies_of k b)) (c b) (h.tallies b);
+  tallies = λ b. subst (HaveCounts (tallies_of k b)) (c b) (h.tallies b);
 }
 
 no_frames : (frames : List base.OutFrame) (fs : List OutFrame) → length frames ≡ 0 → map frame_view frames ≡ map expected fs → fs ≡ []

@@ -68,8 +68,8 @@ abbrev pub tally_of : Counts → ℕ → Tally
 tally_of n x = record { formed = n.formed x; taken = n.taken x; shown = n.shown x }
 
 -- the tallies have these counts, of every id that there is
-abbrev pub Tells : List Tally → Counts → Type 0
-Tells ts n = (x : ℕ) → x < 2 ^ 16 → tally_at ts x ≡ tally_of n x
+abbrev pub HaveCounts : List Tally → Counts → Type 0
+HaveCounts ts n = (x : ℕ) → x < 2 ^ 16 → tally_at ts x ≡ tally_of n x
 
 -- behind a frame: a RUN shows all that its circuit took
 abbrev pub behind : OutFrame → Counts → Counts
@@ -96,7 +96,7 @@ with_side false n counts false = n
 pub record IsBook (u : Setups) (k : Book) (sent : List Posted) (delivered : List ℕ) (counts : Bool → Counts) : Type 0 where
   pub posts : ArePosts k.log.posts sent
   pub log : IsLog u k.log sent delivered
-  pub tallies : (b : Bool) → Tells (tallies_of k b) (counts b)
+  pub tallies : (b : Bool) → HaveCounts (tallies_of k b) (counts b)
 
 abbrev pub IsBookOf : Setups → Book → Machines → Type 0
 IsBookOf u k w = IsBook u k w.posts w.delivered (counts_at w)

@@ -1,6 +1,6 @@
 use Rattle.std.proofs.Common.{◌≡◌, rules}
 use Rattle.lat_frames.specs.Written.{slots_text}
-use Rattle.lat_audit.specs.Tells.{facts_in}
+use Rattle.lat_audit.specs.TextSlots.{facts_in}
 use Rattle.lat_audit.proofs.Runs.{run_checks}
 use Rattle.lat_audit.proofs.run_check.run_checked.Goals as goal
 

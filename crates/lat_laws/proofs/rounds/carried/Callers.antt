@@ -6,12 +6,12 @@ use Rattle.lat_model.specs.ends.End.{Sent, Run, CallStart, ReplyStart, Stopped, 
 use Rattle.lat_model.specs.ends.Starting.{make_master}
 use Rattle.lat_model.specs.circuits.World.{CircuitEntry, Wired, World, table, wire_all, first_end}
 use Rattle.lat_model.specs.circuits.Events.{Calls, occurs}
-use Rattle.lat_model.specs.circuits.WorldOk.{WorldOk, ByNode, Says}
+use Rattle.lat_model.specs.circuits.WorldOk.{WorldOk, ByNode, FromSender}
 use Rattle.lat_model.proofs.sessions.Words.{upd_same, upd_other}
 use Rattle.lat_model.proofs.numbers.Net.{each_imp, each_append, each_at}
 use Rattle.lat_laws.specs.rounds.Lossless.{is_in}
 use Rattle.lat_laws.specs.rounds.Flight.{Flow, Old}
-use Rattle.lat_laws.specs.rounds.Carried.{flying, flying_from, server_end, node_end, Coupled, Offered, Tells, Came, Carried}
+use Rattle.lat_laws.specs.rounds.Carried.{flying, flying_from, server_end, node_end, Coupled, Offered, NamesSender, Came, Carried}
 use Rattle.lat_laws.proofs.rounds.carried.Flying.{flying-append, flying-new, flying-other}
 use Rattle.lat_laws.proofs.rounds.carried.Servers.{front_place}
 use Rattle.lat_laws.proofs.rounds.carried.Makes.{flying_none, undrawn, both_each}
@@ -94,7 +94,7 @@ module _ (w : World) (done : List ℕ) (address t : ℕ) (ok : WorldOk w) (k : C
       let z : v.server.circuit_at (node_end w q).peer ≡ w.server.circuit_at (node_end w q).peer = low_there (node_end w q).peer (k.peers q n d a) in
       subst (λ u. Offered (node_end w q) u) (sym (down q)) (k.offered q n d a (ap (λ (u : CircuitEntry). u.address) (sym z) ∙ b) (ap (λ (u : CircuitEntry). lives u.end) (sym z) ∙ h) (ap (λ (u : CircuitEntry). u.end.running) (sym z) ∙ r))
 
-  tells : (b : Bool) (y to d o : ℕ) (m : Sent) → y ≤ (table w b).drawn → Tells w b y to d o m → Tells v b y to d o m
+  tells : (b : Bool) (y to d o : ℕ) (m : Sent) → y ≤ (table w b).drawn → NamesSender w b y to d o m → NamesSender v b y to d o m
   tells true y to d o (Run mark ask h) l z = λ a. (ap (λ (u : CircuitEntry). u.end.running) (low_there y l) ∙ (z a).0, (z a).1 ∙ sym (ap (λ (u : CircuitEntry). u.end.peer) (low_there y l)))
   tells true y to d o (Stopped r) l z = (ap (λ (u : CircuitEntry). lives u.end) (low_there y l) ∙ z.0, z.1, z.2)
   tells false y to d o (Stopped r) l z = z
@@ -126,7 +126,7 @@ module _ (w : World) (done : List ℕ) (address t : ℕ) (ok : WorldOk w) (k : C
   came false y to d (Stopped r) l f z = tt
 
   -- a frame of the node names a circuit that was drawn
-  aims : (y to d o : ℕ) (m : Sent) → Says w false y to d o m → to ≡ w.server.own → (d ≡ x → ⊥) ⊎ ((m ≡ CallStart) ⊎ ((r : ℕ) × (m ≡ Stopped r)))
+  aims : (y to d o : ℕ) (m : Sent) → FromSender w false y to d o m → to ≡ w.server.own → (d ≡ x → ⊥) ⊎ ((m ≡ CallStart) ⊎ ((r : ℕ) × (m ≡ Stopped r)))
   aims y to d o (Run mark ask h) s a = let b : ByNode w y d o = (s a).0 in inl (λ i. absurd (omega (arith, i, b.destination, k.peers y b.some b.drawn b.address)))
   aims y to d o ReplyStart s a = let b : ByNode w y d o = s a in inl (λ i. absurd (omega (arith, i, b.destination, k.peers y b.some b.drawn b.address)))
   aims y to d o CallStart s a = inr (inl refl)
@@ -142,10 +142,10 @@ module _ (w : World) (done : List ℕ) (address t : ℕ) (ok : WorldOk w) (k : C
     downs = downs;
     offered = offered;
     peers = λ q n d a. omega (arith, k.peers q n d a);
-    tells = each_append (λ (f : Wired). Tells v f.by_server f.circuit f.to f.destination f.source f.sent) w.frames news (each_imp (λ (f : Wired). (f.circuit ≤ (table w f.by_server).drawn) × Tells w f.by_server f.circuit f.to f.destination f.source f.sent) (λ (f : Wired). Tells v f.by_server f.circuit f.to f.destination f.source f.sent) (λ f z. tells f.by_server f.circuit f.to f.destination f.source f.sent z.0 z.1) w.frames (both_each (λ (f : Wired). f.circuit ≤ (table w f.by_server).drawn) (λ (f : Wired). Tells w f.by_server f.circuit f.to f.destination f.source f.sent) w.frames k.low k.tells)) (refl, tt);
+    tells = each_append (λ (f : Wired). NamesSender v f.by_server f.circuit f.to f.destination f.source f.sent) w.frames news (each_imp (λ (f : Wired). (f.circuit ≤ (table w f.by_server).drawn) × NamesSender w f.by_server f.circuit f.to f.destination f.source f.sent) (λ (f : Wired). NamesSender v f.by_server f.circuit f.to f.destination f.source f.sent) (λ f z. tells f.by_server f.circuit f.to f.destination f.source f.sent z.0 z.1) w.frames (both_each (λ (f : Wired). f.circuit ≤ (table w f.by_server).drawn) (λ (f : Wired). NamesSender w f.by_server f.circuit f.to f.destination f.source f.sent) w.frames k.low k.tells)) (refl, tt);
     came = λ j f h i. let q : slice_get w.frames j ≡ Some f = front_place w.frames news j f (short j i) h in
         came f.by_server f.circuit f.to f.destination f.sent (each_at (λ (y : Wired). y.circuit ≤ (table w y.by_server).drawn) w.frames j f k.low q)
-        (λ b a. aims f.circuit f.to f.destination f.source f.sent (subst (λ z. Says w z f.circuit f.to f.destination f.source f.sent) b (each_at (λ (y : Wired). Says w y.by_server y.circuit y.to y.destination y.source y.sent) w.frames j f ok.says q)) a) (k.came j f q i);
+        (λ b a. aims f.circuit f.to f.destination f.source f.sent (subst (λ z. FromSender w z f.circuit f.to f.destination f.source f.sent) b (each_at (λ (y : Wired). FromSender w y.by_server y.circuit y.to y.destination y.source y.sent) w.frames j f ok.says q)) a) (k.came j f q i);
   }
     where
       drawn : (y : ℕ) (b : Bool) → y ≤ (table w b).drawn → y ≤ (table v b).drawn

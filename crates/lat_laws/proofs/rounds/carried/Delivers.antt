@@ -11,12 +11,12 @@ use Rattle.lat_model.specs.ends.Starting.{Agreed, again_start, make_slave, reply
 use Rattle.lat_model.specs.circuits.World.{CircuitEntry, Wired, World, table, with_table, put_circuit, at_end, wire_all, first_end}
 use Rattle.lat_model.specs.circuits.Arriving.{is_of, living, slave_of, run_in, stop_in, reply_in, start_in, arrive}
 use Rattle.lat_model.specs.circuits.Events.{deliver_in}
-use Rattle.lat_model.specs.circuits.WorldOk.{WorldOk, Replied, ByNode, ByServer, Says}
+use Rattle.lat_model.specs.circuits.WorldOk.{WorldOk, Replied, ByNode, ByServer, FromSender}
 use Rattle.lat_model.proofs.numbers.Net.{each_at}
 use Rattle.lat_model.proofs.circuits.Follows.{world_whole}
 use Rattle.lat_laws.specs.rounds.Lossless.{is_side, is_in}
 use Rattle.lat_laws.specs.rounds.Flight.{Flow}
-use Rattle.lat_laws.specs.rounds.Carried.{flying, server_end, node_end, Coupled, Offered, Tells, Came, Carried, Kinds, done_with}
+use Rattle.lat_laws.specs.rounds.Carried.{flying, server_end, node_end, Coupled, Offered, NamesSender, Came, Carried, Kinds, done_with}
 use Rattle.lat_laws.proofs.rounds.carried.Runs.{fly_same, place_low, below_more, in_cases, node_hears_carried}
 use Rattle.lat_laws.proofs.rounds.carried.Downs.{server_hears_carried}
 use Rattle.lat_laws.proofs.rounds.carried.Unheard.{Turn, flies, flow_after, relabel}
@@ -65,10 +65,10 @@ module _ (w : World) (done : List ℕ) (i t : ℕ) (g : Agreed) (ok : WorldOk w)
       test = is_of c w.server.own s && lives c.end && c.end.running && not c.end.master
 
       says : ((w.server.circuit_at p).address ≡ w.node.own) × ByServer w p d s f
-      says = each_at (λ (y : Wired). Says w y.by_server y.circuit y.to y.destination y.source y.sent) w.frames i (record { by_server = true; circuit = p; to = to; destination = d; source = s; sent = Run mark ask f }) ok.says e home
+      says = each_at (λ (y : Wired). FromSender w y.by_server y.circuit y.to y.destination y.source y.sent) w.frames i (record { by_server = true; circuit = p; to = to; destination = d; source = s; sent = Run mark ask f }) ok.says e home
 
       tells : ((server_end w p).running ≡ true) × (d ≡ (server_end w p).peer)
-      tells = each_at (λ (y : Wired). Tells w y.by_server y.circuit y.to y.destination y.source y.sent) w.frames i (record { by_server = true; circuit = p; to = to; destination = d; source = s; sent = Run mark ask f }) k.tells e home
+      tells = each_at (λ (y : Wired). NamesSender w y.by_server y.circuit y.to y.destination y.source y.sent) w.frames i (record { by_server = true; circuit = p; to = to; destination = d; source = s; sent = Run mark ask f }) k.tells e home
 
       rep : Replied w p
       rep = ok.replied p says.0 tells.0
@@ -95,7 +95,7 @@ module _ (w : World) (done : List ℕ) (i t : ℕ) (g : Agreed) (ok : WorldOk w)
   run_down q to d s mark ask f e turn home = carried_cond (is_of (w.server.circuit_at d) w.node.own s && lives (server_end w d) && (server_end w d).running && (server_end w d).master) (i ∷ done) (at_end w true d (run_end t ask f (server_end w d)).step) w yes no
     where
       says : ByNode w q d s × FrameOf (List Slot) (node_end w q).half.link f
-      says = each_at (λ (y : Wired). Says w y.by_server y.circuit y.to y.destination y.source y.sent) w.frames i (record { by_server = false; circuit = q; to = to; destination = d; source = s; sent = Run mark ask f }) ok.says e home
+      says = each_at (λ (y : Wired). FromSender w y.by_server y.circuit y.to y.destination y.source y.sent) w.frames i (record { by_server = false; circuit = q; to = to; destination = d; source = s; sent = Run mark ask f }) ok.says e home
 
       yes : (is_of (w.server.circuit_at d) w.node.own s && lives (server_end w d) && (server_end w d).running && (server_end w d).master) ≡ true → Carried (at_end w true d (run_end t ask f (server_end w d)).step) (i ∷ done)
       yes h =
@@ -121,7 +121,7 @@ module _ (w : World) (done : List ℕ) (i t : ℕ) (g : Agreed) (ok : WorldOk w)
   stop_up p to d s r e turn = carried_cond (nat_eq (w.node.circuit_at d).address w.server.own && (nat_eq (node_end w d).peer s || nat_eq s 0) && lives (node_end w d)) (i ∷ done) (at_end w false d (hear_stop t r (node_end w d))) w yes no
     where
       tells : (lives (server_end w p) ≡ false) × (s ≡ p) × (p ≢ 0)
-      tells = each_at (λ (y : Wired). Tells w y.by_server y.circuit y.to y.destination y.source y.sent) w.frames i (record { by_server = true; circuit = p; to = to; destination = d; source = s; sent = Stopped r }) k.tells e
+      tells = each_at (λ (y : Wired). NamesSender w y.by_server y.circuit y.to y.destination y.source y.sent) w.frames i (record { by_server = true; circuit = p; to = to; destination = d; source = s; sent = Stopped r }) k.tells e
 
       yes : (nat_eq (w.node.circuit_at d).address w.server.own && (nat_eq (node_end w d).peer s || nat_eq s 0) && lives (node_end w d)) ≡ true → Carried (at_end w false d (hear_stop t r (node_end w d))) (i ∷ done)
       yes h =
@@ -147,7 +147,7 @@ module _ (w : World) (done : List ℕ) (i t : ℕ) (g : Agreed) (ok : WorldOk w)
   stop_down q to d s r e turn home = carried_cond (nat_eq (w.server.circuit_at d).address w.node.own && (nat_eq (server_end w d).peer s || nat_eq s 0) && lives (server_end w d)) (i ∷ done) (at_end w true d (hear_stop t r (server_end w d))) w yes no
     where
       tells : q ≢ 0 → (s ≡ q) × (d ≡ (node_end w q).peer)
-      tells n = each_at (λ (y : Wired). Tells w y.by_server y.circuit y.to y.destination y.source y.sent) w.frames i (record { by_server = false; circuit = q; to = to; destination = d; source = s; sent = Stopped r }) k.tells e home n
+      tells n = each_at (λ (y : Wired). NamesSender w y.by_server y.circuit y.to y.destination y.source y.sent) w.frames i (record { by_server = false; circuit = q; to = to; destination = d; source = s; sent = Stopped r }) k.tells e home n
 
       yes : (nat_eq (w.server.circuit_at d).address w.node.own && (nat_eq (server_end w d).peer s || nat_eq s 0) && lives (server_end w d)) ≡ true → Carried (at_end w true d (hear_stop t r (server_end w d))) (i ∷ done)
       yes h =
@@ -185,7 +185,7 @@ module _ (w : World) (done : List ℕ) (i t : ℕ) (g : Agreed) (ok : WorldOk w)
       c = server_end w d
 
       says : ByNode w q d s
-      says = each_at (λ (y : Wired). Says w y.by_server y.circuit y.to y.destination y.source y.sent) w.frames i (record { by_server = false; circuit = q; to = to; destination = d; source = s; sent = ReplyStart }) ok.says e home
+      says = each_at (λ (y : Wired). FromSender w y.by_server y.circuit y.to y.destination y.source y.sent) w.frames i (record { by_server = false; circuit = q; to = to; destination = d; source = s; sent = ReplyStart }) ok.says e home
 
       yes : (nat_eq (w.server.circuit_at d).address w.node.own && lives (server_end w d) && (not (server_end w d).running || nat_eq (server_end w d).peer s)) ≡ true → Carried (at_end w true d (hear_reply t s g (server_end w d))) (i ∷ done)
       yes h =
@@ -242,7 +242,7 @@ module _ (w : World) (done : List ℕ) (i t : ℕ) (g : Agreed) (ok : WorldOk w)
       test j = is_of (w.node.circuit_at j) w.server.own s && lives (w.node.circuit_at j).end
 
       source : s ≡ p
-      source = each_at (λ (y : Wired). Tells w y.by_server y.circuit y.to y.destination y.source y.sent) w.frames i (record { by_server = true; circuit = p; to = to; destination = d; source = s; sent = CallStart }) k.tells e
+      source = each_at (λ (y : Wired). NamesSender w y.by_server y.circuit y.to y.destination y.source y.sent) w.frames i (record { by_server = true; circuit = p; to = to; destination = d; source = s; sent = CallStart }) k.tells e
 
       low : p ≤ w.server.drawn
       low = each_at (λ (y : Wired). y.circuit ≤ (table w y.by_server).drawn) w.frames i (record { by_server = true; circuit = p; to = to; destination = d; source = s; sent = CallStart }) k.low e

@@ -14,14 +14,14 @@ use Rattle.lat_model.specs.ends.Run.{RunRepeated, RunBroke, RunStep, ack_end, ta
 use Rattle.lat_model.specs.ends.Starting.{Agreed, again_start, make_slave, hear_reply, hear_stop}
 use Rattle.lat_model.specs.circuits.World.{CircuitEntry, Wired, World, table, with_table, put_circuit, at_end, wire_all, first_end}
 use Rattle.lat_model.specs.circuits.Arriving.{is_of, slave_of, run_in, stop_in, reply_in, start_in, arrive}
-use Rattle.lat_model.specs.circuits.WorldOk.{WorldOk, Says}
+use Rattle.lat_model.specs.circuits.WorldOk.{WorldOk, FromSender}
 use Rattle.lat_model.proofs.sessions.Words.{upd_same, upd_other}
 use Rattle.lat_model.proofs.numbers.Net.{each_imp, each_append, each_at}
 use Rattle.lat_model.proofs.circuits.Kin.{Kin, kin_run, kin_again, kin_stop}
 use Rattle.lat_model.proofs.circuits.Begins.{server_alive}
 use Rattle.lat_laws.specs.rounds.Lossless.{is_in}
 use Rattle.lat_laws.specs.rounds.Flight.{Flow, Old}
-use Rattle.lat_laws.specs.rounds.Carried.{flying, server_end, node_end, Coupled, Offered, Tells, Came, Carried, Kinds}
+use Rattle.lat_laws.specs.rounds.Carried.{flying, server_end, node_end, Coupled, Offered, NamesSender, Came, Carried, Kinds}
 use Rattle.lat_laws.proofs.rounds.flight.Hearing.{known_with, known_least}
 use Rattle.lat_laws.proofs.rounds.flight.Sending.{Sends, occasion_sends}
 use Rattle.lat_laws.proofs.rounds.carried.Flying.{flying-append, flying-other}
@@ -133,7 +133,7 @@ module _ (w : World) (done : List ℕ) (x : ℕ) (st : Step) (ok : WorldOk w) (k
       go true q = absurd (true≢false (sym (ap (λ z. lives (server_end w z)) (eqb-true p x q) ∙ l) ∙ h))
       go false q = h
 
-  tells : (b : Bool) (y to d o : ℕ) (m : Sent) → Says w b y to d o m → Tells w b y to d o m → Tells v b y to d o m
+  tells : (b : Bool) (y to d o : ℕ) (m : Sent) → FromSender w b y to d o m → NamesSender w b y to d o m → NamesSender v b y to d o m
   tells true y to d o (Run mark ask h) s z = λ a. (let e : y ≡ x → ⊥ = λ i. n (ap (λ u. (w.server.circuit_at u).address) (sym i) ∙ (s a).0) in (ap (λ (u : CircuitEntry). u.end.running) (there y e) ∙ (z a).0, (z a).1 ∙ sym (ap (λ (u : CircuitEntry). u.end.peer) (there y e))))
   tells true y to d o (Stopped r) s z = (dies y z.0, z.1, z.2)
   tells false y to d o (Stopped r) s z = z
@@ -143,14 +143,14 @@ module _ (w : World) (done : List ℕ) (x : ℕ) (st : Step) (ok : WorldOk w) (k
   tells true y to d o ReplyStart s z = tt
   tells false y to d o ReplyStart s z = tt
 
-  new_tells : (ss : List Sent) → Each (λ s. (r : ℕ) → s ≡ Stopped r → lives st.end ≡ false) ss → Each (λ s. s ≡ CallStart → ⊥) ss → Each (λ (f : Wired). Tells v f.by_server f.circuit f.to f.destination f.source f.sent) (wire_all true x (w.server.circuit_at x).address st.end.peer ss)
+  new_tells : (ss : List Sent) → Each (λ s. (r : ℕ) → s ≡ Stopped r → lives st.end ≡ false) ss → Each (λ s. s ≡ CallStart → ⊥) ss → Each (λ (f : Wired). NamesSender v f.by_server f.circuit f.to f.destination f.source f.sent) (wire_all true x (w.server.circuit_at x).address st.end.peer ss)
   new_tells [] h c = tt
   new_tells (Run mark ask f ∷ ss) h c = (λ a. absurd (n a), new_tells ss h.1 c.1)
   new_tells (Stopped r ∷ ss) h c = ((ap (λ (z : CircuitEntry). lives z.end) here ∙ h.0 r refl, refl, some), new_tells ss h.1 c.1)
   new_tells (CallStart ∷ ss) h c = absurd (c.0 refl)
   new_tells (ReplyStart ∷ ss) h c = (tt, new_tells ss h.1 c.1)
 
-  came : (b : Bool) (y to d o : ℕ) (m : Sent) → Says w b y to d o m → Came w b y to d m → Came v b y to d m
+  came : (b : Bool) (y to d o : ℕ) (m : Sent) → FromSender w b y to d o m → Came w b y to d m → Came v b y to d m
   came true y to d o (Run mark ask h) s z = z
   came false y to d o (Run mark ask h) s z = λ a b r q p. (let e : v.server.circuit_at d ≡ w.server.circuit_at d = there d (other d b) in
       subst (λ (u : CircuitEntry). Old u.end h) (sym e) (z a (ap (λ (u : CircuitEntry). u.address) (sym e) ∙ b) (ap (λ (u : CircuitEntry). lives u.end) (sym e) ∙ r) (ap (λ (u : CircuitEntry). u.end.running) (sym e) ∙ q) (ap (λ (u : CircuitEntry). u.end.peer) (sym e) ∙ p)))
@@ -180,8 +180,8 @@ module _ (w : World) (done : List ℕ) (x : ℕ) (st : Step) (ok : WorldOk w) (k
     offered = λ q m d a b h r. (let e : v.server.circuit_at (node_end w q).peer ≡ w.server.circuit_at (node_end w q).peer = there (node_end w q).peer (other (node_end w q).peer b) in
         subst (λ u. Offered (node_end w q) u) (sym (down q)) (k.offered q m d a (ap (λ (u : CircuitEntry). u.address) (sym e) ∙ b) (ap (λ (u : CircuitEntry). lives u.end) (sym e) ∙ h) (ap (λ (u : CircuitEntry). u.end.running) (sym e) ∙ r)));
     peers = k.peers;
-    tells = each_append (λ (f : Wired). Tells v f.by_server f.circuit f.to f.destination f.source f.sent) w.frames news (both_tells w.frames ok.says k.tells) (new_tells st.sent truly no_call);
-    came = λ j f h i. let q : slice_get w.frames j ≡ Some f = place w.frames j f (short j i) h in came f.by_server f.circuit f.to f.destination f.source f.sent (each_at (λ (y : Wired). Says w y.by_server y.circuit y.to y.destination y.source y.sent) w.frames j f ok.says q) (k.came j f q i);
+    tells = each_append (λ (f : Wired). NamesSender v f.by_server f.circuit f.to f.destination f.source f.sent) w.frames news (both_tells w.frames ok.says k.tells) (new_tells st.sent truly no_call);
+    came = λ j f h i. let q : slice_get w.frames j ≡ Some f = place w.frames j f (short j i) h in came f.by_server f.circuit f.to f.destination f.source f.sent (each_at (λ (y : Wired). FromSender w y.by_server y.circuit y.to y.destination y.source y.sent) w.frames j f ok.says q) (k.came j f q i);
   }
     where
       drawn : (y : ℕ) (b : Bool) → y ≤ (table w b).drawn → y ≤ (table v b).drawn
@@ -192,7 +192,7 @@ module _ (w : World) (done : List ℕ) (x : ℕ) (st : Step) (ok : WorldOk w) (k
       new_low [] = tt
       new_low (s ∷ ss) = (low, new_low ss)
 
-      both_tells : (fs : List Wired) → Each (λ (f : Wired). Says w f.by_server f.circuit f.to f.destination f.source f.sent) fs → Each (λ (f : Wired). Tells w f.by_server f.circuit f.to f.destination f.source f.sent) fs → Each (λ (f : Wired). Tells v f.by_server f.circuit f.to f.destination f.source f.sent) fs
+      both_tells : (fs : List Wired) → Each (λ (f : Wired). FromSender w f.by_server f.circuit f.to f.destination f.source f.sent) fs → Each (λ (f : Wired). NamesSender w f.by_server f.circuit f.to f.destination f.source f.sent) fs → Each (λ (f : Wired). NamesSender v f.by_server f.circuit f.to f.destination f.source f.sent) fs
       both_tells [] a b = tt
       both_tells (f ∷ fs) a b = (tells f.by_server f.circuit f.to f.destination f.source f.sent a.0 b.0, both_tells fs a.1 b.1)
 

@@ -7,12 +7,12 @@ use Rattle.lat_model.specs.numbers.Link.{Link, fresh}
 use Rattle.lat_model.specs.ends.End.{Sent, Run, CallStart, ReplyStart, Stopped, Step, lives}
 use Rattle.lat_model.specs.ends.Starting.{Agreed, make_slave}
 use Rattle.lat_model.specs.circuits.World.{CircuitEntry, Wired, World, table, with_table, put_circuit, wire_all, first_end}
-use Rattle.lat_model.specs.circuits.WorldOk.{WorldOk, Says}
+use Rattle.lat_model.specs.circuits.WorldOk.{WorldOk, FromSender}
 use Rattle.lat_model.proofs.sessions.Words.{upd_same, upd_other}
 use Rattle.lat_model.proofs.numbers.Net.{each_imp, each_append, each_at}
 use Rattle.lat_laws.specs.rounds.Lossless.{is_side, is_in}
 use Rattle.lat_laws.specs.rounds.Flight.{Flow, Old}
-use Rattle.lat_laws.specs.rounds.Carried.{is_of_line, flying, flying_from, server_end, node_end, Both, Coupled, Offered, Tells, Came, Carried}
+use Rattle.lat_laws.specs.rounds.Carried.{is_of_line, flying, flying_from, server_end, node_end, Both, Coupled, Offered, NamesSender, Came, Carried}
 use Rattle.lat_laws.proofs.rounds.carried.Flying.{flying-append, flying-new, flying-other}
 use Rattle.lat_laws.proofs.rounds.carried.Servers.{front_place}
 
@@ -111,7 +111,7 @@ module _ (w : World) (done : List ℕ) (now : List ℕ) (from s t : ℕ) (g : Ag
       (λ l. subst (λ (z : CircuitEntry). z.end.peer ≤ w.server.drawn) (sym (there q l)) (k.peers q n l (ap (λ (u : CircuitEntry). u.address) (sym (there q l)) ∙ a)))
       (cases_lt w.node.drawn q)
 
-  tells : (b : Bool) (y u d o : ℕ) (m : Sent) → y ≤ (table w b).drawn → Tells w b y u d o m → Tells v b y u d o m
+  tells : (b : Bool) (y u d o : ℕ) (m : Sent) → y ≤ (table w b).drawn → NamesSender w b y u d o m → NamesSender v b y u d o m
   tells true y u d o (Run mark ask h) l z = z
   tells true y u d o (Stopped r) l z = z
   tells false y u d o (Stopped r) l z = λ a n. ((z a n).0, (z a n).1 ∙ sym (ap (λ (e : CircuitEntry). e.end.peer) (there y l)))
@@ -121,7 +121,7 @@ module _ (w : World) (done : List ℕ) (now : List ℕ) (from s t : ℕ) (g : Ag
   tells true y u d o ReplyStart l z = tt
   tells false y u d o ReplyStart l z = tt
 
-  came : (b : Bool) (y u d o : ℕ) (m : Sent) → y ≤ (table w b).drawn → Says w b y u d o m → Tells w b y u d o m → Came w b y u d m → Came v b y u d m
+  came : (b : Bool) (y u d o : ℕ) (m : Sent) → y ≤ (table w b).drawn → FromSender w b y u d o m → NamesSender w b y u d o m → Came w b y u d m → Came v b y u d m
   came true y u d o (Run mark ask h) l sy tl z = λ a n.
       let q : d ≤ w.node.drawn = subst (λ z. z ≤ w.node.drawn) (sym (tl a).1) (ok.replied y (sy a).0 (tl a).0).drawn in
       subst (λ (e : CircuitEntry). Old e.end h) (sym (there d q)) (z a (subst (λ (e : CircuitEntry). lives e.end ≡ true) (there d q) n))
@@ -147,9 +147,9 @@ module _ (w : World) (done : List ℕ) (now : List ℕ) (from s t : ℕ) (g : Ag
         (subst (λ z. Flow (node_end w (server_end w p).peer).half.link (server_end w p).half.link z) (sym (down (server_end w p).peer d)) (k.downs p a h r)));
     offered = offered;
     peers = peers;
-    tells = each_append (λ (f : Wired). Tells v f.by_server f.circuit f.to f.destination f.source f.sent) w.frames news (each_imp (λ (f : Wired). (f.circuit ≤ (table w f.by_server).drawn) × Tells w f.by_server f.circuit f.to f.destination f.source f.sent) (λ (f : Wired). Tells v f.by_server f.circuit f.to f.destination f.source f.sent) (λ f z. tells f.by_server f.circuit f.to f.destination f.source f.sent z.0 z.1) w.frames (both_each (λ (f : Wired). f.circuit ≤ (table w f.by_server).drawn) (λ (f : Wired). Tells w f.by_server f.circuit f.to f.destination f.source f.sent) w.frames k.low k.tells)) (tt, tt);
+    tells = each_append (λ (f : Wired). NamesSender v f.by_server f.circuit f.to f.destination f.source f.sent) w.frames news (each_imp (λ (f : Wired). (f.circuit ≤ (table w f.by_server).drawn) × NamesSender w f.by_server f.circuit f.to f.destination f.source f.sent) (λ (f : Wired). NamesSender v f.by_server f.circuit f.to f.destination f.source f.sent) (λ f z. tells f.by_server f.circuit f.to f.destination f.source f.sent z.0 z.1) w.frames (both_each (λ (f : Wired). f.circuit ≤ (table w f.by_server).drawn) (λ (f : Wired). NamesSender w f.by_server f.circuit f.to f.destination f.source f.sent) w.frames k.low k.tells)) (tt, tt);
     came = λ j f h i. let q : slice_get w.frames j ≡ Some f = front_place w.frames news j f (short j i) h in
-        came f.by_server f.circuit f.to f.destination f.source f.sent (each_at (λ (y : Wired). y.circuit ≤ (table w y.by_server).drawn) w.frames j f k.low q) (each_at (λ (y : Wired). Says w y.by_server y.circuit y.to y.destination y.source y.sent) w.frames j f ok.says q) (each_at (λ (y : Wired). Tells w y.by_server y.circuit y.to y.destination y.source y.sent) w.frames j f k.tells q) (came_now j f q i);
+        came f.by_server f.circuit f.to f.destination f.source f.sent (each_at (λ (y : Wired). y.circuit ≤ (table w y.by_server).drawn) w.frames j f k.low q) (each_at (λ (y : Wired). FromSender w y.by_server y.circuit y.to y.destination y.source y.sent) w.frames j f ok.says q) (each_at (λ (y : Wired). NamesSender w y.by_server y.circuit y.to y.destination y.source y.sent) w.frames j f k.tells q) (came_now j f q i);
   }
     where
       drawn : (y : ℕ) (b : Bool) → y ≤ (table w b).drawn → y ≤ (table v b).drawn
@@ -177,7 +177,7 @@ module _ (w : World) (done : List ℕ) (now : List ℕ) (from s : ℕ) (ok : Wor
   downs : (q : ℕ) → q ≢ 0 → flying u now false q ≡ flying w done false q
   downs q h = flying-append w.server.own false q now 0 w.frames turned ∙ ap (λ z. flying w now false q ++ z) (flying-other w.server.own false q now (0 + length w.frames) false 0 from s (Stopped 7 ∷ []) (λ i j. absurd (h (sym j)))) ∙ append-nil (flying w now false q) ∙ down_now q
 
-  told : (b : Bool) (y to d o : ℕ) (m : Sent) → Tells w b y to d o m → Tells u b y to d o m
+  told : (b : Bool) (y to d o : ℕ) (m : Sent) → NamesSender w b y to d o m → NamesSender u b y to d o m
   told true y to d o (Run mark ask h) z = z
   told true y to d o (Stopped r) z = z
   told false y to d o (Stopped r) z = z
@@ -209,7 +209,7 @@ module _ (w : World) (done : List ℕ) (now : List ℕ) (from s : ℕ) (ok : Wor
     downs = λ p a h r. subst (λ z. Flow (node_end w (server_end w p).peer).half.link (server_end w p).half.link z) (sym (downs (server_end w p).peer (ok.replied p a r).some)) (k.downs p a h r);
     offered = λ q n d a b h r. subst (λ z. Offered (node_end w q) z) (sym (downs q n)) (k.offered q n d a b h r);
     peers = k.peers;
-    tells = each_append (λ (f : Wired). Tells u f.by_server f.circuit f.to f.destination f.source f.sent) w.frames turned (each_imp (λ (f : Wired). Tells w f.by_server f.circuit f.to f.destination f.source f.sent) (λ (f : Wired). Tells u f.by_server f.circuit f.to f.destination f.source f.sent) (λ f. told f.by_server f.circuit f.to f.destination f.source f.sent) w.frames k.tells) (λ a n. absurd (n refl), tt);
+    tells = each_append (λ (f : Wired). NamesSender u f.by_server f.circuit f.to f.destination f.source f.sent) w.frames turned (each_imp (λ (f : Wired). NamesSender w f.by_server f.circuit f.to f.destination f.source f.sent) (λ (f : Wired). NamesSender u f.by_server f.circuit f.to f.destination f.source f.sent) (λ f. told f.by_server f.circuit f.to f.destination f.source f.sent) w.frames k.tells) (λ a n. absurd (n refl), tt);
     came = λ j f h i. arrived f.by_server f.circuit f.to f.destination f.sent (came_now j f (front_place w.frames turned j f (short j i) h) i);
   }
     where

@@ -10,11 +10,11 @@ use Rattle.lat_model.specs.ends.Timers.{note_empty}
 use Rattle.lat_model.specs.ends.Starting.{Agreed, reply_end}
 use Rattle.lat_model.specs.circuits.Together.{Together}
 use Rattle.lat_model.specs.circuits.World.{CircuitEntry, Wired, World, table, at_end}
-use Rattle.lat_model.specs.circuits.WorldOk.{WorldOk, Says, Idle, void_half}
+use Rattle.lat_model.specs.circuits.WorldOk.{WorldOk, FromSender, Idle, void_half}
 use Rattle.lat_model.proofs.sessions.Words.{upd_same, upd_other, upd_field}
 use Rattle.lat_model.proofs.numbers.Net.{each_imp, each_at}
 use Rattle.lat_laws.specs.rounds.Flight.{Flow, Old}
-use Rattle.lat_laws.specs.rounds.Carried.{flying, flying_from, has_stop_sent, server_end, node_end, Coupled, Offered, Tells, Came, Carried}
+use Rattle.lat_laws.specs.rounds.Carried.{flying, flying_from, has_stop_sent, server_end, node_end, Coupled, Offered, NamesSender, Came, Carried}
 use Rattle.lat_laws.proofs.rounds.carried.Runs.{fly_same, fly_first, place_low, below_more, in_cases}
 use Rattle.lat_laws.proofs.rounds.carried.Downs.{line_down, front_down}
 use Rattle.lat_laws.proofs.rounds.carried.Unheard.{Turn}
@@ -179,7 +179,7 @@ module _ (w : World) (done : List ℕ) (i x q to s t : ℕ) (g : Agreed) (ok : W
       let z : v.server.circuit_at p ≡ w.server.circuit_at p = there p m in
       subst (λ u. Offered (node_end w y) u) (sym (down_now y (λ u. m (ap (λ d. (node_end w d).peer) u ∙ peer)))) (k.offered y n d a (ap (λ (u : CircuitEntry). u.address) (sym z) ∙ b) (ap (λ (u : CircuitEntry). lives u.end) (sym z) ∙ h) (ap (λ (u : CircuitEntry). u.end.running) (sym z) ∙ r))
 
-  tells : (b : Bool) (y u d o : ℕ) (m : Sent) → Tells w b y u d o m → Tells v b y u d o m
+  tells : (b : Bool) (y u d o : ℕ) (m : Sent) → NamesSender w b y u d o m → NamesSender v b y u d o m
   tells true y u d o (Run mark ask h) z = λ a. go (nat_eq y x) refl (z a)
     where
       go : (b : Bool) → nat_eq y x ≡ b → ((server_end w y).running ≡ true) × (d ≡ (server_end w y).peer) → ((cond b c' (w.server.circuit_at y)).end.running ≡ true) × (d ≡ (cond b c' (w.server.circuit_at y)).end.peer)
@@ -194,7 +194,7 @@ module _ (w : World) (done : List ℕ) (i x q to s t : ℕ) (g : Agreed) (ok : W
   tells false y u d o ReplyStart z = tt
 
   -- a slave that is idle has sent no message: its frames are old to all
-  came : (b : Bool) (y u d o : ℕ) (m : Sent) → Says w b y u d o m → Came w b y u d m → Came v b y u d m
+  came : (b : Bool) (y u d o : ℕ) (m : Sent) → FromSender w b y u d o m → Came w b y u d m → Came v b y u d m
   came true y u d o (Run mark ask h) sy z = z
   came false y u d o (Run mark ask h) sy z = λ a b r n p. go (nat_eq d x) refl a b r n p
     where
@@ -236,8 +236,8 @@ module _ (w : World) (done : List ℕ) (i x q to s t : ℕ) (g : Agreed) (ok : W
     downs = downs;
     offered = offered;
     peers = k.peers;
-    tells = subst (λ z. Each (λ (u : Wired). Tells v u.by_server u.circuit u.to u.destination u.source u.sent) z) (sym frames) (each_imp (λ (u : Wired). Tells w u.by_server u.circuit u.to u.destination u.source u.sent) (λ (u : Wired). Tells v u.by_server u.circuit u.to u.destination u.source u.sent) (λ u. tells u.by_server u.circuit u.to u.destination u.source u.sent) w.frames k.tells);
-    came = λ j u h d. ⊎_elim {C = Came v u.by_server u.circuit u.to u.destination u.sent} (λ z. subst (λ (y : Wired). Came v y.by_server y.circuit y.to y.destination y.sent) (same j u z (old_place j u h)) mine) (λ z. came u.by_server u.circuit u.to u.destination u.source u.sent (each_at (λ (y : Wired). Says w y.by_server y.circuit y.to y.destination y.source y.sent) w.frames j u ok.says (old_place j u h)) (k.came j u (old_place j u h) z)) (in_cases i j done d);
+    tells = subst (λ z. Each (λ (u : Wired). NamesSender v u.by_server u.circuit u.to u.destination u.source u.sent) z) (sym frames) (each_imp (λ (u : Wired). NamesSender w u.by_server u.circuit u.to u.destination u.source u.sent) (λ (u : Wired). NamesSender v u.by_server u.circuit u.to u.destination u.source u.sent) (λ u. tells u.by_server u.circuit u.to u.destination u.source u.sent) w.frames k.tells);
+    came = λ j u h d. ⊎_elim {C = Came v u.by_server u.circuit u.to u.destination u.sent} (λ z. subst (λ (y : Wired). Came v y.by_server y.circuit y.to y.destination y.sent) (same j u z (old_place j u h)) mine) (λ z. came u.by_server u.circuit u.to u.destination u.source u.sent (each_at (λ (y : Wired). FromSender w y.by_server y.circuit y.to y.destination y.source y.sent) w.frames j u ok.says (old_place j u h)) (k.came j u (old_place j u h) z)) (in_cases i j done d);
   }
     where
       drawn_same : (y : ℕ) (b : Bool) → y ≤ (table w b).drawn → y ≤ (table v b).drawn

@@ -14,13 +14,13 @@ use Rattle.lat_model.proofs.circuits.Kin.{Kin}
 use Rattle.lat_model.proofs.circuits.Begins.{node_alive}
 use Rattle.lat_laws.specs.rounds.Lossless.{is_in}
 use Rattle.lat_laws.specs.rounds.Flight.{Flow, Clear, Old}
-use Rattle.lat_laws.specs.rounds.Carried.{flying, flying_from, has_stop_sent, server_end, node_end, Both, Coupled, Offered, Tells, Came, Carried}
+use Rattle.lat_laws.specs.rounds.Carried.{flying, flying_from, has_stop_sent, server_end, node_end, Both, Coupled, Offered, NamesSender, Came, Carried}
 use Rattle.lat_laws.proofs.rounds.carried.Flying.{flying-append, flying-new, flying-other}
 use Rattle.lat_laws.proofs.rounds.carried.Ends.{stop_behind}
 use Rattle.lat_laws.proofs.rounds.carried.Servers.{front_place}
 
 -- what a step of a slave does to its numbers
-pub record Does (e : End) (st : Step) : Type 0 where
+pub record SlaveStep (e : End) (st : Step) : Type 0 where
   pub flow : (b : Link (List Slot)) (fs : List Sent) → Flow e.half.link b fs → Flow st.end.half.link b (fs ++ st.sent)
   pub clear : Clear e → Clear st.end
 
@@ -29,7 +29,7 @@ pub record More (e : End) (d : End) : Type 0 where
   pub known : e.half.link.known ≤ d.half.link.known
 
 -- done is what was delivered before, now what was delivered with the frame that the step hears, if it hears one
-module _ (w : World) (done : List ℕ) (now : List ℕ) (x : ℕ) (st : Step) (ok : WorldOk w) (l : lives (w.node.circuit_at x).end ≡ true) (kin : Kin (w.node.circuit_at x).end st.end) (does : (w.node.circuit_at x).address ≡ w.server.own → Does (w.node.circuit_at x).end st) (more : More (w.node.circuit_at x).end st.end) (dies : (w.node.circuit_at x).address ≡ w.server.own → lives (server_end w (w.node.circuit_at x).end.peer) ≡ true → lives st.end ≡ false → has_stop_sent st.sent ≡ true) (k : Carried w done)
+module _ (w : World) (done : List ℕ) (now : List ℕ) (x : ℕ) (st : Step) (ok : WorldOk w) (l : lives (w.node.circuit_at x).end ≡ true) (kin : Kin (w.node.circuit_at x).end st.end) (does : (w.node.circuit_at x).address ≡ w.server.own → SlaveStep (w.node.circuit_at x).end st) (more : More (w.node.circuit_at x).end st.end) (dies : (w.node.circuit_at x).address ≡ w.server.own → lives (server_end w (w.node.circuit_at x).end.peer) ≡ true → lives st.end ≡ false → has_stop_sent st.sent ≡ true) (k : Carried w done)
     (below : (j : ℕ) → length w.frames ≤ j → is_in j now ≡ false)
     (down_now : (q : ℕ) → flying w now false q ≡ flying w done false q)
     (up_now : (p : ℕ) → ((server_end w p).running ≡ true → (server_end w p).peer ≡ x → ⊥) → (b : Link (List Slot)) → Flow (server_end w p).half.link b (flying w done true p) → Flow (server_end w p).half.link b (flying w now true p))
@@ -97,7 +97,7 @@ module _ (w : World) (done : List ℕ) (now : List ℕ) (x : ℕ) (st : Step) (o
           let rep : Replied w p = ok.replied p a r in
           let own : c.address ≡ w.server.own = ap (λ z. (w.node.circuit_at z).address) (sym i) ∙ rep.address in
           let alive : lives (server_end w e.peer) ≡ true = ap (λ y. lives (server_end w (node_end w y).peer)) (sym i) ∙ ap (λ y. lives (server_end w y)) rep.peer ∙ h in
-          let d : Does e st = does own in
+          let d : SlaveStep e st = does own in
           let o : Coupled m e (flying w done true p) (flying w done false x) = subst (λ z. Coupled m (node_end w z) (flying w done true p) (flying w done false z)) i old in
           let b : Both m e (flying w done true p) (flying w done false x) = o.alive l in
           let made : Coupled m (note_empty e st).end (flying w now true p) (flying w done false x ++ st.sent) = record {
@@ -166,7 +166,7 @@ module _ (w : World) (done : List ℕ) (now : List ℕ) (x : ℕ) (st : Step) (o
           let own : c.address ≡ w.server.own = ap (λ y. (w.node.circuit_at y).address) (sym i) ∙ sym (address q) ∙ a in
           let alive : lives (server_end w e.peer) ≡ true = ap (λ u. lives (server_end w u)) (sym (peer q ∙ ap (λ u. (node_end w u).peer) i)) ∙ h in
           let o : Offered e (flying w done false x) = subst (λ y. Offered (node_end w y) (flying w done false y)) i old in
-          let d : Does e st = does own in
+          let d : SlaveStep e st = does own in
           let cl : Clear st.end = d.clear o.clear in
           let made : Offered (note_empty e st).end (flying w done false x ++ st.sent) = record {
             rest = o.rest ++ st.sent;
@@ -180,7 +180,7 @@ module _ (w : World) (done : List ℕ) (now : List ℕ) (x : ℕ) (st : Step) (o
           let n : q ≡ x → ⊥ = eqb-false q x i0 in
           subst (λ (y : CircuitEntry). Offered y.end (flying v now false q)) (sym (there q n)) (subst (λ y. Offered (node_end w q) y) (sym (down_other q n)) old)
 
-  old_tells : (b : Bool) (y to d s : ℕ) (m : Sent) → Tells w b y to d s m → Tells v b y to d s m
+  old_tells : (b : Bool) (y to d s : ℕ) (m : Sent) → NamesSender w b y to d s m → NamesSender v b y to d s m
   old_tells true y to d s (Run mark ask f) h = h
   old_tells true y to d s (Stopped r) h = h
   old_tells false y to d s (Stopped r) h = λ t n. ((h t n).0, (h t n).1 ∙ sym (peer y))
@@ -190,7 +190,7 @@ module _ (w : World) (done : List ℕ) (now : List ℕ) (x : ℕ) (st : Step) (o
   old_tells true y to d s ReplyStart h = tt
   old_tells false y to d s ReplyStart h = tt
 
-  new_tells : (ss : List Sent) → Each (λ f. Tells v f.by_server f.circuit f.to f.destination f.source f.sent) (wire_all false x c.address st.end.peer ss)
+  new_tells : (ss : List Sent) → Each (λ f. NamesSender v f.by_server f.circuit f.to f.destination f.source f.sent) (wire_all false x c.address st.end.peer ss)
   new_tells [] = tt
   new_tells (Run mark ask f ∷ ss) = (tt, new_tells ss)
   new_tells (Stopped r ∷ ss) = (λ t n. (refl, kin.peer ∙ sym (peer x)), new_tells ss)
@@ -235,7 +235,7 @@ module _ (w : World) (done : List ℕ) (now : List ℕ) (x : ℕ) (st : Step) (o
     downs = downs;
     offered = offered;
     peers = λ q n d a. subst (λ z. z ≤ w.server.drawn) (sym (peer q)) (k.peers q n d (sym (address q) ∙ a));
-    tells = each_append (λ f. Tells v f.by_server f.circuit f.to f.destination f.source f.sent) w.frames news (each_imp (λ f. Tells w f.by_server f.circuit f.to f.destination f.source f.sent) (λ f. Tells v f.by_server f.circuit f.to f.destination f.source f.sent) (λ f. old_tells f.by_server f.circuit f.to f.destination f.source f.sent) w.frames k.tells) (new_tells st.sent);
+    tells = each_append (λ f. NamesSender v f.by_server f.circuit f.to f.destination f.source f.sent) w.frames news (each_imp (λ f. NamesSender w f.by_server f.circuit f.to f.destination f.source f.sent) (λ f. NamesSender v f.by_server f.circuit f.to f.destination f.source f.sent) (λ f. old_tells f.by_server f.circuit f.to f.destination f.source f.sent) w.frames k.tells) (new_tells st.sent);
     came = λ j f g i. let q : slice_get w.frames j ≡ Some f = front_place w.frames news j f (short j i) g in
         ⊎_elim {C = Came v f.by_server f.circuit f.to f.destination f.sent} (λ z. old_came f.by_server f.circuit f.to f.destination f.sent (k.came j f q z)) (λ z. z) (came_now j f q i);
   }

@@ -10,11 +10,11 @@ use Rattle.lat_model.specs.sessions.Slots.{Slot}
 use Rattle.lat_model.specs.numbers.Link.{Frame}
 use Rattle.lat_model.specs.numbers.NetOk.{Young}
 use Rattle.lat_model.specs.circuits.Together.{Together}
-use Rattle.lat_model.specs.circuits.WorldOk.{WorldOk, ByServer, Says, void_half}
+use Rattle.lat_model.specs.circuits.WorldOk.{WorldOk, ByServer, FromSender, void_half}
 use Rattle.lat_model.proofs.numbers.Net.{each_at}
 use Rattle.lat_model.proofs.circuits.Arrives.{occurs_ok}
 use Rattle.lat_laws.specs.rounds.Lossless.{is_in}
-use Rattle.lat_laws.specs.rounds.Carried.{Both, Coupled, Tells, Carried, Kinds, IsNext, flying, has_stop_sent, server_end, node_end, done_after, InTurn, Orderly, done_all}
+use Rattle.lat_laws.specs.rounds.Carried.{Both, Coupled, NamesSender, Carried, Kinds, IsNext, flying, has_stop_sent, server_end, node_end, done_after, InTurn, Orderly, done_all}
 use Rattle.lat_laws.specs.rounds.Flight.{Flow}
 use Rattle.lat_laws.specs.rounds.Progress.{Still}
 use Rattle.lat_laws.proofs.rounds.flight.Hearing.{first_young}
@@ -64,8 +64,8 @@ open_carried s n u v = record {
 
 pub up_young : (w : World) (done : List ℕ) (i p to d s r : ℕ) (mark : Mark) (ask : Bool) (f : Frame (List Slot)) → WorldOk w → Carried w done → slice_get w.frames i ≡ Some (record { by_server = true; circuit = p; to = to; destination = d; source = s; sent = Run mark ask f }) → to ≡ w.node.own → is_in i done ≡ false → IsNext w done (record { by_server = true; circuit = p; to = to; destination = d; source = s; sent = Run mark ask f }) i → lives (server_end w p) ≡ true → lives (node_end w d) ≡ true → 16 < r → Young (List Slot) r (server_end w p).half.link f
 up_young w done i p to d s r mark ask f ok k e home new next l a big =
-    let says : ((w.server.circuit_at p).address ≡ w.node.own) × ByServer w p d s f = each_at (λ (y : Wired). Says w y.by_server y.circuit y.to y.destination y.source y.sent) w.frames i (record { by_server = true; circuit = p; to = to; destination = d; source = s; sent = Run mark ask f }) ok.says e home in
-    let tells : ((server_end w p).running ≡ true) × (d ≡ (server_end w p).peer) = each_at (λ (y : Wired). Tells w y.by_server y.circuit y.to y.destination y.source y.sent) w.frames i (record { by_server = true; circuit = p; to = to; destination = d; source = s; sent = Run mark ask f }) k.tells e home in
+    let says : ((w.server.circuit_at p).address ≡ w.node.own) × ByServer w p d s f = each_at (λ (y : Wired). FromSender w y.by_server y.circuit y.to y.destination y.source y.sent) w.frames i (record { by_server = true; circuit = p; to = to; destination = d; source = s; sent = Run mark ask f }) ok.says e home in
+    let tells : ((server_end w p).running ≡ true) × (d ≡ (server_end w p).peer) = each_at (λ (y : Wired). NamesSender w y.by_server y.circuit y.to y.destination y.source y.sent) w.frames i (record { by_server = true; circuit = p; to = to; destination = d; source = s; sent = Run mark ask f }) k.tells e home in
     let t : Together (server_end w p).half (node_end w d).half [] = subst (λ z. Together (server_end w p).half z []) (ap₂ (λ x q. cond x (w.node.circuit_at q).end.half (void_half false)) tells.0 (sym tells.1)) (ok.matched p says.0) in
     let c : Coupled (server_end w p) (node_end w d) (flying w done true p) (flying w done false d) = subst (λ z. Coupled (server_end w p) (node_end w z) (flying w done true p) (flying w done false z)) (sym tells.1) (k.runs p says.0 l tells.0) in
     first_young (server_end w p) (node_end w d) r mark ask f (flying w (i ∷ done) true p) big t.way_up t.way_down (subst (λ z. Flow (server_end w p).half.link (node_end w d).half.link z) (fly_first w.node.own true p done i w.frames (record { by_server = true; circuit = p; to = to; destination = d; source = s; sent = Run mark ask f }) e (line_of w.node.own p (record { by_server = true; circuit = p; to = to; destination = d; source = s; sent = Run mark ask f }) refl refl home) new (front_of w done (record { by_server = true; circuit = p; to = to; destination = d; source = s; sent = Run mark ask f }) i p w.node.own refl home next)) (c.alive a).up)

@@ -14,7 +14,7 @@ use Rattle.lat_model.proofs.circuits.Kin.{Kin}
 use Rattle.lat_model.proofs.circuits.Begins.{server_alive}
 use Rattle.lat_laws.specs.rounds.Lossless.{is_in}
 use Rattle.lat_laws.specs.rounds.Flight.{Brings, Rises, Flow, Shows, Sound, Old}
-use Rattle.lat_laws.specs.rounds.Carried.{flying, flying_from, has_stop_sent, server_end, node_end, Both, Coupled, Offered, Tells, Came, Carried}
+use Rattle.lat_laws.specs.rounds.Carried.{flying, flying_from, has_stop_sent, server_end, node_end, Both, Coupled, Offered, NamesSender, Came, Carried}
 use Rattle.lat_laws.proofs.rounds.carried.Flying.{flying-append, flying-new, flying-other}
 use Rattle.lat_laws.proofs.rounds.carried.Ends.{Truly}
 
@@ -41,7 +41,7 @@ server_sound w x ok h = record {
 }
 
 -- what a step of a master does to its numbers
-pub record Does (e : End) (st : Step) : Type 0 where
+pub record MasterStep (e : End) (st : Step) : Type 0 where
   pub flow : (b : Link (List Slot)) (fs : List Sent) → Flow e.half.link b fs → Flow st.end.half.link b (fs ++ st.sent)
   pub shows : Shows e → Shows st.end
 
@@ -50,7 +50,7 @@ pub record More (e : End) (d : End) : Type 0 where
   pub known : e.half.link.known ≤ d.half.link.known
 
 -- done is what was delivered before, now what was delivered with the frame that the step hears, if it hears one
-module _ (w : World) (done : List ℕ) (now : List ℕ) (x : ℕ) (st : Step) (ok : WorldOk w) (l : lives (w.server.circuit_at x).end ≡ true) (kin : Kin (w.server.circuit_at x).end st.end) (does : (w.server.circuit_at x).address ≡ w.node.own → Does (w.server.circuit_at x).end st) (more : More (w.server.circuit_at x).end st.end) (truly : Each (Truly (w.server.circuit_at x).end st.end) st.sent) (k : Carried w done)
+module _ (w : World) (done : List ℕ) (now : List ℕ) (x : ℕ) (st : Step) (ok : WorldOk w) (l : lives (w.server.circuit_at x).end ≡ true) (kin : Kin (w.server.circuit_at x).end st.end) (does : (w.server.circuit_at x).address ≡ w.node.own → MasterStep (w.server.circuit_at x).end st) (more : More (w.server.circuit_at x).end st.end) (truly : Each (Truly (w.server.circuit_at x).end st.end) st.sent) (k : Carried w done)
     (below : (j : ℕ) → length w.frames ≤ j → is_in j now ≡ false)
     (up_now : (p : ℕ) → flying w now true p ≡ flying w done true p)
     (down_now : (q : ℕ) → q ≢ 0 → ((w.server.circuit_at x).address ≡ w.node.own → (server_end w x).running ≡ true → (server_end w x).peer ≡ q → ⊥) → flying w now false q ≡ flying w done false q)
@@ -150,7 +150,7 @@ module _ (w : World) (done : List ℕ) (now : List ℕ) (x : ℕ) (st : Step) (o
           let r0 : e.running ≡ true = ap (λ z. (server_end w z).running) (sym i) ∙ r1 in
           let l0 : lives st.end ≡ true = sym (ap (λ (z : CircuitEntry). lives z.end) here) ∙ ap (λ z. lives (server_end v z)) (sym i) ∙ h in
           let o : Coupled e (node_end w e.peer) (flying w done true x) (flying w done false e.peer) = subst (λ z. Coupled (server_end w z) (node_end w (server_end w z).peer) (flying w done true z) (flying w done false (server_end w z).peer)) i old in
-          let d : Does e st = does a0 in
+          let d : MasterStep e st = does a0 in
           let made : Coupled (note_empty e st).end (node_end w e.peer) (flying w done true x ++ st.sent) (flying w now false e.peer) = record {
             alive = λ s. (let b : Both e (node_end w e.peer) (flying w done true x) (flying w done false e.peer) = o.alive s in record {
               up = d.flow (node_end w e.peer).half.link (flying w done true x) b.up;
@@ -217,7 +217,7 @@ module _ (w : World) (done : List ℕ) (now : List ℕ) (x : ℕ) (st : Step) (o
       other : c.address ≡ w.node.own → e.running ≡ true → e.peer ≡ q → ⊥
       other u t y = true≢false (sym t ∙ ap (λ z. (server_end w z).running) (sym (ok.replied x u t).peer ∙ ap (λ z. (node_end w z).peer) y) ∙ sym (running (node_end w q).peer) ∙ r)
 
-  old_tells : (b : Bool) (y to d s : ℕ) (m : Sent) → Tells w b y to d s m → Tells v b y to d s m
+  old_tells : (b : Bool) (y to d s : ℕ) (m : Sent) → NamesSender w b y to d s m → NamesSender v b y to d s m
   old_tells true y to d s (Run mark ask f) h = λ t. (running y ∙ (h t).0, (h t).1 ∙ sym (peer y))
   old_tells true y to d s (Stopped r) h = (dies y h.0, h.1, h.2)
   old_tells false y to d s (Stopped r) h = h
@@ -227,7 +227,7 @@ module _ (w : World) (done : List ℕ) (now : List ℕ) (x : ℕ) (st : Step) (o
   old_tells true y to d s ReplyStart h = tt
   old_tells false y to d s ReplyStart h = tt
 
-  new_tells : (ss : List Sent) → Each (Truly e st.end) ss → Each (λ f. Tells v f.by_server f.circuit f.to f.destination f.source f.sent) (wire_all true x c.address st.end.peer ss)
+  new_tells : (ss : List Sent) → Each (Truly e st.end) ss → Each (λ f. NamesSender v f.by_server f.circuit f.to f.destination f.source f.sent) (wire_all true x c.address st.end.peer ss)
   new_tells [] h = tt
   new_tells (Run mark ask f ∷ ss) h = (λ t. (running x ∙ h.0, kin.peer ∙ sym (peer x)), new_tells ss h.1)
   new_tells (Stopped r ∷ ss) h = ((ap (λ (z : CircuitEntry). lives z.end) here ∙ h.0, refl, (server_alive w x ok l).0), new_tells ss h.1)
@@ -258,7 +258,7 @@ module _ (w : World) (done : List ℕ) (now : List ℕ) (x : ℕ) (st : Step) (o
     downs = downs;
     offered = offered;
     peers = k.peers;
-    tells = each_append (λ f. Tells v f.by_server f.circuit f.to f.destination f.source f.sent) w.frames news (each_imp (λ f. Tells w f.by_server f.circuit f.to f.destination f.source f.sent) (λ f. Tells v f.by_server f.circuit f.to f.destination f.source f.sent) (λ f. old_tells f.by_server f.circuit f.to f.destination f.source f.sent) w.frames k.tells) (new_tells st.sent truly);
+    tells = each_append (λ f. NamesSender v f.by_server f.circuit f.to f.destination f.source f.sent) w.frames news (each_imp (λ f. NamesSender w f.by_server f.circuit f.to f.destination f.source f.sent) (λ f. NamesSender v f.by_server f.circuit f.to f.destination f.source f.sent) (λ f. old_tells f.by_server f.circuit f.to f.destination f.source f.sent) w.frames k.tells) (new_tells st.sent truly);
     came = λ j f g i. let q : slice_get w.frames j ≡ Some f = front_place w.frames news j f (short j i) g in
         ⊎_elim {C = Came v f.by_server f.circuit f.to f.destination f.sent} (λ z. old_came f.by_server f.circuit f.to f.destination f.sent (k.came j f q z)) (λ z. z) (came_now j f q i);
   }

@@ -8,7 +8,7 @@ use Rattle.lat_model.specs.Lists.{Each, IsPrefixOf}
 use Rattle.lat_model.specs.sessions.EndOk.{Tail, Shape, SessionOk, Accounts}
 use Rattle.lat_model.specs.sessions.Joined.{Joined, slots_of}
 use Rattle.lat_model.proofs.sessions.Words.{costs-append}
-use Rattle.lat_laws.specs.rounds.Measure.{total, lasting, calm, weight, weights, Tells, Frugal, AllNumbered, AllFrugal, most_of}
+use Rattle.lat_laws.specs.rounds.Measure.{total, lasting, calm, weight, weights, IsNotIdle, Frugal, AllNumbered, AllFrugal, most_of}
 use Rattle.lat_laws.proofs.rounds.measure.Totals.{total_most, total_longer, total_places}
 
 -- each credited slot has an item of its own
@@ -31,7 +31,7 @@ prefix_most xs ys p = omega (arith, ap length p.1, length-append xs p.0)
 
 -- behind its start a session forms data, credits, attentions, and one stop
 
-tail_most : (to from : ℕ) (xs : List Slot) → Tail to from xs → Each Tells xs → lasting xs ≤ suc (costs xs + credits xs)
+tail_most : (to from : ℕ) (xs : List Slot) → Tail to from xs → Each IsNotIdle xs → lasting xs ≤ suc (costs xs + credits xs)
 tail_most to from [] t e = omega arith
 tail_most to from (x ∷ xs) t e = go (is_stop x) (is_attention x) refl refl (tail_most to from xs t.2 e.1)
   where

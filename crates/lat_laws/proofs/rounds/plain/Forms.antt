@@ -17,7 +17,7 @@ use Rattle.lat_model.proofs.sessions.Offers.{Fine, offer_fine}
 use Rattle.lat_model.proofs.sessions.Packs.{accepted_named, turn_up, turn_down}
 use Rattle.lat_model.proofs.sessions.Low.{turn_within}
 use Rattle.lat_model.proofs.sessions.Starts.{ask_starts}
-use Rattle.lat_laws.specs.rounds.Measure.{Tells, Frugal, AllNumbered}
+use Rattle.lat_laws.specs.rounds.Measure.{IsNotIdle, Frugal, AllNumbered}
 use Rattle.lat_laws.specs.rounds.Plain.{Neat, PlainOne, Plain}
 use Rattle.lat_laws.proofs.rounds.sessions.Rests.{held_none}
 use Rattle.lat_laws.proofs.rounds.plain.Hears.{number_more}
@@ -26,7 +26,7 @@ use Rattle.lat_laws.proofs.rounds.plain.Hears.{number_more}
 
 record Fine_slot (s : Session) (c : ℕ) (x : Slot) : Type 0 where
   neat : Neat x
-  tells : (s.out ≡ [] → ⊥) → Tells x
+  tells : (s.out ≡ [] → ⊥) → IsNotIdle x
   first : s.out ≡ [] → is_start x ≡ true → credits_of x ≡ due c s
 
 fit_is : (room : ℕ) (y x : Slot) → fit room y ≡ Offers x → y ≡ x
@@ -36,7 +36,7 @@ fit_is room y x = go (nat_le (slot_len y) room)
     go true e = cc
     go false e = cc
 
-no_start_fine : (s : Session) (c : ℕ) (x : Slot) → Neat x → is_start x ≡ false → Tells x → Fine_slot s c x
+no_start_fine : (s : Session) (c : ℕ) (x : Slot) → Neat x → is_start x ≡ false → IsNotIdle x → Fine_slot s c x
 no_start_fine s c x n i t = record { neat = n; tells = λ o. t; first = λ o q. absurd (both_ways (is_start x) i q) }
 
 credit_slot : (room n : ℕ) (c : ℕ) (s : Session) (x : Slot) → credit_offer room n s ≡ Offers x → Fine_slot s c x
@@ -110,9 +110,9 @@ offer_slot m c room s x l e = go s.refused (is_empty s.out) refl e
 
 -- a slot more
 
-frugal_more : (c : ℕ) (xs : List Slot) (x : Slot) → (xs ≡ [] → is_start x ≡ true → credits_of x ≡ c) → ((xs ≡ [] → ⊥) → Tells x) → Frugal c xs → Frugal c (xs ++ x ∷ [])
+frugal_more : (c : ℕ) (xs : List Slot) (x : Slot) → (xs ≡ [] → is_start x ≡ true → credits_of x ≡ c) → ((xs ≡ [] → ⊥) → IsNotIdle x) → Frugal c xs → Frugal c (xs ++ x ∷ [])
 frugal_more c [] x h t f = (h refl, tt)
-frugal_more c (y ∷ ys) x h t f = (f.0, each_append (λ z. Tells z) ys (x ∷ []) f.1 (t (λ q. cc), tt))
+frugal_more c (y ∷ ys) x h t f = (f.0, each_append (λ z. IsNotIdle z) ys (x ∷ []) f.1 (t (λ q. cc), tt))
 
 formed_plain : (m : Bool) (c : ℕ) (s : Session) (n : ℕ) (x : Slot) → Fine_slot s c x → (s.out ≡ [] → due c s ≡ c) → PlainOne m c s → PlainOne m c (formed_as s n x)
 formed_plain m c s n x f d p = record {

@@ -15,7 +15,7 @@ use Rattle.lat_model.specs.circuits.World.{CircuitEntry, Wired, World, table, wi
 use Rattle.lat_model.specs.circuits.Arriving.{is_of, living, slave_of, run_in, stop_in, reply_in, start_in, arrive}
 use Rattle.lat_model.specs.circuits.Events.{WorldEvent, Calls, Locally, Times, Moves, Delivers, Injects, deliver_in, occurs, go_on, open_world}
 use Rattle.lat_model.specs.circuits.Together.{Together}
-use Rattle.lat_model.specs.circuits.WorldOk.{void_half, mate, Idle, Joint, Replied, ByServer, ByNode, Says, WorldOk}
+use Rattle.lat_model.specs.circuits.WorldOk.{void_half, mate, Idle, Joint, Replied, ByServer, ByNode, FromSender, WorldOk}
 use Rattle.lat_model.proofs.sessions.Words.{upd_other, upd_field}
 use Rattle.lat_model.proofs.numbers.Net.{each_at}
 use Rattle.lat_model.proofs.circuits.Kin.{Kin, kin_time, kin_run, kin_stop}
@@ -318,7 +318,7 @@ foreign_fair w false from d s CallStart n o = tt
 foreign_fair w true from d s (Stopped r) n o = tt
 foreign_fair w false from d s (Stopped r) n o = tt
 
-deliver_plain : (w : World) → WorldOk w → WorldPlain w → (now : ℕ) (g : Agreed) (o : Option Wired) → ((p : Wired) → o ≡ Some p → Says w p.by_server p.circuit p.to p.destination p.source p.sent) → WorldPlain (deliver_in w now g o)
+deliver_plain : (w : World) → WorldOk w → WorldPlain w → (now : ℕ) (g : Agreed) (o : Option Wired) → ((p : Wired) → o ≡ Some p → FromSender w p.by_server p.circuit p.to p.destination p.source p.sent) → WorldPlain (deliver_in w now g o)
 deliver_plain w ok pl now g None h = pl
 deliver_plain w ok pl now g (Some p) h =
     plain_cond (nat_eq p.to (table w (not p.by_server)).own) (arrive w (not p.by_server) (table w p.by_server).own p.by_server p.destination p.source now g p.sent) w
@@ -347,7 +347,7 @@ occurs_plain w ok pl (Moves true x now) h =
 occurs_plain w ok pl (Moves false x now) h =
     let e : End = (w.node.circuit_at x).end in
     plain_cond (lives e) (at_end w false x (record { end = record e { moment = now }; sent = [] })) w (λ l. node_same w x (record { end = record e { moment = now }; sent = [] }) ok pl refl) pl
-occurs_plain w ok pl (Delivers i now g) h = deliver_plain w ok pl now g (slice_get w.frames i) (λ p e. each_at (λ f. Says w f.by_server f.circuit f.to f.destination f.source f.sent) w.frames i p ok.says e)
+occurs_plain w ok pl (Delivers i now g) h = deliver_plain w ok pl now g (slice_get w.frames i) (λ p e. each_at (λ f. FromSender w f.by_server f.circuit f.to f.destination f.source f.sent) w.frames i p ok.says e)
 occurs_plain w ok pl (Injects b from bit d s now g m) h = go (nat_eq from w.server.own) (nat_eq from w.node.own) refl refl
   where
     go : (x y : Bool) → nat_eq from w.server.own ≡ x → nat_eq from w.node.own ≡ y → WorldPlain (cond (x || y) w (arrive w b from bit d s now g m))

@@ -8,7 +8,7 @@ use Rattle.lat_model.specs.ends.End.{Mark, Sent, Run, CallStart, ReplyStart, Sto
 use Rattle.lat_model.specs.circuits.World.{Table, Wired, World, table}
 use Rattle.lat_model.specs.circuits.Arriving.{is_of}
 use Rattle.lat_model.specs.circuits.Together.{Together}
-use Rattle.lat_model.specs.circuits.WorldOk.{WorldOk, ByServer, ByNode, Says, void_half}
+use Rattle.lat_model.specs.circuits.WorldOk.{WorldOk, ByServer, ByNode, FromSender, void_half}
 use Rattle.lat_model.proofs.numbers.Net.{each_at}
 use Rattle.lat_machines.specs.values.Messages.{RunMessage, WideMessage}
 use Rattle.lat_machines.specs.values.Frames.{OfCircuit}
@@ -25,7 +25,7 @@ use Rattle.lat_laws.specs.rounds.Lossless.{Lossless, is_in}
 use Rattle.lat_laws.specs.rounds.Rounds.{undelivered, deliver_one, time_both, round, next_moment, YoungNext, YoungDeliveries, YoungRounds}
 use Rattle.lat_laws.specs.rounds.Settles.{Usual, ShortMove, Begins}
 use Rattle.lat_laws.specs.rounds.Flight.{Flow}
-use Rattle.lat_laws.specs.rounds.Carried.{flying, server_end, node_end, Tells, Carried, IsNext}
+use Rattle.lat_laws.specs.rounds.Carried.{flying, server_end, node_end, NamesSender, Carried, IsNext}
 use Rattle.lat_machines.specs.world.Safe.{Fit}
 use Rattle.lat_laws.proofs.rounds.flight.Hearing.{first_young}
 use Rattle.lat_laws.proofs.rounds.carried.Runs.{fly_first, line_of, front_of}
@@ -43,15 +43,15 @@ use Rattle.lat_laws.proofs.rounds.rounds.Beside.{Beside, Follows, tied, run_foll
 
 up_any : (w : World) (done : List ℕ) (i p to d s r : ℕ) (mark : Mark) (ask : Bool) (f : Frame (List Slot)) → WorldOk w → Carried w done → slice_get w.frames i ≡ Some (record { by_server = true; circuit = p; to = to; destination = d; source = s; sent = Run mark ask f }) → to ≡ w.node.own → is_in i done ≡ false → IsNext w done (record { by_server = true; circuit = p; to = to; destination = d; source = s; sent = Run mark ask f }) i → lives (node_end w d) ≡ true → 16 < r → Young (List Slot) r (server_end w p).half.link f
 up_any w done i p to d s r mark ask f ok k e home new next a big =
-    let says : ((w.server.circuit_at p).address ≡ w.node.own) × ByServer w p d s f = each_at (λ (y : Wired). Says w y.by_server y.circuit y.to y.destination y.source y.sent) w.frames i (record { by_server = true; circuit = p; to = to; destination = d; source = s; sent = Run mark ask f }) ok.says e home in
-    let tells : ((server_end w p).running ≡ true) × (d ≡ (server_end w p).peer) = each_at (λ (y : Wired). Tells w y.by_server y.circuit y.to y.destination y.source y.sent) w.frames i (record { by_server = true; circuit = p; to = to; destination = d; source = s; sent = Run mark ask f }) k.tells e home in
+    let says : ((w.server.circuit_at p).address ≡ w.node.own) × ByServer w p d s f = each_at (λ (y : Wired). FromSender w y.by_server y.circuit y.to y.destination y.source y.sent) w.frames i (record { by_server = true; circuit = p; to = to; destination = d; source = s; sent = Run mark ask f }) ok.says e home in
+    let tells : ((server_end w p).running ≡ true) × (d ≡ (server_end w p).peer) = each_at (λ (y : Wired). NamesSender w y.by_server y.circuit y.to y.destination y.source y.sent) w.frames i (record { by_server = true; circuit = p; to = to; destination = d; source = s; sent = Run mark ask f }) k.tells e home in
     let t : Together (server_end w p).half (node_end w d).half [] = subst (λ z. Together (server_end w p).half z []) (ap₂ (λ x q. cond x (w.node.circuit_at q).end.half (void_half false)) tells.0 (sym tells.1)) (ok.matched p says.0) in
     let g : Flow (server_end w p).half.link (node_end w d).half.link (flying w done true p) = subst (λ z. Flow (server_end w p).half.link (node_end w z).half.link (flying w done true p)) (sym tells.1) (k.ups p says.0 tells.0 (subst (λ z. lives (node_end w z) ≡ true) tells.1 a)) in
     first_young (server_end w p) (node_end w d) r mark ask f (flying w (i ∷ done) true p) big t.way_up t.way_down (subst (λ z. Flow (server_end w p).half.link (node_end w d).half.link z) (fly_first w.node.own true p done i w.frames (record { by_server = true; circuit = p; to = to; destination = d; source = s; sent = Run mark ask f }) e (line_of w.node.own p (record { by_server = true; circuit = p; to = to; destination = d; source = s; sent = Run mark ask f }) refl refl home) new (front_of w done (record { by_server = true; circuit = p; to = to; destination = d; source = s; sent = Run mark ask f }) i p w.node.own refl home next)) g)
 
 down_any : (w : World) (done : List ℕ) (i q to d s r : ℕ) (mark : Mark) (ask : Bool) (f : Frame (List Slot)) → WorldOk w → Carried w done → slice_get w.frames i ≡ Some (record { by_server = false; circuit = q; to = to; destination = d; source = s; sent = Run mark ask f }) → to ≡ w.server.own → is_in i done ≡ false → IsNext w done (record { by_server = false; circuit = q; to = to; destination = d; source = s; sent = Run mark ask f }) i → (w.server.circuit_at d).address ≡ w.node.own → lives (server_end w d) ≡ true → (server_end w d).running ≡ true → (server_end w d).peer ≡ s → 16 < r → Young (List Slot) r (node_end w q).half.link f
 down_any w done i q to d s r mark ask f ok k e home new next a l run named big =
-    let says : ByNode w q d s × FrameOf (List Slot) (node_end w q).half.link f = each_at (λ (y : Wired). Says w y.by_server y.circuit y.to y.destination y.source y.sent) w.frames i (record { by_server = false; circuit = q; to = to; destination = d; source = s; sent = Run mark ask f }) ok.says e home in
+    let says : ByNode w q d s × FrameOf (List Slot) (node_end w q).half.link f = each_at (λ (y : Wired). FromSender w y.by_server y.circuit y.to y.destination y.source y.sent) w.frames i (record { by_server = false; circuit = q; to = to; destination = d; source = s; sent = Run mark ask f }) ok.says e home in
     let peer : (server_end w d).peer ≡ q = named ∙ says.0.source in
     let t : Together (server_end w d).half (node_end w q).half [] = subst (λ z. Together (server_end w d).half z []) (ap₂ (λ x y. cond x (w.node.circuit_at y).end.half (void_half false)) run peer) (ok.matched d a) in
     let g : Flow (node_end w q).half.link (server_end w d).half.link (flying w done false q) = subst (λ z. Flow (node_end w z).half.link (server_end w d).half.link (flying w done false z)) peer (k.downs d a l run) in

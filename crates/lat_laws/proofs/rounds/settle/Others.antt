@@ -10,7 +10,7 @@ use Rattle.lat_model.specs.ends.End.{Sent, Run, CallStart, ReplyStart, Stopped, 
 use Rattle.lat_model.specs.ends.Run.{run_end}
 use Rattle.lat_model.specs.ends.Starting.{again_start, hear_stop}
 use Rattle.lat_model.specs.circuits.World.{CircuitEntry, Table, Wired, World, table}
-use Rattle.lat_model.specs.circuits.WorldOk.{ByServer, Says}
+use Rattle.lat_model.specs.circuits.WorldOk.{ByServer, FromSender}
 use Rattle.lat_model.specs.circuits.Arriving.{is_of, slave_of, living}
 use Rattle.lat_model.proofs.numbers.Net.{each_at}
 use Rattle.lat_model.proofs.sessions.Words.{upd_other}
@@ -30,7 +30,7 @@ use Rattle.lat_machines.specs.node.Node as N
 use Rattle.lat_machines.specs.world.Machines.{Setups, Posted, Machines, is_for_other}
 use Rattle.lat_machines.specs.world.Ties.{Shown, IsNotice}
 use Rattle.lat_machines.proofs.events.Tied.{to_other}
-use Rattle.lat_laws.specs.rounds.Carried.{Tells}
+use Rattle.lat_laws.specs.rounds.Carried.{NamesSender}
 use Rattle.lat_laws.proofs.rounds.carried.Kinds.{least_passes}
 use Rattle.lat_laws.proofs.rounds.rounds.Beside.{Beside, tied}
 use Rattle.lat_laws.proofs.rounds.rounds.Done.{FoundAt, shown_at}
@@ -176,7 +176,7 @@ node_else config rates st y x from now v k l n s = go (nat_eq from everyone)
 
 -- each frame of the server states its own circuit
 
-sent_speaks : (w : World) (k : Side) (c : Core) (x to d s : ℕ) (t : Sent) → to ≡ w.node.own → Says w true x to d s t → Tells w true x to d s t → Speaks x (sent_frame k c (record { by_server = true; circuit = x; to = to; destination = d; source = s; sent = t })).value
+sent_speaks : (w : World) (k : Side) (c : Core) (x to d s : ℕ) (t : Sent) → to ≡ w.node.own → FromSender w true x to d s t → NamesSender w true x to d s t → Speaks x (sent_frame k c (record { by_server = true; circuit = x; to = to; destination = d; source = s; sent = t })).value
 sent_speaks w k c x to d s (Run m ask f) home says tells = go (c.circuits.circuit_at x).end.wide (c.circuits.circuit_at x).end.wide
   where
     by : ByServer w x d s f
@@ -202,7 +202,7 @@ speaks_of u m w i f h e by other = ⊎_elim {C = Speaks f.frame.circuit f.frame.
         let b : v.by_server ≡ true = sym s.by_server ∙ by in
         let to : v.to ≡ w.node.own = to_other u m w f v (place m.posts i) (tied u m w h) x.1 s other ∙ ap (λ z. (table w (not z)).own) b in
         let same : record { by_server = true; circuit = v.circuit; to = v.to; destination = v.destination; source = v.source; sent = v.sent } ≡ v = ap (λ z. record { by_server = z; circuit = v.circuit; to = v.to; destination = v.destination; source = v.source; sent = v.sent }) (sym b) in
-        let says : Says w true v.circuit v.to v.destination v.source v.sent = subst (λ z. Says w z v.circuit v.to v.destination v.source v.sent) b (each_at (λ (y : Wired). Says w y.by_server y.circuit y.to y.destination y.source y.sent) w.frames (place m.posts i) v h.good.says x.1) in
-        let tells : Tells w true v.circuit v.to v.destination v.source v.sent = subst (λ z. Tells w z v.circuit v.to v.destination v.source v.sent) b (each_at (λ (y : Wired). Tells w y.by_server y.circuit y.to y.destination y.source y.sent) w.frames (place m.posts i) v h.carried.tells x.1) in
+        let says : FromSender w true v.circuit v.to v.destination v.source v.sent = subst (λ z. FromSender w z v.circuit v.to v.destination v.source v.sent) b (each_at (λ (y : Wired). FromSender w y.by_server y.circuit y.to y.destination y.source y.sent) w.frames (place m.posts i) v h.good.says x.1) in
+        let tells : NamesSender w true v.circuit v.to v.destination v.source v.sent = subst (λ z. NamesSender w z v.circuit v.to v.destination v.source v.sent) b (each_at (λ (y : Wired). NamesSender w y.by_server y.circuit y.to y.destination y.source y.sent) w.frames (place m.posts i) v h.carried.tells x.1) in
         let r : Speaks v.circuit (sent_frame s.side s.core v).value = subst (λ z. Speaks v.circuit (sent_frame s.side s.core z).value) same (sent_speaks w s.side s.core v.circuit v.to v.destination v.source v.sent to says tells) in
         subst (λ (z : OutFrame). Speaks z.circuit z.value) (sym s.frame) (subst (λ z. Speaks z (sent_frame s.side s.core v).value) (sym (sent_circuit s.side s.core v)) r)

@@ -1,5 +1,5 @@
 use Rattle.std.proofs.Common.{refl}
-use Rattle.lat_audit.specs.Tells.{tell}
+use Rattle.lat_audit.specs.TextSlots.{tell}
 use Rattle.lat_audit.proofs.auditor.Auditor.new.Goals as goal
 
 pub returns-clause-follows : goal.returns-clause-follows

@@ -2,7 +2,7 @@ use Rattle.std.proofs.Common.{sym, ◌∙◌}
 use Rattle.lat_model.specs.ends.End.{finish, then_do}
 use Rattle.lat_model.specs.ends.Timers.{silent, unused, rounds_step, living, due_step}
 use Rattle.lat_circuit.specs.Times.{heard_step}
-use Rattle.lat_circuit.proofs.Dids.{did_true, did_false, did_then}
+use Rattle.lat_circuit.proofs.StepsThen.{did_true, did_false, did_then}
 use Rattle.lat_circuit.proofs.circuit.Circuit.act.Goals as goal
 
 pub returns-then-is_silent-clause-did : goal.returns-then-is_silent-clause-did

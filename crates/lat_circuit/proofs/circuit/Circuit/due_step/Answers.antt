@@ -2,7 +2,7 @@ use Rattle.std.proofs.Common.{◌*◌, sym, ◌∙◌}
 use Rattle.lat_model.specs.ends.End.{still, then_do}
 use Rattle.lat_model.specs.ends.Timers.{passed, alive_step}
 use Rattle.lat_circuit.specs.Times.{form_due}
-use Rattle.lat_circuit.proofs.Dids.{did_true, did_then}
+use Rattle.lat_circuit.proofs.StepsThen.{did_true, did_then}
 use Rattle.lat_circuit.proofs.circuit.Circuit.due_step.Goals as goal
 
 pub returns-then-timer_is_due-clause-did : goal.returns-then-timer_is_due-clause-did

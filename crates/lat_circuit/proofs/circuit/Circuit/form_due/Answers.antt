@@ -1,7 +1,7 @@
 use Rattle.std.proofs.Common.{sym, ◌∙◌}
 use Rattle.lat_model.specs.ends.End.{End, still, occasion}
 use Rattle.lat_model.specs.ends.Timers.{may_form}
-use Rattle.lat_circuit.proofs.Dids.{did_true, did_moved}
+use Rattle.lat_circuit.proofs.StepsThen.{did_true, did_moved}
 use Rattle.lat_circuit.proofs.circuit.Circuit.form_due.Goals as goal
 
 pub returns-then-may_form-clause-did : goal.returns-then-may_form-clause-did

@@ -1,4 +1,4 @@
-use Rattle.lat_circuit.proofs.Dids.{did_noted}
+use Rattle.lat_circuit.proofs.StepsThen.{did_noted}
 use Rattle.lat_circuit.specs.Frames.{timing_shown}
 use Rattle.lat_circuit.specs.Messages.{message_shown}
 use Rattle.lat_circuit.specs.Hears.{hears}

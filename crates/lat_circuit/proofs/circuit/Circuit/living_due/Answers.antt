@@ -1,7 +1,7 @@
 use Rattle.std.proofs.Common.{sym, ◌∙◌}
 use Rattle.lat_model.specs.ends.End.{still, lives}
 use Rattle.lat_model.specs.ends.Timers.{due_step}
-use Rattle.lat_circuit.proofs.Dids.{did_true, did_false, did_nothing}
+use Rattle.lat_circuit.proofs.StepsThen.{did_true, did_false, did_nothing}
 use Rattle.lat_circuit.proofs.circuit.Circuit.living_due.Goals as goal
 
 pub returns-then-lives-clause-did : goal.returns-then-lives-clause-did

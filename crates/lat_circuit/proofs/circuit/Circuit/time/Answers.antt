@@ -1,7 +1,7 @@
 use Rattle.std.proofs.Common.{◌≡◌, length, ap, ◌∙◌, arith}
 use Rattle.lat_model.specs.ends.Timers.{time_step}
 use Rattle.lat_circuit.specs.Times.{due_sent}
-use Rattle.lat_circuit.proofs.Dids.{did_noted, did_length}
+use Rattle.lat_circuit.proofs.StepsThen.{did_noted, did_length}
 use Rattle.lat_circuit.proofs.circuit.Circuit.time.Goals as goal
 
 pub returns-clause-did : goal.returns-clause-did

@@ -15,7 +15,7 @@ invariant_of-self-2 g c =
     let s = m.opening old.core in
     let h = old.history.items in
     let p = past c.args.event c.in_ok-answer.answer in
-    let now = c.keep.ensures ∙ (λ i. c.room_for.ensures.history i ++ past c.args.event (c.copy_in-copy.ensures i) ∷ []) in
+    let now = c.keep.ensures ∙ (λ i. c.reserved_for.ensures.history i ++ past c.args.event (c.copy_in-copy.ensures i) ∷ []) in
     let same : h ≡ c.args.self.now.history = ap (λ v. v.history) c.self.view_is in
     let more : length c.keep.new.history.items ≡ length h + 1 = ap length now ∙ length-append h (p ∷ []) in (
       one_more m.made m.opening m.stands m.next m.answer old.core c.step.new.self h c.args.event c.in_ok-answer.answer c.keep.new.history.items

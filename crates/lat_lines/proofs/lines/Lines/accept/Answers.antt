@@ -8,7 +8,7 @@ use Rattle.lat_lines.specs.Kept.{Kept, side_of}
 use Rattle.lat_lines.specs.Stands.{Stands, freed_between}
 use Rattle.lat_lines.specs.Opens.{accepted_core}
 use Rattle.lat_lines.specs.Shown.{shown}
-use Rattle.lat_lines.proofs.Says.{acted_calling}
+use Rattle.lat_lines.proofs.CallSteps.{acted_calling}
 use Rattle.lat_lines.proofs.Acting.{ok_of}
 use Rattle.lat_lines.proofs.CoresLater.{calling_later}
 use Rattle.lat_lines.proofs.Accepting.{none_still, called_lives, accepted_leads, accepted_frees}

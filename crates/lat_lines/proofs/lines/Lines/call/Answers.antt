@@ -17,7 +17,7 @@ use Rattle.lat_lines.specs.AnswerValues.{answer_shown}
 use Rattle.lat_lines.specs.Calls.{call_on, event_of, call_answer}
 use Rattle.lat_lines.specs.Shown.{shown}
 use Rattle.lat_lines.proofs.Calling.{call_agrees, agrees_at}
-use Rattle.lat_lines.proofs.Says.{settled_calling, says_called, refused, is_seat}
+use Rattle.lat_lines.proofs.CallSteps.{settled_calling, says_called, refused, is_seat}
 use Rattle.lat_lines.proofs.resting.Calls.{call_calm}
 use Rattle.lat_lines.proofs.Unchanged.{lines_same, clear_same, moment_same}
 use Rattle.lat_lines.proofs.lines.Lines.call.Goals as goal

@@ -5,7 +5,7 @@ use Rattle.lat_lines.specs.circuits.Stands.{calling}
 use Rattle.lat_lines.specs.Kept.{Kept, side_of}
 use Rattle.lat_lines.specs.Stands.{Stands, freed_between}
 use Rattle.lat_lines.specs.Shown.{shown}
-use Rattle.lat_lines.proofs.Says.{acted_calling}
+use Rattle.lat_lines.proofs.CallSteps.{acted_calling}
 use Rattle.lat_lines.proofs.Unchanged.{lines_same}
 use Rattle.lat_lines.proofs.lines.Lines.reject.Goals as goal
 

@@ -12,7 +12,7 @@ use Rattle.lat_lines.specs.Shown.{shown}
 use Rattle.lat_lines.proofs.Standing.{refilled}
 use Rattle.lat_lines.proofs.Telling.{takes_at}
 use Rattle.lat_lines.proofs.Calling.{taking, giving, take_agrees, agrees_at}
-use Rattle.lat_lines.proofs.Says.{settled_calling, says_called, refused, is_seat}
+use Rattle.lat_lines.proofs.CallSteps.{settled_calling, says_called, refused, is_seat}
 use Rattle.lat_lines.proofs.resting.Calls.{take_calm}
 use Rattle.lat_lines.proofs.Unchanged.{lines_same, clear_same, moment_same}
 use Rattle.lat_lines.proofs.lines.Lines.take.Goals as goal
