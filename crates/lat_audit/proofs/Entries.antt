@@ -36,7 +36,7 @@ use Rattle.lat_captures.specs.Rules.{title_shown}
 use Rattle.lat_captures.specs.Answers.{title_of}
 use Rattle.lat_audit.specs.declared.entry.Entry.{Entry}
 use Rattle.lat_audit.specs.Shown.{slots_read, entry_shown, message_entry, narrow_head, wide_head, head_of, slots_of}
-use Rattle.lat_audit.specs.Steps.{after_test, entry_outcome, Knows, Checks, ChecksRun}
+use Rattle.lat_audit.specs.Steps.{after_test, entry_outcome, KnowsPlace, Checks, ChecksRun}
 
 -- of a message
 message_shows : (e : Entry) (m : Message) → reading_of e.payload ≡ Whole (OfCircuit (message_shown m)) → PayloadText MessageText m e.payload → entry_shown e ≡ message_entry e.by_master m
@@ -90,7 +90,7 @@ run_message_checks result c d by_master (kinds.Start master ask to from info) kn
 run_message_checks result c d by_master (kinds.Stop master ask to from reason text) known slots is same answer = cc
 
 -- START and STOP are passed over
-over : (c : Checker) (p : Place) → Knows c p → Knows c (passed_over p)
+over : (c : Checker) (p : Place) → KnowsPlace c p → KnowsPlace c (passed_over p)
 over c p knows = record { stands = knows.stands; runs = knows.runs }
 
 start_checks : (c : Checker) (by_master master ask : Bool) (to from : ℕ) (info : StartInfo) → Checks c (message_entry by_master (kinds.Start master ask to from info)) c (Ok None)

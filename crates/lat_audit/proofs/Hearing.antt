@@ -11,8 +11,8 @@ use Rattle.lat_captures.specs.Answers.{runs_of, title_of}
 use Rattle.lat_audit.specs.declared.auditor.Broken.{Broken}
 use Rattle.lat_audit.specs.declared.auditor.Auditor.{Auditor}
 use Rattle.lat_audit.specs.Steps as steps
-use Rattle.lat_audit.specs.Steps.{Knows, OutcomeIs, Checks, entry_outcome, after_outcome, progressed}
-use Rattle.lat_audit.specs.Follows.{Goes, FollowsBy, Follows, Counted, broken_at}
+use Rattle.lat_audit.specs.Steps.{KnowsPlace, OutcomeIs, Checks, entry_outcome, after_outcome, progressed}
+use Rattle.lat_audit.specs.Follows.{Goes, FollowsBy, FollowsCapture, Counted, broken_at}
 use Rattle.lat_audit.proofs.Entries.{entry_counts}
 
 -- behind a broken entry it stays as it is
@@ -23,7 +23,7 @@ stays t a (Some b) (steps.Broke index rule) e some follows = follows
 
 -- what the checker answered to an entry, at whatever is known before
 abbrev pub Answers : Checker → Checker → captures.Entry → Option Rule → Type 0
-Answers c d e found = (p : Place) → Knows c p → OutcomeIs (entry_outcome (title_shown (title_of c)) p e e.reading) d found
+Answers c d e found = (p : Place) → KnowsPlace c p → OutcomeIs (entry_outcome (title_shown (title_of c)) p e e.reading) d found
 
 goes_on : (t : Title) (a new : Auditor) (found : Option Rule) (p : Place) (e : captures.Entry) → Goes t a p → Answers a.checker new.checker e found
     → (found ≡ None → title_of new.checker ≡ title_of a.checker) → new.count ≡ a.count + 1 → FollowsBy t new (option_map (broken_at new.count) found) (after_outcome p (entry_outcome (title_shown t) p e e.reading))
@@ -48,8 +48,8 @@ none_of : {X : Type 0} (o : Option X) → is_some o ≡ false → o ≡ None
 none_of None e = refl
 none_of (Some x) e = let differ : true ≡ false = e in cc
 
-pub heard_all : (t : Title) (a new : Auditor) (found : Option Rule) (q : steps.Progress) (e : captures.Entry) → is_some a.broken ≡ false → Follows t a q → Checks a.checker e new.checker (Ok found)
-    → (found ≡ None → title_of new.checker ≡ title_of a.checker) → new.count ≡ a.count + 1 → new.broken ≡ option_map (broken_at new.count) found → Follows t new (progressed (title_shown t) q e)
+pub heard_all : (t : Title) (a new : Auditor) (found : Option Rule) (q : steps.Progress) (e : captures.Entry) → is_some a.broken ≡ false → FollowsCapture t a q → Checks a.checker e new.checker (Ok found)
+    → (found ≡ None → title_of new.checker ≡ title_of a.checker) → new.count ≡ a.count + 1 → new.broken ≡ option_map (broken_at new.count) found → FollowsCapture t new (progressed (title_shown t) q e)
 heard_all t a new found q e none follows answers title count broken =
     let P : Option Broken → Type 0 = λ o. FollowsBy t new o (progressed (title_shown t) q e) in
     let Q : Option Broken → Type 0 = λ o. FollowsBy t a o q in

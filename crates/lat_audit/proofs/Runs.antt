@@ -22,11 +22,11 @@ use Rattle.lat_captures.specs.Rules.{title_shown, head_shown}
 use Rattle.lat_captures.specs.Stands.{Stands}
 use Rattle.lat_captures.specs.Answers.{runs_of, title_of, IsRun, AnswersRun}
 use Rattle.lat_audit.specs.TextSlots.{tell, facts_in}
-use Rattle.lat_audit.specs.Steps.{after_test, run_outcome, Knows, OutcomeIs, ChecksRun}
+use Rattle.lat_audit.specs.Steps.{after_test, run_outcome, KnowsPlace, OutcomeIs, ChecksRun}
 use Rattle.lat_audit.proofs.Telling.{is_run}
 
 pub answer_outcome : (c d : Checker) (t : Title) (p : Place) (e : Entry) (wide : Bool) (h : Head) (xs : List Slot) (broken : Option Rule)
-    → Knows c p → AnswersRun tell t p.seen p.texts e wide h xs d broken → (broken ≡ None → runs_of d ≡ runs_of c + 1)
+    → KnowsPlace c p → AnswersRun tell t p.seen p.texts e wide h xs d broken → (broken ≡ None → runs_of d ≡ runs_of c + 1)
     → OutcomeIs (run_outcome (title_shown t) p e wide h xs) d broken
 answer_outcome c d t p e wide h xs None knows takes runs = (
   passed p (frame_of e xs takes.number takes.ack),
@@ -37,7 +37,7 @@ answer_outcome c d t p e wide h xs (Some rule) knows fails runs = ap (after_test
 
 -- of whatever the call answered
 pub run_answers : (result : Result (Option Rule) Memory) (c d : Checker) (t : Title) (p : Place) (e : Entry) (wide : Bool) (h : Head) (xs : List Slot)
-    → Knows c p → IfOk result (λ broken. AnswersRun tell t p.seen p.texts e wide h xs d broken) → IfOk result (λ broken. broken ≡ None → runs_of d ≡ runs_of c + 1)
+    → KnowsPlace c p → IfOk result (λ broken. AnswersRun tell t p.seen p.texts e wide h xs d broken) → IfOk result (λ broken. broken ≡ None → runs_of d ≡ runs_of c + 1)
     → IfOk result (λ broken. OutcomeIs (run_outcome (title_shown t) p e wide h xs) d broken)
 run_answers (Ok broken) c d t p e wide h xs knows answer runs = answer_outcome c d t p e wide h xs broken knows answer runs
 run_answers (Err memory) c d t p e wide h xs knows answer runs = tt

@@ -14,7 +14,7 @@ use Rattle.lat_audit.specs.CaptureText.{◌>>=◌, entries_of}
 use Rattle.lat_audit.specs.declared.auditor.Auditor.{Auditor}
 use Rattle.lat_audit.specs.Shown.{entry_shown}
 use Rattle.lat_audit.specs.Steps.{Progress, start, progressed, progressed_all, verdict_of}
-use Rattle.lat_audit.specs.Follows.{Follows}
+use Rattle.lat_audit.specs.Follows.{FollowsCapture}
 use Rattle.lat_audit.specs.AuditOf.{verdict_text, answer_of, audit_of}
 use Rattle.lat_audit.proofs.Verdicts.{verdict_by_steps}
 
@@ -33,14 +33,14 @@ printed (Err number) = (2, wrong_line number)
 pub record Walks (input : List ℕ) (a : Auditor) (number : ℕ) (rest : List ℕ) : Type 0 where
   pub title : Title
   pub progress : Progress
-  pub follows : Follows title a progress
+  pub follows : FollowsCapture title a progress
   pub answer : audit_of input ≡ printed (verdict_on title progress (entries_of number (lines_of rest)))
 
 title_first : (t : Title) (entries : Result (List Entry) ℕ) → answer_of (entries >>= (λ es. Ok (record { title = t; entries = es }))) ≡ printed (verdict_on t start entries)
 title_first t (Ok es) = ap (λ (v : Verdict). (0, verdict_text v)) (verdict_by_steps (title_shown t) _ (map entry_shown es))
 title_first t (Err number) = refl
 
-pub walks_start : (input first lines : List ℕ) (t : Title) (a : Auditor) → lines_of input ≡ Line first (lines_of lines) → title_of first ≡ Some t → Follows t a start → Walks input a 2 lines
+pub walks_start : (input first lines : List ℕ) (t : Title) (a : Auditor) → lines_of input ≡ Line first (lines_of lines) → title_of first ≡ Some t → FollowsCapture t a start → Walks input a 2 lines
 walks_start input first lines t a is found follows = record {
   title = t;
   progress = start;
@@ -53,7 +53,7 @@ entry_next t q e (Ok es) = refl
 entry_next t q e (Err number) = refl
 
 pub walks_on : (input line more rest : List ℕ) (a b : Auditor) (number : ℕ) (e : Entry) → Walks input a number rest → lines_of rest ≡ Line line (lines_of more) → entry_of line ≡ Some e
-    → ((t : Title) (q : Progress) → Follows t a q → Follows t b (progressed (title_shown t) q (entry_shown e))) → Walks input b (number + 1) more
+    → ((t : Title) (q : Progress) → FollowsCapture t a q → FollowsCapture t b (progressed (title_shown t) q (entry_shown e))) → Walks input b (number + 1) more
 unfolding entries_of
 walks_on input line more rest a b number e walks is found hears = record {
   title = walks.title;
@@ -92,7 +92,7 @@ cut_is_wrong input rest a number walks is some =
     sym (walks.answer ∙ ap (λ (lines : Lines). printed (verdict_on walks.title walks.progress (entries_of number lines))) cut)
 
 pub end_is_right : (input rest text : List ℕ) (a : Auditor) (number : ℕ) → Walks input a number rest → lines_of rest ≡ no_line rest → (length rest == 0) ≡ true
-    → ((t : Title) (q : Progress) → Follows t a q → text ≡ verdict_text (verdict_of q)) → (0, text) ≡ audit_of input
+    → ((t : Title) (q : Progress) → FollowsCapture t a q → text ≡ verdict_text (verdict_of q)) → (0, text) ≡ audit_of input
 unfolding entries_of
 end_is_right input rest text a number walks is none told =
     let end : lines_of rest ≡ End = is ∙ is_end rest none in

@@ -19,7 +19,7 @@ broken_at index rule = record { index = index; rule = rule }
 pub record Goes (t : Title) (a : Auditor) (p : Place) : Type 0 where
   pub title : title_of a.checker ≡ t
   pub count : a.count ≡ p.index
-  pub knows : steps.Knows a.checker p
+  pub knows : steps.KnowsPlace a.checker p
 
 abbrev pub FollowsBy : Title → Auditor → Option Broken → steps.Progress → Type 0
 FollowsBy t a None (steps.Goes p) = Goes t a p
@@ -28,8 +28,8 @@ FollowsBy t a (Some b) (steps.Goes p) = ⊥
 FollowsBy t a (Some b) (steps.Broke index rule) = (index ≡ b.index) × (rule ≡ rule_shown b.rule)
 
 -- it knows so much of a capture with this title
-abbrev pub Follows : Title → Auditor → steps.Progress → Type 0
-Follows t a q = FollowsBy t a a.broken q
+abbrev pub FollowsCapture : Title → Auditor → steps.Progress → Type 0
+FollowsCapture t a q = FollowsBy t a a.broken q
 
 -- until a rule is broken there are no more RUNs than entries
 abbrev pub Counted : Auditor → Type 0

@@ -62,18 +62,18 @@ verdict_of (Goes p) = IsLegal p.runs
 verdict_of (Broke index rule) = IsBroken index rule
 
 -- the checker keeps what is known
-pub record Knows (c : Checker) (p : Place) : Type 0 where
+pub record KnowsPlace (c : Checker) (p : Place) : Type 0 where
   pub stands : Stands tell c p.seen p.texts
   pub runs : runs_of c ≡ p.runs
 
 -- the checker went on by an entry, or answered the first rule that it breaks
 abbrev pub OutcomeIs : Result Place legal.Rule → Checker → Option Rule → Type 0
-OutcomeIs outcome d None = (next : Place) × (outcome ≡ Ok next) × Knows d next
+OutcomeIs outcome d None = (next : Place) × (outcome ≡ Ok next) × KnowsPlace d next
 OutcomeIs outcome d (Some rule) = outcome ≡ Err (rule_shown rule)
 
 -- a call answered to an entry so, whatever was known before. Want of memory may stand in place of any answer
 abbrev pub Checks : Checker → Entry → Checker → Result (Option Rule) Memory → Type 0
-Checks c e d result = (p : Place) → Knows c p → IfOk result (λ broken. OutcomeIs (entry_outcome (title_shown (title_of c)) p e e.reading) d broken)
+Checks c e d result = (p : Place) → KnowsPlace c p → IfOk result (λ broken. OutcomeIs (entry_outcome (title_shown (title_of c)) p e e.reading) d broken)
 
 -- the same of a RUN, whatever its payload reads as, and whether it asks for a reply or not
 abbrev pub run_entry : Bool → Reading → List ReadSlot → Entry
@@ -81,5 +81,5 @@ run_entry by_master r slots = record { by_master = by_master; reading = r; text 
 
 abbrev pub ChecksRun : Checker → Bool → RunHead → List ReadSlot → Checker → Result (Option Rule) Memory → Type 0
 ChecksRun c by_master head slots d result =
-    (p : Place) (ask : Bool) (r : Reading) → Knows c p → IfOk result (λ broken.
+    (p : Place) (ask : Bool) (r : Reading) → KnowsPlace c p → IfOk result (λ broken.
     OutcomeIs (run_outcome (title_shown (title_of c)) p (run_entry by_master r slots) head.wide (head_shown ask head) (map slot_heard slots)) d broken)

@@ -3,7 +3,7 @@
 ghost use Rattle.std.specs.Prelude.{◌≡◌, ◌+◌, ◌^◌, ◌<◌, ◌≤◌, OnOk, IfOk, option_map, string_bytes};
 ghost use Rattle.lat_captures.specs.declared.head.Title.{Title};
 ghost use Rattle.lat_audit.specs.Steps.{Progress, start, verdict_of};
-ghost use Rattle.lat_audit.specs.Follows.{Follows, Counted, after_entry, broken_at};
+ghost use Rattle.lat_audit.specs.Follows.{FollowsCapture, Counted, after_entry, broken_at};
 ghost use Rattle.lat_audit.specs.AuditOf.{verdict_text};
 
 use crate::entry::Entry;
@@ -48,7 +48,7 @@ fn broken_at(index: u64, found: Option<Rule>) -> Option<Broken>
 impl Auditor {
     /// Before the first entry of a capture with this title. Takes no memory.
     pub fn new(alloc: Global, title: Title) -> Auditor
-        ensures follows { Follows title result start }
+        ensures follows { FollowsCapture title result start }
         ensures counted { Counted result }
         ensures count { result.count ≡ 0 }
     {
@@ -64,8 +64,8 @@ impl Auditor {
     pub fn hear(&mut self, alloc: Global, entry: &Entry) -> Result<(), Memory>
         requires counted { Counted self.old }
         requires room { self.old.count + 4 < 2 ^ 64 }
-        ensures follows { (t : Title) (q : Progress) → Follows t self.old q →
-            OnOk result (Follows t self.new (after_entry t q entry.now)) }
+        ensures follows { (t : Title) (q : Progress) → FollowsCapture t self.old q →
+            OnOk result (FollowsCapture t self.new (after_entry t q entry.now)) }
         ensures counted { OnOk result (Counted self.new) }
         ensures count { OnOk result (self.new.count ≤ self.old.count + 1) }
     {
@@ -80,7 +80,7 @@ impl Auditor {
 
     /// The text of the verdict on the entries so far.
     pub fn verdict(&self, alloc: Global) -> Result<String, AllocError>
-        ensures { (t : Title) (q : Progress) → Follows t self.now q →
+        ensures { (t : Title) (q : Progress) → FollowsCapture t self.now q →
             IfOk result (λ text. string_bytes text ≡ verdict_text (verdict_of q)) }
     {
         match self.broken {

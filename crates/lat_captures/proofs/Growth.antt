@@ -6,7 +6,7 @@ use Rattle.lat_captures.specs.Seen.{Both}
 use Rattle.lat_captures.specs.Belonging.{all_slots, last_place, word_at, replies_as, asks_as, beside_at, ask_of, session_at, Owned, of_session, slave_owned, message_owned, master_owned, ask_credits}
 use Rattle.lat_captures.proofs.Growing.{all_slots-append, place_bound, word_more, InReach, grown, ask_more, session_more, slave_owned_more, message_owned_more}
 use Rattle.lat_captures.specs.Sums.{Sums}
-use Rattle.lat_captures.specs.Stands.{session_under, AccountOf, Holds, master_lists, slave_lists, Shows}
+use Rattle.lat_captures.specs.Stands.{session_under, AccountOf, Holds, master_lists, slave_lists, HasShown}
 use Rattle.lat_captures.proofs.Holding.{given_more, spent_more}
 use Rattle.lat_captures.proofs.Formings.{prefix_short}
 
@@ -51,7 +51,7 @@ keeps_grown b ms es x ns bs y i = record {
         ∙ word_more credits_of (all_slots b.master.messages) (all_slots ms) (ask_of b (suc r)) (asked_within b (suc r))
 
 -- what is in reach
-pub in_reach : (b : Both) → Shows b.master b.slave → Shows b.slave b.master → InReach b
+pub in_reach : (b : Both) → HasShown b.master b.slave → HasShown b.slave b.master → InReach b
 in_reach b m s = record {
   each_master = m.each;
   each_slave = s.each;

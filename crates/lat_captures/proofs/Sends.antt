@@ -18,7 +18,7 @@ use Rattle.lat_captures.specs.Facts.{facts_of, owned_slot_of}
 use Rattle.lat_captures.specs.Recent.{Message, last_eight, pushed}
 use Rattle.lat_captures.specs.Sums.{Sums, sums_of, forms_all}
 use Rattle.lat_captures.specs.Stands.{Holds, master_lists, slave_lists, SideStands, Bounded, Stands}
-use Rattle.lat_captures.specs.Steps.{sending, Sends}
+use Rattle.lat_captures.specs.Steps.{sending, SendsNext}
 use Rattle.lat_captures.proofs.Holding.{each_push}
 use Rattle.lat_captures.proofs.Lists.{master_lists_push}
 use Rattle.lat_captures.proofs.Messages.{master_gives, all_sent, MasterFormsAll, holds_master_forms_all}
@@ -118,7 +118,7 @@ abbrev pub SentAs : Bool → (List ℕ → List Slot) → Checker → Both → T
 SentAs m tell c b x a text xs None = spend_test m (with_message m b xs a) (own b m) a xs ≡ false
 SentAs m tell c b x a text xs (Some r) =
     (spend_test m (with_message m b xs a) (own b m) a xs ≡ true)
-    × ((d : Checker) → Sends m c d text r.0 r.1 → Stands tell d (with_message m b xs a) (with_text m x text))
+    × ((d : Checker) → SendsNext m c d text r.0 r.1 → Stands tell d (with_message m b xs a) (with_text m x text))
 
 pub master_sends : (tell : List ℕ → List Slot) (c : Checker) (b : Both) (x : Texts) (text : List ℕ) (xs : List Slot) → Stands tell c b x → tell text ≡ xs → IsSmall xs
     → length b.master.messages + 1 ≤ b.slave.acknowledged + 8 → SentAs true tell c b x b.master.acknowledged text xs (forms_all true c.places (sums_of c.accounts) (map facts_of xs))
@@ -179,7 +179,7 @@ master_sends tell c b x text xs h told small window = go (forms_all true c.place
     lists : master_lists b2 (ms ++ xs ∷ []) (bs ++ a ∷ []) ≡ master_lists b ms bs ++ message_owned b2 a xs ∷ []
     lists = master_lists_push b2 ms bs xs a h.master_shows.each ∙ ap (λ z. z ++ message_owned b2 a xs ∷ []) (master_lists_again b b2 ms bs keep reach.near_master)
 
-    stands : (r : Sums × List OwnedSlot) → r.1 ≡ map owned_slot_of (all_sent b2 ys xs) → Holds b2 (all_slots ss) ys (os ++ all_sent b2 ys xs) ts r.0 → (d : Checker) → Sends true c d text r.0 r.1
+    stands : (r : Sums × List OwnedSlot) → r.1 ≡ map owned_slot_of (all_sent b2 ys xs) → Holds b2 (all_slots ss) ys (os ++ all_sent b2 ys xs) ts r.0 → (d : Checker) → SendsNext true c d text r.0 r.1
         → Stands tell d b2 (record { master = x.master ++ text ∷ []; slave = x.slave })
     stands r kept sums d k = record {
       master = subst (λ s. SideStands tell s b2.master (x.master ++ text ∷ []) (master_lists b2 (ms ++ xs ∷ []) (bs ++ a ∷ []))) (sym k.own)

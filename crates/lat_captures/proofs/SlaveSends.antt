@@ -14,7 +14,7 @@ use Rattle.lat_captures.specs.declared.checker.Checker.{Checker}
 use Rattle.lat_captures.specs.Facts.{facts_of, owned_slot_of}
 use Rattle.lat_captures.specs.Sums.{Sums, greatest, opening, sums_of, forms_all}
 use Rattle.lat_captures.specs.Stands.{last_ask, Holds, master_lists, slave_lists, SideStands, Bounded, Stands}
-use Rattle.lat_captures.specs.Steps.{Sends}
+use Rattle.lat_captures.specs.Steps.{SendsNext}
 use Rattle.lat_captures.proofs.Holding.{differ_false}
 use Rattle.lat_captures.proofs.Formings.{Opens}
 use Rattle.lat_captures.proofs.Lists.{slave_lists_push, slots_in, slots_in-master}
@@ -183,7 +183,7 @@ slave_sends tell c b x text xs h fit told small window =
     lists : slave_lists b2 [] (ss ++ xs ∷ []) ≡ slave_lists b [] ss ++ slave_owned b2 front xs ∷ []
     lists = slave_lists_push b2 [] ss xs ∙ ap (λ z. z ++ slave_owned b2 front xs ∷ []) (slave_lists_again b b2 [] ss keep (omega arith))
 
-    stands : (r : Sums × List OwnedSlot) → r.1 ≡ map owned_slot_of (slave_owned b2 front xs) → Holds b2 (front ++ xs) ys os ts r.0 → (d : Checker) → Sends false c d text r.0 r.1
+    stands : (r : Sums × List OwnedSlot) → r.1 ≡ map owned_slot_of (slave_owned b2 front xs) → Holds b2 (front ++ xs) ys os ts r.0 → (d : Checker) → SendsNext false c d text r.0 r.1
         → Stands tell d b2 (record { master = x.master; slave = x.slave ++ text ∷ [] })
     stands r kept sums d k = record {
       master = subst (λ s. SideStands tell s b.master x.master (master_lists b2 ms bs)) (sym k.other) (subst (SideStands tell c.master b.master x.master) (sym (master_lists_again b b2 ms bs keep reach.near_master)) h.master);

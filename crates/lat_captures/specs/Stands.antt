@@ -73,7 +73,7 @@ pub record SideStands (tell : List ℕ → List Slot) (s : Side) (seen : Seen)
 
 -- What an end has shown, beside the other: it has acknowledged messages that the other sent, and all but its last eight; the
 -- acknowledgement beside each of its messages isn't above its last one
-pub record Shows (seen other : Seen) : Type 0 where
+pub record HasShown (seen other : Seen) : Type 0 where
   pub sent : seen.acknowledged ≤ length other.messages
   pub near : length other.messages ≤ seen.acknowledged + 8
   pub each : length seen.beside ≡ length seen.messages
@@ -96,7 +96,7 @@ pub record Stands (tell : List ℕ → List Slot) (c : Checker) (b : Both) (x : 
       (master_owned b (take b.slave.acknowledged b.master.messages) b.master.beside)
       (sums_of c.accounts)
   pub places : c.places ≡ length (all_slots b.slave.messages)
-  pub master_shows : Shows b.master b.slave
-  pub slave_shows : Shows b.slave b.master
+  pub master_shows : HasShown b.master b.slave
+  pub slave_shows : HasShown b.slave b.master
   pub master_bounded : Bounded b.master c.runs
   pub slave_bounded : Bounded b.slave c.runs

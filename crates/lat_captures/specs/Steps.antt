@@ -46,7 +46,7 @@ abbrev pub places_with : Bool → ℕ → List OwnedSlot → ℕ
 places_with by_master places slots = cond by_master places (min (places + length slots) greatest)
 
 -- an end sends its next message, with these sums of the sessions then
-pub record Sends (by_master : Bool) (c d : Checker) (text : List ℕ) (sums : Sums) (slots : List OwnedSlot) : Type 0 where
+pub record SendsNext (by_master : Bool) (c d : Checker) (text : List ℕ) (sums : Sums) (slots : List OwnedSlot) : Type 0 where
   pub title : d.title ≡ c.title
   pub own : side_of d by_master ≡ sending (side_of c by_master) text slots
   pub other : side_of d (not by_master) ≡ side_of c (not by_master)
@@ -57,7 +57,7 @@ pub record Sends (by_master : Bool) (c d : Checker) (text : List ℕ) (sums : Su
 -- a message is sent where its slots could be formed
 abbrev pub SendsFormed : Bool → Checker → Checker → List ℕ → Option (Sums × List OwnedSlot) → Bool → Type 0
 SendsFormed by_master c d text None sent = sent ≡ false
-SendsFormed by_master c d text (Some r) sent = (sent ≡ true) × Sends by_master c d text r.0 r.1
+SendsFormed by_master c d text (Some r) sent = (sent ≡ true) × SendsNext by_master c d text r.0 r.1
 
 abbrev pub SendsSlots : Bool → Checker → Checker → List SlotFacts → List ℕ → Bool → Type 0
 SendsSlots by_master c d slots text sent =

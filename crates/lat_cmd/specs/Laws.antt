@@ -27,7 +27,7 @@ CaptureIsLegal p input = (capture_of p input).status ≡ 0 → IsLegalText (capt
 
 -- What so many rounds bring where nothing was lost: none is refused but for the number of frames; and where they are enough by
 -- the report behind them, each open session has taken all that the other end put
-pub record Brings (count : ℕ) (input : List ℕ) (status : ℕ) : Type 0 where
+pub record RoundsBring (count : ℕ) (input : List ℕ) (status : ℕ) : Type 0 where
   pub passes : status ≢ 3
   pub all :
       status ≡ 0 →
@@ -42,7 +42,7 @@ SettleTakesAll count input status =
     (before : Ended) →
     (replay_of input).world ≡ Some before →
     Lossless before.setups before.state.machines →
-    Brings count input status
+    RoundsBring count input status
 
 -- what holds of the answer to an input
 abbrev pub IsLawful : Command → List ℕ → Type 0

@@ -18,7 +18,7 @@ use Rattle.lat_machines.specs.values.Addresses.{address}
 use Rattle.lat_machines.specs.node.Node.{Node, Requested, request_of, was_requested}
 use Rattle.lat_node.specs.declared.requests.Request.{Request}
 use Rattle.lat_node.specs.Kept.{Kept}
-use Rattle.lat_node.specs.Stands.{Noted, request_shown, request_in, was_made, Stands}
+use Rattle.lat_node.specs.Stands.{NotedRequest, request_shown, request_in, was_made, Stands}
 use Rattle.lat_lines.proofs.CircuitsHeld.{each_weaker, each_push}
 
 -- two names are one for both
@@ -50,7 +50,7 @@ found s id (e ∷ es) (r ∷ rs) q = go (nat_eq id e.0) refl (found s id es rs t
     tail = cc
 
     one : e.0 ≡ r.id
-    one = ap (λ (n : Noted). n.request.id) head
+    one = ap (λ (n : NotedRequest). n.request.id) head
 
     rest : Option Requested
     rest = find (λ (x : Requested). nat_eq x.id id) rs
@@ -59,8 +59,8 @@ found s id (e ∷ es) (r ∷ rs) q = go (nat_eq id e.0) refl (found s id es rs t
     go true t more =
         let same_id : id ≡ e.0 = eqb-true id e.0 t in
         let here : nat_eq r.id id ≡ true = eq-eqb r.id id (sym (same_id ∙ one)) in (
-          ap (λ b. cond b (Some r) rest) here ∙ ap Some (sym (ap (λ (n : Noted). n.request) (ap (λ i. request_shown (i, e.1)) same_id ∙ head))),
-          ap (λ (n : Noted). n.accepted) head ∙ ap (λ i. list_any (nat_eq i) s.accepted) (sym (same_id ∙ one)),
+          ap (λ b. cond b (Some r) rest) here ∙ ap Some (sym (ap (λ (n : NotedRequest). n.request) (ap (λ i. request_shown (i, e.1)) same_id ∙ head))),
+          ap (λ (n : NotedRequest). n.accepted) head ∙ ap (λ i. list_any (nat_eq i) s.accepted) (sym (same_id ∙ one)),
         )
     go false f more =
         let other : nat_eq r.id id ≡ false = eqb_turn r.id id ∙ ap (nat_eq id) (sym one) ∙ f in
@@ -137,7 +137,7 @@ stands_more k s id to service es st none is = record {
 
 -- a start accepted for a request
 
-abbrev noted : ℕ → Noted → Noted
+abbrev noted : ℕ → NotedRequest → NotedRequest
 noted id n = record { request = n.request; accepted = n.accepted || nat_eq n.request.id id }
 
 abbrev as_accepted : ℕ × Request → ℕ × Request

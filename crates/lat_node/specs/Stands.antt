@@ -19,17 +19,17 @@ use Rattle.lat_node.specs.declared.requests.Request.{Request}
 use Rattle.lat_node.specs.Kept.{Kept, config_of}
 
 -- a request, and whether a start was accepted for it
-pub record Noted : Type 0 where
+pub record NotedRequest : Type 0 where
   pub request : Requested
   pub accepted : Bool
 
-abbrev pub request_shown : ℕ × Request → Noted
+abbrev pub request_shown : ℕ × Request → NotedRequest
 request_shown e = record {
   request = record { id = e.0; to = address e.1.to.0; service = e.1.service };
   accepted = e.1.accepted;
 }
 
-abbrev pub request_in : Node → Requested → Noted
+abbrev pub request_in : Node → Requested → NotedRequest
 request_in s r = record { request = r; accepted = list_any (nat_eq r.id) s.accepted }
 
 -- a request of this id was made

@@ -10,7 +10,7 @@ use Rattle.lat_machines.specs.world.Machines.{Machines}
 use Rattle.lat_machines.specs.world.Reports.{RecordRow, report}
 use Rattle.lat_queue.specs.Histories as queues
 use Rattle.lat_queue.specs.declared.record.Record.{Record}
-use Rattle.lat_laws.specs.tales.Rows.{RowAfter, RowsAfter, Keeps}
+use Rattle.lat_laws.specs.tales.Rows.{RowAfter, RowsAfter, KeepsRows}
 use Rattle.lat_laws.specs.tales.Reported.{report_row, report_rows, report_rows_from}
 use Rattle.lat_replay.specs.declared.roster.row.Row.{Row}
 use Rattle.lat_replay.specs.roster.Rows.{ShowsRow}
@@ -71,7 +71,7 @@ whole a b c d e g f s r h n z p q t u v =
     let five : e ≡ a ++ (f ++ s ++ r ++ h ++ n) = u ∙ more_text d a (f ++ s ++ r ++ h) (f ++ s ++ r ++ h ++ n) n four refl in
     v ∙ more_text e a (f ++ s ++ r ++ h ++ n) (f ++ s ++ r ++ h ++ n ++ z) z five refl
 
-pub composed : {H : Type 0} (u : Kept H) (w : Machines) (k : RowsAfter) (ns : List Note) (frames : ℕ) (a b c d e g : List ℕ) → Stands u w → Keeps (setups_of u) w k → frames ≡ length w.posts → map note_shown ns ≡ map noted_info w.noted → b ≡ a ++ frames_text frames → c ≡ b ++ rows_text 1 (report_rows w k) → d ≡ c ++ flat_map request_text (request_rows w.server.queue) ++ flat_map grant_text (grants_of w.server.queue) → e ≡ d ++ flat_map note_line ns → g ≡ e ++ codes "done\n" → g ≡ a ++ report_text (report (setups_of u) w)
+pub composed : {H : Type 0} (u : Kept H) (w : Machines) (k : RowsAfter) (ns : List Note) (frames : ℕ) (a b c d e g : List ℕ) → Stands u w → KeepsRows (setups_of u) w k → frames ≡ length w.posts → map note_shown ns ≡ map noted_info w.noted → b ≡ a ++ frames_text frames → c ≡ b ++ rows_text 1 (report_rows w k) → d ≡ c ++ flat_map request_text (request_rows w.server.queue) ++ flat_map grant_text (grants_of w.server.queue) → e ≡ d ++ flat_map note_line ns → g ≡ e ++ codes "done\n" → g ≡ a ++ report_text (report (setups_of u) w)
 composed u w k ns frames a b c d e g s h f n p q t v z =
     whole a b c d e g (frames_text (length w.posts)) (rows_text 1 (report (setups_of u) w).sessions) (flat_map request_text (request_rows w.server.queue)) (flat_map grant_text (grants_of w.server.queue)) (flat_map event_text w.noted) (codes "done\n")
     (p ∙ ap (λ y. a ++ frames_text y) f)

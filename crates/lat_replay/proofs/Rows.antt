@@ -8,7 +8,7 @@ use Rattle.lat_machines.specs.world.Machines.{Setups, Machines}
 use Rattle.lat_machines.specs.world.Reports.{is_partner, partner, partner_in}
 use Rattle.lat_laws.specs.tales.Keeping.{no_figures}
 use Rattle.lat_laws.specs.tales.Rows as rows
-use Rattle.lat_laws.specs.tales.Rows.{RowAfter, RowsAfter, Keeps, KeepsRow, Pairs, figures_of, newest_place}
+use Rattle.lat_laws.specs.tales.Rows.{RowAfter, RowsAfter, KeepsRows, KeepsRow, Pairs, figures_of, newest_place}
 use Rattle.lat_laws.specs.tales.Reported.{server_figures, node_figures, report_row, report_rows_from}
 use Rattle.lat_replay.specs.declared.roster.figures.Figures.{Figures}
 use Rattle.lat_replay.specs.declared.roster.row.Row as own
@@ -92,7 +92,7 @@ paired P (s ∷ ss) (x ∷ rs) zero r h q = let e : x ≡ r = cc in record { sea
 paired P (s ∷ ss) (x ∷ rs) (suc i) r h q = paired P ss rs i r h.1 q
 
 -- the node's line of a row has or had a session
-pub node_had : (u : Setups) (w : Machines) (k : RowsAfter) (i : ℕ) (r : RowAfter) → Keeps u w k → slice_get k.rows i ≡ Some r → r.node_line ≢ 0 → newest_place r.node_line 0 0 w.node.core.seats ≢ 0
+pub node_had : (u : Setups) (w : Machines) (k : RowsAfter) (i : ℕ) (r : RowAfter) → KeepsRows u w k → slice_get k.rows i ≡ Some r → r.node_line ≢ 0 → newest_place r.node_line 0 0 w.node.core.seats ≢ 0
 node_had u w k i r h q n =
     let p : Paired (KeepsRow u w) r = paired (KeepsRow u w) w.server.core.seats k.rows i r h.rows q in
     let e : r.node_line ≡ (partner u w p.seat).line = p.holds.node_line in

@@ -11,7 +11,7 @@ use Rattle.lat_machines.specs.world.Machines.{Setups, Posted, Machines, Move, Do
 use Rattle.lat_machines.specs.world.Safe.{answer_by}
 use Rattle.lat_laws.specs.tales.Books.{lines_at}
 use Rattle.lat_laws.specs.tales.Items.{line_of, put_by, taken_by}
-use Rattle.lat_laws.specs.tales.Rows.{RowsAfter, Keeps}
+use Rattle.lat_laws.specs.tales.Rows.{RowsAfter, KeepsRows}
 use Rattle.lat_laws.specs.tales.Keeping.{adds, rows_after, rows_at_frame, rows_at}
 use Rattle.lat_laws.proofs.tales.rows.Runs.{next_keeps}
 use Rattle.lat_lines.specs.AnswerValues.{answer_of}
@@ -36,16 +36,16 @@ use Rattle.lat_replay.specs.Stands.{Stands, Holds}
 reached : {H : Type 0} (k : Kept H) (w : Machines) → Stands k w → IsReached (setups_of k) w
 reached k w s = record { fit = s.wire.fit; moves = s.wire.moves; run = s.wire.run }
 
-keeps_on : (u : Setups) (w : Machines) (m : Move) (k : RowsAfter) → IsReached u w → Keeps u w k → Keeps u (happens u w m) (rows_after u w m k)
+keeps_on : (u : Setups) (w : Machines) (m : Move) (k : RowsAfter) → IsReached u w → KeepsRows u w k → KeepsRows u (happens u w m) (rows_after u w m k)
 keeps_on u w m k r h =
-    subst (λ z. Keeps u (happens u z m) (rows_after u z m k)) (sym r.run)
-    (next_keeps u r.moves m k r.fit (subst (λ z. Keeps u z k) r.run h))
+    subst (λ z. KeepsRows u (happens u z m) (rows_after u z m k)) (sym r.run)
+    (next_keeps u r.moves m k r.fit (subst (λ z. KeepsRows u z k) r.run h))
 
-moved : {H : Type 0} (k new : Kept H) (w : Machines) (m : Move) (s : Stands k w) → setups_of new ≡ setups_of k → wire_stands.Stands new.wire (happens (setups_of k) w m) → rosters.Shows new.roster (rows_after (setups_of k) w m s.rows) → Stands new (happens (setups_of k) w m)
+moved : {H : Type 0} (k new : Kept H) (w : Machines) (m : Move) (s : Stands k w) → setups_of new ≡ setups_of k → wire_stands.Stands new.wire (happens (setups_of k) w m) → rosters.HasRows new.roster (rows_after (setups_of k) w m s.rows) → Stands new (happens (setups_of k) w m)
 moved k new w m s same wire shows = record {
   wire = wire;
   rows = rows_after (setups_of k) w m s.rows;
-  keeps = subst (λ u. Keeps u (happens (setups_of k) w m) (rows_after (setups_of k) w m s.rows)) (sym same) (keeps_on (setups_of k) w m s.rows (reached k w s) s.keeps);
+  keeps = subst (λ u. KeepsRows u (happens (setups_of k) w m) (rows_after (setups_of k) w m s.rows)) (sym same) (keeps_on (setups_of k) w m s.rows (reached k w s) s.keeps);
   shows = shows;
 }
 
@@ -59,11 +59,11 @@ Follows wire server before old new =
     end_told u w m ≡ Some server →
     wire_stands.Stands wire (happens u w m) →
     before ≡ length (core_of w server).seats →
-    Keeps u w k →
-    rosters.Shows old (items_added u w m k) →
-    rosters.Shows new (rows_after u w m k)
+    KeepsRows u w k →
+    rosters.HasRows old (items_added u w m k) →
+    rosters.HasRows new (rows_after u w m k)
 
-followed : {H : Type 0} (k new : Kept H) (w : Machines) (m : Move) (server : Bool) (before : ℕ) (mid : rosters.Kept) (s : Stands k w) → setups_of new ≡ setups_of k → Follows new.wire server before mid new.roster → end_told (setups_of k) w m ≡ Some server → before ≡ length (core_of w server).seats → wire_stands.Stands new.wire (happens (setups_of k) w m) → rosters.Shows mid (items_added (setups_of k) w m s.rows) → Stands new (happens (setups_of k) w m)
+followed : {H : Type 0} (k new : Kept H) (w : Machines) (m : Move) (server : Bool) (before : ℕ) (mid : rosters.Kept) (s : Stands k w) → setups_of new ≡ setups_of k → Follows new.wire server before mid new.roster → end_told (setups_of k) w m ≡ Some server → before ≡ length (core_of w server).seats → wire_stands.Stands new.wire (happens (setups_of k) w m) → rosters.HasRows mid (items_added (setups_of k) w m s.rows) → Stands new (happens (setups_of k) w m)
 followed k new w m server before mid s same follows told count wire items =
     moved k new w m s same wire (follows (setups_of k) w m s.rows same (reached k w s) told wire count s.keeps items)
 
@@ -73,10 +73,10 @@ abbrev pub AddsItems : Bool → base.Event → base_answer.Answer → rosters.Ke
 AddsItems server e answer old new =
     (a : machines.Answer) (k : RowsAfter) →
     answer ≡ answer_of a →
-    rosters.Shows old k →
-    rosters.Shows new (adds server (line_of (event_shown e)) (put_by (event_shown e) a) (taken_by (event_shown e) a) k)
+    rosters.HasRows old k →
+    rosters.HasRows new (adds server (line_of (event_shown e)) (put_by (event_shown e) a) (taken_by (event_shown e) a) k)
 
-pub local_stands : {H : Type 0} (k new : Kept H) (w : Machines) (server : Bool) (e : base.Event) (a : base_answer.Answer) (before : ℕ) (room mid : rosters.Kept) → is_heard (event_shown e) ≡ false → setups_of new ≡ setups_of k → ((r : RowsAfter) → rosters.Shows k.roster r → rosters.Shows room r) → AddsItems server e a room mid → Follows new.wire server before mid new.roster → a ≡ answered (setups_of k) w server (event_shown e) → before ≡ length (core_of w server).seats → wire_stands.Stands new.wire (happens (setups_of k) w (Does server (event_shown e) (rates (setups_of k) w))) → Stands k w → Stands new (happens (setups_of k) w (Does server (event_shown e) (rates (setups_of k) w)))
+pub local_stands : {H : Type 0} (k new : Kept H) (w : Machines) (server : Bool) (e : base.Event) (a : base_answer.Answer) (before : ℕ) (room mid : rosters.Kept) → is_heard (event_shown e) ≡ false → setups_of new ≡ setups_of k → ((r : RowsAfter) → rosters.HasRows k.roster r → rosters.HasRows room r) → AddsItems server e a room mid → Follows new.wire server before mid new.roster → a ≡ answered (setups_of k) w server (event_shown e) → before ≡ length (core_of w server).seats → wire_stands.Stands new.wire (happens (setups_of k) w (Does server (event_shown e) (rates (setups_of k) w))) → Stands k w → Stands new (happens (setups_of k) w (Does server (event_shown e) (rates (setups_of k) w)))
 local_stands k new w server e a before room mid local same reserved items follows answer count wire s =
     followed k new w (Does server (event_shown e) (rates (setups_of k) w)) server before mid s same follows
     (ap (λ z. cond z None (Some server)) local)
@@ -93,7 +93,7 @@ not_own : (a : Option EventFault) (b : Bool) → first_of (a ∷ cond b (Some Ow
 not_own None b e = own_passes b e
 not_own (Some f) b e = let z : ⊥ = cc in absurd z
 
-pub foreign_stands : {H : Type 0} (k new : Kept H) (w : Machines) (server : Bool) (from now : ℕ) (payload : Reading) (before : ℕ) (room : rosters.Kept) → setups_of new ≡ setups_of k → ((r : RowsAfter) → rosters.Shows k.roster r → rosters.Shows room r) → Follows new.wire server before room new.roster → inject_refusal (setups_of k) w from ≡ None → before ≡ length (core_of w server).seats → wire_stands.Stands new.wire (happens (setups_of k) w (HearsForeign server from payload now (rates (setups_of k) w))) → Stands k w → Stands new (happens (setups_of k) w (HearsForeign server from payload now (rates (setups_of k) w)))
+pub foreign_stands : {H : Type 0} (k new : Kept H) (w : Machines) (server : Bool) (from now : ℕ) (payload : Reading) (before : ℕ) (room : rosters.Kept) → setups_of new ≡ setups_of k → ((r : RowsAfter) → rosters.HasRows k.roster r → rosters.HasRows room r) → Follows new.wire server before room new.roster → inject_refusal (setups_of k) w from ≡ None → before ≡ length (core_of w server).seats → wire_stands.Stands new.wire (happens (setups_of k) w (HearsForeign server from payload now (rates (setups_of k) w))) → Stands k w → Stands new (happens (setups_of k) w (HearsForeign server from payload now (rates (setups_of k) w)))
 foreign_stands k new w server from now payload before room same reserved follows refusal count wire s =
     followed k new w (HearsForeign server from payload now (rates (setups_of k) w)) server before room s same follows
     (ap (λ z. cond z None (Some server)) (not_own (full w) (is_own (setups_of k) from) refusal))
@@ -116,7 +116,7 @@ was_heard u w i now (Some p) there e = go (is_for_other u p) refl e
     go true q e = record { post = p; there = there; other = q }
     go false q e = let z : ⊥ = cc in absurd z
 
-pub frame_stands : {H : Type 0} (k new : Kept H) (w : Machines) (i now : ℕ) (hearing : Bool) (a : Option base_answer.Answer) (before : ℕ) (room : rosters.Kept) → setups_of new ≡ setups_of k → ((r : RowsAfter) → rosters.Shows k.roster r → rosters.Shows room r) → Follows new.wire hearing before room new.roster → a ≡ answered_to (setups_of k) w now (slice_get w.posts i) → is_some a ≡ true → ((p : Posted) → slice_get w.posts i ≡ Some p → hearing ≡ not p.by_server) → before ≡ length (core_of w hearing).seats → wire_stands.Stands new.wire (happens (setups_of k) w (HearsFrame i now (rates (setups_of k) w))) → Stands k w → Stands new (happens (setups_of k) w (HearsFrame i now (rates (setups_of k) w)))
+pub frame_stands : {H : Type 0} (k new : Kept H) (w : Machines) (i now : ℕ) (hearing : Bool) (a : Option base_answer.Answer) (before : ℕ) (room : rosters.Kept) → setups_of new ≡ setups_of k → ((r : RowsAfter) → rosters.HasRows k.roster r → rosters.HasRows room r) → Follows new.wire hearing before room new.roster → a ≡ answered_to (setups_of k) w now (slice_get w.posts i) → is_some a ≡ true → ((p : Posted) → slice_get w.posts i ≡ Some p → hearing ≡ not p.by_server) → before ≡ length (core_of w hearing).seats → wire_stands.Stands new.wire (happens (setups_of k) w (HearsFrame i now (rates (setups_of k) w))) → Stands k w → Stands new (happens (setups_of k) w (HearsFrame i now (rates (setups_of k) w)))
 frame_stands k new w i now hearing a before room same reserved follows answer heard side count wire s =
     followed k new w (HearsFrame i now (rates (setups_of k) w)) hearing before room s same follows
     (told (was_heard (setups_of k) w i now (slice_get w.posts i) refl (ap is_some (sym answer) ∙ heard)))
@@ -149,18 +149,18 @@ unheard_rows u w now rs r (Some p) e = go (is_for_other u p) e
     go false e = refl
     go true e = let z : ⊥ = cc in absurd z
 
-pub unheard_stands : {H : Type 0} (k new : Kept H) (w : Machines) (i now : ℕ) (a : Option base_answer.Answer) → setups_of new ≡ setups_of k → ((r : RowsAfter) → rosters.Shows k.roster r → rosters.Shows new.roster r) → a ≡ answered_to (setups_of k) w now (slice_get w.posts i) → is_some a ≡ false → wire_stands.Stands new.wire (happens (setups_of k) w (HearsFrame i now (rates (setups_of k) w))) → Stands k w → Stands new (happens (setups_of k) w (HearsFrame i now (rates (setups_of k) w)))
+pub unheard_stands : {H : Type 0} (k new : Kept H) (w : Machines) (i now : ℕ) (a : Option base_answer.Answer) → setups_of new ≡ setups_of k → ((r : RowsAfter) → rosters.HasRows k.roster r → rosters.HasRows new.roster r) → a ≡ answered_to (setups_of k) w now (slice_get w.posts i) → is_some a ≡ false → wire_stands.Stands new.wire (happens (setups_of k) w (HearsFrame i now (rates (setups_of k) w))) → Stands k w → Stands new (happens (setups_of k) w (HearsFrame i now (rates (setups_of k) w)))
 unheard_stands k new w i now a same reserved answer unheard wire s =
     moved k new w (HearsFrame i now (rates (setups_of k) w)) s same wire
-    (subst (rosters.Shows new.roster) (sym (unheard_rows (setups_of k) w now (rates (setups_of k) w) s.rows (slice_get w.posts i) (ap is_some (sym answer) ∙ unheard))) (reserved s.rows s.shows))
+    (subst (rosters.HasRows new.roster) (sym (unheard_rows (setups_of k) w now (rates (setups_of k) w) s.rows (slice_get w.posts i) (ap is_some (sym answer) ∙ unheard))) (reserved s.rows s.shows))
 
 -- an event that is refused: the wire is as it was
 
-pub refused_stands : {H : Type 0} (k new : Kept H) (w : Machines) → new.wire ≡ k.wire → ((r : RowsAfter) → rosters.Shows k.roster r → rosters.Shows new.roster r) → Stands k w → Stands new w
+pub refused_stands : {H : Type 0} (k new : Kept H) (w : Machines) → new.wire ≡ k.wire → ((r : RowsAfter) → rosters.HasRows k.roster r → rosters.HasRows new.roster r) → Stands k w → Stands new w
 refused_stands {H = H} k new w same reserved s = record {
   wire = subst (λ (z : wires.Kept H). wire_stands.Stands z w) (sym same) s.wire;
   rows = s.rows;
-  keeps = subst (λ u. Keeps u w s.rows) (sym (ap (λ (z : wires.Kept H). wires.setups_of z) same)) s.keeps;
+  keeps = subst (λ u. KeepsRows u w s.rows) (sym (ap (λ (z : wires.Kept H). wires.setups_of z) same)) s.keeps;
   shows = reserved s.rows s.shows;
 }
 

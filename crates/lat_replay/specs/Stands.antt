@@ -2,7 +2,7 @@
 use Rattle.std.specs.Prelude.{◌≡◌, ℕ, true, false}
 use Rattle.lat_machines.specs.world.Machines.{Machines}
 use Rattle.lat_laws.specs.tales.Books.{lines_at}
-use Rattle.lat_laws.specs.tales.Rows.{RowsAfter, Keeps}
+use Rattle.lat_laws.specs.tales.Rows.{RowsAfter, KeepsRows}
 use Rattle.lat_replay.specs.roster.Roster as rosters
 use Rattle.lat_wire.specs.Stands as wires
 use Rattle.lat_replay.specs.Kept.{Kept, setups_of}
@@ -11,8 +11,8 @@ use Rattle.lat_replay.specs.Kept.{Kept, setups_of}
 pub record Stands {H : Type 0} (k : Kept H) (w : Machines) : Type 0 where
   pub wire : wires.Stands k.wire w
   pub rows : RowsAfter
-  pub keeps : Keeps (setups_of k) w rows
-  pub shows : rosters.Shows k.roster rows
+  pub keeps : KeepsRows (setups_of k) w rows
+  pub shows : rosters.HasRows k.roster rows
 
 -- there is always one; and the lines of both ends are known
 pub record Holds {H : Type 0} (k : Kept H) (server_lines node_lines : ℕ) : Type 0 where

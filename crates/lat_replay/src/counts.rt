@@ -4,8 +4,8 @@ ghost use Rattle.std.specs.Prelude.{◌≡◌};
 ghost use Rattle.std.specs.List.{sum_by};
 ghost use Rattle.lat_machines.specs.world.Machines.{Machines};
 ghost use Rattle.lat_machines.specs.world.Reports.{report};
-ghost use Rattle.lat_laws.specs.tales.Rows.{RowsAfter, Keeps};
-ghost use Rattle.lat_replay.specs.roster.Roster.{Shows};
+ghost use Rattle.lat_laws.specs.tales.Rows.{RowsAfter, KeepsRows};
+ghost use Rattle.lat_replay.specs.roster.Roster.{HasRows};
 ghost use Rattle.lat_stream.specs.Kept.{saturated};
 ghost use Rattle.lat_wire.specs.Kept.{setups_of};
 ghost use Rattle.lat_wire.specs.Stands.{Stands};
@@ -57,8 +57,8 @@ fn taken_in(rows: &[Row]) -> u64
 pub fn counts_of<H: RatingRule>(wire: &Wire<H>, roster: &Roster) -> Counts
     ensures { (w : Machines) (k : RowsAfter) →
         Stands wire.now w →
-        Keeps (setups_of wire.now) w k →
-        Shows roster.now k →
+        KeepsRows (setups_of wire.now) w k →
+        HasRows roster.now k →
         result ≡ counts_in (report (setups_of wire.now) w) }
 {
     let rows = roster.rows();

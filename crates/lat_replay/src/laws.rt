@@ -7,7 +7,7 @@ ghost use Rattle.lat_model.specs.sessions.Slots.{Item};
 ghost use Rattle.lat_machines.specs.world.Histories.{HistoriesAreAWorld};
 ghost use Rattle.lat_machines.specs.world.Machines.{Setups, Machines};
 ghost use Rattle.lat_laws.specs.tales.Mates.{last_named};
-ghost use Rattle.lat_laws.specs.tales.Rows.{Figures, RowsAfter, Keeps};
+ghost use Rattle.lat_laws.specs.tales.Rows.{Figures, RowsAfter, KeepsRows};
 ghost use Rattle.lat_laws.specs.tales.Keeping.{adds, accepts};
 ghost use Rattle.lat_schedule.specs.declared.event.WorldEvent.{WorldEvent};
 ghost use Rattle.lat_schedule.specs.Events.{IsEvent};
@@ -47,7 +47,7 @@ pub fn events_of_schedules_play()
 /// the node belongs to. What is put and taken, and what the node accepts, changes nothing of it (`adds`, `accepts`).
 pub fn rows_are_found_by_ids()
     ensures last { (u : Setups) (w : Machines) (k : RowsAfter) (circuit id : ℕ) →
-        Keeps u w k →
+        KeepsRows u w k →
         last_row circuit id 0 0 k.rows ≡ last_named circuit id 0 0 w.server.core.seats }
     ensures adds { (b : Bool) (line : ℕ) (put took : List Item) (k : RowsAfter) (circuit id : ℕ) →
         last_row circuit id 0 0 (adds b line put took k).rows ≡ last_row circuit id 0 0 k.rows }

@@ -20,7 +20,7 @@ ghost use Rattle.lat_laws.specs.tales.Keeping.{no_rows, adds, connects, accepts}
 ghost use Rattle.lat_replay.specs.roster.Names.{key_of, place_of};
 ghost use Rattle.lat_stream.specs.Kept.{item_of};
 ghost use Rattle.lat_replay.specs.roster.Rows.{ShowsFigures, IsSeat};
-ghost use Rattle.lat_replay.specs.roster.Roster.{Shows, last_row, newest, ReservedFor};
+ghost use Rattle.lat_replay.specs.roster.Roster.{HasRows, last_row, newest, ReservedFor};
 
 use changes::{add_at, hand_over, leave_server, put_at, reserve_at};
 pub use figures::{Figures, figures_of};
@@ -82,7 +82,7 @@ impl Model for Roster {
 impl Roster {
     /// No rows, with the places of all lines. `Memory` where none is found.
     pub fn make(alloc: Global) -> Result<Roster, Memory>
-        ensures { IfOk result (λ k. Shows k no_rows) }
+        ensures { IfOk result (λ k. HasRows k no_rows) }
     {
         Ok(Roster {
             rows: Vec::new(alloc),
@@ -94,7 +94,7 @@ impl Roster {
 
     /// Takes room for `n` sessions more. `Memory` where none is found; the rows stay.
     pub fn reserve(&mut self, n: usize) -> Result<(), Memory>
-        ensures same { (r : rows.RowsAfter) → Shows self.old r → Shows self.new r }
+        ensures same { (r : rows.RowsAfter) → HasRows self.old r → HasRows self.new r }
         ensures rows { OnOk result (n ≤ self.new.reserved) }
         ensures names { OnOk result (n ≤ self.new.names.reserved) }
     {
@@ -104,7 +104,7 @@ impl Roster {
 
     /// The place, from 1 on, of the last row with these ids of the server; 0 where there is none.
     pub fn named(&self, circuit: u16, id: u8) -> usize
-        ensures is { (r : rows.RowsAfter) → Shows self.now r →
+        ensures is { (r : rows.RowsAfter) → HasRows self.now r →
             result ≡ last_row circuit id 0 0 r.rows }
         ensures within { result ≤ length self.now.rows }
     {
@@ -138,7 +138,7 @@ impl Roster {
         put: usize,
         taken: usize,
     ) -> Result<(), Memory>
-        ensures same { (r : rows.RowsAfter) → Shows self.old r → Shows self.new r }
+        ensures same { (r : rows.RowsAfter) → HasRows self.old r → HasRows self.new r }
         ensures items { OnOk result (ReservedFor self.new server line put taken) }
         ensures rows { self.old.reserved ≡ self.new.reserved }
         ensures names { self.new.names ≡ self.old.names }
@@ -151,8 +151,8 @@ impl Roster {
     pub fn puts(&mut self, server: bool, line: u8, bytes: &[u8])
         requires { ReservedFor self.old server line (length bytes.now) 0 }
         ensures shows { (r : rows.RowsAfter) →
-            Shows self.old r →
-            Shows self.new (adds server line (map slots.Byte bytes.now) [] r) }
+            HasRows self.old r →
+            HasRows self.new (adds server line (map slots.Byte bytes.now) [] r) }
         ensures rows { self.old.reserved ≡ self.new.reserved }
         ensures names { self.new.names ≡ self.old.names }
     {
@@ -166,8 +166,8 @@ impl Roster {
         ensures shows { (r : rows.RowsAfter) (ps ts : List slots.Item) →
             put.now ≡ map item_of ps →
             taken.now ≡ map item_of ts →
-            Shows self.old r →
-            Shows self.new (adds server line ps ts r) }
+            HasRows self.old r →
+            HasRows self.new (adds server line ps ts r) }
         ensures rows { self.old.reserved ≡ self.new.reserved }
         ensures names { self.new.names ≡ self.old.names }
     {
@@ -181,10 +181,10 @@ impl Roster {
         requires rows { 0 < self.old.reserved }
         requires names { 0 < self.old.names.reserved }
         ensures shows { (r : rows.RowsAfter) (s : Seat) (f : rows.Figures) →
-            Shows self.old r →
+            HasRows self.old r →
             IsSeat s line circuit id →
             (slice_index self.old.server_lines line ≢ 0 → ShowsFigures before f) →
-            Shows self.new (connects s f r) }
+            HasRows self.new (connects s f r) }
         ensures rows { self.old.reserved ≡ self.new.reserved + 1 }
         ensures names { self.old.names.reserved ≤ self.new.names.reserved + 1 }
     {
@@ -204,9 +204,9 @@ impl Roster {
     pub fn accepts(&mut self, line: u8, place: usize, before: Figures)
         requires { place ≤ length self.old.rows }
         ensures shows { (r : rows.RowsAfter) (f : rows.Figures) →
-            Shows self.old r →
+            HasRows self.old r →
             (slice_index self.old.node_lines line ≢ 0 → ShowsFigures before f) →
-            Shows self.new (accepts line place f r) }
+            HasRows self.new (accepts line place f r) }
         ensures rows { self.old.reserved ≡ self.new.reserved }
         ensures names { self.new.names ≡ self.old.names }
     {

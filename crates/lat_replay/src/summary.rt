@@ -7,8 +7,8 @@ ghost use Rattle.lat_machines.specs.server.Server.{Server};
 ghost use Rattle.lat_machines.specs.world.Machines.{Machines};
 ghost use Rattle.lat_machines.specs.world.Reports.{report};
 ghost use Rattle.lat_server.specs.Stands as servers;
-ghost use Rattle.lat_laws.specs.tales.Rows.{RowsAfter, Keeps};
-ghost use Rattle.lat_replay.specs.roster.Roster.{Shows};
+ghost use Rattle.lat_laws.specs.tales.Rows.{RowsAfter, KeepsRows};
+ghost use Rattle.lat_replay.specs.roster.Roster.{HasRows};
 ghost use Rattle.lat_wire.specs.report.ReportText.{request_text, grant_text, report_text};
 ghost use Rattle.lat_wire.specs.Kept.{setups_of};
 ghost use Rattle.lat_wire.specs.Stands.{Stands};
@@ -48,8 +48,8 @@ pub fn report_onto<H: RatingRule>(
 ) -> Result<(), Memory>
     ensures { OnOk result ((w : Machines) (k : RowsAfter) →
         Stands wire.now w →
-        Keeps (setups_of wire.now) w k →
-        Shows roster.now k →
+        KeepsRows (setups_of wire.now) w k →
+        HasRows roster.now k →
         string_bytes out.new
         ≡ string_bytes out.old ++ report_text (report (setups_of wire.now) w)) }
 {

@@ -35,7 +35,7 @@ use Rattle.lat_lines.specs.Stands as stands
 use Rattle.lat_lines.specs.Stands.{freed_key, freed_from}
 use Rattle.lat_server.specs.declared.config.Offer.{Offer}
 use Rattle.lat_server.specs.Config.{offer_shown}
-use Rattle.lat_server.specs.Commands.{Noted, noted, HasNoted, kept_answer, kept_outcome, announced_answer}
+use Rattle.lat_server.specs.Commands.{NotedCommand, noted, HasNoted, kept_answer, kept_outcome, announced_answer}
 use Rattle.lat_server.specs.Kept.{Kept, config_of, AtRest}
 use Rattle.lat_server.specs.Concluded.{Concluded}
 use Rattle.lat_server.specs.Stands.{Stands}
@@ -134,7 +134,7 @@ answer_of o = elim o [ None ↦ NotKept | Some k ↦ KeptIs k ]
 abbrev outcome_of : Option Known → Outcome
 outcome_of o = elim o [ None ↦ Unknown | Some k ↦ KeptAs k ]
 
-abbrev noting : Server → ℕ → Command → Noted → ServerStep
+abbrev noting : Server → ℕ → Command → NotedCommand → ServerStep
 noting s from m n = record { state = record s { queue = n.events }; answer = answer_of n.kept; frames = status_frame from m (outcome_of n.kept) ∷ [] }
 
 command_is : (config : ServerConfig) (s : Server) (from : ℕ) (m : Command) (a : Action) → hears_command config s from m a ≡ noting s from m (noted (offered config) from m a s.queue)
@@ -178,7 +178,7 @@ pub did_command : (k : Kept) (s : Server) (now from : ℕ) (m : Command) (a : Ac
     → HasNoted (noted k.queue.offered from m a s.queue) t o → GoesOutAs f (status_frame from m (outcome_shown (kept_outcome o))) → after ≡ before ++ f ∷ [] → stands.Stands l (at_moment now s.core) → l.freed ≡ k.lines.freed
     → HasDone s (hears_command (config_of k) (at now s) from m a) (record k { lines = l; queue = t }) (kept_answer o) before after
 did_command k s now from m a l t o f before after rest st same n e p c g =
-    let x : Noted = noted k.queue.offered from m a s.queue in
+    let x : NotedCommand = noted k.queue.offered from m a s.queue in
     let told : outcome_shown (kept_outcome o) ≡ outcome_of x.kept = outcome_is o ∙ ap outcome_of n.told in
     subst (λ z. HasDone s z (record k { lines = l; queue = t }) (kept_answer o) before after) (sym (command_is (config_of k) (at now s) from m a ∙ ap (λ ns. noting (at now s) from m (noted ns from m a s.queue)) same))
     (record {

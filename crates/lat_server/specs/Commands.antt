@@ -16,11 +16,11 @@ use Rattle.lat_queue.specs.Tables.{Table}
 use Rattle.lat_queue.specs.Histories.{Stands, some_kept}
 
 -- the queue's events once it was told of a command, and what is kept of the request then
-pub record Noted : Type 0 where
+pub record NotedCommand : Type 0 where
   pub events : List QueueEvent
   pub kept : Option Kept
 
-abbrev pub noted : List Name → ℕ → Command → Action → List QueueEvent → Noted
+abbrev pub noted : List Name → ℕ → Command → Action → List QueueEvent → NotedCommand
 noted offered from m Ask q =
     let k : Kept = ask_answer offered (key_of m) m.service q in
     record { events = q ++ Asks (key_of m) from m.service k ∷ []; kept = Some k }
@@ -28,7 +28,7 @@ noted offered from m Cancel q =
     let events : List QueueEvent = q ++ Cancels (key_of m) ∷ [] in
     record { events = events; kept = kept_for (key_of m) events }
 
-pub record HasNoted (n : Noted) (new : Table) (kept : Option base_kept.Kept) : Type 0 where
+pub record HasNoted (n : NotedCommand) (new : Table) (kept : Option base_kept.Kept) : Type 0 where
   pub state : Stands new n.events
   pub told : some_kept kept ≡ n.kept
 

@@ -16,8 +16,8 @@ pub record HasCome (c : Course) (k : Kept) (out : List OutFrame) : Type 0 where
   pub state : Stands k c.state
   pub frames : Emits c.frames [] out
 
-abbrev pub Comes : (Course → Course) → (old new : Kept) → (before after : List OutFrame) → Type 0
-Comes f old new before after = (c : Course) → HasCome c old before → HasCome (f c) new after
+abbrev pub GoesAlong : (Course → Course) → (old new : Kept) → (before after : List OutFrame) → Type 0
+GoesAlong f old new before after = (c : Course) → HasCome c old before → HasCome (f c) new after
 
 -- all was done, and answered so
 pub record HasDone (t : Step) (k : Kept) (answer : Answer) (out : List OutFrame) : Type 0 where

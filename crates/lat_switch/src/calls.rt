@@ -7,7 +7,7 @@ ghost use Rattle.lat_lines.specs.Answers.{IsPlain};
 ghost use Rattle.lat_switch.specs.Calls.{connects, connects_at, closes, closes_one, either_done, is_connected};
 ghost use Rattle.lat_switch.specs.Kept.{IsValid, IsSame, IsInner};
 ghost use Rattle.lat_switch.specs.Lines.{shows};
-ghost use Rattle.lat_switch.specs.Stands.{HasDone, Comes, Simulates};
+ghost use Rattle.lat_switch.specs.Stands.{HasDone, GoesAlong, Simulates};
 ghost use Rattle.lat_switch.specs.Switch.{Step, line_in, changes};
 
 use crate::line::{INNER, has_session};
@@ -79,7 +79,7 @@ impl SwitchCore {
         ensures valid { IsValid self.new }
         ensures same { IsSame self.old self.new }
         ensures does { (frames : List OutFrame) →
-            Comes (changes line (shows inner_line service)) self.old self.new frames frames }
+            GoesAlong (changes line (shows inner_line service)) self.old self.new frames frames }
     {
         let shown = &mut self.lines[line as usize - 1];
         shown.show(inner_line, service);

@@ -10,7 +10,7 @@ ghost use Rattle.lat_server.specs.Kept.{AtRest};
 ghost use Rattle.lat_server.specs.Stands.{Machine, IsMachine};
 ghost use Rattle.lat_switch.specs.Kept.{IsValid, IsSame, IsQuiet};
 ghost use Rattle.lat_switch.specs.Lines.{gives_way, shows_next};
-ghost use Rattle.lat_switch.specs.Stands.{Comes, Simulates};
+ghost use Rattle.lat_switch.specs.Stands.{GoesAlong, Simulates};
 ghost use Rattle.lat_switch.specs.Switch.{line_in, relays, changes};
 
 use crate::line::Line;
@@ -95,7 +95,7 @@ impl SwitchCore {
         ensures valid { IsValid self.new }
         ensures same { IsSame self.old self.new }
         ensures does { (frames : List OutFrame) →
-            Comes (λ c. changes line (shows_next c.state.inner) c) self.old self.new frames frames }
+            GoesAlong (λ c. changes line (shows_next c.state.inner) c) self.old self.new frames frames }
     {
         let Self { inner, lines } = self;
         let shown = &mut lines[line as usize - 1];

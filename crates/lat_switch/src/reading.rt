@@ -9,7 +9,7 @@ ghost use Rattle.lat_switch.specs.Kept.{IsValid, IsSame};
 ghost use Rattle.lat_switch.specs.Pieces.{size_of, sizes};
 ghost use Rattle.lat_switch.specs.Progress.{HasRead};
 ghost use Rattle.lat_switch.specs.Reading.{Reading, accepted, is_closed, connects_own, reads, reads_run, reads_all, read_answer};
-ghost use Rattle.lat_switch.specs.Stands.{HasCome, Comes};
+ghost use Rattle.lat_switch.specs.Stands.{HasCome, GoesAlong};
 ghost use Rattle.lat_switch.specs.Switch.{Course, line_on};
 
 use crate::piece::Piece;
@@ -191,7 +191,7 @@ impl SwitchCore {
         requires empty { out.old ≡ [] }
         ensures valid { IsValid self.new }
         ensures same { IsSame self.old self.new }
-        ensures does { Comes (λ c. connects_own line c (line_on line c.state).service) self.old self.new out.old out.new }
+        ensures does { GoesAlong (λ c. connects_own line c (line_on line c.state).service) self.old self.new out.old out.new }
     {
         let Some(service) = self.line_at(line).service() else {
             return;

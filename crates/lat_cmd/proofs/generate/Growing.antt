@@ -22,11 +22,11 @@ use Rattle.lat_cmd.specs.generate.Draws.{Drawn}
 use Rattle.lat_cmd.specs.generate.Front.{setup, vax, front_text, end_text}
 use Rattle.lat_cmd.specs.generate.Turns.{turn}
 use Rattle.lat_cmd.specs.generate.Grown.{Grown, setups, unless_refused, told, told_drawn, turned, turns, opened, begun, grown, gen_text, bench_line, bench_text}
-use Rattle.lat_cmd.specs.generate.Growths.{IsShown, Shows, written}
+use Rattle.lat_cmd.specs.generate.Growths.{IsShown, StandsFor, written}
 
 -- what it shows, part by part
-pub shown : {H : Type 0} (k : Growth H) (g : Grown) → Shows k g → IsShown k g
-unfolding Shows
+pub shown : {H : Type 0} (k : Growth H) (g : Grown) → StandsFor k g → IsShown k g
+unfolding StandsFor
 shown k g s = s
 
 both_written : (w : Bool) (xs ys : List ℕ) → written w xs ++ written w ys ≡ written w (xs ++ ys)
@@ -41,12 +41,12 @@ pub record Keeps {H : Type 0} (k new : Growth H) : Type 0 where
   pub generator : new.generator ≡ k.generator
 
 -- the world didn't refuse it
-pub made : {H : Type 0} (k new : Growth H) (e : WorldEvent) (g : Grown) → Keeps k new → new.events ≡ suc k.events → string_bytes new.text ≡ string_bytes k.text ++ written k.writes (event_text e) → refusal setups g.state e ≡ None → StandsAt new.world (next setups g.state e) → Shows k g → Shows new (told e g)
-unfolding told Shows
+pub made : {H : Type 0} (k new : Growth H) (e : WorldEvent) (g : Grown) → Keeps k new → new.events ≡ suc k.events → string_bytes new.text ≡ string_bytes k.text ++ written k.writes (event_text e) → refusal setups g.state e ≡ None → StandsAt new.world (next setups g.state e) → StandsFor k g → StandsFor new (told e g)
+unfolding told StandsFor
 made k new e g kept counted text passes stands s =
     let grown : Grown = record g { state = next setups g.state e; text = g.text ++ event_text e; events = suc g.events } in
     let so : told e g ≡ grown = ap (λ (o : Option EventFault). unless_refused o e g) passes in
-    let shows : Shows new grown = record {
+    let shows : StandsFor new grown = record {
       setups = kept.setups ∙ s.setups;
       world = stands;
       service = kept.service ∙ s.service;
@@ -58,7 +58,7 @@ made k new e g kept counted text passes stands s =
       events = counted ∙ ap suc s.events;
       generator = kept.generator ∙ s.generator;
     } in
-    subst (λ (h : Grown). Shows new h) (sym so) shows
+    subst (λ (h : Grown). StandsFor new h) (sym so) shows
 
 -- a refusal that isn't want of memory
 pub refused_for : (A : Type 0) (f : EventFault) (o : Option EventFault) → (f ≡ Memory → ⊥) → RefusedAs {A = A} (Err f) o → o ≡ Some f
@@ -70,11 +70,11 @@ refused_for A (NoFrame index sent) o other r = r
 refused_for A (Old acknowledgement number newest) o other r = r
 
 -- the world refused it
-pub unmade : {H : Type 0} (k new : Growth H) (e : WorldEvent) (g : Grown) (f : EventFault) → Keeps k new → new.events ≡ k.events → new.text ≡ k.text → refusal setups g.state e ≡ Some f → StandsAt new.world g.state → Shows k g → Shows new (told e g)
-unfolding told Shows
+pub unmade : {H : Type 0} (k new : Growth H) (e : WorldEvent) (g : Grown) (f : EventFault) → Keeps k new → new.events ≡ k.events → new.text ≡ k.text → refusal setups g.state e ≡ Some f → StandsAt new.world g.state → StandsFor k g → StandsFor new (told e g)
+unfolding told StandsFor
 unmade k new e g f kept counted text refused stands s =
     let so : told e g ≡ g = ap (λ (o : Option EventFault). unless_refused o e g) refused in
-    let shows : Shows new g = record {
+    let shows : StandsFor new g = record {
       setups = kept.setups ∙ s.setups;
       world = stands;
       service = kept.service ∙ s.service;
@@ -82,15 +82,15 @@ unmade k new e g f kept counted text refused stands s =
       events = counted ∙ s.events;
       generator = kept.generator ∙ s.generator;
     } in
-    subst (λ (h : Grown). Shows new h) (sym so) shows
+    subst (λ (h : Grown). StandsFor new h) (sym so) shows
 
 -- the event of a turn was drawn, and it is told
-pub turned_so : {H : Type 0} (k mid new : Growth H) (g : Grown) (frames : ℕ) (e : WorldEvent) → mid ≡ record k { generator = mid.generator } → (e, mid.generator) ≡ turn vax frames k.generator → frames ≡ length g.state.machines.posts → ((h : Grown) → Shows mid h → Shows new (told e h)) → Shows k g → Shows new (turned g)
-unfolding turned Shows
+pub turned_so : {H : Type 0} (k mid new : Growth H) (g : Grown) (frames : ℕ) (e : WorldEvent) → mid ≡ record k { generator = mid.generator } → (e, mid.generator) ≡ turn vax frames k.generator → frames ≡ length g.state.machines.posts → ((h : Grown) → StandsFor mid h → StandsFor new (told e h)) → StandsFor k g → StandsFor new (turned g)
+unfolding turned StandsFor
 turned_so {H = H} k mid new g frames e same drawn sent tells s =
     let d : (e, mid.generator) ≡ turn vax (length g.state.machines.posts) g.generator = drawn ∙ ap (λ n. turn vax n k.generator) sent ∙ ap (turn vax (length g.state.machines.posts)) s.generator in
     let h : Grown = record g { generator = mid.generator } in
-    let shows : Shows mid h = subst (λ (m : Growth H). Shows m h) (sym same) (record {
+    let shows : StandsFor mid h = subst (λ (m : Growth H). StandsFor m h) (sym same) (record {
       setups = s.setups;
       world = s.world;
       service = s.service;
@@ -98,15 +98,15 @@ turned_so {H = H} k mid new g frames e same drawn sent tells s =
       events = s.events;
       generator = refl;
     }) in
-    subst (λ (x : Drawn WorldEvent). Shows new (told_drawn x g)) d (tells h shows)
+    subst (λ (x : Drawn WorldEvent). StandsFor new (told_drawn x g)) d (tells h shows)
 
 -- one turn more
-pub turn_more : {H : Type 0} (k new : Growth H) (n : ℕ) (g : Grown) → Shows k (turns n g) → ((h : Grown) → Shows k h → Shows new (turned h)) → Shows new (turns (n + 1) g)
+pub turn_more : {H : Type 0} (k new : Growth H) (n : ℕ) (g : Grown) → StandsFor k (turns n g) → ((h : Grown) → StandsFor k h → StandsFor new (turned h)) → StandsFor new (turns (n + 1) g)
 unfolding turns
 turn_more k new n g s tells = rw add-one (tells (turns n g) s)
 
 -- none yet
-pub no_turn : {H : Type 0} (k : Growth H) (g : Grown) → Shows k g → Shows k (turns 0 g)
+pub no_turn : {H : Type 0} (k : Growth H) (g : Grown) → StandsFor k g → StandsFor k (turns 0 g)
 unfolding turns
 no_turn k g s = s
 
@@ -120,8 +120,8 @@ unfolding setups
 setup_shown s e = ap setups_shown e
 
 -- nothing was told yet
-pub opened_so : {H : Type 0} (k : Growth H) (seed : ℕ) → setups_of k.world ≡ setups → Stands k.world (open_machines (setups_of k.world)) → moment_of k.world ≡ 0 → k.service ≡ vax → string_bytes k.text ≡ written k.writes front_text → k.events ≡ 0 → k.generator ≡ record { drawn = seed; moment = 0 } → Shows k (opened seed)
-unfolding opened Shows
+pub opened_so : {H : Type 0} (k : Growth H) (seed : ℕ) → setups_of k.world ≡ setups → Stands k.world (open_machines (setups_of k.world)) → moment_of k.world ≡ 0 → k.service ≡ vax → string_bytes k.text ≡ written k.writes front_text → k.events ≡ 0 → k.generator ≡ record { drawn = seed; moment = 0 } → StandsFor k (opened seed)
+unfolding opened StandsFor
 opened_so k seed same stands moment service text events generator = record {
   setups = same;
   world = record { machines = subst (λ (u : Setups). Stands k.world (open_machines u)) same stands; moment = moment };
@@ -132,14 +132,14 @@ opened_so k seed same stands moment service text events generator = record {
 }
 
 -- the node announced itself, and the server heard it
-pub begun_so : {H : Type 0} (a b c : Growth H) (seed : ℕ) → Shows a (opened seed) → ((g : Grown) → Shows a g → Shows b (told (Local false Announce) g)) → ((g : Grown) → Shows b g → Shows c (told (Deliver 0) g)) → Shows c (begun seed)
+pub begun_so : {H : Type 0} (a b c : Growth H) (seed : ℕ) → StandsFor a (opened seed) → ((g : Grown) → StandsFor a g → StandsFor b (told (Local false Announce) g)) → ((g : Grown) → StandsFor b g → StandsFor c (told (Deliver 0) g)) → StandsFor c (begun seed)
 unfolding begun
 begun_so a b c seed s announced heard = heard (told (Local false Announce) (opened seed)) (announced (opened seed) s)
 
 -- all turns were made
-pub grown_so : {H : Type 0} (k : Growth H) (n seed : ℕ) → n ≡ 4000 → Shows k (turns n (begun seed)) → Shows k (grown seed)
+pub grown_so : {H : Type 0} (k : Growth H) (n seed : ℕ) → n ≡ 4000 → StandsFor k (turns n (begun seed)) → StandsFor k (grown seed)
 unfolding grown
-grown_so k n seed all s = subst (λ (m : ℕ). Shows k (turns m (begun seed))) all s
+grown_so k n seed all s = subst (λ (m : ℕ). StandsFor k (turns m (begun seed))) all s
 
 -- the last line stands behind the text
 pub gen_text_so : (seed : ℕ) (writes : Bool) (text whole : List ℕ) → text ≡ written writes (grown seed).text → writes ≡ true → whole ≡ text ++ end_text → whole ≡ gen_text seed

@@ -19,5 +19,5 @@ pub record IsShown {H : Type 0} (k : Growth H) (g : Grown) : Type 0 where
   pub events : k.events ≡ g.events
   pub generator : k.generator ≡ g.generator
 
-unfoldable pub Shows : {H : Type 0} → Growth H → Grown → Type 0
-Shows k g = IsShown k g
+unfoldable pub StandsFor : {H : Type 0} → Growth H → Grown → Type 0
+StandsFor k g = IsShown k g

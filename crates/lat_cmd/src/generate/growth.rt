@@ -6,7 +6,7 @@ ghost use Rattle.lat_schedule.specs.EventText.{event_text};
 ghost use Rattle.lat_replay.specs.Moves.{IsPlayable};
 ghost use Rattle.lat_cmd.specs.generate.Front.{setup, vax, front_text};
 ghost use Rattle.lat_cmd.specs.generate.Grown.{Grown, told, turned, opened};
-ghost use Rattle.lat_cmd.specs.generate.Growths.{Shows, written};
+ghost use Rattle.lat_cmd.specs.generate.Growths.{StandsFor, written};
 
 use crate::generate::front::{FRONT, setup};
 use crate::generate::generator::Generator;
@@ -72,7 +72,7 @@ impl<H: RatingRule> Growth<H> {
     pub(crate) fn make(alloc: Global, seed: u64, rule: H, writes: bool) -> Result<Growth<H>, Memory>
         requires fact { H.fact rule }
         requires rates { RatesWhatIsLeft (H.may rule) }
-        ensures shows { IfOk result (λ growth. Shows growth (opened seed)) }
+        ensures shows { IfOk result (λ growth. StandsFor growth (opened seed)) }
         ensures start { IfOk result (λ growth.
             (growth.events ≡ 0) × (growth.generator.moment ≡ 0) × (growth.writes ≡ writes)) }
     {
@@ -93,8 +93,8 @@ impl<H: RatingRule> Growth<H> {
     pub(crate) fn told(&mut self, alloc: Global, event: &WorldEvent) -> Result<(), Memory>
         requires playable { IsPlayable event.now }
         requires few { self.old.events < 2 ^ 63 }
-        ensures shows { OnOk result ((g : Grown) → Shows self.old g →
-            Shows self.new (told event.now g)) }
+        ensures shows { OnOk result ((g : Grown) → StandsFor self.old g →
+            StandsFor self.new (told event.now g)) }
         ensures events { OnOk result (self.new.events ≤ self.old.events + 1) }
         ensures moment { OnOk result (self.new.generator.moment ≡ self.old.generator.moment) }
         ensures writes { self.new.writes ≡ self.old.writes }
@@ -117,7 +117,7 @@ impl<H: RatingRule> Growth<H> {
         requires early { self.old.generator.moment < 10 ^ 14 }
         requires few { self.old.events < 2 ^ 63 }
         requires service { self.old.service ≡ vax }
-        ensures shows { OnOk result ((g : Grown) → Shows self.old g → Shows self.new (turned g)) }
+        ensures shows { OnOk result ((g : Grown) → StandsFor self.old g → StandsFor self.new (turned g)) }
         ensures events { OnOk result (self.new.events ≤ self.old.events + 1) }
         ensures moment { OnOk result (self.new.generator.moment ≤ self.old.generator.moment + 80) }
         ensures writes { self.new.writes ≡ self.old.writes }

@@ -6,7 +6,7 @@ ghost use Rattle.lat_replay.specs.Played.{StandsAt};
 ghost use Rattle.lat_wire.specs.Rates.{RatesWhatIsLeft};
 ghost use Rattle.lat_cmd.specs.generate.Front.{end_text};
 ghost use Rattle.lat_cmd.specs.generate.Grown.{setups, begun, grown, gen_text, counts_text, bench_line, bench_text};
-ghost use Rattle.lat_cmd.specs.generate.Growths.{Shows};
+ghost use Rattle.lat_cmd.specs.generate.Growths.{StandsFor};
 
 use crate::generate::front::END;
 use crate::generate::growth::Growth;
@@ -28,7 +28,7 @@ fn begun<H: RatingRule>(
 ) -> Result<Growth<H>, Memory>
     requires fact { H.fact rule }
     requires rates { RatesWhatIsLeft (H.may rule) }
-    ensures shows { IfOk result (λ growth. Shows growth (begun seed)) }
+    ensures shows { IfOk result (λ growth. StandsFor growth (begun seed)) }
     ensures start { IfOk result (λ growth.
         (growth.events ≤ 2) × (growth.generator.moment ≡ 0) × (growth.writes ≡ writes)) }
 {
@@ -51,7 +51,7 @@ fn grown<H: RatingRule>(
 ) -> Result<Growth<H>, Memory>
     requires fact { H.fact rule }
     requires rates { RatesWhatIsLeft (H.may rule) }
-    ensures shows { IfOk result (λ growth. Shows growth (grown seed)) }
+    ensures shows { IfOk result (λ growth. StandsFor growth (grown seed)) }
     ensures writes { IfOk result (λ growth. growth.writes ≡ writes) }
 {
     let mut growth = begun(alloc, seed, rule, writes)?;

@@ -7,7 +7,7 @@ use Rattle.lat_model.specs.circuits.Arriving.{refusal}
 use Rattle.lat_model.specs.circuits.Events.{WorldEvent, Delivers, occurs}
 use Rattle.lat_laws.specs.rounds.Lossless.{is_side, is_in}
 use Rattle.lat_model.specs.Lists.{Each}
-use Rattle.lat_laws.specs.rounds.Flight.{Flow, Shows, Clear, Old}
+use Rattle.lat_laws.specs.rounds.Flight.{Flow, ShowsTaken, Clear, Old}
 
 -- a frame of the circuit x of the side b, to the other end; a and c are the ends' addresses
 abbrev pub is_of_line : ℕ → Bool → ℕ → Wired → Bool
@@ -38,7 +38,7 @@ IsNext w done v i =
 pub record Both (m : End) (s : End) (ups : List Sent) (downs : List Sent) : Type 0 where
   pub up : Flow m.half.link s.half.link ups
   pub down : Flow s.half.link m.half.link downs
-  pub shows : Shows m
+  pub shows : ShowsTaken m
   pub clear : Clear s
 
 -- where the slave has ended, its STOP is in flight

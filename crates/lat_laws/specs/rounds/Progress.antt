@@ -9,7 +9,7 @@ use Rattle.lat_model.specs.circuits.Together.{Together}
 use Rattle.lat_laws.specs.rounds.Idle.{Fitting, Silent, AllAnswered, AllTaken, AllThrough}
 use Rattle.lat_laws.specs.rounds.Plain.{BothPlain}
 use Rattle.lat_laws.specs.rounds.Measure.{weights}
-use Rattle.lat_laws.specs.rounds.Flight.{Flow, Shows, Clear}
+use Rattle.lat_laws.specs.rounds.Flight.{Flow, ShowsTaken, Clear}
 
 -- its timer is due at this moment, and it may form
 pub record Due (now : ℕ) (e : End) : Type 0 where
@@ -25,7 +25,7 @@ pub record Due (now : ℕ) (e : End) : Type 0 where
 pub record Still (m : End) (s : End) : Type 0 where
   pub up : Flow m.half.link s.half.link []
   pub down : Flow s.half.link m.half.link []
-  pub shows : Shows m
+  pub shows : ShowsTaken m
   pub clear : Clear s
   pub master : m.master ≡ true
   pub slave : s.master ≡ false

@@ -30,7 +30,7 @@ InBooks d before (s ∷ ss) =
     × InBooks d (before ++ s ∷ []) ss
 
 -- what a core has made between two worlds
-pub record Comes (lines : ℕ) (c : Core) (d : Core) : Type 0 where
+pub record CoreGrows (lines : ℕ) (c : Core) (d : Core) : Type 0 where
   pub behind : d.seats ≡ c.seats ++ new_seats c d
   pub few : length (new_seats c d) ≤ lines
   pub books : InBooks d c.seats (new_seats c d)

@@ -60,7 +60,7 @@ pub record RowsAfter : Type 0 where
   pub server_lines : ℕ → ℕ
   pub node_lines : ℕ → ℕ
 
-pub record Keeps (u : Setups) (w : Machines) (k : RowsAfter) : Type 0 where
+pub record KeepsRows (u : Setups) (w : Machines) (k : RowsAfter) : Type 0 where
   pub rows : Pairs (KeepsRow u w) w.server.core.seats k.rows
   pub server_lines : (line : ℕ) → k.server_lines line ≡ newest_place line 0 0 w.server.core.seats
   pub node_lines : (line : ℕ) → k.node_lines line ≡ mate u w (seat_at w.node.core line)

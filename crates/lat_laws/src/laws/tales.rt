@@ -4,10 +4,10 @@ ghost use Rattle.std.specs.Prelude.{◌≡◌, Bool, List};
 ghost use Rattle.lat_machines.specs.world.Machines.{Setups, core_of, Move, happens, run, open_machines};
 ghost use Rattle.lat_machines.specs.world.Safe.{Fit};
 ghost use Rattle.lat_machines.specs.world.Reports.{report};
-ghost use Rattle.lat_laws.specs.tales.Rows.{RowsAfter, Keeps};
+ghost use Rattle.lat_laws.specs.tales.Rows.{RowsAfter, KeepsRows};
 ghost use Rattle.lat_laws.specs.tales.Keeping.{no_rows, rows_after, rows_after_all};
 ghost use Rattle.lat_laws.specs.tales.Reported.{report_rows};
-ghost use Rattle.lat_laws.specs.tales.Books.{Comes, lines_at};
+ghost use Rattle.lat_laws.specs.tales.Books.{CoreGrows, lines_at};
 
 /// In every run of the two machines what is kept by the answers and by the newest sessions of the lines are the rows of the
 /// report: the items that were put and taken, the line of the node's session, found by its ids when the node accepts it, and
@@ -15,10 +15,10 @@ ghost use Rattle.lat_laws.specs.tales.Books.{Comes, lines_at};
 /// before it (`next`).
 pub fn rows_are_kept()
     ensures all { (u : Setups) (moves : List Move) → Fit u →
-        Keeps u (run u moves (open_machines u)) (rows_after_all u moves (open_machines u) no_rows) }
+        KeepsRows u (run u moves (open_machines u)) (rows_after_all u moves (open_machines u) no_rows) }
     ensures next { (u : Setups) (moves : List Move) (m : Move) (k : RowsAfter) →
         Fit u →
-        Keeps u (run u moves (open_machines u)) k →
+        KeepsRows u (run u moves (open_machines u)) k →
         Keeps u (happens u (run u moves (open_machines u)) m)
         (rows_after u (run u moves (open_machines u)) m k) }
 {}
@@ -27,7 +27,7 @@ pub fn rows_are_kept()
 pub fn kept_rows_are_the_report()
     ensures { (u : Setups) (moves : List Move) (k : RowsAfter) →
         Fit u →
-        Keeps u (run u moves (open_machines u)) k →
+        KeepsRows u (run u moves (open_machines u)) k →
         report_rows (run u moves (open_machines u)) k
         ≡ (report u (run u moves (open_machines u))).sessions }
 {}

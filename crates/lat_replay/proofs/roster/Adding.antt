@@ -2,7 +2,7 @@
 use Rattle.std.proofs.Common.{◌≡◌, ℕ, zero, suc, refl, sym, ap, ap₂, ◌∙◌, subst, Bool, true, false, List, [], ◌∷◌}
 use Rattle.lat_model.specs.sessions.Slots.{Item}
 use Rattle.lat_replay.specs.roster.Roster as rosters
-use Rattle.lat_replay.specs.roster.Roster.{Shows}
+use Rattle.lat_replay.specs.roster.Roster.{HasRows}
 use Rattle.lat_laws.specs.tales.Keeping.{change, with_items, lines_of, adds}
 use Rattle.lat_laws.specs.tales.Rows.{RowAfter, RowsAfter}
 use Rattle.lat_laws.proofs.tales.rows.By.{append_nil}
@@ -21,6 +21,6 @@ pub nothing_added : (b : Bool) (line : ℕ) (k : RowsAfter) → adds b line [] [
 nothing_added b line k = ap (λ z. record k { rows = z }) (change_same (lines_of b k line) (with_items b [] []) k.rows (nothing_put b))
 
 -- what adds no items leaves the rows as they are shown
-pub shows_same : (k : rosters.Kept) (b : Bool) (line : ℕ) (put taken : List Item) (r : RowsAfter) → put ≡ [] → taken ≡ [] → Shows k r → Shows k (adds b line put taken r)
+pub shows_same : (k : rosters.Kept) (b : Bool) (line : ℕ) (put taken : List Item) (r : RowsAfter) → put ≡ [] → taken ≡ [] → HasRows k r → HasRows k (adds b line put taken r)
 shows_same k b line put taken r p t h =
-    subst (Shows k) (sym (ap₂ (λ x y. adds b line x y r) p t ∙ nothing_added b line r)) h
+    subst (HasRows k) (sym (ap₂ (λ x y. adds b line x y r) p t ∙ nothing_added b line r)) h

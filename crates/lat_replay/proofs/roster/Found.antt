@@ -4,7 +4,7 @@ use Rattle.lat_model.specs.sessions.Slots.{Item}
 use Rattle.lat_machines.specs.cores.Cores.{Seat}
 use Rattle.lat_machines.specs.world.Machines.{Setups, Machines}
 use Rattle.lat_laws.specs.tales.Mates.{last_named}
-use Rattle.lat_laws.specs.tales.Rows.{Figures, RowAfter, RowsAfter, KeepsRow, Pairs, Keeps}
+use Rattle.lat_laws.specs.tales.Rows.{Figures, RowAfter, RowsAfter, KeepsRow, Pairs, KeepsRows}
 use Rattle.lat_laws.specs.tales.Keeping.{change, with_items, lines_of, adds, accepts}
 use Rattle.lat_replay.specs.roster.Roster.{last_row}
 use Rattle.lat_replay.proofs.roster.Rows.{last_changed}
@@ -16,7 +16,7 @@ found_in u w circuit id n found (s ∷ ss) (r ∷ rs) h =
     ap₂ (λ c i. last_row circuit id (suc n) (cond (nat_eq c circuit && nat_eq i id) (suc n) found) rs) h.0.circuit h.0.id
     ∙ found_in u w circuit id (suc n) (cond (nat_eq s.circuit circuit && nat_eq s.id id) (suc n) found) ss rs h.1
 
-pub found_last : (u : Setups) (w : Machines) (k : RowsAfter) (circuit id : ℕ) → Keeps u w k → last_row circuit id 0 0 k.rows ≡ last_named circuit id 0 0 w.server.core.seats
+pub found_last : (u : Setups) (w : Machines) (k : RowsAfter) (circuit id : ℕ) → KeepsRows u w k → last_row circuit id 0 0 k.rows ≡ last_named circuit id 0 0 w.server.core.seats
 found_last u w k circuit id h = found_in u w circuit id 0 0 w.server.core.seats k.rows h.rows
 
 pub found_adds : (b : Bool) (line : ℕ) (put took : List Item) (k : RowsAfter) (circuit id : ℕ) → last_row circuit id 0 0 (adds b line put took k).rows ≡ last_row circuit id 0 0 k.rows

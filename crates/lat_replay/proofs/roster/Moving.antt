@@ -11,13 +11,13 @@ use Rattle.lat_machines.specs.world.Reports.{is_partner}
 use Rattle.lat_machines.specs.world.Safe.{answer_by}
 use Rattle.lat_machines.proofs.events.Ratings.{same_but_frames}
 use Rattle.lat_replay.specs.roster.Roster as rosters
-use Rattle.lat_replay.specs.roster.Roster.{Shows, last_row}
+use Rattle.lat_replay.specs.roster.Roster.{HasRows, last_row}
 use Rattle.lat_replay.proofs.roster.Found.{found_last, found_adds}
-use Rattle.lat_laws.specs.tales.Books.{Comes, lines_at}
+use Rattle.lat_laws.specs.tales.Books.{CoreGrows, lines_at}
 use Rattle.lat_laws.specs.tales.Items.{line_of, put_by, taken_by}
 use Rattle.lat_laws.specs.tales.Keeping.{lines_of, adds, accepts, connects_all, accepts_all, new_seats, rows_at, rows_at_frame, rows_after}
 use Rattle.lat_laws.specs.tales.Mates.{last_named, mate_by_ids}
-use Rattle.lat_laws.specs.tales.Rows.{RowsAfter, Keeps, figures_of, newest_place}
+use Rattle.lat_laws.specs.tales.Rows.{RowsAfter, KeepsRows, figures_of, newest_place}
 use Rattle.lat_laws.proofs.tales.mates.Partners.{none_partner}
 use Rattle.lat_laws.proofs.tales.mates.Places.{at_above, mate_none, newest_at}
 use Rattle.lat_laws.proofs.tales.mates.Reach.{Reach, reach_run}
@@ -104,7 +104,7 @@ ids_kept u w (HearsForeign b from payload now rates) k circuit id = refl
 no_session : (line : ℕ) (ss : List Seat) → newest_place line 0 0 ss ≡ 0 → last_on line no_seat ss ≡ no_seat
 no_session line ss z = ⊎_elim {C = last_on line no_seat ss ≡ no_seat} (λ h. h.1) (λ h. absurd (let l = at_above (last_on line no_seat ss) (newest_place line 0 0 ss) 0 ss h.0 in omega (arith, l, z))) (newest_at line 0 0 no_seat ss)
 
-lines_placed : (u : Setups) (w : Machines) (k : RowsAfter) (r : Reach u w) → Keeps u w k → (b : Bool) (line : ℕ) → lines_of b k line ≢ 0 → newest_place line 0 0 (core_of w b).seats ≢ 0
+lines_placed : (u : Setups) (w : Machines) (k : RowsAfter) (r : Reach u w) → KeepsRows u w k → (b : Bool) (line : ℕ) → lines_of b k line ≢ 0 → newest_place line 0 0 (core_of w b).seats ≢ 0
 lines_placed u w k r h true line n z = n (h.server_lines line ∙ z)
 lines_placed u w k r h false line n z =
     let e : seat_at w.node.core line ≡ no_seat = no_session line w.node.core.seats z in
@@ -115,8 +115,8 @@ reaches u w h = subst (Reach u) (sym h.run) (reach_run u h.moves h.fit)
 
 -- in front of its new sessions the rows lead behind the move
 pub leads_at_first : (u : Setups) (w : Machines) (m : Move) (server : Bool) (k : RowsAfter) (roster : rosters.Kept) (number count : ℕ)
-    → IsReached u w → end_told u w m ≡ Some server → Keeps u w k → Shows roster (items_added u w m k)
-    → Comes (lines_at server u) (core_of w server) (core_of (happens u w m) server)
+    → IsReached u w → end_told u w m ≡ Some server → KeepsRows u w k → HasRows roster (items_added u w m k)
+    → CoreGrows (lines_at server u) (core_of w server) (core_of (happens u w m) server)
     → number ≡ suc (length (core_of w server).seats) → count ≡ length (new_seats (core_of w server) (core_of (happens u w m) server))
     → LeadsTo u (happens u w m) server number count (rows_after u w m k) roster
 leads_at_first u w m server k roster number count reached q h shows comes n c = record {

@@ -16,7 +16,7 @@ use Rattle.lat_machines.specs.cores.Cores.{Seat}
 use Rattle.lat_laws.specs.tales.Keeping.{change, no_rows, new_row, connects, accepts}
 use Rattle.lat_replay.specs.declared.roster.row.Row.{Row}
 use Rattle.lat_replay.specs.roster.Rows.{ShowsFigures, ShowsRow, IsSeat, HasReserved}
-use Rattle.lat_replay.specs.roster.Roster.{Kept, ShowsRows, Shows, Holds, last_row}
+use Rattle.lat_replay.specs.roster.Roster.{Kept, ShowsRows, HasRows, Holds, last_row}
 use Rattle.lat_replay.specs.roster.Names.{key_of, place_of}
 
 changed_at : (ks : List Row) (rs : List rows.RowAfter) (i : ℕ) (d k : Row) (f : rows.RowAfter → rows.RowAfter) → i < length ks → ShowsRows ks rs → ((r : rows.RowAfter) → ShowsRow (get_or ks i d) r → ShowsRow k (f r)) → ShowsRows (slice_set ks i k) (change (suc i) f rs)
@@ -52,7 +52,7 @@ holds_none n k all server node names = record {
   name_places = λ key. let e = names key in omega (arith, e);
 }
 
-pub shows_none : (n : ℕ) (k : Kept) → k.rows ≡ [] → k.server_lines ≡ replicate n 0 → k.node_lines ≡ replicate n 0 → ((key : ℕ) → place_of k.names key ≡ 0) → Shows k no_rows
+pub shows_none : (n : ℕ) (k : Kept) → k.rows ≡ [] → k.server_lines ≡ replicate n 0 → k.node_lines ≡ replicate n 0 → ((key : ℕ) → place_of k.names key ≡ 0) → HasRows k no_rows
 shows_none n k rows server node names = record {
   rows = subst (λ z. ShowsRows z []) (sym rows) refl;
   server_lines = λ line l. zeros n k.server_lines line server;
@@ -129,7 +129,7 @@ default_same (x ∷ xs) (suc i) d e l = default_same xs i d e (omega (arith, l))
 pub read_at : (xs ys : List ℕ) (i line v : ℕ) → v ≡ get_or xs i v → xs ≡ ys → i ≡ line → line < length ys → v ≡ get_or ys line 0
 read_at xs ys i line v h p q l = h ∙ (ap₂ (λ z j. get_or z j v) p q ∙ default_same ys line v 0 l)
 
-pub accepted : (k v : Kept) (r : rows.RowsAfter) (f : rows.Figures) (b : Figures) (line place left : ℕ) → Shows k r → length k.node_lines ≡ 256 → line < 256 → left ≡ get_or k.node_lines line 0 → (get_or k.node_lines line 0 ≢ 0 → ShowsFigures b f) → (ShowsRows k.rows r.rows → (left ≢ 0 → ShowsFigures b f) → ShowsRows v.rows (change place (λ y. record y { node_line = line }) (change left (λ y. record y { node = f }) r.rows))) → v.server_lines ≡ k.server_lines → v.node_lines ≡ slice_set k.node_lines line place → v.names ≡ k.names → Shows v (accepts line place f r)
+pub accepted : (k v : Kept) (r : rows.RowsAfter) (f : rows.Figures) (b : Figures) (line place left : ℕ) → HasRows k r → length k.node_lines ≡ 256 → line < 256 → left ≡ get_or k.node_lines line 0 → (get_or k.node_lines line 0 ≢ 0 → ShowsFigures b f) → (ShowsRows k.rows r.rows → (left ≢ 0 → ShowsFigures b f) → ShowsRows v.rows (change place (λ y. record y { node_line = line }) (change left (λ y. record y { node = f }) r.rows))) → v.server_lines ≡ k.server_lines → v.node_lines ≡ slice_set k.node_lines line place → v.names ≡ k.names → HasRows v (accepts line place f r)
 accepted k v r f b line place left h n l e g changed server node names = record {
   rows = subst (λ z. ShowsRows v.rows (change place (λ y. record y { node_line = line }) (change z (λ y. record y { node = f }) r.rows))) (e ∙ h.node_lines line l) (changed h.rows (λ z. g (λ y. z (e ∙ y))));
   server_lines = λ j m. ap (λ z. get_or z j 0) server ∙ h.server_lines j m;
@@ -137,7 +137,7 @@ accepted k v r f b line place left h n l e g changed server node names = record 
   names = λ c i m. ap (λ z. place_of z (key_of c i)) names ∙ (h.names c i m ∙ sym (last_changed c i 0 0 place (λ y. record y { node_line = line }) (change (r.node_lines line) (λ y. record y { node = f }) r.rows) (λ y. (refl, refl)) ∙ last_changed c i 0 0 (r.node_lines line) (λ y. record y { node = f }) r.rows (λ y. (refl, refl))));
 }
 
-pub connected : (k v : Kept) (r : rows.RowsAfter) (f : rows.Figures) (b : Figures) (s : Seat) (row : Row) (list : List Row) (line circuit id left : ℕ) → Shows k r → IsSeat s line circuit id → length k.server_lines ≡ 256 → line < 256 → id < 256 → left ≡ get_or k.server_lines line 0 → (get_or k.server_lines line 0 ≢ 0 → ShowsFigures b f) → (ShowsRows k.rows r.rows → (left ≢ 0 → ShowsFigures b f) → ShowsRows list (change left (λ y. record y { server = f }) r.rows)) → ShowsRow row (new_row s) → v.rows ≡ list ++ row ∷ [] → v.server_lines ≡ slice_set k.server_lines line (length v.rows) → v.node_lines ≡ k.node_lines → ((q : ℕ) → place_of v.names q ≡ cond (nat_eq (key_of circuit id) q) (length v.rows) (place_of k.names q)) → Shows v (connects s f r)
+pub connected : (k v : Kept) (r : rows.RowsAfter) (f : rows.Figures) (b : Figures) (s : Seat) (row : Row) (list : List Row) (line circuit id left : ℕ) → HasRows k r → IsSeat s line circuit id → length k.server_lines ≡ 256 → line < 256 → id < 256 → left ≡ get_or k.server_lines line 0 → (get_or k.server_lines line 0 ≢ 0 → ShowsFigures b f) → (ShowsRows k.rows r.rows → (left ≢ 0 → ShowsFigures b f) → ShowsRows list (change left (λ y. record y { server = f }) r.rows)) → ShowsRow row (new_row s) → v.rows ≡ list ++ row ∷ [] → v.server_lines ≡ slice_set k.server_lines line (length v.rows) → v.node_lines ≡ k.node_lines → ((q : ℕ) → place_of v.names q ≡ cond (nat_eq (key_of circuit id) q) (length v.rows) (place_of k.names q)) → HasRows v (connects s f r)
 connected k v r f b s row list line circuit id left h is n l m e g leaves new at server node names = record {
   rows = subst (λ z. ShowsRows z (changed ++ new_row s ∷ [])) (sym at) (shows_more list changed row (new_row s) shown new);
   server_lines = λ j o. ap (λ z. get_or z j 0) server ∙ (lines_set k.server_lines line (length v.rows) j (omega (arith, n, l)) ∙ (ap₂ (λ y z. cond (nat_eq j line) y z) count (h.server_lines j o) ∙ ap (λ z. cond (nat_eq j z) (suc (length r.rows)) (r.server_lines j)) (sym is.line)));
@@ -205,7 +205,7 @@ puts_down k v r bs e t d o h = record {
 
 -- what goes into the row of a line's newest session
 
-pub added : (k v : Kept) (r : rows.RowsAfter) (b : Bool) (line place : ℕ) (ps ts : List slots.Item) → Shows k r → line < 256 → place ≡ slice_index (cond b k.server_lines k.node_lines) line → (ShowsRows k.rows r.rows → ShowsRows v.rows (change place (with_items b ps ts) r.rows)) → v.server_lines ≡ k.server_lines → v.node_lines ≡ k.node_lines → v.names ≡ k.names → Shows v (adds b line ps ts r)
+pub added : (k v : Kept) (r : rows.RowsAfter) (b : Bool) (line place : ℕ) (ps ts : List slots.Item) → HasRows k r → line < 256 → place ≡ slice_index (cond b k.server_lines k.node_lines) line → (ShowsRows k.rows r.rows → ShowsRows v.rows (change place (with_items b ps ts) r.rows)) → v.server_lines ≡ k.server_lines → v.node_lines ≡ k.node_lines → v.names ≡ k.names → HasRows v (adds b line ps ts r)
 added k v r b line place ps ts h l e changed server node names = record {
   rows = subst (λ z. ShowsRows v.rows (change z (with_items b ps ts) r.rows)) (e ∙ at b) (changed h.rows);
   server_lines = λ j m. ap (λ z. slice_index z j) server ∙ h.server_lines j m;

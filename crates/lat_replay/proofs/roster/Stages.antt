@@ -7,7 +7,7 @@ use Rattle.lat_machines.specs.cores.Books.{LineSession, line_session, book}
 use Rattle.lat_machines.specs.cores.Lines.{last_on}
 use Rattle.lat_machines.specs.world.Machines.{Setups, Machines}
 use Rattle.lat_replay.specs.roster.Roster as rosters
-use Rattle.lat_replay.specs.roster.Roster.{Shows}
+use Rattle.lat_replay.specs.roster.Roster.{HasRows}
 use Rattle.lat_replay.proofs.roster.Found.{found_accepts}
 use Rattle.lat_laws.specs.tales.Books.{newest_of, newest_info}
 use Rattle.lat_laws.specs.tales.Keeping.{connects, accepts}
@@ -28,7 +28,7 @@ more_placed f a line s front h n z = go (nat_eq s.line line) refl
     go true q = (let e : suc (0 + length front) ≡ 0 = sym (ap (λ b. cond b (suc (0 + length front)) (newest_place line 0 0 front)) q) ∙ place in omega (arith, e))
     go false q = h (λ y. n (updated_line f s.line a line ∙ (ap (λ b. cond b a (f line)) q ∙ y))) (sym (ap (λ b. cond b (suc (0 + length front)) (newest_place line 0 0 front)) q) ∙ place)
 
-pub connected : (u : Setups) (x : Machines) (front rest : List Seat) (s : Seat) (k target : RowsAfter) (old new : rosters.Kept) → Stage u x true front (s ∷ rest) k target old → Shows new (connects s (figures_of x.server.core (last_on s.line no_seat front)) k) → Stage u x true (front ++ s ∷ []) rest (connects s (figures_of x.server.core (last_on s.line no_seat front)) k) target new
+pub connected : (u : Setups) (x : Machines) (front rest : List Seat) (s : Seat) (k target : RowsAfter) (old new : rosters.Kept) → Stage u x true front (s ∷ rest) k target old → HasRows new (connects s (figures_of x.server.core (last_on s.line no_seat front)) k) → Stage u x true (front ++ s ∷ []) rest (connects s (figures_of x.server.core (last_on s.line no_seat front)) k) target new
 connected u x front rest s k target old new h shows = record {
   seats = h.seats ∙ append_one front rest s;
   books = h.books.1;
@@ -38,7 +38,7 @@ connected u x front rest s k target old new h shows = record {
   named = λ z. absurd (true≢false z);
 }
 
-pub accepted : (u : Setups) (x : Machines) (front rest : List Seat) (t : Seat) (k target : RowsAfter) (old new : rosters.Kept) → Stage u x false front (t ∷ rest) k target old → Shows new (accepts t.line (mate_by_ids u x t) (figures_of x.node.core (last_on t.line no_seat front)) k) → Stage u x false (front ++ t ∷ []) rest (accepts t.line (mate_by_ids u x t) (figures_of x.node.core (last_on t.line no_seat front)) k) target new
+pub accepted : (u : Setups) (x : Machines) (front rest : List Seat) (t : Seat) (k target : RowsAfter) (old new : rosters.Kept) → Stage u x false front (t ∷ rest) k target old → HasRows new (accepts t.line (mate_by_ids u x t) (figures_of x.node.core (last_on t.line no_seat front)) k) → Stage u x false (front ++ t ∷ []) rest (accepts t.line (mate_by_ids u x t) (figures_of x.node.core (last_on t.line no_seat front)) k) target new
 accepted u x front rest t k target old new h shows = record {
   seats = h.seats ∙ append_one front rest t;
   books = h.books.1;

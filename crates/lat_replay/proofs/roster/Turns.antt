@@ -5,9 +5,9 @@ use Rattle.lat_machines.specs.cores.Cores.{Seat, no_seat, Core}
 use Rattle.lat_machines.specs.cores.Lines.{last_on}
 use Rattle.lat_machines.specs.world.Machines.{Setups, Machines, Move, core_of, happens}
 use Rattle.lat_replay.specs.roster.Roster as rosters
-use Rattle.lat_replay.specs.roster.Roster.{Shows}
+use Rattle.lat_replay.specs.roster.Roster.{HasRows}
 use Rattle.lat_stream.specs.Kept.{saturated}
-use Rattle.lat_laws.specs.tales.Books.{InBooks, Comes, lines_at}
+use Rattle.lat_laws.specs.tales.Books.{InBooks, CoreGrows, lines_at}
 use Rattle.lat_laws.specs.tales.Keeping.{connects, accepts, new_seats}
 use Rattle.lat_laws.specs.tales.Mates.{mate_by_ids}
 use Rattle.lat_laws.specs.tales.Rows.{RowsAfter, figures_of}
@@ -42,19 +42,19 @@ some_more u x b number count target old h none = go h.rest h.count_is h.stage
     go [] q s = absurd (omega (arith, q))
     go (s ∷ rest) q t = none h.front rest s t.seats t.books h.number_is
 
-pub ended : (u : Setups) (x : Machines) (b : Bool) (number : ℕ) (target : RowsAfter) (k : rosters.Kept) → LeadsTo u x b number 0 target k → Shows k target
+pub ended : (u : Setups) (x : Machines) (b : Bool) (number : ℕ) (target : RowsAfter) (k : rosters.Kept) → LeadsTo u x b number 0 target k → HasRows k target
 ended u x b number target k h = go b h.rest h.count_is h.stage
   where
-    go : (b : Bool) (rest : List Seat) → 0 ≡ length rest → Stage u x b h.front rest h.rows target k → Shows k target
-    go true [] q s = subst (Shows k) s.leads s.shows
-    go false [] q s = subst (Shows k) s.leads s.shows
+    go : (b : Bool) (rest : List Seat) → 0 ≡ length rest → Stage u x b h.front rest h.rows target k → HasRows k target
+    go true [] q s = subst (HasRows k) s.leads s.shows
+    go false [] q s = subst (HasRows k) s.leads s.shows
     go b (y ∷ ys) q s = absurd (omega (arith, q))
 
-pub move_comes : (u : Setups) (w : Machines) (m : Move) (b : Bool) → IsReached u w → Comes (lines_at b u) (core_of w b) (core_of (happens u w m) b)
-move_comes u w m b h = subst (λ z. Comes (lines_at b u) (core_of z b) (core_of (happens u z m) b)) (sym h.run) (run_comes u h.moves m b h.fit)
+pub move_comes : (u : Setups) (w : Machines) (m : Move) (b : Bool) → IsReached u w → CoreGrows (lines_at b u) (core_of w b) (core_of (happens u w m) b)
+move_comes u w m b h = subst (λ z. CoreGrows (lines_at b u) (core_of z b) (core_of (happens u z m) b)) (sym h.run) (run_comes u h.moves m b h.fit)
 
 -- the new ones are counted exactly
-pub counted : (c d : Core) (lines many before made count : ℕ) → Comes lines c d → before ≡ length c.seats → lines ≡ many → made ≡ saturated (length d.seats) → before + many < 18446744073709551615 → count ≡ min (made - before) many → count ≡ length (new_seats c d)
+pub counted : (c d : Core) (lines many before made count : ℕ) → CoreGrows lines c d → before ≡ length c.seats → lines ≡ many → made ≡ saturated (length d.seats) → before + many < 18446744073709551615 → count ≡ min (made - before) many → count ≡ length (new_seats c d)
 counted c d lines many before made count h b l m few q =
     let whole : length d.seats ≡ length c.seats + length (new_seats c d) = ap length h.behind ∙ length-append c.seats (new_seats c d) in
     let most : length (new_seats c d) ≤ lines = h.few in

@@ -7,12 +7,12 @@ use Rattle.lat_lines.specs.AnswerValues.{answer_of}
 use Rattle.lat_laws.specs.tales.Keeping.{adds}
 use Rattle.lat_laws.specs.tales.Rows.{RowsAfter}
 use Rattle.lat_replay.specs.roster.Roster as rosters
-use Rattle.lat_replay.specs.roster.Roster.{Shows}
+use Rattle.lat_replay.specs.roster.Roster.{HasRows}
 
 -- the rows that the roster shows get the items that the line's session puts and takes by the answer
 abbrev pub HasAdded : rosters.Kept → rosters.Kept → Bool → ℕ → Answer → (machines.Answer → List Item) → (machines.Answer → List Item) → Type 0
 HasAdded old new server line answer put taken =
     (a : machines.Answer) (k : RowsAfter)
     → answer ≡ answer_of a
-    → Shows old k
-    → Shows new (adds server line (put a) (taken a) k)
+    → HasRows old k
+    → HasRows new (adds server line (put a) (taken a) k)

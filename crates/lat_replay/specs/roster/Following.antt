@@ -3,7 +3,7 @@ use Rattle.std.specs.Prelude.{◌≡◌, ◌≢◌, ℕ, suc, Bool, true, false,
 use Rattle.lat_machines.specs.cores.Cores.{Seat}
 use Rattle.lat_machines.specs.world.Machines.{Setups, Machines, core_of}
 use Rattle.lat_replay.specs.roster.Roster as rosters
-use Rattle.lat_replay.specs.roster.Roster.{Shows, last_row}
+use Rattle.lat_replay.specs.roster.Roster.{HasRows, last_row}
 use Rattle.lat_laws.specs.tales.Books.{InBooks}
 use Rattle.lat_laws.specs.tales.Keeping.{lines_of, connects_all, accepts_all}
 use Rattle.lat_laws.specs.tales.Mates.{last_named}
@@ -18,7 +18,7 @@ rows_with u x false front ss k = accepts_all u x front ss k
 pub record Stage (u : Setups) (x : Machines) (server : Bool) (front rest : List Seat) (r target : RowsAfter) (k : rosters.Kept) : Type 0 where
   pub seats : (core_of x server).seats ≡ front ++ rest
   pub books : InBooks (core_of x server) front rest
-  pub shows : Shows k r
+  pub shows : HasRows k r
   pub leads : rows_with u x server front rest r ≡ target
   -- a line without a session in front has no row
   pub placed : (line : ℕ) → lines_of server r line ≢ 0 → newest_place line 0 0 front ≢ 0

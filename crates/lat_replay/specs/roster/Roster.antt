@@ -29,7 +29,7 @@ last_row circuit id place found [] = found
 last_row circuit id place found (r ∷ rs) =
     last_row circuit id (suc place) (cond (nat_eq r.circuit circuit && nat_eq r.id id) (suc place) found) rs
 
-pub record Shows (k : Kept) (r : rows.RowsAfter) : Type 0 where
+pub record HasRows (k : Kept) (r : rows.RowsAfter) : Type 0 where
   pub rows : ShowsRows k.rows r.rows
   pub server_lines : (line : ℕ) → line < 256 → slice_index k.server_lines line ≡ r.server_lines line
   pub node_lines : (line : ℕ) → line < 256 → slice_index k.node_lines line ≡ r.node_lines line

@@ -8,7 +8,7 @@ ghost use Rattle.lat_lines.specs.Events.{event_shown};
 ghost use Rattle.lat_laws.specs.tales.Items.{line_of, put_by, taken_by, accepted_bytes, accepted_setting, taken_items};
 ghost use Rattle.lat_laws.specs.tales.Keeping.{adds};
 ghost use Rattle.lat_laws.specs.tales.Rows.{RowsAfter};
-ghost use Rattle.lat_replay.specs.roster.Roster.{Shows, ReservedAt};
+ghost use Rattle.lat_replay.specs.roster.Roster.{HasRows, ReservedAt};
 ghost use Rattle.lat_replay.specs.roster.Adding.{HasAdded};
 ghost use Rattle.lat_replay.specs.roster.Reserved.{place_of, FitsIn, HasPlaces};
 
@@ -20,7 +20,7 @@ pub fn add_items(server: bool, event: &Event, answer: &Answer, roster: &mut Rost
     requires { FitsIn roster.old server event.now answer.now }
     ensures shows { (a : machines.Answer) (k : RowsAfter) →
         answer.now ≡ answer_of a →
-        Shows roster.old k →
+        HasRows roster.old k →
         Shows roster.new (adds server (line_of (event_shown event.now))
         (put_by (event_shown event.now) a) (taken_by (event_shown event.now) a) k) }
     ensures places { (n : ℕ) → HasPlaces n roster.old → HasPlaces n roster.new }

@@ -4,7 +4,7 @@ ghost use Rattle.std.specs.Prelude.{◌≡◌, ◌≤◌, ◌<◌, ◌+◌, ◌-
 ghost use Rattle.lat_machines.specs.world.Machines.{Machines, core_of};
 ghost use Rattle.lat_lines.specs.Events.{event_shown};
 ghost use Rattle.lat_laws.specs.tales.Rows.{RowsAfter};
-ghost use Rattle.lat_replay.specs.roster.Roster.{Shows};
+ghost use Rattle.lat_replay.specs.roster.Roster.{HasRows};
 ghost use Rattle.lat_wire.specs.Kept.{setups_of};
 ghost use Rattle.lat_wire.specs.Stands.{Stands};
 ghost use Rattle.lat_wire.specs.Told.{answered};
@@ -25,7 +25,7 @@ pub fn reserve_for<H: RatingRule>(
     event: &Event,
     roster: &mut Roster,
 ) -> Result<u64, Memory>
-    ensures same { (k : RowsAfter) → Shows roster.old k → Shows roster.new k }
+    ensures same { (k : RowsAfter) → HasRows roster.old k → HasRows roster.new k }
     ensures places { OnOk result (HasPlaces lines roster.new) }
     ensures items { OnOk result ((w : Machines) →
         Stands wire.now w →
@@ -53,7 +53,7 @@ pub fn reserve_new<H: RatingRule>(
     lines: u8,
     roster: &mut Roster,
 ) -> Result<u64, Memory>
-    ensures same { (k : RowsAfter) → Shows roster.old k → Shows roster.new k }
+    ensures same { (k : RowsAfter) → HasRows roster.old k → HasRows roster.new k }
     ensures places { OnOk result (HasPlaces lines roster.new) }
     ensures before { IfOk result (λ before.
         (w : Machines) → Stands wire.now w → before ≡ length (core_of w server).seats) }

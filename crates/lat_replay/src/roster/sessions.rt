@@ -9,8 +9,8 @@ ghost use Rattle.lat_lines.specs.Stands.{session_shown, session_info};
 ghost use Rattle.lat_laws.specs.tales.Books.{lines_at};
 ghost use Rattle.lat_laws.specs.tales.Keeping.{rows_after, connects, accepts};
 ghost use Rattle.lat_laws.specs.tales.Mates.{last_named, mate_by_ids};
-ghost use Rattle.lat_laws.specs.tales.Rows.{RowsAfter, Keeps, figures_of};
-ghost use Rattle.lat_replay.specs.roster.Roster.{Shows, last_row};
+ghost use Rattle.lat_laws.specs.tales.Rows.{RowsAfter, KeepsRows, figures_of};
+ghost use Rattle.lat_replay.specs.roster.Roster.{HasRows, last_row};
 ghost use Rattle.lat_wire.specs.Kept.{setups_of};
 ghost use Rattle.lat_wire.specs.Stands.{Stands};
 ghost use Rattle.lat_replay.specs.roster.Following.{Stage, LeadsTo};
@@ -46,9 +46,9 @@ pub fn follow<H: RatingRule>(
         end_told u w m ≡ Some server →
         Stands wire.now (happens u w m) →
         before ≡ length (core_of w server).seats →
-        Keeps u w k →
-        Shows roster.old (items_added u w m k) →
-        Shows roster.new (rows_after u w m k) }
+        KeepsRows u w k →
+        HasRows roster.old (items_added u w m k) →
+        HasRows roster.new (rows_after u w m k) }
 {
     let count = made(wire, server)
         .saturating_sub(before)
@@ -154,7 +154,7 @@ fn mate_of<H: RatingRule>(wire: &Wire<H>, session: LineSession, roster: &Roster)
     ensures is { (u : Setups) (x : Machines) (number : ℕ) (t : Seat) (k : RowsAfter) →
         setups_of wire.now ≡ u →
         session_shown session ≡ session_info (line_session x.node.core number t) →
-        Shows roster.now k →
+        HasRows roster.now k →
         ((circuit id : ℕ) →
         last_row circuit id 0 0 k.rows ≡ last_named circuit id 0 0 x.server.core.seats) →
         result ≡ mate_by_ids u x t }

@@ -13,7 +13,7 @@ use Rattle.lat_model.proofs.numbers.Net.{each_imp, each_append, prefix_length}
 use Rattle.lat_model.proofs.circuits.Kin.{Kin}
 use Rattle.lat_model.proofs.circuits.Begins.{server_alive}
 use Rattle.lat_laws.specs.rounds.Lossless.{is_in}
-use Rattle.lat_laws.specs.rounds.Flight.{Brings, Rises, Flow, Shows, Sound, Old}
+use Rattle.lat_laws.specs.rounds.Flight.{EndsTaking, Rises, Flow, ShowsTaken, LinkSound, Old}
 use Rattle.lat_laws.specs.rounds.Carried.{flying, flying_from, has_stop_sent, server_end, node_end, Both, Coupled, Offered, NamesSender, Came, Carried}
 use Rattle.lat_laws.proofs.rounds.carried.Flying.{flying-append, flying-new, flying-other}
 use Rattle.lat_laws.proofs.rounds.carried.Ends.{Truly}
@@ -26,13 +26,13 @@ front_place (x ∷ xs) ys (suc j) v l e = front_place xs ys j v (omega arith) e
 
 -- a flow depends on its receiver by what it took and knows alone
 pub receiver_flow : (a b b' : Link (List Slot)) (fs : List Sent) → b'.came ≡ b.came → b'.known ≡ b.known → Flow a b fs → Flow a b' fs
-receiver_flow a b b' fs c k f = record { brings = subst (λ z. Brings z fs (length a.sent)) (ap length (sym c)) f.brings; rises = subst (λ z. Rises z fs a.shown) (sym k) f.rises }
+receiver_flow a b b' fs c k f = record { brings = subst (λ z. EndsTaking z fs (length a.sent)) (ap length (sym c)) f.brings; rises = subst (λ z. Rises z fs a.shown) (sym k) f.rises }
 
 pub old_kept : (e d : End) (f : Frame (List Slot)) → d.half.link.came ≡ e.half.link.came → d.half.link.known ≡ e.half.link.known → Old e f → Old d f
 old_kept e d f c k o = record { number = subst (λ z. f.number ≤ length z) (sym c) o.number; acknowledgement = subst (λ z. f.acknowledgement ≤ z) (sym k) o.acknowledgement }
 
 -- what an end of the two keeps of its numbers
-pub server_sound : (w : World) (x : ℕ) → WorldOk w → (w.server.circuit_at x).address ≡ w.node.own → Sound (server_end w x)
+pub server_sound : (w : World) (x : ℕ) → WorldOk w → (w.server.circuit_at x).address ≡ w.node.own → LinkSound (server_end w x)
 server_sound w x ok h = record {
   shown = (ok.matched x h).way_up.shown_taken;
   known = omega (arith, (ok.matched x h).way_up.known_taken, prefix_length (mate w x).link.came (server_end w x).half.link.sent (ok.matched x h).way_up.came_first);
@@ -43,7 +43,7 @@ server_sound w x ok h = record {
 -- what a step of a master does to its numbers
 pub record MasterStep (e : End) (st : Step) : Type 0 where
   pub flow : (b : Link (List Slot)) (fs : List Sent) → Flow e.half.link b fs → Flow st.end.half.link b (fs ++ st.sent)
-  pub shows : Shows e → Shows st.end
+  pub shows : ShowsTaken e → ShowsTaken st.end
 
 pub record More (e : End) (d : End) : Type 0 where
   pub came : length e.half.link.came ≤ length d.half.link.came

@@ -12,7 +12,7 @@ use Rattle.lat_model.specs.circuits.WorldOk.{WorldOk}
 use Rattle.lat_model.proofs.sessions.Words.{upd_same}
 use Rattle.lat_model.proofs.circuits.Kin.{Kin, kin_stop, kin_again}
 use Rattle.lat_laws.specs.rounds.Lossless.{is_in}
-use Rattle.lat_laws.specs.rounds.Flight.{Flow, Shows, Clear}
+use Rattle.lat_laws.specs.rounds.Flight.{Flow, ShowsTaken, Clear}
 use Rattle.lat_laws.specs.rounds.Carried.{flying, has_stop_sent, server_end, node_end, Came, Carried}
 use Rattle.lat_laws.proofs.rounds.flight.Flows.{flow-append}
 use Rattle.lat_laws.proofs.rounds.carried.Ends.{Truly}
@@ -36,7 +36,7 @@ node_notes w done i x v st ok k e t b r l kin link clear flow dies came = Nodes.
     (λ j u g h. ⊎_elim {C = (is_in j done ≡ true) ⊎ Came (at_end w false x st) u.by_server u.circuit u.to u.destination u.sent} (λ z. inr (subst (λ (y : Wired). Came (at_end w false x st) y.by_server y.circuit y.to y.destination y.sent) (same_place w i j v u e z g) came)) (λ z. inl z) (in_cases i j done h))
 
 -- and one of the server a frame of the node
-pub server_notes : (w : World) (done : List ℕ) (i x : ℕ) (v : Wired) (st : Step) → WorldOk w → Carried w done → slice_get w.frames i ≡ Some v → Turn w done v i → v.by_server ≡ false → is_run v.sent ≡ false → lives (server_end w x) ≡ true → Kin (server_end w x) st.end → st.end.half.link ≡ (server_end w x).half.link → (Shows (server_end w x) → Shows st.end) → st.sent ≡ [] →
+pub server_notes : (w : World) (done : List ℕ) (i x : ℕ) (v : Wired) (st : Step) → WorldOk w → Carried w done → slice_get w.frames i ≡ Some v → Turn w done v i → v.by_server ≡ false → is_run v.sent ≡ false → lives (server_end w x) ≡ true → Kin (server_end w x) st.end → st.end.half.link ≡ (server_end w x).half.link → (ShowsTaken (server_end w x) → ShowsTaken st.end) → st.sent ≡ [] →
     (v.circuit ≢ 0 → v.to ≡ w.server.own → ((w.server.circuit_at x).address ≡ w.node.own) × ((server_end w x).running ≡ true) × ((server_end w x).peer ≡ v.circuit)) →
     (lives st.end ≡ true → (r : ℕ) → v.sent ≡ Stopped r → ⊥) →
     Came (at_end w true x st) v.by_server v.circuit v.to v.destination v.sent → Carried (at_end w true x st) (i ∷ done)
@@ -84,8 +84,8 @@ stop_dead t r e = go (lives e) refl
     go true q = refl
     go false q = q
 
-shows_as : (e d : End) → d.half.link ≡ e.half.link → d.owed ≡ e.owed → Shows e → Shows d
-shows_as e d l o h = ⊎_elim {C = Shows d} (λ q. inl (o ∙ q)) (λ q. inr (subst (λ (z : Link (List Slot)). z.shown ≡ length z.came) (sym l) q)) h
+shows_as : (e d : End) → d.half.link ≡ e.half.link → d.owed ≡ e.owed → ShowsTaken e → ShowsTaken d
+shows_as e d l o h = ⊎_elim {C = ShowsTaken d} (λ q. inl (o ∙ q)) (λ q. inr (subst (λ (z : Link (List Slot)). z.shown ≡ length z.came) (sym l) q)) h
 
 clear_as : (e d : End) → d.half.link ≡ e.half.link → d.owed ≡ e.owed → Clear e → Clear d
 clear_as e d l o h = (o ∙ h.0, subst (λ (z : Link (List Slot)). z.shown ≡ length z.came) (sym l) h.1)

@@ -13,7 +13,7 @@ use Rattle.lat_model.proofs.circuits.Begins.{kin_call, server_alive}
 use Rattle.lat_model.proofs.circuits.Worlds.{joint_decides}
 use Rattle.lat_model.proofs.numbers.Net.{prefix_length}
 use Rattle.lat_model.specs.circuits.Together.{Together}
-use Rattle.lat_laws.specs.rounds.Flight.{Sound}
+use Rattle.lat_laws.specs.rounds.Flight.{LinkSound}
 use Rattle.lat_laws.specs.rounds.Carried.{flying, server_end, node_end, Carried}
 use Rattle.lat_laws.proofs.rounds.flight.Sending.{Sends, quiet_sends, time_sends}
 use Rattle.lat_laws.proofs.rounds.carried.Ends.{True_step, time_true, quiet_true}
@@ -21,10 +21,10 @@ use Rattle.lat_laws.proofs.rounds.carried.Servers as Servers
 use Rattle.lat_laws.proofs.rounds.carried.Nodes as Nodes
 
 -- what a circuit of the node keeps of its numbers
-pub node_sound : (w : World) (x : ℕ) → WorldOk w → (w.node.circuit_at x).address ≡ w.server.own → Sound (node_end w x)
-node_sound w x ok h = ⊎_elim {C = Sound (node_end w x)} joint (λ n. alone (ok.idle x h n)) (joint_decides w x)
+pub node_sound : (w : World) (x : ℕ) → WorldOk w → (w.node.circuit_at x).address ≡ w.server.own → LinkSound (node_end w x)
+node_sound w x ok h = ⊎_elim {C = LinkSound (node_end w x)} joint (λ n. alone (ok.idle x h n)) (joint_decides w x)
   where
-    joint : Joint w x → Sound (node_end w x)
+    joint : Joint w x → LinkSound (node_end w x)
     joint j =
         let p : ℕ = (node_end w x).peer in
         let t : Together (server_end w p).half (node_end w x).half [] = subst (λ z. Together (server_end w p).half z []) (ap₂ (λ r q. cond r (w.node.circuit_at q).end.half (void_half false)) j.running j.peer) (ok.matched p j.address) in
@@ -35,7 +35,7 @@ node_sound w x ok h = ⊎_elim {C = Sound (node_end w x)} joint (λ n. alone (ok
           window = (ok.windows x).1;
         }
 
-    alone : Idle (node_end w x) → Sound (node_end w x)
+    alone : Idle (node_end w x) → LinkSound (node_end w x)
     alone i = record {
       shown = subst (λ (z : Link (List Slot)). z.shown ≤ length z.came) (sym i.link) (omega arith);
       known = subst (λ (z : Link (List Slot)). z.known ≤ length z.sent) (sym i.link) (omega arith);

@@ -8,7 +8,7 @@ use Rattle.lat_model.specs.numbers.NetOk.{Way, Young}
 use Rattle.lat_model.proofs.numbers.Net.{prefix_length}
 use Rattle.lat_model.specs.ends.End.{Mark, Sent, Run, End, Step, still, lives, finish, occasion}
 use Rattle.lat_model.specs.ends.Run.{RunRepeated, RunBroke, RunStep, ack_end, taken_end, broken_end, take_end, body_end, after_run, run_end}
-use Rattle.lat_laws.specs.rounds.Flight.{bears, next_came, Brings, Rises, Flow, Shows, Clear, Sound, Old}
+use Rattle.lat_laws.specs.rounds.Flight.{bears, next_came, EndsTaking, Rises, Flow, ShowsTaken, Clear, LinkSound, Old}
 use Rattle.lat_model.specs.Lists.{Each}
 use Rattle.lat_laws.proofs.rounds.carried.Ends.{Going, Goes, going_same, going_still, goes_occasion}
 use Rattle.lat_laws.proofs.rounds.flight.Sending.{Sends, still_sends, occasion_sends, occasion_clear}
@@ -21,15 +21,15 @@ known_with k a = cond (nat_lt k a) a k
 pub record Hears (e : End) (f : Frame (List Slot)) (st : Step) : Type 0 where
   pub came : length st.end.half.link.came ≡ next_came (length e.half.link.came) f
   pub known : st.end.half.link.known ≡ known_with e.half.link.known f.acknowledgement
-  pub sound : Sound e → Sound st.end
-  pub flow : (b : Link (List Slot)) (fs : List Sent) → Sound e → Flow e.half.link b fs → Flow st.end.half.link b (fs ++ st.sent)
-  pub shows : Shows e → Shows st.end
-  pub clear : e.master ≡ false → Shows e → Clear st.end
+  pub sound : LinkSound e → LinkSound st.end
+  pub flow : (b : Link (List Slot)) (fs : List Sent) → LinkSound e → Flow e.half.link b fs → Flow st.end.half.link b (fs ++ st.sent)
+  pub shows : ShowsTaken e → ShowsTaken st.end
+  pub clear : e.master ≡ false → ShowsTaken e → Clear st.end
   pub goes : e.running ≡ true → Goes e st
 
 -- a flow depends on its sender by what was sent and shown alone
 sender_flow : (a a' b : Link (List Slot)) (fs : List Sent) → a'.sent ≡ a.sent → a'.shown ≡ a.shown → Flow a b fs → Flow a' b fs
-sender_flow a a' b fs s h f = record { brings = subst (λ z. Brings (length b.came) fs z) (ap length (sym s)) f.brings; rises = subst (λ z. Rises b.known fs z) (sym h) f.rises }
+sender_flow a a' b fs s h f = record { brings = subst (λ z. EndsTaking (length b.came) fs z) (ap length (sym s)) f.brings; rises = subst (λ z. Rises b.known fs z) (sym h) f.rises }
 
 -- the end between its hearing and the slave's occasion
 record Between (e : End) (f : Frame (List Slot)) (d : End) : Type 0 where
@@ -37,7 +37,7 @@ record Between (e : End) (f : Frame (List Slot)) (d : End) : Type 0 where
   known : d.half.link.known ≡ known_with e.half.link.known f.acknowledgement
   sent : d.half.link.sent ≡ e.half.link.sent
   shown : d.half.link.shown ≡ e.half.link.shown
-  shows : Shows e → Shows d
+  shows : ShowsTaken e → ShowsTaken d
   lives : lives d ≡ lives e
   master : d.master ≡ e.master
   window : d.window ≡ e.window
@@ -86,15 +86,15 @@ record Body (n : ℕ) (o : Option (List Slot)) (e : End) (r : RunStep) : Type 0 
   known : r.step.end.half.link.known ≡ e.half.link.known
   sent : r.step.end.half.link.sent ≡ e.half.link.sent
   shown : r.step.end.half.link.shown ≡ e.half.link.shown
-  shows : Shows e → Shows r.step.end
+  shows : ShowsTaken e → ShowsTaken r.step.end
   lives : lives r.step.end ≡ lives e
   master : r.step.end.master ≡ e.master
   window : r.step.end.window ≡ e.window
   running : r.step.end.running ≡ e.running
   silent : r.step.sent ≡ []
 
-asked_shows : (e : End) (ask : Bool) → Shows e → Shows (record e { owed = e.owed || ask })
-asked_shows e ask h = ⊎_elim {C = Shows (record e { owed = e.owed || ask })} (λ q. inl (or_left e.owed ask q)) (λ q. inr q) h
+asked_shows : (e : End) (ask : Bool) → ShowsTaken e → ShowsTaken (record e { owed = e.owed || ask })
+asked_shows e ask h = ⊎_elim {C = ShowsTaken (record e { owed = e.owed || ask })} (λ q. inl (or_left e.owed ask q)) (λ q. inr q) h
 
 body_done : (n : ℕ) (ask : Bool) (o : Option (List Slot)) (e : End) → (body_end n ask o e).answer ≢ RunBroke → Body n o e (body_end n ask o e)
 body_done n ask None e w = record { came = refl; known = refl; sent = refl; shown = refl; shows = asked_shows e ask; lives = refl; master = refl; window = refl; running = refl; silent = refl }
@@ -122,7 +122,7 @@ after_hears e f r a l w q = go (lives r.step.end) (w.lives ∙ l) r.step.end.mas
     d : End
     d = r.step.end
 
-    sound : Sound e → Sound d
+    sound : LinkSound e → LinkSound d
     sound h = record {
       shown = omega (arith, w.shown, h.shown, w.came, next_more (length e.half.link.came) f);
       known = subst (λ z. z ≤ length d.half.link.sent) (sym w.known) (known_most e.half.link.known f.acknowledgement (length d.half.link.sent) (omega (arith, h.known, ap length w.sent)) (omega (arith, a, ap length w.sent)));
@@ -133,7 +133,7 @@ after_hears e f r a l w q = go (lives r.step.end) (w.lives ∙ l) r.step.end.mas
     flow : (b : Link (List Slot)) (fs : List Sent) → Flow e.half.link b fs → Flow d.half.link b fs
     flow b fs g = sender_flow e.half.link d.half.link b fs w.sent w.shown g
 
-    made : (st : Step) → Sends d st → (e.master ≡ false → Shows d → Clear st.end) → (d.running ≡ true → Goes d st) → Hears e f (record { end = st.end; sent = r.step.sent ++ st.sent })
+    made : (st : Step) → Sends d st → (e.master ≡ false → ShowsTaken d → Clear st.end) → (d.running ≡ true → Goes d st) → Hears e f (record { end = st.end; sent = r.step.sent ++ st.sent })
     made st s c g = record {
       came = ap length s.came ∙ w.came;
       known = s.known ∙ w.known;
@@ -184,7 +184,7 @@ run_hears now ask f e l w = go (is_unsent e.half.link f.acknowledgement) refl w
 -- the first in flight
 pub first_flow : (e : End) (a : Link (List Slot)) (mark : Mark) (ask : Bool) (f : Frame (List Slot)) (fs : List Sent) (st : Step) → Hears e f st → Flow a e.half.link (Run mark ask f ∷ fs) → Flow a st.end.half.link fs
 first_flow e a mark ask f fs st h g = record {
-  brings = subst (λ z. Brings z fs (length a.sent)) (sym h.came) g.brings.2;
+  brings = subst (λ z. EndsTaking z fs (length a.sent)) (sym h.came) g.brings.2;
   rises = subst (λ z. Rises z fs a.shown) (sym (h.known ∙ newest e.half.link.known f.acknowledgement g.rises.0)) g.rises.1;
 }
   where
@@ -211,7 +211,7 @@ first_old e a mark ask f fs st h g = record {
 -- it brings nothing
 pub again_flow : (e : End) (a : Link (List Slot)) (f : Frame (List Slot)) (fs : List Sent) (st : Step) → Hears e f st → Old e f → Flow a e.half.link fs → Flow a st.end.half.link fs
 again_flow e a f fs st h o g = record {
-  brings = subst (λ z. Brings z fs (length a.sent)) (sym (h.came ∙ same)) g.brings;
+  brings = subst (λ z. EndsTaking z fs (length a.sent)) (sym (h.came ∙ same)) g.brings;
   rises = subst (λ z. Rises z fs a.shown) (sym (h.known ∙ kept)) g.rises;
 }
   where

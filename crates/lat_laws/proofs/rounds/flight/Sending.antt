@@ -7,19 +7,19 @@ use Rattle.lat_model.specs.Lists.{is_empty}
 use Rattle.lat_model.specs.numbers.Link.{Link, showing, form_message, formed_frame, bare_frame, again_frames, window_open}
 use Rattle.lat_model.specs.ends.End.{Fresh, Bare, Sent, Run, CallStart, Stopped, End, Step, still, then_do, lives, finish, send_bare, all_known, send_message, acknowledge, form_packed, occasion, marked, send_again, send_start, wire_of}
 use Rattle.lat_model.specs.ends.Timers.{passed, silent, unused, a_round, rounds_step, may_form, alive_step, due_step, living, note_empty, time_step}
-use Rattle.lat_laws.specs.rounds.Flight.{Flow, Shows, Clear, Sound}
+use Rattle.lat_laws.specs.rounds.Flight.{Flow, ShowsTaken, Clear, LinkSound}
 use Rattle.lat_laws.proofs.rounds.flight.Flows.{flow-append, formed_brings, formed_rises, bare_brings, bare_rises, again_all_bring, again_all_rise}
 
 pub record Sends (e : End) (st : Step) : Type 0 where
-  pub sound : Sound e → Sound st.end
-  pub flow : (b : Link (List Slot)) (fs : List Sent) → Sound e → Flow e.half.link b fs → Flow st.end.half.link b (fs ++ st.sent)
+  pub sound : LinkSound e → LinkSound st.end
+  pub flow : (b : Link (List Slot)) (fs : List Sent) → LinkSound e → Flow e.half.link b fs → Flow st.end.half.link b (fs ++ st.sent)
   pub came : st.end.half.link.came ≡ e.half.link.came
   pub known : st.end.half.link.known ≡ e.half.link.known
-  pub shows : Shows e → Shows st.end
+  pub shows : ShowsTaken e → ShowsTaken st.end
   pub clear : Clear e → Clear st.end
 
 -- nothing is sent
-same_sound : (e d : End) → d.half.link ≡ e.half.link → d.window ≡ e.window → Sound e → Sound d
+same_sound : (e d : End) → d.half.link ≡ e.half.link → d.window ≡ e.window → LinkSound e → LinkSound d
 same_sound e d l w s = record {
   shown = subst (λ (z : Link (List Slot)). z.shown ≤ length z.came) (sym l) s.shown;
   known = subst (λ (z : Link (List Slot)). z.known ≤ length z.sent) (sym l) s.known;
@@ -33,7 +33,7 @@ quiet_sends e d l o w = record {
   flow = λ b fs s f. subst (λ z. Flow z b (fs ++ [])) (sym l) (subst (λ z. Flow e.half.link b z) (sym (append-nil fs)) f);
   came = ap (λ (z : Link (List Slot)). z.came) l;
   known = ap (λ (z : Link (List Slot)). z.known) l;
-  shows = λ h. ⊎_elim {C = Shows d} (λ q. inl (o ∙ q)) (λ q. inr (subst (λ (z : Link (List Slot)). z.shown ≡ length z.came) (sym l) q)) h;
+  shows = λ h. ⊎_elim {C = ShowsTaken d} (λ q. inl (o ∙ q)) (λ q. inr (subst (λ (z : Link (List Slot)). z.shown ≡ length z.came) (sym l) q)) h;
   clear = λ h. (o ∙ h.0, subst (λ (z : Link (List Slot)). z.shown ≡ length z.came) (sym l) h.1);
 }
 
@@ -47,7 +47,7 @@ from_sends e d st l o w s = record {
   flow = λ b fs h f. s.flow b fs (same_sound e d l w h) (subst (λ z. Flow z b fs) (sym l) f);
   came = s.came ∙ ap (λ (z : Link (List Slot)). z.came) l;
   known = s.known ∙ ap (λ (z : Link (List Slot)). z.known) l;
-  shows = λ h. s.shows (⊎_elim {C = Shows d} (λ q. inl (o ∙ q)) (λ q. inr (subst (λ (z : Link (List Slot)). z.shown ≡ length z.came) (sym l) q)) h);
+  shows = λ h. s.shows (⊎_elim {C = ShowsTaken d} (λ q. inl (o ∙ q)) (λ q. inr (subst (λ (z : Link (List Slot)). z.shown ≡ length z.came) (sym l) q)) h);
   clear = λ h. s.clear (o ∙ h.0, subst (λ (z : Link (List Slot)). z.shown ≡ length z.came) (sym l) h.1);
 }
 
@@ -115,7 +115,7 @@ occasion_sends e = go (window_open e.window e.half.link) refl
     go false q = settle_sends e
 
 -- behind an occasion nothing is owed
-pub occasion_clear : (e : End) → Shows e → Clear (occasion e).end
+pub occasion_clear : (e : End) → ShowsTaken e → Clear (occasion e).end
 occasion_clear e h = go (window_open e.window e.half.link) (is_empty (pack e.room e.half.sessions).slots)
   where
     settled : (o : Bool) → e.owed ≡ o → Clear (cond o (send_bare false e) (still e)).end
@@ -183,4 +183,4 @@ time_sends now e =
     (then_sends d (rounds_step d) (living due_step) (rounds_sends d) (living_sends due_step (rounds_step d).end (due_sends (rounds_step d).end)))))
 
 pub noted_sends : (e : End) (st : Step) → Sends e st → Sends e (note_empty e st)
-noted_sends e st s = record { sound = λ h. let k : Sound st.end = s.sound h in record { shown = k.shown; known = k.known; most = k.most; window = k.window }; flow = s.flow; came = s.came; known = s.known; shows = s.shows; clear = s.clear }
+noted_sends e st s = record { sound = λ h. let k : LinkSound st.end = s.sound h in record { shown = k.shown; known = k.known; most = k.most; window = k.window }; flow = s.flow; came = s.came; known = s.known; shows = s.shows; clear = s.clear }

@@ -19,13 +19,13 @@ use Rattle.lat_model.proofs.sessions.Forms.{formed_as, formed_free}
 use Rattle.lat_model.proofs.sessions.Starts.{free_goes}
 use Rattle.lat_model.proofs.sessions.Made.{least_is_free, least_some}
 use Rattle.lat_machines.proofs.queue.Rooms.{least_in}
-use Rattle.lat_laws.specs.rounds.Seated.{Found, Later}
+use Rattle.lat_laws.specs.rounds.Seated.{Found, SessionsLater}
 use Rattle.lat_laws.proofs.rounds.plain.Steps.{time_packs}
 
-pub later_same : (e : Sessions) → Later e e
+pub later_same : (e : Sessions) → SessionsLater e e
 later_same e = record { made = omega arith; ids = λ k l. refl; frees = λ k l h. h; accepts = λ k h. h; keeps = λ k l h. h; master = refl; ceiling = refl; alone = λ m. omega arith; found = λ h. h }
 
-pub later_then : (x y z : Sessions) → Later x y → Later y z → Later x z
+pub later_then : (x y z : Sessions) → SessionsLater x y → SessionsLater y z → SessionsLater x z
 later_then x y z p q = record {
   made = omega (arith, p.made, q.made);
   ids = λ k l. q.ids k (omega (arith, l, p.made)) ∙ p.ids k l;
@@ -46,7 +46,7 @@ free_up s t h q = go (free t) refl
     go false r = absurd (true≢false (sym q ∙ h r))
 
 -- one session in the place of another
-pub put_later : (e f : Sessions) (k : ℕ) (s : Session) → f.session ≡ updated e.session k s → f.at_id ≡ e.at_id → f.made ≡ e.made → f.master ≡ e.master → f.ceiling ≡ e.ceiling → f.agreed ≡ e.agreed → s.id ≡ (e.session k).id → s.accepted ≡ (e.session k).accepted → (free s ≡ false → free (e.session k) ≡ false) → (starts (e.session k).came ≡ true → starts s.came ≡ true) → Later e f
+pub put_later : (e f : Sessions) (k : ℕ) (s : Session) → f.session ≡ updated e.session k s → f.at_id ≡ e.at_id → f.made ≡ e.made → f.master ≡ e.master → f.ceiling ≡ e.ceiling → f.agreed ≡ e.agreed → s.id ≡ (e.session k).id → s.accepted ≡ (e.session k).accepted → (free s ≡ false → free (e.session k) ≡ false) → (starts (e.session k).came ≡ true → starts s.came ≡ true) → SessionsLater e f
 put_later e f k s fs fa fm fb fc fg i a h st = record {
   made = omega (arith, fm);
   ids = λ j l. id_at j;
@@ -91,10 +91,10 @@ put_later e f k s fs fa fm fb fc fg i a h st = record {
         go true n r = ap (λ z. free (e.session z)) (eqb-true j k n) ∙ h r
         go false n r = r
 
-touch_later : (e : Sessions) (k : ℕ) (s : Session) → s.id ≡ (e.session k).id → s.accepted ≡ (e.session k).accepted → free (e.session k) ≡ false → (starts (e.session k).came ≡ true → starts s.came ≡ true) → Later e (touch e k s)
+touch_later : (e : Sessions) (k : ℕ) (s : Session) → s.id ≡ (e.session k).id → s.accepted ≡ (e.session k).accepted → free (e.session k) ≡ false → (starts (e.session k).came ≡ true → starts s.came ≡ true) → SessionsLater e (touch e k s)
 touch_later e k s i a h st = put_later e (touch e k s) k s refl refl refl refl refl refl i a (λ q. h) st
 
-cond_later : (b : Bool) (x e : Sessions) → (b ≡ true → Later e x) → Later e (cond b x e)
+cond_later : (b : Bool) (x e : Sessions) → (b ≡ true → SessionsLater e x) → SessionsLater e (cond b x e)
 cond_later true x e h = h refl
 cond_later false x e h = later_same e
 
@@ -113,7 +113,7 @@ accepts_none (Connect service request) = false
 accepts_none (Answer id) = false
 accepts_none _ = true
 
-pub call_later : (e : Sessions) (c : Call) → accepts_none c ≡ true → Later e (call e c)
+pub call_later : (e : Sessions) (c : Call) → accepts_none c ≡ true → SessionsLater e (call e c)
 call_later e (Connect service request) h = absurd (false≢true h)
 call_later e (Answer id) h = absurd (false≢true h)
 call_later e (Put id bs) h = let xs : List Item = map Byte (take (put_count (named e id) (length bs)) bs) in
@@ -199,14 +199,14 @@ least_new e service request g l = record {
 
 -- hearing
 
-hear_at_later : (e : Sessions) (k : ℕ) (x : Slot) → free (e.session k) ≡ false → Later e (hear_at e k x)
+hear_at_later : (e : Sessions) (k : ℕ) (x : Slot) → free (e.session k) ≡ false → SessionsLater e (hear_at e k x)
 hear_at_later e k x h = touch_later e k (heard (e.session k) x) refl refl h (more (e.session k).came)
   where
     more : (xs : List Slot) → starts xs ≡ true → starts (xs ++ x ∷ []) ≡ true
     more [] q = absurd (false≢true q)
     more (y ∷ ys) q = q
 
-ask_later : (e : Sessions) (x : Slot) (service : List ℕ) (request : Option ℕ) → e.master ≡ false → is_start x ≡ true → Later e (ask_in e x service request)
+ask_later : (e : Sessions) (x : Slot) (service : List ℕ) (request : Option ℕ) → e.master ≡ false → is_start x ≡ true → SessionsLater e (ask_in e x service request)
 ask_later e x service request sl st = record {
   made = omega arith;
   ids = λ k l. ap (λ (z : Session). z.id) (old k l);
@@ -257,13 +257,13 @@ ask_later e x service request sl st = record {
 -- a slot that is heard
 pub data SlotLater (e : Sessions) (o : Option Sessions) : Type 0 where
   Unheard : o ≡ None → SlotLater e o
-  HeardAs : (f : Sessions) → o ≡ Some f → Later e f → SlotLater e o
+  HeardAs : (f : Sessions) → o ≡ Some f → SessionsLater e f → SlotLater e o
 
-some_later : (b : Bool) (e f : Sessions) → (b ≡ true → Later e f) → SlotLater e (cond b (Some f) None)
+some_later : (b : Bool) (e f : Sessions) → (b ≡ true → SessionsLater e f) → SlotLater e (cond b (Some f) None)
 some_later true e f h = HeardAs f refl (h refl)
 some_later false e f h = Unheard refl
 
-none_later : (b : Bool) (e f : Sessions) → (b ≡ false → Later e f) → SlotLater e (cond b None (Some f))
+none_later : (b : Bool) (e f : Sessions) → (b ≡ false → SessionsLater e f) → SlotLater e (cond b None (Some f))
 none_later true e f h = Unheard refl
 none_later false e f h = HeardAs f refl (h refl)
 
@@ -291,51 +291,51 @@ slot_later e (DataB to from c setting) = behind_later e (DataB to from c setting
 slot_later e (Attention to from flag) = behind_later e (Attention to from flag)
 slot_later e (Stop to from reason) = behind_later e (Stop to from reason)
 
-pub hear_later : (xs : List Slot) (e : Sessions) → Later e (hear_all xs e).after
+pub hear_later : (xs : List Slot) (e : Sessions) → SessionsLater e (hear_all xs e).after
 hear_later [] e = later_same e
 hear_later (x ∷ xs) e = go (hear_slot e x) (slot_later e x) (λ f. hear_later xs f)
   where
     told : Option Sessions → HeardAll
     told o = elim o [ None ↦ record { after = e; good = false } | Some f ↦ hear_all xs f ]
 
-    go : (o : Option Sessions) → SlotLater e o → ((f : Sessions) → Later f (hear_all xs f).after) → Later e (told o).after
-    go o (Unheard q) h = subst (λ z. Later e (told z).after) (sym q) (later_same e)
-    go o (HeardAs f q l) h = subst (λ z. Later e (told z).after) (sym q) (later_then e f (hear_all xs f).after l (h f))
+    go : (o : Option Sessions) → SlotLater e o → ((f : Sessions) → SessionsLater f (hear_all xs f).after) → SessionsLater e (told o).after
+    go o (Unheard q) h = subst (λ z. SessionsLater e (told z).after) (sym q) (later_same e)
+    go o (HeardAs f q l) h = subst (λ z. SessionsLater e (told z).after) (sym q) (later_then e f (hear_all xs f).after l (h f))
 
 -- forming
 
-form_later : (e : Sessions) (k : ℕ) (x : Slot) → Later e (form e k x)
+form_later : (e : Sessions) (k : ℕ) (x : Slot) → SessionsLater e (form e k x)
 form_later e k x = go (nat_eq (e.session k).generation 0)
   where
-    go : (b : Bool) → Later e (cond b (first_form e k x) (next_form e k x))
+    go : (b : Bool) → SessionsLater e (cond b (first_form e k x) (next_form e k x))
     go true = put_later e (first_form e k x) k (formed_as (e.session k) (suc e.generations) x) refl refl refl refl refl refl refl refl (formed_free (e.session k) (suc e.generations) x) (λ z. z)
     go false = put_later e (next_form e k x) k (formed_as (e.session k) (e.session k).generation x) refl refl refl refl refl refl refl refl (formed_free (e.session k) (e.session k).generation x) (λ z. z)
 
-turn_later : (p : Packing) (k : ℕ) → Later p.after (turn p k).after
+turn_later : (p : Packing) (k : ℕ) → SessionsLater p.after (turn p k).after
 turn_later p k = go p.going (offer p.after.master p.after.ceiling p.room (p.after.session k))
   where
-    go : (b : Bool) (o : Offer) → Later p.after (cond b (turn_by p k o) p).after
+    go : (b : Bool) (o : Offer) → SessionsLater p.after (cond b (turn_by p k o) p).after
     go true Nothing = later_same p.after
     go true Unfit = later_same p.after
     go true (Offers x) = form_later p.after k x
     go false o = later_same p.after
 
-turns_later : (ks : List ℕ) (p : Packing) → Later p.after (turn_all ks p).after
+turns_later : (ks : List ℕ) (p : Packing) → SessionsLater p.after (turn_all ks p).after
 turns_later [] p = later_same p.after
 turns_later (k ∷ ks) p = later_then p.after (turn p k).after (turn_all ks (turn p k)).after (turn_later p k) (turns_later ks (turn p k))
 
-pub pack_later : (room : ℕ) (e : Sessions) → Later e (pack room e).after
+pub pack_later : (room : ℕ) (e : Sessions) → SessionsLater e (pack room e).after
 pack_later room e = turns_later (turns e) (record { after = e; slots = []; room = room; left = 255; going = true })
 
 -- the events of an end
 
-pub time_later : (now : ℕ) (e : End) → Later e.half.sessions (time_step now e).end.half.sessions
-time_later now e = ⊎_elim {C = Later e.half.sessions (time_step now e).end.half.sessions}
-    (λ q. subst (λ z. Later e.half.sessions z) (sym q) (later_same e.half.sessions))
-    (λ q. subst (λ z. Later e.half.sessions z) (sym q) (pack_later e.room e.half.sessions)) (time_packs now e)
+pub time_later : (now : ℕ) (e : End) → SessionsLater e.half.sessions (time_step now e).end.half.sessions
+time_later now e = ⊎_elim {C = SessionsLater e.half.sessions (time_step now e).end.half.sessions}
+    (λ q. subst (λ z. SessionsLater e.half.sessions z) (sym q) (later_same e.half.sessions))
+    (λ q. subst (λ z. SessionsLater e.half.sessions z) (sym q) (pack_later e.room e.half.sessions)) (time_packs now e)
 
 abbrev LaterEnd : End → End → Type 0
-LaterEnd e f = Later e.half.sessions f.half.sessions
+LaterEnd e f = SessionsLater e.half.sessions f.half.sessions
 
 step_cond : (e : End) (c : Bool) (s t : Step) → LaterEnd e s.end → LaterEnd e t.end → LaterEnd e (cond c s t).end
 step_cond e true s t p q = p
@@ -384,7 +384,7 @@ run_later now a f e =
     run_cond e (nat_lt (length d.half.link.sent) f.acknowledgement) bad (after_run r) (later_same e.half.sessions)
     (later_then e.half.sessions (ack_end f.acknowledgement d).half.sessions (after_run r).step.end.half.sessions k1 (later_then (ack_end f.acknowledgement d).half.sessions r.step.end.half.sessions (after_run r).step.end.half.sessions k2 k3))
 
-agree_later : (n : ℕ) (e : Sessions) → n ≤ e.agreed → Later e (record e { agreed = n })
+agree_later : (n : ℕ) (e : Sessions) → n ≤ e.agreed → SessionsLater e (record e { agreed = n })
 agree_later n e l = record { made = omega arith; ids = λ k l. refl; frees = λ k l h. h; accepts = λ k h. h; keeps = λ k l h. h; master = refl; ceiling = refl; alone = λ m. omega arith; found = λ h. record { made = h.made; named = h.named; none = h.none; held = h.held; asked = h.asked; agreed = omega (arith, l, h.agreed); holds = h.holds; within = h.within } }
 
 pub reply_later : (now source : ℕ) (g : Agreed) (e : End) → LaterEnd e (hear_reply now source g e).end

@@ -7,7 +7,7 @@ use Rattle.lat_model.specs.ends.End.{lives}
 use Rattle.lat_model.specs.circuits.World.{Table}
 use Rattle.lat_machines.specs.cores.Cores.{Seat, no_seat, Core}
 use Rattle.lat_machines.specs.cores.Lines.{end_of, session_of, over, last_on, seat_at, has_session}
-use Rattle.lat_laws.specs.rounds.Seated.{Later, Drawn, LaterTable, IsSeat, HasSeat, Placed, Seated}
+use Rattle.lat_laws.specs.rounds.Seated.{SessionsLater, Drawn, LaterTable, IsSeat, HasSeat, Placed, Seated}
 
 abbrev sess : Table → ℕ → Sessions
 sess t x = (t.circuit_at x).end.half.sessions
@@ -40,7 +40,7 @@ seated_later m lines c d q l s = record {
   where
     placed : (t : Seat) → Placed lines c t → Placed lines d t
     placed t p =
-        let k : Later (sess c.circuits t.circuit) (sess d.circuits t.circuit) = l.sessions t.circuit p.drawn in
+        let k : SessionsLater (sess c.circuits t.circuit) (sess d.circuits t.circuit) = l.sessions t.circuit p.drawn in
         record {
           drawn = omega (arith, p.drawn, l.drawn);
           made = omega (arith, p.made, k.made);

@@ -15,7 +15,7 @@ use Rattle.lat_machines.specs.values.Events.{Numbers}
 use Rattle.lat_machines.specs.values.Answers.{Again, Running, Ended}
 use Rattle.lat_machines.specs.cores.Acts.{Acted, idle, put_at, steps_at, call_at, called, local_at, time_at, move_at}
 use Rattle.lat_machines.specs.cores.Hearing.{HeardAct, foreign, names, fits_kind, numbers_at, run_frame, run_at, hear_run, hear_stop_at, hear_reply_at}
-use Rattle.lat_laws.specs.rounds.Seated.{Found, Later, LaterTable}
+use Rattle.lat_laws.specs.rounds.Seated.{Found, SessionsLater, LaterTable}
 use Rattle.lat_laws.proofs.rounds.ready.Laters.{later_same, later_then, accepts_none, call_later, time_later, run_later, reply_later, stop_later, again_leaves}
 
 pub table_same : (m : Bool) (t : Table) → LaterTable m t t
@@ -32,7 +32,7 @@ table_then m t v w p q = record {
 }
 
 -- a step of one circuit
-pub steps_later : (m b : Bool) (t : Table) (x : ℕ) (s : Step) → (lives s.end ≡ true → lives (t.circuit_at x).end ≡ true) → Later (t.circuit_at x).end.half.sessions s.end.half.sessions → LaterTable m t (steps_at b t x s).table
+pub steps_later : (m b : Bool) (t : Table) (x : ℕ) (s : Step) → (lives s.end ≡ true → lives (t.circuit_at x).end ≡ true) → SessionsLater (t.circuit_at x).end.half.sessions s.end.half.sessions → LaterTable m t (steps_at b t x s).table
 steps_later m b t x s h l = record {
   drawn = omega arith;
   live = λ y d q. live y (nat_eq y x) refl q;
@@ -57,8 +57,8 @@ steps_later m b t x s h l = record {
     live y true q r = ap (λ z. lives (t.circuit_at z).end) (eqb-true y x q) ∙ h r
     live y false q r = r
 
-    sessions : (y : ℕ) (c : Bool) → nat_eq y x ≡ c → Later (t.circuit_at y).end.half.sessions (cond c new (t.circuit_at y)).end.half.sessions
-    sessions y true q = subst (λ z. Later (t.circuit_at z).end.half.sessions s.end.half.sessions) (sym (eqb-true y x q)) l
+    sessions : (y : ℕ) (c : Bool) → nat_eq y x ≡ c → SessionsLater (t.circuit_at y).end.half.sessions (cond c new (t.circuit_at y)).end.half.sessions
+    sessions y true q = subst (λ z. SessionsLater (t.circuit_at z).end.half.sessions s.end.half.sessions) (sym (eqb-true y x q)) l
     sessions y false q = later_same (t.circuit_at y).end.half.sessions
 
     dead : (k : ℕ) → lives (t.circuit_at k).end ≡ false → (c : Bool) → lives (updated_at k).end ≡ c → lives (updated_at k).end ≡ false
@@ -70,7 +70,7 @@ pub fresh_later : (m b : Bool) (t : Table) (address : ℕ) (s : Step) → s.end.
 fresh_later m b t address s e f n z = record {
   drawn = omega arith;
   live = λ y d q. sym (ap (λ (z : CircuitEntry). lives z.end) (old y d)) ∙ q;
-  sessions = λ y d. subst (λ (z : CircuitEntry). Later (t.circuit_at y).end.half.sessions z.end.half.sessions) (sym (old y d)) (later_same (t.circuit_at y).end.half.sessions);
+  sessions = λ y d. subst (λ (z : CircuitEntry). SessionsLater (t.circuit_at y).end.half.sessions z.end.half.sessions) (sym (old y d)) (later_same (t.circuit_at y).end.half.sessions);
   accepts = λ y k q. accepts y k (nat_eq y (suc t.drawn)) q;
   good = λ g. record {
     masters = λ y. upd_all (λ (z : CircuitEntry). z.end.half.sessions.master ≡ m) t.circuit_at (suc t.drawn) new e g.masters y;

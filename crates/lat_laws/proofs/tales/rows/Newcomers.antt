@@ -10,7 +10,7 @@ use Rattle.lat_machines.specs.world.Machines.{Setups, Posted, Machines, core_of,
 use Rattle.lat_machines.specs.world.Safe.{Fit}
 use Rattle.lat_laws.specs.rounds.Seated.{IsSeat}
 use Rattle.lat_laws.specs.tales.Keeping.{new_seats}
-use Rattle.lat_laws.specs.tales.Books.{InBooks, Comes, lines_at}
+use Rattle.lat_laws.specs.tales.Books.{InBooks, CoreGrows, lines_at}
 use Rattle.lat_laws.proofs.tales.seats.Sound.{Sound, IsNew, seat_behind}
 use Rattle.lat_laws.proofs.tales.seats.Told.{server_tale, node_tale}
 use Rattle.lat_laws.proofs.tales.mates.Reach.{BothSound, reach_run, marked_sound}
@@ -118,7 +118,7 @@ module _ (m : Bool) (lines : ℕ) (d : Core) (h : Sound m lines d) where
       each [] f = tt
       each (x ∷ xs) f = (f x (inl refl), each xs (λ s i. f s (inr i)))
 
-  new_comes : (c : Core) (more : List Seat) → d.seats ≡ c.seats ++ more → Each (IsNew d) more → Comes lines c d
+  new_comes : (c : Core) (more : List Seat) → d.seats ≡ c.seats ++ more → Each (IsNew d) more → CoreGrows lines c d
   new_comes c more q n = record {
     behind = q ∙ ap (λ z. c.seats ++ z) (sym new);
     few = subst (λ z. length z ≤ lines) (sym new) (few lines more (new_differ c.seats more q n) (new_within c.seats more q));
@@ -128,7 +128,7 @@ module _ (m : Bool) (lines : ℕ) (d : Core) (h : Sound m lines d) where
       new : new_seats c d ≡ more
       new = ap (drop (length c.seats)) q ∙ drop-append_seam c.seats more
 
-same_comes : (m : Bool) (lines : ℕ) (c : Core) → Sound m lines c → Comes lines c c
+same_comes : (m : Bool) (lines : ℕ) (c : Core) → Sound m lines c → CoreGrows lines c c
 same_comes m lines c h = new_comes m lines c h c [] (sym (append_nil c.seats)) tt
   where
     append_nil : (xs : List Seat) → xs ++ [] ≡ xs
@@ -138,7 +138,7 @@ same_comes m lines c h = new_comes m lines c h c [] (sym (append_nil c.seats)) t
 -- a move
 
 abbrev Comer : Setups → Machines → Machines → Type 0
-Comer u w x = (server : Bool) → Comes (lines_at server u) (core_of w server) (core_of x server)
+Comer u w x = (server : Bool) → CoreGrows (lines_at server u) (core_of w server) (core_of x server)
 
 stay_comes : (u : Setups) (w : Machines) → BothSound u w → Comer u w w
 stay_comes u w h true = same_comes true u.server.lines w.server.core h.server
@@ -173,5 +173,5 @@ move_comes u w (HearsFrame i now rates) pos h = go (slice_get w.posts i)
     go None = stay_comes u w h
     go (Some p) = cond_comes u (is_for_other u p) w (tell u (marked_delivered i w) (not p.by_server) (heard_as u p now) rates) (counted (marked_delivered i w)) (here (not p.by_server) (heard_as u p now)) still
 
-pub run_comes : (u : Setups) (moves : List Move) (m : Move) (server : Bool) → Fit u → Comes (lines_at server u) (core_of (run u moves (open_machines u)) server) (core_of (happens u (run u moves (open_machines u)) m) server)
+pub run_comes : (u : Setups) (moves : List Move) (m : Move) (server : Bool) → Fit u → CoreGrows (lines_at server u) (core_of (run u moves (open_machines u)) server) (core_of (happens u (run u moves (open_machines u)) m) server)
 run_comes u moves m server f = move_comes u (run u moves (open_machines u)) m f.sessions (reach_run u moves f).sound server

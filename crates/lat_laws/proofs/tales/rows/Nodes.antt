@@ -15,7 +15,7 @@ use Rattle.lat_laws.specs.rounds.Seated.{IsSeat}
 use Rattle.lat_laws.proofs.rounds.ready.Seats.{last_more}
 use Rattle.lat_laws.specs.tales.Items.{taken_of, line_of, put_by, taken_by}
 use Rattle.lat_laws.specs.tales.Mates.{mate_in, mate, mate_by_ids}
-use Rattle.lat_laws.specs.tales.Rows.{Figures, figures_of, RowAfter, RowsAfter, KeepsRow, Pairs, Keeps, newest_place}
+use Rattle.lat_laws.specs.tales.Rows.{Figures, figures_of, RowAfter, RowsAfter, KeepsRow, Pairs, KeepsRows, newest_place}
 use Rattle.lat_laws.specs.tales.Keeping.{change, with_items, adds, accepts, accepts_all, new_seats, rows_at}
 use Rattle.lat_laws.proofs.tales.steps.Goes.{Untouched}
 use Rattle.lat_laws.proofs.tales.seats.Sound.{Distinct, Sound, IsNew, IsFirst, seat_before, seat_behind}
@@ -170,7 +170,7 @@ module _ (u : Setups) (w : Machines) (e : Event) (rates : List ℕ) (r : Reach u
     node = λ h. absurd (h (none_on_zero false u.node.lines c r.sound.node));
   }
 
-  added : (k : RowsAfter) → Keeps u w k → Beside c.seats (adds false (line_of e) (put_by e a) (taken_by e a) k)
+  added : (k : RowsAfter) → KeepsRows u w k → Beside c.seats (adds false (line_of e) (put_by e a) (taken_by e a) k)
   added k h = record {
     rows = pairs_change (KeepsRow u w) (λ s y. RowBy u x (seat_at v) (seat_at c) (partner_in u x s c.seats) s y) (with_items false (put_by e a) (taken_by e a)) (k.node_lines (line_of e)) 0 v.seats k.rows at h.rows;
     server_lines = h.server_lines;
@@ -318,7 +318,7 @@ module _ (u : Setups) (w : Machines) (e : Event) (rates : List ℕ) (r : Reach u
       accepted_all (xs ++ t ∷ []) ts (accepts t.line (mate_by_ids u x t) (figures_of d (last_on t.line no_seat xs)) k) q2 new.1 first.1
       (accepted xs t k (distinct_front (xs ++ t ∷ []) ts (subst Distinct q2 rx.sound.node.rest.distinct)) (λ y i. subst (IsSeat y) (sym q2) (seat_before y (xs ++ t ∷ []) ts i)) new.0 first.0 b)
 
-  pub node_keeps : (k : RowsAfter) → Keeps u w k → Keeps u (tell u w false e rates) (rows_at u w false e rates k)
+  pub node_keeps : (k : RowsAfter) → KeepsRows u w k → KeepsRows u (tell u w false e rates) (rows_at u w false e rates k)
   node_keeps k h = record {
     rows = pairs_each (λ s y. RowBy u x (seat_at v) (seat_at d) (partner u x s) s y) (KeepsRow u x) 0 v.seats kept.rows (λ s y j i q. by_row u x s y q) b.rows;
     server_lines = b.server_lines;

@@ -3,7 +3,7 @@ use Rattle.std.proofs.Common.{◌≡◌, ℕ, ◌<◌, refl, sym, ap, subst, Boo
 use Rattle.lat_machines.specs.values.Events.{Event, Hears, is_heard}
 use Rattle.lat_machines.specs.world.Machines.{Setups, Posted, Machines, Move, Does, HearsFrame, HearsForeign, tell, is_for_other, heard_as, counted, marked_delivered, comes, is_own, happens, run, open_machines}
 use Rattle.lat_machines.specs.world.Safe.{Fit, Shared}
-use Rattle.lat_laws.specs.tales.Rows.{RowsAfter, KeepsRow, Keeps}
+use Rattle.lat_laws.specs.tales.Rows.{RowsAfter, KeepsRow, KeepsRows}
 use Rattle.lat_laws.specs.tales.Keeping.{rows_at, rows_at_frame, rows_after, no_rows, rows_after_all}
 use Rattle.lat_laws.proofs.tales.mates.Reach.{BothOk, Reach, reach_run, marked_sound}
 use Rattle.lat_laws.proofs.tales.mates.Matched.{HasMate, Homed}
@@ -28,14 +28,14 @@ marked_reach u i w r = record {
 marked_homed : (u : Setups) (i : ℕ) (w : Machines) → Homed u w → Homed u (marked_delivered i w)
 marked_homed u i w h t j a = (let m : HasMate u w t = h t j a in record { seat = m.seat; is_seat = m.is_seat; partner = m.partner })
 
-marked_keeps : (u : Setups) (i : ℕ) (w : Machines) (k : RowsAfter) → Keeps u w k → Keeps u (marked_delivered i w) k
+marked_keeps : (u : Setups) (i : ℕ) (w : Machines) (k : RowsAfter) → KeepsRows u w k → KeepsRows u (marked_delivered i w) k
 marked_keeps u i w k h = record {
   rows = pairs_each (KeepsRow u w) (KeepsRow u (marked_delivered i w)) 0 w.server.core.seats k.rows (λ s r j a q. record { line = q.line; circuit = q.circuit; id = q.id; node_line = q.node_line; put_up = q.put_up; taken_up = q.taken_up; put_down = q.put_down; taken_down = q.taken_down; server = q.server; node = q.node }) h.rows;
   server_lines = h.server_lines;
   node_lines = h.node_lines;
 }
 
-counted_keeps : (u : Setups) (w : Machines) (k : RowsAfter) → Keeps u w k → Keeps u (counted w) k
+counted_keeps : (u : Setups) (w : Machines) (k : RowsAfter) → KeepsRows u w k → KeepsRows u (counted w) k
 counted_keeps u w k h = record {
   rows = pairs_each (KeepsRow u w) (KeepsRow u (counted w)) 0 w.server.core.seats k.rows (λ s r j a q. record { line = q.line; circuit = q.circuit; id = q.id; node_line = q.node_line; put_up = q.put_up; taken_up = q.taken_up; put_down = q.put_down; taken_down = q.taken_down; server = q.server; node = q.node }) h.rows;
   server_lines = h.server_lines;
@@ -47,7 +47,7 @@ counted_keeps u w k h = record {
 -- who is at home, and what is kept
 record Behind (u : Setups) (w : Machines) (k : RowsAfter) : Type 0 where
   pub homed : Homed u w
-  pub keeps : Keeps u w k
+  pub keeps : KeepsRows u w k
 
 told_behind : (u : Setups) (w : Machines) (b : Bool) (e : Event) (rates : List ℕ) (k : RowsAfter) → 0 < u.server.timing.sessions → Reach u w → Reach u (tell u w b e rates) → Behind u w k → Behind u (tell u w b e rates) (rows_at u w b e rates k)
 told_behind u w true e rates k pos r rx h = record { homed = server_homed u w e rates pos r h.homed rx; keeps = server_keeps u w e rates pos r h.homed rx k h.keeps }
@@ -114,12 +114,12 @@ run_behind u es (m ∷ ms) k f h =
     step : run u (es ++ m ∷ []) (open_machines u) ≡ happens u w m
     step = run_more u es (m ∷ []) (open_machines u)
 
-pub run_keeps : (u : Setups) (ms : List Move) → Fit u → Keeps u (run u ms (open_machines u)) (rows_after_all u ms (open_machines u) no_rows)
+pub run_keeps : (u : Setups) (ms : List Move) → Fit u → KeepsRows u (run u ms (open_machines u)) (rows_after_all u ms (open_machines u) no_rows)
 run_keeps u ms f = (run_behind u [] ms no_rows f (open_behind u)).keeps
 
 homed_run : (u : Setups) (ms : List Move) → Fit u → Homed u (run u ms (open_machines u))
 homed_run u ms f = (run_behind u [] ms no_rows f (open_behind u)).homed
 
 -- what was kept in a world of a run is kept behind its next move
-pub next_keeps : (u : Setups) (es : List Move) (m : Move) (k : RowsAfter) → Fit u → Keeps u (run u es (open_machines u)) k → Keeps u (happens u (run u es (open_machines u)) m) (rows_after u (run u es (open_machines u)) m k)
+pub next_keeps : (u : Setups) (es : List Move) (m : Move) (k : RowsAfter) → Fit u → KeepsRows u (run u es (open_machines u)) k → KeepsRows u (happens u (run u es (open_machines u)) m) (rows_after u (run u es (open_machines u)) m k)
 next_keeps u es m k f h = (move_behind u (run u es (open_machines u)) m k f.sessions (reach_run u es f) (next_reach u es m f) (record { homed = homed_run u es f; keeps = h })).keeps

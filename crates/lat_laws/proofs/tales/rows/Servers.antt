@@ -15,7 +15,7 @@ use Rattle.lat_laws.specs.rounds.Seated.{IsSeat}
 use Rattle.lat_laws.proofs.rounds.ready.Seats.{last_more}
 use Rattle.lat_laws.specs.tales.Items.{taken_of, line_of, put_by, taken_by}
 use Rattle.lat_laws.specs.tales.Mates.{mate_in, mate}
-use Rattle.lat_laws.specs.tales.Rows.{Figures, figures_of, RowAfter, RowsAfter, KeepsRow, Pairs, Keeps, newest_place}
+use Rattle.lat_laws.specs.tales.Rows.{Figures, figures_of, RowAfter, RowsAfter, KeepsRow, Pairs, KeepsRows, newest_place}
 use Rattle.lat_laws.specs.tales.Keeping.{change, with_items, adds, new_row, connects, connects_all, new_seats, rows_at}
 use Rattle.lat_laws.proofs.tales.steps.Goes.{Untouched}
 use Rattle.lat_laws.proofs.tales.seats.Sound.{Apart, Distinct, IsNew, seat_before, seat_behind}
@@ -153,7 +153,7 @@ module _ (u : Setups) (w : Machines) (e : Event) (rates : List ℕ) (pos : 0 < u
     pub server_lines : (line : ℕ) → k.server_lines line ≡ newest_place line 0 0 xs
     pub node_lines : (line : ℕ) → k.node_lines line ≡ mate u x (seat_at n line)
 
-  added : (k : RowsAfter) → Keeps u w k → Beside c.seats (adds true (line_of e) (put_by e a) (taken_by e a) k)
+  added : (k : RowsAfter) → KeepsRows u w k → Beside c.seats (adds true (line_of e) (put_by e a) (taken_by e a) k)
   added k h = record {
     rows = pairs_change (KeepsRow u w) (λ s v. RowBy u x (seat_at c) (seat_at n) (partner u x s) s v) (with_items true (put_by e a) (taken_by e a)) (k.server_lines (line_of e)) 0 c.seats k.rows (λ s v j i q. at s v j i q) h.rows;
     server_lines = h.server_lines;
@@ -227,7 +227,7 @@ module _ (u : Setups) (w : Machines) (e : Event) (rates : List ℕ) (pos : 0 < u
       connected_all (xs ++ s ∷ []) ss (connects s (figures_of d (last_on s.line no_seat xs)) k) q2 new.1 (λ y j. i y (inr j))
       (connected xs s k (distinct_front (xs ++ s ∷ []) ss (subst Distinct q2 rx.sound.server.rest.distinct)) (λ y j. line_some u.server.lines y (rx.sound.server.seated.placed y (subst (IsSeat y) (sym q) (seat_before y xs (s ∷ ss) j))).line) new.0 (i s (inl refl)) b)
 
-  pub server_keeps : (k : RowsAfter) → Keeps u w k → Keeps u (tell u w true e rates) (rows_at u w true e rates k)
+  pub server_keeps : (k : RowsAfter) → KeepsRows u w k → KeepsRows u (tell u w true e rates) (rows_at u w true e rates k)
   server_keeps k h = record {
     rows = pairs_each (λ s v. RowBy u x (seat_at d) (seat_at n) (partner u x s) s v) (KeepsRow u x) 0 d.seats kept.rows (λ s v j i q. by_row u x s v q) b.rows;
     server_lines = b.server_lines;

@@ -10,7 +10,7 @@ use Rattle.lat_machines.specs.world.Safe.{Fit}
 use Rattle.lat_machines.specs.world.Reports.{Direction, Row, is_partner, partner_in, partner, row, report}
 use Rattle.lat_laws.specs.rounds.Seated.{IsSeat}
 use Rattle.lat_laws.specs.tales.Mates.{mate}
-use Rattle.lat_laws.specs.tales.Rows.{Figures, figures_of, RowAfter, RowsAfter, KeepsRow, Pairs, Keeps}
+use Rattle.lat_laws.specs.tales.Rows.{Figures, figures_of, RowAfter, RowsAfter, KeepsRow, Pairs, KeepsRows}
 use Rattle.lat_laws.specs.tales.Keeping.{no_figures}
 use Rattle.lat_laws.specs.tales.Reported.{server_figures, node_figures, report_row, report_rows_from, report_rows}
 use Rattle.lat_laws.proofs.tales.mates.Reach.{Reach, reach_run}
@@ -19,7 +19,7 @@ use Rattle.lat_laws.proofs.tales.mates.Places.{IsAt, at_seat, at_above, one_seat
 use Rattle.lat_laws.proofs.tales.seats.Calls.{seat_or_none}
 use Rattle.lat_laws.proofs.tales.rows.By.{line_some, newest_is_at, at_newest}
 
-module _ (u : Setups) (w : Machines) (r : Reach u w) (k : RowsAfter) (h : Keeps u w k) where
+module _ (u : Setups) (w : Machines) (r : Reach u w) (k : RowsAfter) (h : KeepsRows u w k) where
   figures_server : (s : Seat) (v : RowAfter) (j : ℕ) → IsAt s j 0 w.server.core.seats → KeepsRow u w s v → server_figures w k j v ≡ figures_of w.server.core s
   figures_server s v j i q = go (nat_eq (k.server_lines v.line) j) refl
     where
@@ -109,5 +109,5 @@ module _ (u : Setups) (w : Machines) (r : Reach u w) (k : RowsAfter) (h : Keeps 
   told_are_rows = rows_told 0 w.server.core.seats k.rows row_told h.rows
 
 -- in a world of a run
-pub run_told : (u : Setups) (ms : List Move) (k : RowsAfter) → Fit u → Keeps u (run u ms (open_machines u)) k → report_rows (run u ms (open_machines u)) k ≡ (report u (run u ms (open_machines u))).sessions
+pub run_told : (u : Setups) (ms : List Move) (k : RowsAfter) → Fit u → KeepsRows u (run u ms (open_machines u)) k → report_rows (run u ms (open_machines u)) k ≡ (report u (run u ms (open_machines u))).sessions
 run_told u ms k f h = told_are_rows u (run u ms (open_machines u)) (reach_run u ms f) k h

@@ -1,12 +1,12 @@
 use Rattle.std.proofs.Common.{Ok, Err, ap, refl, add-one}
 use Rattle.lat_cmd.specs.generate.Grown.{setups}
 use Rattle.lat_replay.proofs.Playing.{refused_so, goes_on, stays_so}
-use Rattle.lat_cmd.specs.generate.Growths.{Shows}
+use Rattle.lat_cmd.specs.generate.Growths.{StandsFor}
 use Rattle.lat_cmd.proofs.generate.Growing.{made, unmade, refused_for}
 use Rattle.lat_cmd.proofs.generate.growth.Growth.told.Goals as goal
 
 pub returns-in_ok-line_onto-in-Ok-clause-shows : goal.returns-in_ok-line_onto-in-Ok-clause-shows
-unfolding Shows
+unfolding StandsFor
 returns-in_ok-line_onto-in-Ok-clause-shows g c = λ h s.
     made c.args.self.now _ c.args.event.now h
     (record { setups = c.in-Ok.ensures.setups; service = refl; writes = refl; generator = refl })
@@ -17,7 +17,7 @@ returns-in_ok-line_onto-in-Ok-clause-shows g c = λ h s.
     s
 
 pub returns-in_default-clause-shows : goal.returns-in_default-clause-shows
-unfolding Shows
+unfolding StandsFor
 returns-in_default-clause-shows g c = λ h s.
     unmade c.args.self.now _ c.args.event.now h c.in-Err.fault
     (record { setups = c.in-Err.ensures.setups; service = refl; writes = refl; generator = refl })
