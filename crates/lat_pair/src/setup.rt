@@ -2,7 +2,6 @@
 
 ghost use Rattle.std.specs.Prelude.{◌≡◌, ◌≤◌, true, false, nat_eq, length, IfOk};
 ghost use Rattle.std.specs.List.{list_any};
-ghost use Rattle.lat_circuit.specs.Agrees.{IsTiming};
 ghost use Rattle.lat_lines.specs.Kept.{IsLine};
 ghost use Rattle.lat_server.specs.Config.{IsConfig};
 ghost use Rattle.lat_server.specs.declared.config.Offer.{Offer};
