@@ -19,7 +19,7 @@ pub fn rows_are_kept()
     ensures next { (u : Setups) (moves : List Move) (m : Move) (k : RowsAfter) →
         Fit u →
         KeepsRows u (run u moves (open_machines u)) k →
-        Keeps u (happens u (run u moves (open_machines u)) m)
+        KeepsRows u (happens u (run u moves (open_machines u)) m)
         (rows_after u (run u moves (open_machines u)) m k) }
 {}
 
@@ -37,6 +37,6 @@ pub fn kept_rows_are_the_report()
 pub fn new_sessions_are_in_the_books()
     ensures { (u : Setups) (moves : List Move) (m : Move) (server : Bool) →
         Fit u →
-        Comes (lines_at server u) (core_of (run u moves (open_machines u)) server)
+        CoreGrows (lines_at server u) (core_of (run u moves (open_machines u)) server)
         (core_of (happens u (run u moves (open_machines u)) m) server) }
 {}

@@ -21,7 +21,7 @@ pub fn add_items(server: bool, event: &Event, answer: &Answer, roster: &mut Rost
     ensures shows { (a : machines.Answer) (k : RowsAfter) →
         answer.now ≡ answer_of a →
         HasRows roster.old k →
-        Shows roster.new (adds server (line_of (event_shown event.now))
+        HasRows roster.new (adds server (line_of (event_shown event.now))
         (put_by (event_shown event.now) a) (taken_by (event_shown event.now) a) k) }
     ensures places { (n : ℕ) → HasPlaces n roster.old → HasPlaces n roster.new }
 {
