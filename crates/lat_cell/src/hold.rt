@@ -9,7 +9,7 @@ ghost use Rattle.lat_cell.specs.Within.{in_hand, is_read};
 use crate::desk::Desk;
 use crate::mind::{Fact, Move};
 use lat_base::{Answer, Bytes, Core, Event, Items, Memory, Name, SessionState};
-use lat_history::{Cell, CellFault, LineShare, Receipt};
+use lat_history::{Cell, CellFault, LineShare, Receipt, put};
 use lat_outside::Tx;
 use std::alloc::Global;
 use std::sync::ledger::Ledger;
@@ -54,16 +54,6 @@ fn event_of(
     }
 }
 
-// How many bytes were put.
-fn took(answer: &Answer) -> u16
-    ensures { result ≡ put_of answer.now }
-{
-    match answer {
-        Answer::Put(n) => *n,
-        _ => 0,
-    }
-}
-
 // The mind is told what came of its move.
 fn tell(desk: &mut Desk, go: Move, answer: &Answer, moment: u64)
     requires put { put_of answer.now ≤ left_of desk.old.mind }
@@ -76,7 +66,7 @@ fn tell(desk: &mut Desk, go: Move, answer: &Answer, moment: u64)
             desk.mind.told(Fact::Connect { ok, moment });
         }
         Move::Put => {
-            let n = took(answer);
+            let n = put(answer);
             desk.mind.told(Fact::Put { took: n, moment });
             desk.at += n as usize;
         }

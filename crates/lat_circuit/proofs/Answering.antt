@@ -23,7 +23,8 @@ use Rattle.lat_circuit.specs.declared.circuit.Circuit.TheInside.{Inside}
 use Rattle.lat_circuit.specs.declared.config.CircuitConfig.{CircuitConfig}
 use Rattle.lat_circuit.specs.declared.moments.Moments.{Moments}
 use Rattle.lat_circuit.specs.declared.start.Start.{Start}
-use Rattle.lat_circuit.specs.Agrees.{agreed_shown, span_of, IsTiming, Works}
+use Rattle.lat_frames.specs.Timings.{IsTiming}
+use Rattle.lat_circuit.specs.Agrees.{agreed_shown, span_of, Works}
 use Rattle.lat_circuit.specs.Begins.{Begins, facts_answered}
 use Rattle.lat_circuit.specs.Kept.{Facts, Knows}
 use Rattle.lat_circuit.specs.Shown.{shown}

@@ -24,7 +24,7 @@ use Rattle.lat_seq.specs.declared.span.Span.TheVariants.{Byte, Word}
 use Rattle.lat_circuit.specs.Links.{IsMessage}
 use Rattle.lat_circuit.specs.Payloads.{is_wide}
 use Rattle.lat_circuit.specs.Messages.{param_shown, param_of, head_shown, head_of, wide_head_shown, wide_head_of, info_shown, info_of, message_shown, message_of, IsFormed}
-use Rattle.lat_circuit.specs.Agrees.{IsTiming}
+use Rattle.lat_frames.specs.Timings.{IsTiming}
 use Rattle.lat_circuit.specs.Kept.{Facts}
 use Rattle.lat_circuit.specs.Frames.{AreFormed, message_sent}
 

@@ -5,7 +5,6 @@ use Rattle.lat_seq.specs.declared.span.Span.{Span}
 use Rattle.lat_seq.specs.declared.span.Span.TheVariants.{Byte, Word}
 use Rattle.lat_circuit.specs.Payloads.{head_size}
 use Rattle.lat_circuit.specs.declared.agreed.Agreed.{Agreed as OwnAgreed}
-use Rattle.lat_circuit.specs.declared.config.Timing.{Timing as OwnTiming}
 
 abbrev pub span_of : Bool → Span
 span_of true = Word
@@ -27,10 +26,3 @@ pub record Works (g : OwnAgreed) : Type 0 where
   pub fits : head_size (span_of g.wide) + g.room ≤ 1500
   pub open_window : 1 ≤ g.window
   pub narrow_window : g.window ≤ 8
-
--- what the numbers of an end may be
-pub record IsTiming (t : OwnTiming) : Type 0 where
-  pub timer : (1 ≤ t.timer) × (t.timer ≤ 100)
-  pub keepalive : 1 ≤ t.keepalive
-  pub sessions : (1 ≤ t.sessions) × (t.sessions ≤ 64)
-  pub ceiling : (1 ≤ t.ceiling) × (t.ceiling ≤ 15)

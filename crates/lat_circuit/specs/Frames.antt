@@ -11,7 +11,7 @@ use Rattle.lat_machines.specs.values.Messages.{StartInfo, Message, StartMessage,
 use Rattle.lat_machines.specs.values.Runs.{run_message}
 use Rattle.lat_machines.specs.values.Timing.{Timing, wide_params, call_info, reply_info}
 use Rattle.lat_circuit.specs.Messages.{message_of, IsFormed}
-use Rattle.lat_circuit.specs.declared.config.Timing.{Timing as OwnTiming}
+use Rattle.lat_frames.specs.declared.timing.Timing.{Timing as OwnTiming}
 use Rattle.lat_circuit.specs.declared.start.Start.{Start}
 use Rattle.lat_circuit.specs.Kept.{Facts}
 

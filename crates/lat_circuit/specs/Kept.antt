@@ -7,7 +7,7 @@ use Rattle.lat_circuit.specs.Links as link
 use Rattle.lat_circuit.specs.declared.ids.Ids.{Ids}
 use Rattle.lat_circuit.specs.Payloads.{head_size}
 use Rattle.lat_session.specs.Table.{Table}
-use Rattle.lat_circuit.specs.Agrees.{IsTiming}
+use Rattle.lat_frames.specs.Timings.{IsTiming}
 
 -- what its frames bear beside their numbers
 pub record Facts : Type 0 where

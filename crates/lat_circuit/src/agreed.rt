@@ -9,10 +9,9 @@ ghost use Rattle.lat_circuit.specs.Frames.{timing_shown};
 ghost use Rattle.lat_circuit.specs.Messages.{info_shown, param_shown};
 ghost use Rattle.lat_circuit.specs.Agrees.{agreed_shown, Works, span_of};
 
-use crate::config::Timing;
 use crate::start::{FRAME_SIZE, SPAN, WIDE};
 use lat_fields::Param;
-use lat_frames::StartInfo;
+use lat_frames::{StartInfo, Timing};
 use lat_seq::Span;
 use lat_session::Sessions;
 

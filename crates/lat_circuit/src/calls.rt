@@ -5,7 +5,7 @@ ghost use Rattle.std.specs.Prelude.{◌≡◌, ◌≤◌, ◌++◌, not, true, m
 ghost use Rattle.lat_base.specs.declared.state.SessionState.TheVariants as states;
 ghost use Rattle.lat_model.specs.ends.End.{End, still, call_end};
 ghost use Rattle.lat_model.specs.ends.Timers.{note_empty};
-ghost use Rattle.lat_model.specs.sessions.Calls.{take_count, took, Connect, Take, Answer, Refuse};
+ghost use Rattle.lat_model.specs.sessions.Calls.{take_count, took, Connect, Take, Answer, RejectAsk};
 ghost use Rattle.lat_model.specs.sessions.Session.{take_open};
 ghost use Rattle.lat_model.specs.sessions.Sessions.{named, held, least_free};
 ghost use Rattle.lat_stream.specs.Kept.{item_of};
@@ -79,7 +79,7 @@ impl Circuit {
         requires asked { state_at self.old.sessions id ≡ states.Asked }
         requires reason { reason ≤ 15 }
         ensures state { (e : End) → Stands self.old e →
-            Stands self.new (note_empty e (still (call_end (Refuse id reason) e))).end }
+            Stands self.new (note_empty e (still (call_end (RejectAsk id reason) e))).end }
         ensures keeps { Keeps self.old self.new }
         ensures ended { self.new.ended ≡ self.old.ended }
     {

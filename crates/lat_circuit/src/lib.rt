@@ -27,7 +27,8 @@ mod time;
 mod timers;
 
 pub use circuit::Circuit;
-pub use config::{CircuitConfig, Timing};
+pub use config::CircuitConfig;
+pub use lat_frames::Timing;
 pub use lat_session::{Asked, SessionCall, SessionFault};
 pub use room::CircuitRoom;
 pub use start::refusal;

@@ -2,7 +2,7 @@
 
 ghost use Rattle.std.specs.Prelude.{◌≡◌, ◌+◌, ◌<◌, ◌≤◌, true, length, IfOk, OnErr};
 ghost use Rattle.lat_frames.specs.Conditions.{InfoFits};
-ghost use Rattle.lat_circuit.specs.Agrees.{IsTiming};
+ghost use Rattle.lat_frames.specs.Timings.{IsTiming};
 ghost use Rattle.lat_circuit.specs.Begins.{HasCalled, HasAnswered};
 ghost use Rattle.lat_circuit.specs.Messages.{info_shown};
 

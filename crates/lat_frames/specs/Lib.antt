@@ -6,3 +6,4 @@ pub mod MessageText
 pub mod Written
 pub mod Reading
 pub mod Laws
+pub mod Timings

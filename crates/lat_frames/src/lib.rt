@@ -1,4 +1,4 @@
-//! The messages of a circuit: read, tested and written as whole payloads.
+//! The messages of a circuit: read, tested and written as whole payloads; and the timing of an end, which STARTs state.
 #![tactic(auto)]
 
 mod check;
@@ -11,6 +11,7 @@ mod read_run;
 mod read_start;
 mod reason;
 mod slots;
+mod timing;
 mod write;
 
 pub use check::message_ok;
@@ -20,6 +21,7 @@ pub use message::{Head, Limits, Message, StartInfo, WideHead};
 pub use read::read_message;
 pub use reason::CircuitEnd;
 pub use slots::Slots;
+pub use timing::Timing;
 pub use write::{
     write_message, write_numbers, write_plain_head, write_run_head, write_slots, write_stop,
     write_wide_head,

@@ -9,7 +9,7 @@ use Rattle.lat_model.specs.circuits.World.{CircuitEntry}
 use Rattle.lat_machines.specs.cores.Acts.{steps_at, idle}
 use Rattle.lat_machines.specs.cores.Cores.{Core, Side}
 use Rattle.lat_machines.specs.server.Server.{has_room}
-use Rattle.lat_circuit.specs.declared.config.Timing.{Timing}
+use Rattle.lat_frames.specs.declared.timing.Timing.{Timing}
 use Rattle.lat_circuit.specs.Frames.{timing_shown}
 use Rattle.lat_lines.specs.circuits.Kept as circuits
 use Rattle.lat_lines.specs.circuits.Stands.{calling}

@@ -10,12 +10,12 @@ use Rattle.lat_machines.specs.cores.Cores.{Core}
 pub record Look : Type 0 where
   pub out : List Slot
   pub came : List Slot
-  pub refused : Bool
+  pub rejects : Bool
   pub reason : ℕ
   pub free : Bool
 
 abbrev pub look : Session → Look
-look s = record { out = s.out; came = s.came; refused = s.refused; reason = s.reason; free = free s }
+look s = record { out = s.out; came = s.came; rejects = s.rejects; reason = s.reason; free = free s }
 
 -- lines know the same of the sessions of an end, and of its circuit
 pub record IsCalm (e f : End) : Type 0 where

@@ -4,11 +4,11 @@ use Rattle.lat_model.specs.sessions.Session.{free, rejected, waits, peer}
 use Rattle.lat_model.specs.sessions.Sessions.{Sessions, named}
 use Rattle.lat_model.specs.ends.End.{End}
 
--- A session that a line may have: one that was made, and accepted, and not refused
+-- A session that a line may have: one that was made, and accepted, and not rejected
 pub record IsAccepted (s : Sessions) (k : ℕ) : Type 0 where
   pub made : (1 ≤ k) × (k ≤ s.made)
   pub accepted : (s.session k).accepted ≡ true
-  pub kept : (s.session k).refused ≡ false
+  pub kept : (s.session k).rejects ≡ false
 
 -- An id leads to a session that a line may have and that isn't free
 pub record Leads (s : Sessions) (i k : ℕ) : Type 0 where

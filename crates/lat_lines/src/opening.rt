@@ -2,7 +2,7 @@
 
 ghost use Rattle.std.specs.Prelude.{◌≡◌, ℕ, ◌≤◌, ◌+◌, ◌&&◌, true, false, [], map, length, None, IfOk, OnOk, OnErr};
 ghost use Rattle.lat_model.specs.ends.End.{lives};
-ghost use Rattle.lat_model.specs.sessions.Calls.{Connect, Refuse};
+ghost use Rattle.lat_model.specs.sessions.Calls.{Connect, RejectAsk};
 ghost use Rattle.lat_model.specs.sessions.Session.{waits};
 ghost use Rattle.lat_model.specs.sessions.Sessions.{named, least_free};
 ghost use Rattle.lat_machines.specs.values.Addresses.{address};
@@ -11,7 +11,7 @@ ghost use Rattle.lat_machines.specs.cores.Lines.{has_session};
 ghost use Rattle.lat_machines.specs.server.Server.{ServerConfig, server_side, has_room, can_open, opens};
 ghost use Rattle.lat_queue.specs.Histories.{key_in, some_key};
 ghost use Rattle.lat_payload.specs.Frames.{Emits};
-ghost use Rattle.lat_circuit.specs.Agrees.{IsTiming};
+ghost use Rattle.lat_frames.specs.Timings.{IsTiming};
 ghost use Rattle.lat_lines.specs.circuits.Kept.{side_of as circuits_side, IsClear, SameCore, SameCircuits, has_id};
 ghost use Rattle.lat_lines.specs.circuits.Stands.{calling, Simulates, Stands as CircuitsStand};
 ghost use Rattle.lat_lines.specs.circuits.Info.{telling};
@@ -131,11 +131,11 @@ impl Lines {
         requires reason { reason ≤ 15 }
         ensures state { (c : Core) →
             Stands self.old c →
-            Stands self.new (calling (side_of self.old) circuit (Refuse id reason) c) }
+            Stands self.new (calling (side_of self.old) circuit (RejectAsk id reason) c) }
         ensures freed { (c : Core) →
             Stands self.old c →
             map key_in self.new.freed
-            ≡ freed_between c (calling (side_of self.old) circuit (Refuse id reason) c) }
+            ≡ freed_between c (calling (side_of self.old) circuit (RejectAsk id reason) c) }
         ensures same { SameLines self.old self.new }
     {
         self.circuits.reject(circuit, id, reason);

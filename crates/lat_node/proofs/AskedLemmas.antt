@@ -3,7 +3,7 @@ use Rattle.std.proofs.Common.{◌≡◌, ℕ, suc, ◌+◌, refl, sym, ap, ◌�
 use Rattle.std.specs.List.{list_any}
 use Rattle.std.proofs.Math.Dec.{eqb-suc-zero}
 use Rattle.lat_model.specs.Lists.{upwards, least}
-use Rattle.lat_model.specs.sessions.Calls.{Call, Refuse}
+use Rattle.lat_model.specs.sessions.Calls.{Call, RejectAsk}
 use Rattle.lat_model.specs.sessions.Calls as Calls
 use Rattle.lat_model.specs.sessions.Session.{waits}
 use Rattle.lat_model.specs.ends.End.{lives, call_end}
@@ -29,7 +29,7 @@ lives_local config x k c l =
 
 lives_judged : (config : NodeConfig) (s : Node) (x id : ℕ) (request : Option ℕ) (v : Verdict) → lives (s.core.circuits.circuit_at x).end ≡ true → lives ((judged config s x id request v).core.circuits.circuit_at x).end ≡ true
 lives_judged config s x id request (Accepts line) l = lives_local config x (Calls.Answer id) s.core l
-lives_judged config s x id request (Rejects reason) l = lives_local config x (Refuse id reason) s.core l
+lives_judged config s x id request (Rejects reason) l = lives_local config x (RejectAsk id reason) s.core l
 
 lives_one : (config : NodeConfig) (x : ℕ) (s : Node) (id : ℕ) → lives (s.core.circuits.circuit_at x).end ≡ true → lives ((answers_one config x s id).core.circuits.circuit_at x).end ≡ true
 lives_one config x s id l = go (waits (asked_at s x id))

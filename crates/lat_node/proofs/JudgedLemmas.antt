@@ -1,6 +1,6 @@
 -- What a node stands for after an answer to one who asks.
 use Rattle.std.proofs.Common.{◌≡◌, ℕ, suc, ◌+◌, subst, ◌∙◌, false, Option, None, min, arith}
-use Rattle.lat_model.specs.sessions.Calls.{Refuse}
+use Rattle.lat_model.specs.sessions.Calls.{RejectAsk}
 use Rattle.lat_machines.specs.cores.Cores.{Side}
 use Rattle.lat_machines.specs.cores.Lines.{saturated_count}
 use Rattle.lat_machines.specs.node.Node.{Node, Accepts, Rejects, judged, node_side}
@@ -31,9 +31,9 @@ told_next k a t e i = i ∙ omega (arith, e)
 
 -- the session is rejected, but for the count of those turned away
 pub rejected : {H : Type 0} (k : Kept H) (l : lines.Kept) (s : Node) (x id reason t : ℕ) (request : Option ℕ) → k.lines.circuits.server ≡ false → Stands k s →
-    line_stands.Stands l (calling (lines.side_of k.lines) x (Refuse id reason) s.core) → t ≡ saturated_count (suc s.turned_away) →
+    line_stands.Stands l (calling (lines.side_of k.lines) x (RejectAsk id reason) s.core) → t ≡ saturated_count (suc s.turned_away) →
     Stands (record (with_lines k l) { turned_away = t }) (judged (config_of k) s x id request (Rejects reason))
 rejected k l s x id reason t request node st y e =
-    let m = moved k l s (calling (node_side (config_of k)) x (Refuse id reason) s.core) st
-    (subst (λ (side : Side). line_stands.Stands l (calling side x (Refuse id reason) s.core)) (side_is k node) y) in
+    let m = moved k l s (calling (node_side (config_of k)) x (RejectAsk id reason) s.core) st
+    (subst (λ (side : Side). line_stands.Stands l (calling side x (RejectAsk id reason) s.core)) (side_is k node) y) in
     record { lines = m.lines; requests = m.requests; accepted = m.accepted; turned_away = e }

@@ -2,7 +2,7 @@
 use Rattle.std.specs.Prelude.{◌≤◌, length}
 use Rattle.lat_machines.specs.values.Addresses.{address}
 use Rattle.lat_machines.specs.node.Node as machine
-use Rattle.lat_circuit.specs.Agrees.{IsTiming}
+use Rattle.lat_frames.specs.Timings.{IsTiming}
 use Rattle.lat_circuit.specs.Frames.{timing_shown}
 use Rattle.lat_node.specs.declared.config.NodeConfig.{NodeConfig}
 

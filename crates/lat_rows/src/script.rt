@@ -1,7 +1,7 @@
 //! The lines of a script, in order.
 
 ghost use Rattle.std.specs.Prelude.{◌≡◌, []};
-ghost use Rattle.lat_circuit.specs.Agrees.{IsTiming};
+ghost use Rattle.lat_frames.specs.Timings.{IsTiming};
 
 use crate::end::End;
 use crate::make::{Setup, answered, called, room_used_again, setup_of};

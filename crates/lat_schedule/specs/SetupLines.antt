@@ -2,7 +2,7 @@
 use Rattle.std.specs.Prelude.{ℕ, Bool, true, false, ◌||◌, List, Option, Some, None, option_and_then, length, nat_eq, nat_le, bytes_eq, codes, if◌then◌else◌}
 use Rattle.std.specs.List.{list_any}
 use Rattle.lat_base.specs.declared.addr.Addr.{Addr}
-use Rattle.lat_circuit.specs.declared.config.Timing.{Timing}
+use Rattle.lat_frames.specs.declared.timing.Timing.{Timing}
 use Rattle.lat_machines.specs.values.Addresses.{address, everyone}
 use Rattle.lat_machines.specs.values.Names.{same}
 use Rattle.lat_server.specs.declared.config.Offer.{Offer}

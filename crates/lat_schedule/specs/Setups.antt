@@ -2,7 +2,7 @@
 use Rattle.std.specs.Prelude.{◌≢◌, ◌≤◌}
 use Rattle.lat_base.specs.Names.{IsName}
 use Rattle.lat_base.specs.declared.addr.Addr.{Addr}
-use Rattle.lat_circuit.specs.Agrees.{IsTiming}
+use Rattle.lat_frames.specs.Timings.{IsTiming}
 use Rattle.lat_model.specs.Lists.{Each}
 use Rattle.lat_machines.specs.values.Addresses.{address, everyone}
 use Rattle.lat_node.specs.Config as nodes

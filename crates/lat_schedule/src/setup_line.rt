@@ -3,7 +3,7 @@
 ghost use Rattle.std.specs.Prelude.{◌≡◌, ◌≢◌, ◌*◌, ◌≤◌, ◌<◌, false, IfSome, IfOk, nat_eq, length, option_map};
 ghost use Rattle.std.specs.List.{list_any};
 ghost use Rattle.lat_base.specs.Names.{IsName};
-ghost use Rattle.lat_circuit.specs.Agrees.{IsTiming};
+ghost use Rattle.lat_frames.specs.Timings.{IsTiming};
 ghost use Rattle.lat_lines.specs.Kept.{IsLine};
 ghost use Rattle.lat_machines.specs.values.Addresses.{address, everyone};
 ghost use Rattle.lat_machines.specs.values.Names.{same};

@@ -1,6 +1,6 @@
 -- The timing of a circuit that a line states.
 use Rattle.std.specs.Prelude.{ℕ, List, [], Bool, false, Result, Ok, Err, bytes_eq, if◌then◌else◌}
-use Rattle.lat_circuit.specs.declared.config.Timing.{Timing}
+use Rattle.lat_frames.specs.declared.timing.Timing.{Timing}
 use Rattle.lat_script.specs.declared.fault.ScriptFault.{ScriptFault}
 use Rattle.lat_script.specs.declared.fault.Pair.TheVariants.{Spans}
 use Rattle.lat_script.specs.Words.{word_at, number_at, choice_at}

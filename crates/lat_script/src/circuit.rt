@@ -1,12 +1,12 @@
 //! The timing of a circuit, as a line of a script states it.
 
 ghost use Rattle.std.specs.Prelude.{◌≡◌, IfOk};
-ghost use Rattle.lat_circuit.specs.Agrees.{IsTiming};
+ghost use Rattle.lat_frames.specs.Timings.{IsTiming};
 ghost use Rattle.lat_script.specs.Timings.{wide_at, timing_at};
 
 use crate::fault::{Pair, ScriptFault};
 use crate::words::{byte, byte_within, choice, word};
-use lat_circuit::Timing;
+use lat_frames::Timing;
 
 // Whether the numbers have two bytes: by this word, where there is one.
 fn is_wide(line: &str, place: u8) -> Result<bool, ScriptFault>

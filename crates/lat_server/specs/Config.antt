@@ -3,7 +3,7 @@ use Rattle.std.specs.Prelude.{ℕ, ◌≤◌, List, map}
 use Rattle.lat_model.specs.Lists.{Each}
 use Rattle.lat_machines.specs.values.Addresses.{address}
 use Rattle.lat_machines.specs.server.Server as machine
-use Rattle.lat_circuit.specs.Agrees.{IsTiming}
+use Rattle.lat_frames.specs.Timings.{IsTiming}
 use Rattle.lat_circuit.specs.Frames.{timing_shown}
 use Rattle.lat_lines.specs.Kept.{Apart, IsLine}
 use Rattle.lat_server.specs.declared.config.Offer.{Offer}

@@ -42,8 +42,8 @@ Simulates event old new answer before after =
     (s : Server) → Stands old s → HasDone s (event (config_of old) s) new answer before after
 
 -- it did so once time had come to a moment
-abbrev pub DoesAt : ℕ → (ServerConfig → Server → ServerStep) → (old new : Kept) → Answer → (before after : List OutFrame) → Type 0
-DoesAt now event = Simulates (λ config s. event config (with_core s (at_moment now s.core)))
+abbrev pub SimulatesAt : ℕ → (ServerConfig → Server → ServerStep) → (old new : Kept) → Answer → (before after : List OutFrame) → Type 0
+SimulatesAt now event = Simulates (λ config s. event config (with_core s (at_moment now s.core)))
 
 -- the lines so far granted what they could
 pub record HasPassed (p : Passing) (new : Kept) (before after : List OutFrame) : Type 0 where

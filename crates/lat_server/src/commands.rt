@@ -11,7 +11,7 @@ ghost use Rattle.lat_queue.specs.Histories.{key_in};
 ghost use Rattle.lat_queue.specs.Tables.{HasPlace};
 ghost use Rattle.lat_server.specs.Commands.{noted, HasNoted, kept_answer, kept_outcome};
 ghost use Rattle.lat_lines.specs.Answers.{IsPlain};
-ghost use Rattle.lat_server.specs.Events.{DoesAt};
+ghost use Rattle.lat_server.specs.Events.{SimulatesAt};
 ghost use Rattle.lat_server.specs.Kept.{AtRest, SameConfig};
 
 use crate::server::ServerCore;
@@ -34,7 +34,7 @@ impl ServerCore {
         requires rest { AtRest self.old }
         requires room { length out.old + 16 ≤ 256 }
         ensures does { IfOk result (λ a.
-            DoesAt now (λ config s.
+            SimulatesAt now (λ config s.
             hears_command config s (address from.0) (command_shown command.now)
             (action_shown command.now.action))
             self.old self.new a out.old out.new) }

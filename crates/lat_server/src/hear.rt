@@ -16,7 +16,7 @@ ghost use Rattle.lat_payload.specs.Reads.{reading_of, value_shown};
 ghost use Rattle.lat_circuit.specs.Messages.{message_shown};
 ghost use Rattle.lat_payload.specs.Notices.{notice_shown};
 ghost use Rattle.lat_server.specs.Commands.{announced_answer};
-ghost use Rattle.lat_server.specs.Events.{DoesAt};
+ghost use Rattle.lat_server.specs.Events.{SimulatesAt};
 ghost use Rattle.lat_server.specs.Kept.{AtRest, SameConfig};
 
 use crate::server::ServerCore;
@@ -58,7 +58,7 @@ impl ServerCore {
         requires rest { AtRest self.old }
         requires room { length out.old + 16 ≤ 256 }
         ensures does { IfOk result (λ a.
-            DoesAt now (λ config s. hears config s (address from.0) (reading_of payload.now) None)
+            SimulatesAt now (λ config s. hears config s (address from.0) (reading_of payload.now) None)
             self.old self.new a out.old out.new) }
         ensures same { SameConfig self.old self.new }
         ensures plain { IfOk result IsPlain }
@@ -76,7 +76,7 @@ impl ServerCore {
     fn pass_over(&mut self, answer: Answer, now: u64) -> Answer
         requires rest { AtRest self.old }
         ensures does { (frames : List OutFrame) →
-            DoesAt now (λ config s.
+            SimulatesAt now (λ config s.
             tells s (answer_shown answer)) self.old self.new result frames frames }
         ensures same { SameConfig self.old self.new }
         ensures answer { result ≡ answer }
@@ -97,7 +97,7 @@ impl ServerCore {
         requires ok { payload.IsWritable value.now }
         requires room { length out.old + 16 ≤ 256 }
         ensures does { IfOk result (λ a.
-            DoesAt now (λ config s.
+            SimulatesAt now (λ config s.
             hears config s (address from.0) (Whole (value_shown value.now)) None)
             self.old self.new a out.old out.new) }
         ensures same { SameConfig self.old self.new }
@@ -118,7 +118,7 @@ impl ServerCore {
         requires rest { AtRest self.old }
         requires ok { IsWritable message.now }
         requires room { length out.old + 16 ≤ 256 }
-        ensures does { DoesAt now (λ config s.
+        ensures does { SimulatesAt now (λ config s.
             hears_message config s (address from.0) (message_shown message.now) None)
             self.old self.new result out.old out.new }
         ensures same { SameConfig self.old self.new }
@@ -140,7 +140,7 @@ impl ServerCore {
         requires rest { AtRest self.old }
         requires room { length out.old + 16 ≤ 256 }
         ensures does { IfOk result (λ a.
-            DoesAt now (λ config s.
+            SimulatesAt now (λ config s.
             hears_notice config s (address from.0) (notice_shown notice.now))
             self.old self.new a out.old out.new) }
         ensures same { SameConfig self.old self.new }
@@ -166,7 +166,7 @@ impl ServerCore {
     ) -> Result<Answer, Memory>
         requires rest { AtRest self.old }
         ensures does { (frames : List OutFrame) → IfOk result (λ a.
-            DoesAt now (λ config s.
+            SimulatesAt now (λ config s.
             hears_announcement config s (address from.0) (announcement_shown announcement.now))
             self.old self.new a frames frames) }
         ensures same { SameConfig self.old self.new }

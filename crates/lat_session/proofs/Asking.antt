@@ -25,7 +25,7 @@ pub record IsAsked (e : Sessions) (id : ℕ) : Type 0 where
   pub waits : waits (named e id) ≡ true
   pub not_free : free (named e id) ≡ false
   pub not_gone : gone (named e id) ≡ false
-  pub not_refused : (named e id).refused ≡ false
+  pub not_refused : (named e id).rejects ≡ false
   pub not_turned : turned (named e id).came ≡ false
   pub not_stopped : stopped (named e id) ≡ false
   pub starts : starts (named e id).came ≡ true
@@ -35,7 +35,7 @@ pub record IsAsked (e : Sessions) (id : ℕ) : Type 0 where
   pub its_id : (named e id).id ≡ id
 
 -- nothing was formed before the answer
-unformed : (s : Session) → SessionOk false s → answered s ≡ false → s.refused ≡ false → starts s.came ≡ true → is_empty s.out ≡ true
+unformed : (s : Session) → SessionOk false s → answered s ≡ false → s.rejects ≡ false → starts s.came ≡ true → is_empty s.out ≡ true
 unformed s ok a r st = go s.out ok.shape
   where
     go : (xs : List Slot) → Shape false s xs → is_empty xs ≡ true
@@ -55,7 +55,7 @@ is_asked_here t e id st h =
     let s : Session = named e id in
     let w : WhileAsked e.master s = while_asked e.master s h in
     let g : (rejected s ≡ false) × (stopped s ≡ false) = or_parts (rejected s) (stopped s) w.not_gone in
-    let r : (s.refused ≡ false) × (turned s.came ≡ false) = or_parts s.refused (turned s.came) g.0 in
+    let r : (s.rejects ≡ false) × (turned s.came ≡ false) = or_parts s.rejects (turned s.came) g.0 in
     let b : starts s.came ≡ true = ap (λ m. cond m s.accepted (starts s.came)) (sym w.slave) ∙ st.begun (e.at_id id) r.0 in
     let some : e.at_id id ≡ 0 → ⊥ = used e id (λ z. free z ≡ false) true≢false st.good w.not_free in
     record {
@@ -153,7 +153,7 @@ rejected_asks t e id reason st a =
     k = e.at_id id
 
     s : Session
-    s = record (named e id) { refused = true; reason = reason }
+    s = record (named e id) { rejects = true; reason = reason }
 
     open_still : ask_is_open (reject e id reason) k ≡ true
     open_still =

@@ -106,7 +106,7 @@ ask_stands t u e from c size service request st m some byte none l is =
     hear_stands t u e (ask_in e x service request) x st (record { sends = λ q. some; byte = λ q. byte; small = omega arith })
     (ap (λ b. cond b None (Some (ask_in e x service request))) (ap (λ b. b || any_up_to (λ k. names from (e.session k)) e.made) m ∙ none))
     (λ j. upd_all (λ z. (is_empty z.came || (starts z.came || turned z.came)) ≡ true) e.session (suc e.made) new refl st.opens j)
-    (λ j. upd_all (λ z. z.refused ≡ false → cond e.master z.accepted (starts z.came) ≡ true) e.session (suc e.made) new (λ r. ap (λ b. cond b false true) m) st.begun j)
+    (λ j. upd_all (λ z. z.rejects ≡ false → cond e.master z.accepted (starts z.came) ≡ true) e.session (suc e.made) new (λ r. ap (λ b. cond b false true) m) st.begun j)
     (λ j. upd_all (λ z. starts z.came ≡ true → peer z ≢ 0) e.session (suc e.made) new (λ h. some) st.sources j)
     refl refl refl l is
   where

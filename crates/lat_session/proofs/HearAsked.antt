@@ -91,7 +91,7 @@ none_place false n e = absurd (wrong e)
 asked_is : (e : Sessions) (o : Opening) (from c size : ℕ) → is_full e ≡ false → asked (least_free e) (suc e.generations) from c size o ≡ asked_session e (asks_for from c size o.service o.request) o.service o.request
 asked_is e o from c size h = go (is_full e) h
   where
-    go : (b : Bool) → b ≡ false → asked (least_free e) (suc e.generations) from c size o ≡ record (asked_session e (asks_for from c size o.service o.request) o.service o.request) { id = cond b 0 (least_free e); refused = b }
+    go : (b : Bool) → b ≡ false → asked (least_free e) (suc e.generations) from c size o ≡ record (asked_session e (asks_for from c size o.service o.request) o.service o.request) { id = cond b 0 (least_free e); rejects = b }
     go true q = absurd (true≢false q)
     go false q = refl
 

@@ -45,18 +45,18 @@ hear_stands t u e f x st w h opens begun sources m a s l is = record {
 -- how it began stays; or it is a master's, and this is the first slot that it hears
 pub record Goes (m : Bool) (s : Session) (x : Slot) : Type 0 where
   pub opens : (is_empty (s.came ++ x ∷ []) || (starts (s.came ++ x ∷ []) || turned (s.came ++ x ∷ []))) ≡ true
-  pub begun : s.refused ≡ false → cond m s.accepted (starts (s.came ++ x ∷ [])) ≡ true
+  pub begun : s.rejects ≡ false → cond m s.accepted (starts (s.came ++ x ∷ [])) ≡ true
   pub sources : starts (s.came ++ x ∷ []) ≡ true → starter (s.came ++ x ∷ []) ≢ 0
   pub starts : starts s.came ≡ true → starts (s.came ++ x ∷ []) ≡ true
 
-pub goes : (m : Bool) (s : Session) (x : Slot) → (is_empty s.came || (starts s.came || turned s.came)) ≡ true → (s.refused ≡ false → cond m s.accepted (starts s.came) ≡ true) → (starts s.came ≡ true → peer s ≢ 0) → (is_start x ≡ true → source x ≢ 0) → (s.came ≡ [] → (m ≡ true) × ((is_start x || is_reject x) ≡ true)) → Goes m s x
+pub goes : (m : Bool) (s : Session) (x : Slot) → (is_empty s.came || (starts s.came || turned s.came)) ≡ true → (s.rejects ≡ false → cond m s.accepted (starts s.came) ≡ true) → (starts s.came ≡ true → peer s ≢ 0) → (is_start x ≡ true → source x ≢ 0) → (s.came ≡ [] → (m ≡ true) × ((is_start x || is_reject x) ≡ true)) → Goes m s x
 goes m s x o b n w f = record { opens = opened s.came o f; begun = begins s.came b f; starts = started s.came; sources = sources s.came n }
   where
     opened : (xs : List Slot) → (is_empty xs || (starts xs || turned xs)) ≡ true → (xs ≡ [] → (m ≡ true) × ((is_start x || is_reject x) ≡ true)) → (is_empty (xs ++ x ∷ []) || (starts (xs ++ x ∷ []) || turned (xs ++ x ∷ []))) ≡ true
     opened [] o f = (f refl).1
     opened (y ∷ ys) o f = o
 
-    begins : (xs : List Slot) → (s.refused ≡ false → cond m s.accepted (starts xs) ≡ true) → (xs ≡ [] → (m ≡ true) × ((is_start x || is_reject x) ≡ true)) → s.refused ≡ false → cond m s.accepted (starts (xs ++ x ∷ [])) ≡ true
+    begins : (xs : List Slot) → (s.rejects ≡ false → cond m s.accepted (starts xs) ≡ true) → (xs ≡ [] → (m ≡ true) × ((is_start x || is_reject x) ≡ true)) → s.rejects ≡ false → cond m s.accepted (starts (xs ++ x ∷ [])) ≡ true
     begins [] b f r = ap (λ c. cond c s.accepted (is_start x)) (f refl).0 ∙ sym (ap (λ c. cond c s.accepted false) (f refl).0) ∙ b r
     begins (y ∷ ys) b f r = b r
 
@@ -113,7 +113,7 @@ at_stands t u e i id k x st w h next less some g closed kept is =
     let new : record (table_of n e) { sessions = set (table_of n e).sessions i (kept_of e.master e.ceiling (heard (named e id) x)) } ≡ table_of n f =
     ap (λ z. record (table_of n e) { sessions = z }) (sym kept_all) ∙ ap (λ z. record (table_of n f) { asks = z }) (sym asks) in
     hear_stands t u e f x st w h (λ y. upd_all (λ z. (is_empty z.came || (starts z.came || turned z.came)) ≡ true) e.session j (heard (named e id) x) g.opens st.opens y)
-    (λ y. upd_all (λ z. z.refused ≡ false → cond e.master z.accepted (starts z.came) ≡ true) e.session j (heard (named e id) x) g.begun st.begun y)
+    (λ y. upd_all (λ z. z.rejects ≡ false → cond e.master z.accepted (starts z.came) ≡ true) e.session j (heard (named e id) x) g.begun st.begun y)
     (λ y. upd_all (λ z. starts z.came ≡ true → peer z ≢ 0) e.session j (heard (named e id) x) g.sources st.sources y)
     refl refl refl (ap (λ (z : Table). length z.sessions) is ∙ length-set t.sessions i k)
     (is ∙ ap (λ z. record t { sessions = set t.sessions i z }) kept ∙ ap (λ (z : Table). record z { sessions = set z.sessions i (kept_of e.master e.ceiling (heard (named e id) x)) }) st.is ∙ new)
@@ -161,13 +161,13 @@ behind_hears {A} {E} t u e i id k x result st w hears d next less answer kept is
     go true q =
         let some : hear_behind e x ≡ Some (hear_at e (e.at_id id) x) = at ∙ ap (λ b. cond b (Some (hear_at e (e.at_id id) x)) None) q in
         let r : (answered s ≡ true) × (not (gone s) ≡ true) = and_parts (answered s) (not (gone s)) (runs_of s x q) in
-        let refused : s.refused ≡ false = (or_parts s.refused (turned s.came) (or_parts (rejected s) (stopped s) (not-true (gone s) r.1)).0).0 in
+        let rejects : s.rejects ≡ false = (or_parts s.rejects (turned s.came) (or_parts (rejected s) (stopped s) (not-true (gone s) r.1)).0).0 in
         let st0 : (s.accepted ≡ true) × (starts s.came ≡ true) = and_parts s.accepted (starts s.came) r.0 in
         let g : Goes e.master s x = goes e.master s x (st.opens (e.at_id id)) (st.begun (e.at_id id)) (st.sources (e.at_id id)) w.sends (λ z. absurd (starts_some s.came st0.1 z)) in
         let a : answered (heard s x) ≡ true = ap (λ b. b && starts (s.came ++ x ∷ [])) st0.0 ∙ g.starts st0.1 in
         let used : e.at_id id ≢ 0 = λ z. false≢true (sym (ap not (ap (λ j. gone (e.session j)) z ∙ ap gone st.good.none)) ∙ r.1) in
         heard_to u result (hear_behind e x) (hear_at e (e.at_id id) x) some (answer ∙ q)
-        (at_stands t u e i id k x st w (hears ∙ some) next less used g (closed_by e.master _ (answered_closed s r.0 refused), closed_by e.master _ (answered_closed (heard s x) a refused)) (kept (answer ∙ q)) is)
+        (at_stands t u e i id k x st w (hears ∙ some) next less used g (closed_by e.master _ (answered_closed s r.0 rejects), closed_by e.master _ (answered_closed (heard s x) a rejects)) (kept (answer ∙ q)) is)
     go false q =
         heard_bad u result (hear_behind e x) (at ∙ ap (λ b. cond b (Some (hear_at e (e.at_id id) x)) None) q) (answer ∙ q)
 

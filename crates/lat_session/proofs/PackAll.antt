@@ -74,7 +74,7 @@ turn_tells p k = go p.going (offer p.after.master p.after.ceiling p.room s) refl
     offers_reject : reject_due s ≡ true → offer p.after.master p.after.ceiling p.room s ≡ fit p.room (Reject (peer s) 0 s.reason)
     offers_reject t =
         let a : (rejecting s ≡ true) × (not (is_empty s.came) ≡ true) = and_parts (rejecting s) (not (is_empty s.came)) t in
-        let b : (s.refused ≡ true) × (is_empty s.out ≡ true) = and_parts s.refused (is_empty s.out) a.0 in
+        let b : (s.rejects ≡ true) × (is_empty s.out ≡ true) = and_parts s.rejects (is_empty s.out) a.0 in
         rw (b.0, b.1, a.1) refl
 
     some : (n : Bool) → cond n (Offers (Reject (peer s) 0 s.reason)) Unfit ≡ Nothing → ⊥
@@ -82,7 +82,7 @@ turn_tells p k = go p.going (offer p.after.master p.after.ceiling p.room s) refl
     some false e = cc
 
     ended : (x : Slot) (n : ℕ) → reject_due (formed_as s n x) ≡ false
-    ended x n = ap (λ b. (s.refused && b) && not (is_empty s.came)) (full s.out) ∙ none s.refused
+    ended x n = ap (λ b. (s.rejects && b) && not (is_empty s.came)) (full s.out) ∙ none s.rejects
       where
         full : (xs : List Slot) → is_empty (xs ++ x ∷ []) ≡ false
         full [] = refl

@@ -92,7 +92,7 @@ offers_reject : (e : Sessions) (k room from reason : ℕ) → EndOk e → e.mast
 offers_reject e k room from reason ok m lo hi r =
     let s : Session = e.session k in
     let a : (rejecting s ≡ true) × (not (is_empty s.came) ≡ true) = and_parts (rejecting s) (not (is_empty s.came)) (open_tells e k ok m lo hi r.rejecting) in
-    let b : (s.refused ≡ true) × (is_empty s.out ≡ true) = and_parts s.refused (is_empty s.out) a.0 in
+    let b : (s.rejects ≡ true) × (is_empty s.out ≡ true) = and_parts s.rejects (is_empty s.out) a.0 in
     rw (b.0, b.1, a.1, sym r.peer, sym r.reason) refl
 
 -- a reject that doesn't fit
@@ -109,10 +109,10 @@ unfit_reject before t w v payload p at from reason d pk l q g less is =
     leb-false-from m n h = grind (arith, nat_tests, h)
 
 -- a sent reject leaves the session kept as it was
-kept_rejected : (m : Bool) (c n from reason : ℕ) (s : Session) → s.refused ≡ true → s.out ≡ [] → kept_of m c (formed_as s n (Reject from 0 reason)) ≡ kept_of m c s
+kept_rejected : (m : Bool) (c n from reason : ℕ) (s : Session) → s.rejects ≡ true → s.out ≡ [] → kept_of m c (formed_as s n (Reject from 0 reason)) ≡ kept_of m c s
 kept_rejected m c n from reason s r o = rw (r, o) refl
 
-closed_rejected : (s : Session) (n : ℕ) (x : Slot) → s.refused ≡ true → (waits (formed_as s n x) || rejecting (formed_as s n x)) ≡ false
+closed_rejected : (s : Session) (n : ℕ) (x : Slot) → s.rejects ≡ true → (waits (formed_as s n x) || rejecting (formed_as s n x)) ≡ false
 closed_rejected s n x r = rw (r, full s.out) (both (not (answered (formed_as s n x))))
   where
     both : (b : Bool) → ((b && false) || false) ≡ false
@@ -149,7 +149,7 @@ sent_reject before t u w v payload after p at from reason d pk l q g room is les
     let st : Stands t e = pk.stands in
     let a : AsksAt t p at d k = asks_at before t w payload p at d pk l in
     let r : Rejects s from reason = ask_rejects s from reason (sym a.ask ∙ q) in
-    let b : (s.refused ≡ true) × (is_empty s.out ≡ true) = and_parts s.refused (is_empty s.out) r.rejecting in
+    let b : (s.rejects ≡ true) × (is_empty s.out ≡ true) = and_parts s.rejects (is_empty s.out) r.rejecting in
     let o : offer e.master e.ceiling p.room s ≡ Offers x = offers_reject e k p.room from reason st.good a.slave a.some a.made r ∙ ap (λ c. cond c (Offers x) Unfit) (leb-true-from 4 p.room (subst (λ z. 4 ≤ z) pk.room room)) in
     let f : Forms e k x = forms e k x in
     let c : Changed e (form e k x) k (formed_as s f.generation x) = f.changed in

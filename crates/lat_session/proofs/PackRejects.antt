@@ -81,8 +81,8 @@ above_turn e a p w = record {
 }
 
 -- a slave's session whose ask waits for its answer has nothing to send
-pub waits_nothing : (m : Bool) (c room : ℕ) (s : Session) → waits s ≡ true → (s.refused ≡ false → starts s.came ≡ true) → offer m c room s ≡ Nothing
-waits_nothing m c room s w b = go s.refused s.accepted (starts s.came) (is_empty s.out) (turned s.came) (stopped s) w b
+pub waits_nothing : (m : Bool) (c room : ℕ) (s : Session) → waits s ≡ true → (s.rejects ≡ false → starts s.came ≡ true) → offer m c room s ≡ Nothing
+waits_nothing m c room s w b = go s.rejects s.accepted (starts s.came) (is_empty s.out) (turned s.came) (stopped s) w b
   where
     go : (r a st o tu p : Bool) → (not (a && st) && not ((r || tu) || p)) ≡ true → (r ≡ false → st ≡ true) → cond r (reject_offer room s) (cond o (cond (a && not tu) (fit room (start_of m c s)) Nothing) (cond ((a && st) && not (has_stop s.out)) (live_offer c room s s.attention) Nothing)) ≡ Nothing
     go true true true o tu p w b = absurd (false≢true w)
@@ -113,7 +113,7 @@ turn_silent p k r t = turn_nothing p k (λ g. nothing)
 
     nothing : offer p.after.master p.after.ceiling p.room s ≡ Nothing
     nothing =
-        let b : (s.refused ≡ true) × (is_empty s.out ≡ true) = and_parts s.refused (is_empty s.out) r in
+        let b : (s.rejects ≡ true) × (is_empty s.out ≡ true) = and_parts s.rejects (is_empty s.out) r in
         let c : not (is_empty s.came) ≡ false = sym (ap (λ z. z && not (is_empty s.came)) r) ∙ t in
         rw (b.0, b.1, c) refl
 
@@ -128,7 +128,7 @@ open_tells e k ok m lo hi r = rw (r, full (e.session k).came ((ok.each k).asked 
 master_silent : (e : Sessions) (k : ℕ) → EndOk e → e.master ≡ true → reject_due (e.session k) ≡ false
 master_silent e k ok m = false_from_ne_true (reject_due s) (λ t.
     let a : (rejecting s ≡ true) × (not (is_empty s.came) ≡ true) = and_parts (rejecting s) (not (is_empty s.came)) t in
-    let c : s.came ≡ [] = ((ok.each k).never_refused m (and_parts s.refused (is_empty s.out) a.0).0).1 in
+    let c : s.came ≡ [] = ((ok.each k).never_rejects m (and_parts s.rejects (is_empty s.out) a.0).0).1 in
     absurd (false≢true (sym (ap (λ xs. not (is_empty xs)) c) ∙ a.1)))
   where
     s : Session

@@ -24,7 +24,7 @@ use Rattle.lat_session.proofs.PackForm.{Forms, forms}
 
 -- a free session with no reject to tell has nothing to send
 pub free_offers_nothing : (m : Bool) (c room : ℕ) (s : Session) → free s ≡ true → reject_due s ≡ false → offer m c room s ≡ Nothing
-free_offers_nothing m c room s f t = go s.refused (is_empty s.out) (is_empty s.came) (turned s.came) (starts s.came) (has_stop s.out) (has_stop s.came) s.accepted (s.closed || nat_le (length (items s.came)) s.taken) (turned_not_starts s.came) (stop_in s.out) f t
+free_offers_nothing m c room s f t = go s.rejects (is_empty s.out) (is_empty s.came) (turned s.came) (starts s.came) (has_stop s.out) (has_stop s.came) s.accepted (s.closed || nat_le (length (items s.came)) s.taken) (turned_not_starts s.came) (stop_in s.out) f t
   where
     stop_in : (xs : List Slot) → has_stop xs ≡ true → is_empty xs ≡ false
     stop_in [] e = absurd (false≢true e)
@@ -47,12 +47,12 @@ free_offers_nothing m c room s f t = go s.refused (is_empty s.out) (is_empty s.c
     go false false k false st true i false d u v f t = refl
     go false false k false st false i a d u v f t = absurd (false≢true f)
 
--- a session that isn't free is not refused
-pub unfree_unrefused : (s : Session) → free s ≡ false → s.refused ≡ false
-unfree_unrefused s f = (or_parts s.refused (turned s.came) (or_parts (rejected s) (stopped s && (s.closed || nat_le (length (items s.came)) s.taken)) f).0).0
+-- a session that isn't free doesn't reject
+pub unfree_unrefused : (s : Session) → free s ≡ false → s.rejects ≡ false
+unfree_unrefused s f = (or_parts s.rejects (turned s.came) (or_parts (rejected s) (stopped s && (s.closed || nat_le (length (items s.came)) s.taken)) f).0).0
 
 -- no ask is open of a session that was answered
-pub answered_closed : (s : Session) → answered s ≡ true → s.refused ≡ false → (waits s || rejecting s) ≡ false
+pub answered_closed : (s : Session) → answered s ≡ true → s.rejects ≡ false → (waits s || rejecting s) ≡ false
 answered_closed s a r = rw (a, r) refl
 
 -- what a session that isn't free offers, a slave's session offers when it was answered
@@ -78,7 +78,7 @@ form_asks e k room x ok f o = go e.master refl
     go true m = (ap (λ b. not b && (waits (e.session k) || rejecting (e.session k))) m, ap (λ b. not b && (waits ((form e k x).session k) || rejecting ((form e k x).session k))) (w.changed.master ∙ m))
     go false m =
         let a : answered (e.session k) ≡ true = offers_answered e k room x ok f m o in
-        let r : (e.session k).refused ≡ false = unfree_unrefused (e.session k) f in (
+        let r : (e.session k).rejects ≡ false = unfree_unrefused (e.session k) f in (
           ap (λ b. not e.master && b) (answered_closed (e.session k) a r) ∙ none e.master,
           ap (λ (s : Session). not (form e k x).master && (waits s || rejecting s)) w.changed.same ∙ ap (λ b. not (form e k x).master && b) (answered_closed (formed_as (e.session k) w.generation x) a r) ∙ none (form e k x).master,
         )
@@ -95,11 +95,11 @@ pub record Turned (e f : Sessions) : Type 0 where
   pub made : f.made ≡ e.made
   pub at_id : f.at_id ≡ e.at_id
   pub came : (j : ℕ) → (f.session j).came ≡ (e.session j).came
-  pub refused : (j : ℕ) → (f.session j).refused ≡ (e.session j).refused
+  pub rejects : (j : ℕ) → (f.session j).rejects ≡ (e.session j).rejects
   pub accepted : (j : ℕ) → (f.session j).accepted ≡ (e.session j).accepted
 
 turned_none : (e : Sessions) → Turned e e
-turned_none e = record { master = refl; ceiling = refl; agreed = refl; made = refl; at_id = refl; came = λ j. refl; refused = λ j. refl; accepted = λ j. refl }
+turned_none e = record { master = refl; ceiling = refl; agreed = refl; made = refl; at_id = refl; came = λ j. refl; rejects = λ j. refl; accepted = λ j. refl }
 
 form_turned : (e : Sessions) (k : ℕ) (x : Slot) → Turned e (form e k x)
 form_turned e k x = record {
@@ -109,7 +109,7 @@ form_turned e k x = record {
   made = w.changed.made;
   at_id = w.changed.at_id;
   came = same (λ s. s.came) refl;
-  refused = same (λ s. s.refused) refl;
+  rejects = same (λ s. s.rejects) refl;
   accepted = same (λ s. s.accepted) refl;
 }
   where
@@ -138,7 +138,7 @@ turn_stands t u p k s l is served =
       is = is;
       good = turn_alone p k s.good;
       small = turn_small p k s.small;
-      begun = λ j r. ap (λ m. cond m ((turn p k).after.session j).accepted (starts ((turn p k).after.session j).came)) w.master ∙ ap (λ a. cond p.after.master a (starts ((turn p k).after.session j).came)) (w.accepted j) ∙ ap (λ xs. cond p.after.master (p.after.session j).accepted (starts xs)) (w.came j) ∙ s.begun j (sym (w.refused j) ∙ r);
+      begun = λ j r. ap (λ m. cond m ((turn p k).after.session j).accepted (starts ((turn p k).after.session j).came)) w.master ∙ ap (λ a. cond p.after.master a (starts ((turn p k).after.session j).came)) (w.accepted j) ∙ ap (λ xs. cond p.after.master (p.after.session j).accepted (starts xs)) (w.came j) ∙ s.begun j (sym (w.rejects j) ∙ r);
       opens = λ j. ap (λ xs. is_empty xs || (starts xs || turned xs)) (w.came j) ∙ s.opens j;
       sources = λ j h z. s.sources j (ap starts (sym (w.came j)) ∙ h) (ap starter (sym (w.came j)) ∙ z);
       apart = λ m. turn_apart p k (s.apart (sym w.master ∙ m));

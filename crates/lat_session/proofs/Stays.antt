@@ -5,7 +5,7 @@ use Rattle.lat_model.specs.Lists.{is_empty}
 use Rattle.lat_model.specs.sessions.Slots.{Byte, Setting, starts, turned}
 use Rattle.lat_model.specs.sessions.Session.{Session, waits, rejecting, put_open, take_open, unframed, peer}
 use Rattle.lat_model.specs.sessions.Sessions.{Sessions, named, held}
-use Rattle.lat_model.specs.sessions.Calls.{Call, Connect, Put, Set, Attend, Take, Close, Answer, Refuse, call, new_call, connect, touch, put_items, put_count, take_count, answer, reject}
+use Rattle.lat_model.specs.sessions.Calls.{Call, Connect, Put, Set, Attend, Take, Close, Answer, RejectAsk, call, new_call, connect, touch, put_items, put_count, take_count, answer, reject}
 use Rattle.lat_model.proofs.sessions.Words.{upd_all}
 use Rattle.lat_model.proofs.sessions.Locals.{called}
 use Rattle.lat_model.proofs.sessions.Smalls.{call_small}
@@ -23,7 +23,7 @@ sound_at t e k st = record { shape = st.good.each k; accounts = st.good.accounts
 
 -- how a session began
 abbrev pub Began : Bool → Session → Type 0
-Began m s = (is_empty s.came || (starts s.came || turned s.came) ≡ true) × (s.refused ≡ false → cond m s.accepted (starts s.came) ≡ true) × (starts s.came ≡ true → peer s ≢ 0)
+Began m s = (is_empty s.came || (starts s.came || turned s.came) ≡ true) × (s.rejects ≡ false → cond m s.accepted (starts s.came) ≡ true) × (starts s.came ≡ true → peer s ≢ 0)
 
 abbrev pub AllBegan : Sessions → Type 0
 AllBegan e = (k : ℕ) → Began e.master (e.session k)
@@ -49,7 +49,7 @@ call_began e (Attend id flag) a = cond_began (put_open (named e id)) _ e (λ h. 
 call_began e (Take id n) a = cond_began (take_open (named e id)) _ e (λ h. touch_began e (e.at_id id) (record (named e id) { taken = (named e id).taken + take_count (named e id) n }) (a (e.at_id id)) a) a
 call_began e (Close id) a = cond_began (take_open (named e id)) _ e (λ h. touch_began e (e.at_id id) (record (named e id) { closed = true }) (a (e.at_id id)) a) a
 call_began e (Answer id) a = cond_began (not e.master && waits (named e id)) (answer e id) e (λ h. touch_began e (e.at_id id) (record (named e id) { accepted = true }) (began_accepted e.master (named e id) (a (e.at_id id))) a) a
-call_began e (Refuse id reason) a = cond_began (not e.master && waits (named e id)) (reject e id reason) e (λ h. touch_began e (e.at_id id) (record (named e id) { refused = true; reason = reason }) ((a (e.at_id id)).0, λ q. absurd (true≢false q), (a (e.at_id id)).2) a) a
+call_began e (RejectAsk id reason) a = cond_began (not e.master && waits (named e id)) (reject e id reason) e (λ h. touch_began e (e.at_id id) (record (named e id) { rejects = true; reason = reason }) ((a (e.at_id id)).0, λ q. absurd (true≢false q), (a (e.at_id id)).2) a) a
 
 -- what no call changes
 record Same (e f : Sessions) : Type 0 where
@@ -70,7 +70,7 @@ call_same e (Attend id flag) = cond_same (put_open (named e id)) e _ (record { m
 call_same e (Take id n) = cond_same (take_open (named e id)) e _ (record { master = refl; ceiling = refl; agreed = refl; served = refl })
 call_same e (Close id) = cond_same (take_open (named e id)) e _ (record { master = refl; ceiling = refl; agreed = refl; served = refl })
 call_same e (Answer id) = cond_same (not e.master && waits (named e id)) e _ (record { master = refl; ceiling = refl; agreed = refl; served = refl })
-call_same e (Refuse id reason) = cond_same (not e.master && waits (named e id)) e _ (record { master = refl; ceiling = refl; agreed = refl; served = refl })
+call_same e (RejectAsk id reason) = cond_same (not e.master && waits (named e id)) e _ (record { master = refl; ceiling = refl; agreed = refl; served = refl })
 
 -- the table that keeps what the call makes stands for it
 pub call_stands : (t u : Table) (e : Sessions) (c : Call) → Stands t e → length u.sessions ≡ length t.sessions → u ≡ table_of (length t.sessions) (call e c) → Stands u (call e c)

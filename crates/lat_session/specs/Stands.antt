@@ -15,7 +15,7 @@ AllOpen e = (k : ℕ) → is_empty (e.session k).came || (starts (e.session k).c
 -- the master connected each of its sessions, the slave heard the ask of each
 abbrev pub AllBegun : Sessions → Type 0
 AllBegun e =
-    (k : ℕ) → (e.session k).refused ≡ false → cond e.master (e.session k).accepted (starts (e.session k).came) ≡ true
+    (k : ℕ) → (e.session k).rejects ≡ false → cond e.master (e.session k).accepted (starts (e.session k).came) ≡ true
 
 -- no start came from the id 0
 abbrev pub AllSources : Sessions → Type 0

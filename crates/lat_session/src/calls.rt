@@ -2,7 +2,7 @@
 
 ghost use Rattle.std.specs.Prelude.{◌≡◌, ◌≤◌, ◌++◌, ℕ, Bool, cond, true, map, length, drop, min, nat_lt, not, filter, vec_capacity, is_ok, IfOk, if◌then◌else◌};
 ghost use Rattle.lat_base.specs.declared.state.SessionState.TheVariants as states;
-ghost use Rattle.lat_model.specs.sessions.Calls.{call as called, take_count, took, Connect, Take, Answer, Refuse};
+ghost use Rattle.lat_model.specs.sessions.Calls.{call as called, take_count, took, Connect, Take, Answer, RejectAsk};
 ghost use Rattle.lat_model.specs.sessions.Session.{Session, take_open};
 ghost use Rattle.lat_model.specs.sessions.Sessions.{Sessions as States, named, held, least_free};
 ghost use Rattle.lat_stream.specs.Kept.{item_of, kept_of};
@@ -56,7 +56,7 @@ impl Sessions {
         requires asked { state_at self.old id ≡ states.Asked }
         requires reason { reason ≤ 15 }
         ensures state { (e : States) → Stands self.old e →
-            Stands self.new (called e (Refuse id reason)) }
+            Stands self.new (called e (RejectAsk id reason)) }
         ensures same { SameEnd self.old self.new }
     {
         let Some(at) = self.place(id) else {

@@ -223,8 +223,8 @@ start_same : (m : Bool) (c room : ℕ) (s : Session) → fit room (start_of m c 
 start_same true c room s = refl
 start_same false c room s = refl
 
-pub no_reject : (room : ℕ) (s : Session) → s.refused ≡ true → reject_due s ≡ false → reject_offer room s ≡ Nothing
-no_reject room s r h = go s.refused (is_empty s.out) (is_empty s.came) r h
+pub no_reject : (room : ℕ) (s : Session) → s.rejects ≡ true → reject_due s ≡ false → reject_offer room s ≡ Nothing
+no_reject room s r h = go s.rejects (is_empty s.out) (is_empty s.came) r h
   where
     go : (r e n : Bool) → r ≡ true → ((r && e) && not n) ≡ false → cond (e && not n) (fit room (Reject (peer s) 0 s.reason)) Nothing ≡ Nothing
     go true true true q h = refl
@@ -234,7 +234,7 @@ no_reject room s r h = go s.refused (is_empty s.out) (is_empty s.came) r h
 
 -- at any turn
 pub turn_agrees : (m : Bool) (c room : ℕ) (s : Session) → Sound m c s → reject_due s ≡ false → Agrees m c room s (kept_of m c s) (offer m c room s) (turn_of (kept_of m c s))
-turn_agrees m c room s ok rj = go s.refused (is_empty s.out) s.accepted (starts s.came) (turned s.came) (has_stop s.out) refl refl refl refl refl refl
+turn_agrees m c room s ok rj = go s.rejects (is_empty s.out) s.accepted (starts s.came) (turned s.came) (has_stop s.out) refl refl refl refl refl refl
   where
     k : Kept
     k = kept_of m c s
@@ -251,7 +251,7 @@ turn_agrees m c room s ok rj = go s.refused (is_empty s.out) s.accepted (starts 
     silent : (t : Turn) → t ≡ turns.Nothing → Agrees m c room s k Nothing t
     silent t e = subst (Agrees m c room s k Nothing) (sym e) (nothing_agrees m c room s k)
 
-    go : (r e ac st tu so : Bool) → s.refused ≡ r → is_empty s.out ≡ e → s.accepted ≡ ac → starts s.came ≡ st → turned s.came ≡ tu → has_stop s.out ≡ so →
+    go : (r e ac st tu so : Bool) → s.rejects ≡ r → is_empty s.out ≡ e → s.accepted ≡ ac → starts s.came ≡ st → turned s.came ≡ tu → has_stop s.out ≡ so →
         Agrees m c room s k
         (cond r (reject_offer room s) (cond e (cond (ac && not tu) (fit room (start_of m c s)) Nothing) (cond ((ac && st) && not so) (offers.live_offer c room s s.attention) Nothing)))
         (turn_by m r tu so sc s.closed nl (ac && st) e o (live_turn k s.attention))

@@ -158,7 +158,7 @@ slot_formed m c room s x old ok known e rj most setting service o =
     let most' : k.credits.ceiling ≤ 15 = subst (λ (z : Kept). z.credits.ceiling ≤ 15) e most in
     turn_formed m s.id room k (turn_of k) x
     (record {
-      id_some = some s.id (ok.shape.id_some (unrefused s.refused refl));
+      id_some = some s.id (ok.shape.id_some (unrejected s.rejects refl));
       few = omega (arith, most');
       peer_some = λ b. some (peer s) (known (begun (sym (runs_in_is m s) ∙ behind_runs (state_shown (state m s)) (start_left s) (later_turn k) b)));
       setting = λ u q. setting u (ap turn_of e ∙ q);
@@ -169,9 +169,9 @@ slot_formed m c room s x old ok known e rj most setting service o =
     begun : runs s ≡ true → starts s.came ≡ true
     begun h = (and_parts s.accepted (starts s.came) (and_parts (answered s) (not (gone s)) h).0).1
 
-    unrefused : (r : Bool) → s.refused ≡ r → s.refused ≡ false
-    unrefused true q = absurd (wrong (sym (ap (λ b. cond b (reject_offer room s) (cond (is_empty s.out) (start_offer m c room s) (later_offer c room s))) q ∙ no_reject room s q rj) ∙ o))
+    unrejected : (r : Bool) → s.rejects ≡ r → s.rejects ≡ false
+    unrejected true q = absurd (wrong (sym (ap (λ b. cond b (reject_offer room s) (cond (is_empty s.out) (start_offer m c room s) (later_offer c room s))) q ∙ no_reject room s q rj) ∙ o))
       where
         wrong : Nothing ≡ Offers x → ⊥
         wrong r = cc
-    unrefused false q = q
+    unrejected false q = q

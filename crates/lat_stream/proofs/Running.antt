@@ -76,7 +76,7 @@ pub no_stop_more : (xs : List Slot) (x : Slot) → has_stop xs ≡ false → is_
 no_stop_more xs x h i = has_stop-append xs (x ∷ []) ∙ ap₂ (λ a b. a || (b || false)) h i
 
 pub rejected_more : (s : Session) (x : Slot) → s.came ≢ [] → rejected (heard s x) ≡ rejected s
-rejected_more s x n = ap (λ b. s.refused || b) (turned_more s.came (x ∷ []) n)
+rejected_more s x n = ap (λ b. s.rejects || b) (turned_more s.came (x ∷ []) n)
 
 pub runs_more : (s : Session) (x : Slot) → Runs s → has_stop s.came ≡ false → is_stop x ≡ false → Runs (heard s x)
 runs_more s x r h i =

@@ -45,7 +45,7 @@ stop_is m c s to from reason h r none =
     let all : items (s.came ++ x ∷ []) ≡ items s.came = items-append s.came (x ∷ []) ∙ append-nil (items s.came) in
     let done : is_empty (kept_of m c s).heard ≡ (s.closed || nat_le (length (items t.came)) s.taken) =
     nothing s.closed ∙ ap (λ z. s.closed || nat_le (length z) s.taken) (sym all) in
-    let id : nat_eq s.id 0 ≡ false = ne_eqb s.id 0 (h.shape.id_some (or_parts s.refused (turned s.came) r.is_rejected).0) in
+    let id : nat_eq s.id 0 ≡ false = ne_eqb s.id 0 (h.shape.id_some (or_parts s.rejects (turned s.came) r.is_rejected).0) in
     let o : Bool = has_stop s.out in
     let d : Bool = nat_le (length (items t.came)) s.taken in
     ended_if_done_is (record (kept_of m c s) { state = cond o kept_states.Left kept_states.Closing; stop_heard = true; unframed = [] }) ∙ same _ _ (record {

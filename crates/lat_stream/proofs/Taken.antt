@@ -126,7 +126,7 @@ pub took_is : (m : Bool) (c : ℕ) (s : Session) (n : ℕ) → Sound m c s → t
 took_is m c s n h o =
     let q : (s.closed ≡ false) × (free s ≡ false) = take_some s o in
     let r : rejected s ≡ false = (or_parts (rejected s) (stopped s && (s.closed || nat_le (length (items s.came)) s.taken)) q.1).0 in
-    let id : nat_eq s.id 0 ≡ false = ne_eqb s.id 0 (h.shape.id_some (or_parts s.refused (turned s.came) r).0) in
+    let id : nat_eq s.id 0 ≡ false = ne_eqb s.id 0 (h.shape.id_some (or_parts s.rejects (turned s.came) r).0) in
     let d : Bool = nat_le (length (items s.came)) s.taken in
     let e : Bool = nat_le (length (items s.came)) (s.taken + n) in
     let done : is_empty (drop n (kept_of m c s).heard) ≡ nat_le (length (items s.came)) (s.taken + n) =

@@ -60,7 +60,7 @@ left_in n (x ∷ xs) =
 
 -- the reason of the reject that was sent or heard
 abbrev pub reject_reason : Session → ℕ
-reject_reason s = cond s.refused s.reason (heard_reason s.came)
+reject_reason s = cond s.rejects s.reason (heard_reason s.came)
   where
     heard_reason : List Slot → ℕ
     heard_reason [] = 0

@@ -13,4 +13,4 @@ pub record Sound (master : Bool) (ceiling : ℕ) (s : Session) : Type 0 where
   -- the first slot that it heard is a start or a reject
   pub opens : is_empty s.came || (starts s.came || turned s.came) ≡ true
   -- the master connected it, the slave heard its ask
-  pub begun : s.refused ≡ false → cond master s.accepted (starts s.came) ≡ true
+  pub begun : s.rejects ≡ false → cond master s.accepted (starts s.came) ≡ true

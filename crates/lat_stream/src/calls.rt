@@ -52,7 +52,7 @@ impl Stream {
         requires { self.old.state ≡ kept_states.Asked }
         ensures { (ceiling : ℕ) (s : Session) → Sound false ceiling s →
             self.old ≡ kept_of false ceiling s →
-            self.new ≡ kept_of false ceiling (record s { refused = true; reason = reason }) }
+            self.new ≡ kept_of false ceiling (record s { rejects = true; reason = reason }) }
     {
         self.end_rejected(reason);
     }

@@ -2,7 +2,7 @@
 use Rattle.std.specs.Prelude.{◌*◌, ◌≤◌, []}
 use Rattle.lat_machines.specs.values.Addresses.{address}
 use Rattle.lat_machines.specs.server.Server.{ServerConfig, open_server}
-use Rattle.lat_circuit.specs.Agrees.{IsTiming}
+use Rattle.lat_frames.specs.Timings.{IsTiming}
 use Rattle.lat_circuit.specs.Frames.{timing_shown}
 use Rattle.lat_switch.specs.declared.config.SwitchConfig.{SwitchConfig}
 use Rattle.lat_switch.specs.Lines.{opened_lines}

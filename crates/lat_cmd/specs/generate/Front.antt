@@ -1,6 +1,6 @@
 -- What stands in front of the events of a generated schedule, and behind them.
 use Rattle.std.specs.Prelude.{ℕ, false, List, [], ◌∷◌, ◌++◌, replicate, codes}
-use Rattle.lat_circuit.specs.declared.config.Timing.{Timing}
+use Rattle.lat_frames.specs.declared.timing.Timing.{Timing}
 use Rattle.lat_schedule.specs.declared.setup.Setup.{Setup}
 
 abbrev pub front_text : List ℕ

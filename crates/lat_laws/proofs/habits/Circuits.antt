@@ -3,7 +3,7 @@
 use Rattle.std.proofs.Common.{◌≡◌, ℕ, suc, arith, refl, sym, ap, ap₂, ◌∙◌, Bool, true, false, not, cond, ◌&&◌, ◌||◌, List, [], ◌∷◌, Option, nat_eq, nat_lt, eqb-true, eq-eqb}
 use Rattle.std.proofs.lemmas.Bool.{and_parts, true≢false, eqb-false}
 use Rattle.lat_model.specs.sessions.Slots.{Slot}
-use Rattle.lat_model.specs.sessions.Calls.{Call, Connect, Answer, Refuse}
+use Rattle.lat_model.specs.sessions.Calls.{Call, Connect, Answer, RejectAsk}
 use Rattle.lat_model.specs.Lists.{updated}
 use Rattle.lat_model.specs.ends.End.{End, Step, lives, call_end}
 use Rattle.lat_model.specs.ends.Timers.{note_empty, time_step}
@@ -185,7 +185,7 @@ node_acts config = record {
   starts = λ c from source g h. start_lone (setup_of config.timing) c.circuits from source c.moment g h;
   done = λ c h. h;
   accepts = λ st x id line request service w v l ex free h. local_lone by_peer steady_peer false st.core.circuits h x (Answer id);
-  refuses = λ c x id reason h. local_lone by_peer steady_peer false c.circuits h x (Refuse id reason);
+  refuses = λ c x id reason h. local_lone by_peer steady_peer false c.circuits h x (RejectAsk id reason);
 }
 
 node_lone : (config : NodeConfig) (es : List RatedEvent) (st : Node) → LoneCore by_peer st.core → LoneCore by_peer (node_run config es st).core

@@ -21,7 +21,7 @@ Neat _ = Unit {0}
 pub record PlainOne (master : Bool) (ceiling : ℕ) (s : Session) : Type 0 where
   pub short : length s.service ≤ 255
   pub frugal : Frugal ceiling s.out
-  pub accepts : master ≡ true → s.refused ≡ false → s.accepted ≡ true
+  pub accepts : master ≡ true → s.rejects ≡ false → s.accepted ≡ true
   pub neat : Each Neat s.out
 
 pub record Plain (e : Sessions) : Type 0 where

@@ -5,7 +5,7 @@ use Rattle.std.proofs.lemmas.Option.{same_Some, slice_get_read, slice_get_within
 use Rattle.lat_base.specs.declared.state.SessionState.{SessionState}
 use Rattle.lat_base.specs.declared.state.SessionState.TheVariants as states
 use Rattle.lat_model.specs.Lists.{updated}
-use Rattle.lat_model.specs.sessions.Calls.{Call, Answer, Refuse, answer, reject}
+use Rattle.lat_model.specs.sessions.Calls.{Call, Answer, RejectAsk, answer, reject}
 use Rattle.lat_model.specs.sessions.Session.{waits}
 use Rattle.lat_model.specs.sessions.Sessions.{held, named}
 use Rattle.lat_model.specs.ends.End.{End, Step, lives, still, call_end}
@@ -189,10 +189,10 @@ answers_nothing k s c x id none st =
     calls_nothing k s c x (Answer id)
     (λ l. ap (λ b. record e { half = record (e.half) { sessions = cond b (answer e.half.sessions id) e.half.sessions } }) (ap (λ b. b && waits_at e id) (sym l) ∙ none.core c st)) st
 
-pub refuses_nothing : (k : Kept) (s : Side) (c : Core) (x id reason : ℕ) → NoneAsks k x id → Stands k c → Stands k (calling s x (Refuse id reason) c)
+pub refuses_nothing : (k : Kept) (s : Side) (c : Core) (x id reason : ℕ) → NoneAsks k x id → Stands k c → Stands k (calling s x (RejectAsk id reason) c)
 refuses_nothing k s c x id reason none st =
     let e : End = (c.circuits.circuit_at x).end in
-    calls_nothing k s c x (Refuse id reason)
+    calls_nothing k s c x (RejectAsk id reason)
     (λ l. ap (λ b. record e { half = record (e.half) { sessions = cond b (reject e.half.sessions id reason) e.half.sessions } }) (ap (λ b. b && waits_at e id) (sym l) ∙ none.core c st)) st
 
 -- where the session is asked for, it isn't so that none is

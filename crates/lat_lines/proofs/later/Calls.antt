@@ -4,7 +4,7 @@ use Rattle.std.proofs.lemmas.Bool.{and_parts, and_from, or_parts, not-true, both
 use Rattle.lat_model.specs.sessions.Slots.{Byte, Setting, turned}
 use Rattle.lat_model.specs.sessions.Session.{Session, free, gone, rejected, stopped, waits, unframed, put_open, take_open}
 use Rattle.lat_model.specs.sessions.Sessions.{Sessions, named, held, least_free}
-use Rattle.lat_model.specs.sessions.Calls.{touch, new_call, connect, put_items, put_count, put_bytes, set, attend, take_count, take_items, close, answer, reject, Call, Connect, Put, Set, Attend, Take, Close, Answer, Refuse, call}
+use Rattle.lat_model.specs.sessions.Calls.{touch, new_call, connect, put_items, put_count, put_bytes, set, attend, take_count, take_items, close, answer, reject, Call, Connect, Put, Set, Attend, Take, Close, Answer, RejectAsk, call}
 use Rattle.lat_model.specs.sessions.EndOk.{EndOk}
 use Rattle.lat_model.specs.Lists.{updated}
 use Rattle.lat_model.specs.ends.End.{End, still, call_end}
@@ -27,8 +27,8 @@ take_taken : (s : Session) → take_open s ≡ true → free s ≡ false
 take_taken s h = not-true (free s) (and_parts s.accepted (not (free s)) (and_parts (s.accepted && not (free s)) (not s.closed) h).0).1
 
 -- one that isn't free keeps its words and its lists of slots
-tended_by : (s t : Session) → free s ≡ false → t.id ≡ s.id → t.accepted ≡ s.accepted → t.refused ≡ s.refused → t.came ≡ s.came → (waits s ≡ true → waits t ≡ true) → Tended s t
-tended_by s t f i a r c w = record { id = i; accepted = a; refused = r; came = c; over = λ q g. absurd (both_ways (free s) f g); waits = w }
+tended_by : (s t : Session) → free s ≡ false → t.id ≡ s.id → t.accepted ≡ s.accepted → t.rejects ≡ s.rejects → t.came ≡ s.came → (waits s ≡ true → waits t ≡ true) → Tended s t
+tended_by s t f i a r c w = record { id = i; accepted = a; rejects = r; came = c; over = λ q g. absurd (both_ways (free s) f g); waits = w }
 
 cond_tended : (b : Bool) (e x : Sessions) → (b ≡ true → AllTended e x) → AllTended e (cond b x e)
 cond_tended true e x h = h refl
@@ -44,7 +44,7 @@ settled_later e j s ok b m w = record {
   master = refl;
   each = λ k a. let q : updated e.session j s k ≡ e.session k = upd_other e.session j s k (λ z. both_ways (waits (e.session k)) (accepted_settled e k b m a) (ap (λ n. waits (e.session n)) z ∙ w)) in
       record {
-        still = record { made = a.made; accepted = ap (λ (z : Session). z.accepted) q ∙ a.accepted; kept = ap (λ (z : Session). z.refused) q ∙ a.kept };
+        still = record { made = a.made; accepted = ap (λ (z : Session). z.accepted) q ∙ a.accepted; kept = ap (λ (z : Session). z.rejects) q ∙ a.kept };
         id = ap (λ (z : Session). z.id) q;
         over = λ f. q;
         found = λ f. inl (ok.holds k f);
@@ -56,7 +56,7 @@ connect_later e service request ok h = record {
   master = refl;
   each = λ k a. let q : updated e.session (suc e.made) (new_call e service request) k ≡ e.session k = upd_other e.session (suc e.made) (new_call e service request) k (λ z. absurd (omega (arith, a.made.1, z))) in
       record {
-        still = record { made = (a.made.0, omega (arith, a.made.1)); accepted = ap (λ (z : Session). z.accepted) q ∙ a.accepted; kept = ap (λ (z : Session). z.refused) q ∙ a.kept };
+        still = record { made = (a.made.0, omega (arith, a.made.1)); accepted = ap (λ (z : Session). z.accepted) q ∙ a.accepted; kept = ap (λ (z : Session). z.rejects) q ∙ a.kept };
         id = ap (λ (z : Session). z.id) q;
         over = λ f. q;
         found = λ f. inl (upd_other e.at_id (least_free e) (suc e.made) (e.session k).id (λ z. both_ways (free (e.session k)) f (ap (λ n. free (e.session n)) (sym (ok.holds k f) ∙ ap e.at_id z) ∙ least_is_free e h ok.agreed)) ∙ ok.holds k f);
@@ -88,9 +88,9 @@ called_later (Close id) e ok b =
 called_later (Answer id) e ok b =
     cond_later (not e.master && waits (named e id)) e (answer e id) ok
     (λ q. let p : (e.master ≡ false) × (waits (named e id) ≡ true) = slave_waits e id q in settled_later e (e.at_id id) (record (named e id) { accepted = true }) ok b p.0 p.1)
-called_later (Refuse id reason) e ok b =
+called_later (RejectAsk id reason) e ok b =
     cond_later (not e.master && waits (named e id)) e (reject e id reason) ok
-    (λ q. let p : (e.master ≡ false) × (waits (named e id) ≡ true) = slave_waits e id q in settled_later e (e.at_id id) (record (named e id) { refused = true; reason = reason }) ok b p.0 p.1)
+    (λ q. let p : (e.master ≡ false) × (waits (named e id) ≡ true) = slave_waits e id q in settled_later e (e.at_id id) (record (named e id) { rejects = true; reason = reason }) ok b p.0 p.1)
 
 pub call_later : (c : Call) (e : End) → EndOk e.half.sessions → AllBegun e.half.sessions → EndLater e (note_empty e (still (call_end c e))).end
 call_later c e ok b = record { sessions = called_later c e.half.sessions ok b; running = λ r. r; peer = λ r. refl }
@@ -115,7 +115,7 @@ call_quiet (Attend id flag) e q = touch_quiet (put_open (named e id)) e (e.at_id
 call_quiet (Take id n) e q = touch_quiet (take_open (named e id)) e (e.at_id id) (record (named e id) { taken = (named e id).taken + take_count (named e id) n }) (q (e.at_id id)) q
 call_quiet (Close id) e q = touch_quiet (take_open (named e id)) e (e.at_id id) (record (named e id) { closed = true }) (q (e.at_id id)) q
 call_quiet (Answer id) e q = touch_quiet (not e.master && waits (named e id)) e (e.at_id id) (record (named e id) { accepted = true }) (q (e.at_id id)) q
-call_quiet (Refuse id reason) e q = touch_quiet (not e.master && waits (named e id)) e (e.at_id id) (record (named e id) { refused = true; reason = reason }) (q (e.at_id id)) q
+call_quiet (RejectAsk id reason) e q = touch_quiet (not e.master && waits (named e id)) e (e.at_id id) (record (named e id) { rejects = true; reason = reason }) (q (e.at_id id)) q
 
 pub call_unheard : (c : Call) (e : End) → Unheard e → Unheard (note_empty e (still (call_end c e))).end
 call_unheard c e u r = call_quiet c e.half.sessions (u r)
@@ -124,7 +124,7 @@ call_unheard c e u r = call_quiet c e.half.sessions (u r)
 
 connect_leads : (e : Sessions) (service : List ℕ) (request : Option ℕ) → Leads (connect e service request) (least_free e) (suc e.made)
 connect_leads e service request = record {
-  accepted = record { made = (omega arith, le_refl _); accepted = ap (λ (z : Session). z.accepted) new; kept = ap (λ (z : Session). z.refused) new };
+  accepted = record { made = (omega arith, le_refl _); accepted = ap (λ (z : Session). z.accepted) new; kept = ap (λ (z : Session). z.rejects) new };
   taken = ap free new;
   at_id = upd_same e.at_id (least_free e) (suc e.made);
   id = ap (λ (z : Session). z.id) new;
@@ -138,7 +138,7 @@ connected e service request m h = subst (λ z. Leads (cond z (connect e service 
 
 answer_leads : (e : Sessions) (id : ℕ) → EndOk e → waits (named e id) ≡ true → Leads (answer e id) id (e.at_id id)
 answer_leads e id ok w = record {
-  accepted = record { made = (positive (e.at_id id) some, ok.at_made id); accepted = ap (λ (z : Session). z.accepted) new; kept = ap (λ (z : Session). z.refused) new ∙ (or_parts s.refused (turned s.came) (or_parts (rejected s) (stopped s) g).0).0 };
+  accepted = record { made = (positive (e.at_id id) some, ok.at_made id); accepted = ap (λ (z : Session). z.accepted) new; kept = ap (λ (z : Session). z.rejects) new ∙ (or_parts s.rejects (turned s.came) (or_parts (rejected s) (stopped s) g).0).0 };
   taken = ap free new ∙ free_goes s g;
   at_id = refl;
   id = ap (λ (z : Session). z.id) new ∙ ok.found id some;

@@ -100,20 +100,20 @@ all_heard_on s t u p q = record {
 record Hears (s t : Session) : Type 0 where
   pub id : t.id ≡ s.id
   pub accepted : t.accepted ≡ s.accepted
-  pub refused : t.refused ≡ s.refused
+  pub rejects : t.rejects ≡ s.rejects
   pub out : t.out ≡ s.out
   pub begins : starts s.came ≡ true → starts t.came ≡ true
   pub peer : starts s.came ≡ true → peer t ≡ peer s
   pub over : free s ≡ true → t ≡ s
 
 hears : (s : Session) → Hears s s
-hears s = record { id = refl; accepted = refl; refused = refl; out = refl; begins = λ q. q; peer = λ q. refl; over = λ f. refl }
+hears s = record { id = refl; accepted = refl; rejects = refl; out = refl; begins = λ q. q; peer = λ q. refl; over = λ f. refl }
 
 hears_slot : (s : Session) (x : Slot) → gone s ≡ false → Hears s (heard s x)
 hears_slot s x g = record {
   id = refl;
   accepted = refl;
-  refused = refl;
+  rejects = refl;
   out = refl;
   begins = λ q. starts_more s.came (x ∷ []) (starts_not_nil s.came q) ∙ q;
   peer = λ q. starter_more s.came (x ∷ []) (starts_not_nil s.came q);
@@ -129,11 +129,11 @@ hears_at f k s h j = go (nat_eq j k) refl
 
 at_heard : (e : Sessions) (k : ℕ) (x : Slot) → Fits e → gone (e.session k) ≡ false → (e.master ≡ false → waits (e.session k) ≡ false) → AllHeard e (hear_at e k x)
 at_heard e k x f g w = record {
-  fits = record { agreed = f.agreed; at_made = f.at_made; begun = λ m j a. (each j).begins (f.begun m j (record { made = a.made; accepted = sym (each j).accepted ∙ a.accepted; kept = sym (each j).refused ∙ a.kept })) };
+  fits = record { agreed = f.agreed; at_made = f.at_made; begun = λ m j a. (each j).begins (f.begun m j (record { made = a.made; accepted = sym (each j).accepted ∙ a.accepted; kept = sym (each j).rejects ∙ a.kept })) };
   master = refl;
   waits = λ m i v. stays i v (w m) (nat_eq (e.at_id i) k) refl;
   each = λ j a. record {
-    still = record { made = a.made; accepted = (each j).accepted ∙ a.accepted; kept = (each j).refused ∙ a.kept };
+    still = record { made = a.made; accepted = (each j).accepted ∙ a.accepted; kept = (each j).rejects ∙ a.kept };
     id = (each j).id;
     out = (each j).out;
     peer = λ m. (each j).peer (f.begun m j a);
@@ -173,7 +173,7 @@ ask_heard e from c size service request f m = record {
   master = refl;
   waits = λ z i w. waiting i w (is_full e) refl;
   each = λ k a. record {
-    still = record { made = (a.made.0, omega (arith, a.made.1)); accepted = ap (λ (z : Session). z.accepted) (old k a.made.1) ∙ a.accepted; kept = ap (λ (z : Session). z.refused) (old k a.made.1) ∙ a.kept };
+    still = record { made = (a.made.0, omega (arith, a.made.1)); accepted = ap (λ (z : Session). z.accepted) (old k a.made.1) ∙ a.accepted; kept = ap (λ (z : Session). z.rejects) (old k a.made.1) ∙ a.kept };
     id = ap (λ (z : Session). z.id) (old k a.made.1);
     out = ap (λ (z : Session). z.out) (old k a.made.1);
     peer = λ z. ap peer (old k a.made.1);
@@ -198,7 +198,7 @@ ask_heard e from c size service request f m = record {
     at_made i true = omega (arith, f.at_made i)
     at_made i false = upd_all (λ z. z ≤ n) e.at_id (least_free e) n (le_refl _) (λ j. omega (arith, f.at_made j)) i
 
-    begun : (j : ℕ) (b : Bool) → nat_eq j n ≡ b → j ≤ n → (cond b new (e.session j)).accepted ≡ true → 1 ≤ j → (cond b new (e.session j)).refused ≡ false → starts (cond b new (e.session j)).came ≡ true
+    begun : (j : ℕ) (b : Bool) → nat_eq j n ≡ b → j ≤ n → (cond b new (e.session j)).accepted ≡ true → 1 ≤ j → (cond b new (e.session j)).rejects ≡ false → starts (cond b new (e.session j)).came ≡ true
     begun j true q h a p r = refl
     begun j false q h a p r = f.begun m j (record { made = (p, omega (arith, h, eqb-false j n q)); accepted = a; kept = r })
 

@@ -16,9 +16,9 @@ use Rattle.lat_model.proofs.sessions.Forms.{formed_as}
 pub record Tended (s t : Session) : Type 0 where
   pub id : t.id ≡ s.id
   pub accepted : t.accepted ≡ s.accepted
-  pub refused : t.refused ≡ s.refused
+  pub rejects : t.rejects ≡ s.rejects
   pub came : t.came ≡ s.came
-  pub over : s.refused ≡ false → free s ≡ true → t ≡ s
+  pub over : s.rejects ≡ false → free s ≡ true → t ≡ s
   pub waits : waits s ≡ true → waits t ≡ true
 
 pub record AllTended (s t : Sessions) : Type 0 where
@@ -28,7 +28,7 @@ pub record AllTended (s t : Sessions) : Type 0 where
   pub each : (k : ℕ) → Tended (s.session k) (t.session k)
 
 pub tended : (s : Session) → Tended s s
-tended s = record { id = refl; accepted = refl; refused = refl; came = refl; over = λ r f. refl; waits = λ w. w }
+tended s = record { id = refl; accepted = refl; rejects = refl; came = refl; over = λ r f. refl; waits = λ w. w }
 
 pub all_tended : (s : Sessions) → AllTended s s
 all_tended s = record { master = refl; made = refl; at_id = refl; each = λ k. tended (s.session k) }
@@ -37,9 +37,9 @@ tended_on : (s t u : Session) → Tended s t → Tended t u → Tended s u
 tended_on s t u p q = record {
   id = q.id ∙ p.id;
   accepted = q.accepted ∙ p.accepted;
-  refused = q.refused ∙ p.refused;
+  rejects = q.rejects ∙ p.rejects;
   came = q.came ∙ p.came;
-  over = λ r f. q.over (p.refused ∙ r) (ap free (p.over r f) ∙ f) ∙ p.over r f;
+  over = λ r f. q.over (p.rejects ∙ r) (ap free (p.over r f) ∙ f) ∙ p.over r f;
   waits = λ w. q.waits (p.waits w);
 }
 
@@ -71,8 +71,8 @@ no_offer x q = absurd (wrong q)
     wrong : Nothing ≡ Offers x → ⊥
     wrong r = cc
 
--- a free session that wasn't refused offers nothing
-free_offers_none : {C : Type 0} (m : Bool) (c room : ℕ) (s : Session) (x : Slot) → s.refused ≡ false → free s ≡ true → offer m c room s ≡ Offers x → C
+-- a free session that doesn't reject offers nothing
+free_offers_none : {C : Type 0} (m : Bool) (c room : ℕ) (s : Session) (x : Slot) → s.rejects ≡ false → free s ≡ true → offer m c room s ≡ Offers x → C
 free_offers_none {C} m c room s x r f h = ⊎_elim {C = C} (λ t. off_turned t) (λ p. off_stopped s.out refl (and_parts (has_stop s.out) (has_stop s.came) p).0) (free_cases s r f)
   where
     -- no reject, so a start or what stands behind it
@@ -105,13 +105,13 @@ free_offers_none {C} m c room s x r f h = ⊎_elim {C = C} (λ t. off_turned t) 
 
 -- what a waiting session offers is no stop
 waiting_offer : (m : Bool) (c room : ℕ) (s : Session) (x : Slot) → waits s ≡ true → offer m c room s ≡ Offers x → is_stop x ≡ false
-waiting_offer m c room s x w = go s.refused (is_empty s.out) (answered s) (s.accepted && not (turned s.came)) refused (not-true (answered s) p.0)
+waiting_offer m c room s x w = go s.rejects (is_empty s.out) (answered s) (s.accepted && not (turned s.came)) rejects (not-true (answered s) p.0)
   where
     p : (not (answered s) ≡ true) × (not (gone s) ≡ true)
     p = and_parts (not (answered s)) (not (gone s)) w
 
-    refused : s.refused ≡ false
-    refused = (or_parts s.refused (turned s.came) (or_parts (rejected s) (stopped s) (not-true (gone s) p.1)).0).0
+    rejects : s.rejects ≡ false
+    rejects = (or_parts s.rejects (turned s.came) (or_parts (rejected s) (stopped s) (not-true (gone s) p.1)).0).0
 
     start : (n : Bool) → is_stop (start_of n c s) ≡ false
     start true = refl
@@ -136,7 +136,7 @@ formed_tended : (m : Bool) (c room n : ℕ) (s : Session) (x : Slot) → offer m
 formed_tended m c room n s x h = record {
   id = refl;
   accepted = refl;
-  refused = refl;
+  rejects = refl;
   came = refl;
   over = λ r f. free_offers_none m c room s x r f h;
   waits = λ w. ap (λ z. not (answered s) && not (rejected s || (z && has_stop s.came))) (same (waiting_offer m c room s x w h)) ∙ w;

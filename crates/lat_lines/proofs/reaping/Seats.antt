@@ -96,9 +96,9 @@ same_free c d n s a p e f =
     }
 
 -- a session that heard nothing isn't free
-unheard_held : (s : Session) → s.refused ≡ false → s.came ≡ [] → free s ≡ false
+unheard_held : (s : Session) → s.rejects ≡ false → s.came ≡ [] → free s ≡ false
 unheard_held s r h =
-    or_from (rejected s) (stopped s && (s.closed || nat_le (length (items s.came)) s.taken)) (or_from s.refused (turned s.came) r (ap turned h))
+    or_from (rejected s) (stopped s && (s.closed || nat_le (length (items s.came)) s.taken)) (or_from s.rejects (turned s.came) r (ap turned h))
     (and_left (stopped s) (s.closed || nat_le (length (items s.came)) s.taken) (and_right (has_stop s.out) (has_stop s.came) (ap has_stop h)))
 
 free_runs : (c : Core) (s : Seat) (lines : ℕ) → Unheard (end_of c s) → IsSeat lines c s → free (session_of c s) ≡ true → (end_of c s).running ≡ true

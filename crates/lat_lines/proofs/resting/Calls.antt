@@ -51,8 +51,8 @@ attend_looks : (s : Sessions) (id flag : ℕ) → SameLooks s (call s (Attend id
 attend_looks s id flag = open_looks s (put_open (named s id)) (s.at_id id) (record (named s id) { attention = Some flag }) (λ h. refl)
 
 -- one that wasn't free and isn't now
-still_free : (u v : Session) → v.out ≡ u.out → v.came ≡ u.came → v.refused ≡ u.refused → v.reason ≡ u.reason → free u ≡ false → free v ≡ false → look v ≡ look u
-still_free u v out came refused reason e f = λ j. record { out = out j; came = came j; refused = refused j; reason = reason j; free = (f ∙ sym e) j }
+still_free : (u v : Session) → v.out ≡ u.out → v.came ≡ u.came → v.rejects ≡ u.rejects → v.reason ≡ u.reason → free u ≡ false → free v ≡ false → look v ≡ look u
+still_free u v out came rejects reason e f = λ j. record { out = out j; came = came j; rejects = rejects j; reason = reason j; free = (f ∙ sym e) j }
 
 taken_open : (u : Session) → take_open u ≡ true → free u ≡ false
 taken_open u h = not-true (free u) (and_parts u.accepted (not (free u)) (and_parts (u.accepted && not (free u)) (not u.closed) h).0).1

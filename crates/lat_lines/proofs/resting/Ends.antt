@@ -26,7 +26,7 @@ known_as n s address peer reason alive l = record {
   peer_session = starter l.came;
   given = credits l.out;
   used_up = costs l.out;
-  end = cond (l.refused || turned l.came) (Some (EndedRejected (reject_reason (record blank { refused = l.refused; reason = l.reason; came = l.came }))))
+  end = cond (l.rejects || turned l.came) (Some (EndedRejected (reject_reason (record blank { rejects = l.rejects; reason = l.reason; came = l.came }))))
       (cond l.free (Some EndedClosed) (cond alive None (Some (EndedCircuit (elim reason [ None ↦ 0 | Some r ↦ r ])))));
 }
 

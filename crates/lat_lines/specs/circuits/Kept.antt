@@ -4,8 +4,8 @@ use Rattle.std.specs.List.{list_any}
 use Rattle.lat_base.specs.declared.addr.Addr.{Addr}
 use Rattle.lat_model.specs.Lists.{Each}
 use Rattle.lat_machines.specs.cores.Cores.{Side}
-use Rattle.lat_circuit.specs.declared.config.Timing.{Timing}
-use Rattle.lat_circuit.specs.Agrees.{IsTiming}
+use Rattle.lat_frames.specs.declared.timing.Timing.{Timing}
+use Rattle.lat_frames.specs.Timings.{IsTiming}
 use Rattle.lat_circuit.specs.Frames.{timing_shown}
 use Rattle.lat_circuit.specs.Kept as circuit
 

@@ -3,7 +3,7 @@
 
 ghost use Rattle.std.specs.Prelude.{◌≡◌, ◌≤◌, ◌<◌, ◌++◌, ◌&&◌, if◌then◌else◌, false, Ok, Err, IfOk, IfSome, MatchOption};
 ghost use Rattle.std.specs.Prelude.{map, length, drop, min};
-ghost use Rattle.lat_model.specs.sessions.Calls.{take_count, took, Take, Answer, Refuse};
+ghost use Rattle.lat_model.specs.sessions.Calls.{take_count, took, Take, Answer, RejectAsk};
 ghost use Rattle.lat_model.specs.sessions.Session.{take_open};
 ghost use Rattle.lat_model.specs.ends.End.{lives};
 ghost use Rattle.lat_machines.specs.cores.Cores.{Core};
@@ -89,7 +89,7 @@ impl Circuits {
         requires reason { reason ≤ 15 }
         ensures state { (c : Core) →
             Stands self.old c →
-            Stands self.new (calling (side_of self.old) circuit (Refuse id reason) c) }
+            Stands self.new (calling (side_of self.old) circuit (RejectAsk id reason) c) }
         ensures same { SameCircuits self.old self.new }
         ensures ended { is_asked_at self.old circuit id ≡ false → self.new ≡ self.old }
     {

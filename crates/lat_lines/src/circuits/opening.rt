@@ -12,7 +12,7 @@ ghost use Rattle.lat_machines.specs.values.Addresses.{address};
 ghost use Rattle.lat_machines.specs.cores.Cores.{Core, circuit_to};
 ghost use Rattle.lat_machines.specs.server.Server.{has_room};
 ghost use Rattle.lat_session.specs.Table as table;
-ghost use Rattle.lat_circuit.specs.Agrees.{IsTiming};
+ghost use Rattle.lat_frames.specs.Timings.{IsTiming};
 ghost use Rattle.lat_circuit.specs.Kept.{Kept};
 ghost use Rattle.lat_circuit.specs.Stands as circuit_stands;
 ghost use Rattle.lat_lines.specs.circuits.Kept.{side_of, SameCore, SameCircuits, has_id, IsClear};

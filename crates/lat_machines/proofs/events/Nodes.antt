@@ -5,7 +5,7 @@ use Rattle.std.specs.List.{find}
 use Rattle.lat_model.specs.sessions.Slots.{Slot}
 use Rattle.lat_model.specs.sessions.Session.{Session, waits}
 use Rattle.lat_model.specs.Lists.{upwards}
-use Rattle.lat_model.specs.sessions.Calls.{Refuse}
+use Rattle.lat_model.specs.sessions.Calls.{RejectAsk}
 use Rattle.lat_model.specs.sessions.Calls as Calls
 use Rattle.lat_model.specs.ends.End.{lives}
 use Rattle.lat_model.specs.circuits.World.{World, table, with_table}
@@ -35,7 +35,7 @@ did_cond w false s t p q = q refl
 -- answering
 
 judge_did : {L : List ℕ → Type 0} (config : NodeConfig) (w : World) (st : Node) (x id : ℕ) (request : Option ℕ) (v : Verdict) → table w false ≡ st.core.circuits → NodeMade L Quiet w (judged config st x id request v) []
-judge_did {L} config w st x id request (Rejects reason) q = local_made (node_side config) st.core w false x (Refuse id reason) tt q
+judge_did {L} config w st x id request (Rejects reason) q = local_made (node_side config) st.core w false x (RejectAsk id reason) tt q
 judge_did {L} config w st x id request (Accepts line) q =
     let m : Made L Quiet w false (local_call config x (Calls.Answer id) st.core) [] = local_made (node_side config) st.core w false x (Calls.Answer id) tt q in
     record { wired = m.wired; leads = m.leads; shown = m.shown }

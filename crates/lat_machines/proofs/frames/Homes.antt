@@ -5,7 +5,7 @@ use Rattle.std.proofs.lemmas.Bool.{and_parts, eqb-false}
 use Rattle.lat_model.specs.sessions.Slots.{Slot}
 use Rattle.lat_model.specs.sessions.Session.{Session, waits}
 use Rattle.lat_model.specs.Lists.{upwards}
-use Rattle.lat_model.specs.sessions.Calls.{Call, Refuse}
+use Rattle.lat_model.specs.sessions.Calls.{Call, RejectAsk}
 use Rattle.lat_model.specs.sessions.Calls as Calls
 use Rattle.lat_model.specs.ends.End.{End, Step, lives, call_end}
 use Rattle.lat_model.specs.ends.Run.{run_end}
@@ -127,7 +127,7 @@ server_home config st from (Whole v) k now x n = go (nat_eq from everyone) (valu
 -- the node
 
 judge_home : (config : NodeConfig) (st : Node) (x y id : ℕ) (request : Option ℕ) (v : Verdict) → x ≢ y → (judged config st y id request v).core.circuits.circuit_at x ≡ st.core.circuits.circuit_at x
-judge_home config st x y id request (Rejects reason) n = local_home false st.core.circuits x y (Refuse id reason) n
+judge_home config st x y id request (Rejects reason) n = local_home false st.core.circuits x y (RejectAsk id reason) n
 judge_home config st x y id request (Accepts line) n = local_home false st.core.circuits x y (Calls.Answer id) n
 
 ones_home : (config : NodeConfig) (x y : ℕ) (ids : List ℕ) (st : Node) → x ≢ y → (answers_in config y ids st).core.circuits.circuit_at x ≡ st.core.circuits.circuit_at x

@@ -2,7 +2,7 @@
 use Rattle.std.proofs.Common.{◌≡◌, ℕ, ◌+◌, ap₂, Bool, true, false, cond, ◌&&◌, List, [], ◌∷◌, Option, Some, None, nat_eq}
 use Rattle.std.specs.List.{find}
 use Rattle.lat_model.specs.sessions.Session.{Session, waits}
-use Rattle.lat_model.specs.sessions.Calls.{Refuse}
+use Rattle.lat_model.specs.sessions.Calls.{RejectAsk}
 use Rattle.lat_model.specs.sessions.Calls as Calls
 use Rattle.lat_model.specs.sessions.Slots.{Slot}
 use Rattle.lat_model.specs.Lists.{upwards}
@@ -32,7 +32,7 @@ step_cond p false s t f g = g
 -- answering
 
 judged_ok : (p : Facts) (config : NodeConfig) (st : Node) (x id : ℕ) (request : Option ℕ) (v : Verdict) → CircuitsOk false p st.core.circuits → CircuitsOk false p (judged config st x id request v).core.circuits
-judged_ok p config st x id request (Rejects reason) r = (local_ok false p.other (both p) st.core.circuits x (Refuse id reason) r).table
+judged_ok p config st x id request (Rejects reason) r = (local_ok false p.other (both p) st.core.circuits x (RejectAsk id reason) r).table
 judged_ok p config st x id request (Accepts line) r = (local_ok false p.other (both p) st.core.circuits x (Calls.Answer id) r).table
 
 answers_ok : (p : Facts) (config : NodeConfig) (x : ℕ) (ids : List ℕ) (st : Node) → CircuitsOk false p st.core.circuits → CircuitsOk false p (answers_in config x ids st).core.circuits

@@ -2,7 +2,7 @@
 use Rattle.std.proofs.Common.{◌≡◌, ℕ, ◌+◌, refl, sym, subst, Bool, true, false, cond, ◌&&◌, List, [], ◌∷◌, Option, Some, None, nat_eq}
 use Rattle.std.specs.List.{find}
 use Rattle.lat_model.specs.sessions.Session.{Session, waits}
-use Rattle.lat_model.specs.sessions.Calls.{Refuse}
+use Rattle.lat_model.specs.sessions.Calls.{RejectAsk}
 use Rattle.lat_model.specs.sessions.Calls as Calls
 use Rattle.lat_model.specs.sessions.Slots.{Slot}
 use Rattle.lat_model.specs.Lists.{upwards}
@@ -39,7 +39,7 @@ same_cond st false s t f g = g
 -- answering
 
 judged_same : (config : NodeConfig) (st : Node) (x id : ℕ) (request : Option ℕ) (v : Verdict) → Steady st.core.circuits → Same st.core (judged config st x id request v).core []
-judged_same config st x id request (Rejects reason) r = local_quiet false (node_side config) st.core x (Refuse id reason) r
+judged_same config st x id request (Rejects reason) r = local_quiet false (node_side config) st.core x (RejectAsk id reason) r
 judged_same config st x id request (Accepts line) r = local_quiet false (node_side config) st.core x (Calls.Answer id) r
 
 answers_same : (config : NodeConfig) (x : ℕ) (ids : List ℕ) (c : Core) (st : Node) → Same c st.core [] → Same c (answers_in config x ids st).core []

@@ -12,7 +12,7 @@ pub data SessionEnd : Type 0 where
   EndedCircuit : ℕ → SessionEnd
 
 abbrev pub reject_reason : Session → ℕ
-reject_reason s = cond s.refused s.reason (heard_reason s.came)
+reject_reason s = cond s.rejects s.reason (heard_reason s.came)
   where
     heard_reason : List Slot → ℕ
     heard_reason [] = 0

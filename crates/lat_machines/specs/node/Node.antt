@@ -6,7 +6,7 @@ use Rattle.lat_model.specs.sessions.Slots.{Slot}
 use Rattle.lat_model.specs.sessions.Session.{Session, waits}
 use Rattle.lat_model.specs.Lists.{updated, upwards, least, Each}
 use Rattle.lat_model.specs.sessions.Sessions.{named}
-use Rattle.lat_model.specs.sessions.Calls.{Call, Refuse}
+use Rattle.lat_model.specs.sessions.Calls.{Call, RejectAsk}
 use Rattle.lat_model.specs.ends.End.{lives}
 use Rattle.lat_machines.specs.values.Names.{Name, same}
 use Rattle.lat_machines.specs.values.Addresses.{everyone}
@@ -111,7 +111,7 @@ local_call config x k c = (acts (node_side config) c (local_at false c.circuits 
 
 abbrev pub judged : NodeConfig → Node → ℕ → ℕ → Option ℕ → Verdict → Node
 judged config state x id request (Rejects reason) = record state {
-  core = local_call config x (Refuse id reason) state.core;
+  core = local_call config x (RejectAsk id reason) state.core;
   turned_away = suc state.turned_away;
 }
 judged config state x id request (Accepts line) =

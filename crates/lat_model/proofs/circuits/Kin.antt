@@ -8,7 +8,7 @@ use Rattle.lat_model.specs.sessions.Hearing.{hear_all, HeardAll, names, names_ru
 use Rattle.lat_model.specs.Lists.{is_empty, any_up_to}
 use Rattle.lat_model.specs.sessions.Offers.{Offer, Nothing, Unfit, Offers, offer}
 use Rattle.lat_model.specs.sessions.Session.{waits, put_open, take_open, unframed}
-use Rattle.lat_model.specs.sessions.Calls.{Call, Connect, Put, Set, Attend, Take, Close, Answer, Refuse, call, connect, touch, put_items, put_count, take_count, answer, reject}
+use Rattle.lat_model.specs.sessions.Calls.{Call, Connect, Put, Set, Attend, Take, Close, Answer, RejectAsk, call, connect, touch, put_items, put_count, take_count, answer, reject}
 use Rattle.lat_model.specs.numbers.Link.{Link, Frame, window_open, is_next, ack_in, take_message}
 use Rattle.lat_model.specs.ends.End.{ReplyStart, Half, End, Step, still, then_do, lives, finish, send_bare, all_known, send_message, acknowledge, form_packed, occasion, send_again, send_start, call_end}
 use Rattle.lat_model.specs.ends.Run.{RunTaken, RunRepeated, RunBroke, RunStep, ack_end, take_end, body_end, after_run, run_end}
@@ -81,7 +81,7 @@ call_master e (Attend id flag) = call_cond (put_open (named e id)) (touch e (e.a
 call_master e (Take id n) = call_cond (take_open (named e id)) (touch e (e.at_id id) (record (named e id) { taken = (named e id).taken + take_count (named e id) n })) e e.master refl refl
 call_master e (Close id) = call_cond (take_open (named e id)) (touch e (e.at_id id) (record (named e id) { closed = true })) e e.master refl refl
 call_master e (Answer id) = call_cond (not e.master && waits (named e id)) (answer e id) e e.master refl refl
-call_master e (Refuse id reason) = call_cond (not e.master && waits (named e id)) (reject e id reason) e e.master refl refl
+call_master e (RejectAsk id reason) = call_cond (not e.master && waits (named e id)) (reject e id reason) e e.master refl refl
 
 pub record Kin (e : End) (f : End) : Type 0 where
   pub peer : f.peer ≡ e.peer
@@ -280,7 +280,7 @@ call_void a c (Attend id flag) = refl
 call_void a c (Take id n) = refl
 call_void a c (Close id) = refl
 call_void a c (Answer id) = refl
-call_void a c (Refuse id reason) = refl
+call_void a c (RejectAsk id reason) = refl
 
 pub idle_call : (c : Call) (e : End) → Idle e → Idle (call_end c e)
 idle_call c e i = record { link = i.link; agreed = i.agreed; ceiling = i.ceiling; agreed_low = i.agreed_low; ceiling_low = i.ceiling_low; sessions = ap (λ s. call s c) i.sessions ∙ call_void i.agreed i.ceiling c; heard_run = i.heard_run; master = i.master }

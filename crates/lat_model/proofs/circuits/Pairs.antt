@@ -351,7 +351,7 @@ run_pair_ok (e ∷ es) w k = run_pair_ok es (happens w e) (happens_ok w k e)
 -- the start
 
 none_ok : (m : Bool) → SessionOk m blank
-none_ok m = record { shape = tt; unnamed = λ z. refl; asked = λ z n. absurd (n refl); id_some = λ z. absurd (true≢false z); peer_some = λ z n. absurd (n refl); ask_out = λ z n. absurd (n refl); never_refused = λ z n. (refl, refl) }
+none_ok m = record { shape = tt; unnamed = λ z. refl; asked = λ z n. absurd (n refl); id_some = λ z. absurd (true≢false z); peer_some = λ z n. absurd (n refl); ask_out = λ z n. absurd (n refl); never_rejects = λ z n. (refl, refl) }
 
 none_accounts : (c : ℕ) → Accounts c blank
 none_accounts c = record { spends = omega arith; spent = omega arith; gives = omega arith; framed = ([], refl); taken = omega arith }

@@ -87,18 +87,18 @@ generations a b wire back aok bok quiet f r k fr st ns =
     let ea : x.out ≡ y.came ++ slots_of x.generation wire = sym (ap (λ (z : Session). z.out) at) ∙ f.at_generation x.generation in
     let eb : y.out ≡ x.came ++ slots_of x.generation back = r.at_generation x.generation ∙ ap (λ (z : Session). z.came ++ slots_of x.generation back) at in
     let m : Met x y = met b.master x y (slots_of x.generation back) (bok.each (b.serial_of x.generation)) eb st in
-    let turn : turned y.came ≡ true → ⊥ = λ t. refused y.came ea t in
+    let turn : turned y.came ≡ true → ⊥ = λ t. rejects y.came ea t in
     ⊎_elim {C = ((named b (peer x)).generation ≡ x.generation) ⊎ (stopped y ≡ true)}
-    (λ h. ⊎_elim {C = ((named b (peer x)).generation ≡ x.generation) ⊎ (stopped y ≡ true)} (λ t. absurd (turn t)) (λ s. inr s) (free_cases y m.refused h))
+    (λ h. ⊎_elim {C = ((named b (peer x)).generation ≡ x.generation) ⊎ (stopped y ≡ true)} (λ t. absurd (turn t)) (λ s. inr s) (free_cases y m.rejects h))
     (λ h. inl (ap (λ z. (b.session z).generation) (ap b.at_id m.peer ∙ bok.holds (b.serial_of x.generation) h) ∙ bok.generation_found x.generation (who_some b (λ z. free z ≡ false) (λ q. true≢false q) bok x.generation h)))
     (free_decides y)
   where
-    refused : (c : List Slot) → (a.session k).out ≡ c ++ slots_of (a.session k).generation wire → turned c ≡ true → ⊥
-    refused [] e t = false≢true t
-    refused (z ∷ zs) e t =
+    rejects : (c : List Slot) → (a.session k).out ≡ c ++ slots_of (a.session k).generation wire → turned c ≡ true → ⊥
+    rejects [] e t = false≢true t
+    rejects (z ∷ zs) e t =
         let h : Head a.master (a.session k) z (zs ++ slots_of (a.session k).generation wire) = subst (Shape a.master (a.session k)) e (aok.each k).shape in
         let p : (rejected (a.session k) ≡ false) × _ = or_parts (rejected (a.session k)) _ fr in
-        both_ways (a.session k).refused (or_parts (a.session k).refused (turned (a.session k).came) p.0).0 (h.reject (reject_turns z t)).1
+        both_ways (a.session k).rejects (or_parts (a.session k).rejects (turned (a.session k).came) p.0).0 (h.reject (reject_turns z t)).1
 
 pub credits_of_pair : (a b : Sessions) (wire : List TaggedSlot) → EndOk a → Flows a b wire → (g : ℕ) → CreditsOf a b wire g
 credits_of_pair a b wire ok f g = record {

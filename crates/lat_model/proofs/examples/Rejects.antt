@@ -3,7 +3,7 @@ use Rattle.std.proofs.Common.{◌≡◌, refl, true, false, List, [], ◌∷◌,
 use Rattle.lat_model.specs.sessions.Slots.{Reject, items}
 use Rattle.lat_model.specs.sessions.Sessions.{held}
 use Rattle.lat_model.specs.sessions.Session.{state, Free, Left}
-use Rattle.lat_model.specs.sessions.Calls.{Connect, Put, Answer, Refuse, Close}
+use Rattle.lat_model.specs.sessions.Calls.{Connect, Put, Answer, RejectAsk, Close}
 use Rattle.lat_model.specs.ends.Starting.{Setup}
 use Rattle.lat_model.specs.circuits.Pair.{Event, Local, Time, Deliver, run, open_pair}
 use Rattle.lat_model.proofs.examples.Hello.{usual, vax, hello, at_master, at_slave}
@@ -12,7 +12,7 @@ use Rattle.lat_model.proofs.examples.Hello.{usual, vax, hello, at_master, at_sla
 abbrev pub rejected : List Event
 rejected =
     Local true (Connect vax None) ∷ Deliver 0 0 ∷ Deliver 1 0 ∷ Local true (Put 1 hello)
-    ∷ Time true 80 ∷ Deliver 2 80 ∷ Local false (Refuse 1 4) ∷ Deliver 3 80 ∷ Time false 80 ∷ Deliver 4 80 ∷ Time true 160 ∷ []
+    ∷ Time true 80 ∷ Deliver 2 80 ∷ Local false (RejectAsk 1 4) ∷ Deliver 3 80 ∷ Time false 80 ∷ Deliver 4 80 ∷ Time true 160 ∷ []
 
 reject_comes :
     ((at_master (run rejected (open_pair usual))).came ≡ Reject 1 0 4 ∷ [])

@@ -54,11 +54,11 @@ heard_alone e k x ok g first fit =
     s : Session
     s = e.session k
 
-    refused : s.refused ≡ false
-    refused = (or_parts s.refused (turned s.came) (or_parts (rejected s) (stopped s) g).0).0
+    rejects : s.rejects ≡ false
+    rejects = (or_parts s.rejects (turned s.came) (or_parts (rejected s) (stopped s) g).0).0
 
     so : (xs : List Slot) → s.came ≡ xs → SessionOk e.master (heard s x)
-    so [] q = subst (λ z. SessionOk z (heard s x)) (sym (first q)) (heard_first_ok s x q refused (subst (λ z. SessionOk z s) (first q) (ok.each k)))
+    so [] q = subst (λ z. SessionOk z (heard s x)) (sym (first q)) (heard_first_ok s x q rejects (subst (λ z. SessionOk z s) (first q) (ok.each k)))
     so (y ∷ ys) q = heard_more_ok e.master s x (λ z. not_nil [] y ys (sym q ∙ z)) (ok.each k)
 
 pub some_is : (e f : Sessions) → Some e ≡ Some f → e ≡ f

@@ -131,7 +131,7 @@ asks_clear m s o wire back mm sm mok sok f r fresh ask n = none_upto (λ k. name
         let go : gone (of_generation s x.generation) ≡ true = no_clash m s o wire back mok sok f r fresh st fa na (sym (h.start st).0) x.generation other sx px (rejected_out x.generation (of_generation m x.generation).came refl) in
         ⊎_elim {C = ⊥}
         (λ u. both_ways (gone x) (not-true (gone x) u) (sym (ap (λ z. gone (s.session z)) (sok.serial_found k named)) ∙ go))
-        (λ u. stuck x.generation sx px other (by_gen s sok (λ z. z.out ≡ []) k named (empty_is x.out (and_parts x.refused (is_empty x.out) u).1)))
+        (λ u. stuck x.generation sx px other (by_gen s sok (λ z. z.out ≡ []) k named (empty_is x.out (and_parts x.rejects (is_empty x.out) u).1)))
         (or_cases (not (gone x)) (rejecting x) q.1)
       where
         empty_is : (xs : List Slot) → is_empty xs ≡ true → xs ≡ []
@@ -151,7 +151,7 @@ asks_clear m s o wire back mm sm mok sok f r fresh ask n = none_upto (λ k. name
         stuck g sg pg ne e =
             let c : (of_generation m g).came ≡ [] = front_nil (of_generation m g).came (slots_of g back) (sym (r.at_generation g) ∙ e) in
             let mt : Met (of_generation s g) (of_generation m g) = met m.master (of_generation s g) (of_generation m g) (slots_of g (o ∷ wire)) (mok.each (m.serial_of g)) (f.at_generation g) sg in
-            let fg : free (of_generation m g) ≡ false = free_goes (of_generation m g) (not_gone (of_generation m g) mt.refused (ap turned c) (ap has_stop c)) in
+            let fg : free (of_generation m g) ≡ false = free_goes (of_generation m g) (not_gone (of_generation m g) mt.rejects (ap turned c) (ap has_stop c)) in
             let os : starts (of_generation m g).out ≡ true = ap starts (f.at_generation g) ∙ starts_more (of_generation s g).came (slots_of g (o ∷ wire)) (starts_not_nil (of_generation s g).came sg) ∙ sg in
             let ng : m.serial_of g ≡ 0 → ⊥ = who_some m (λ z. starts z.out ≡ true) (λ z. false≢true z) mok g os in
             ne (one_holder m mok g o.generation ng na fg fa (sym mt.peer ∙ pg ∙ (h.start st).0))

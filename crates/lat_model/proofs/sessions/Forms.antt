@@ -56,7 +56,7 @@ formed_shape m s n x g ok (Rejects o r c j d) =
     })
   where
     slave : m ≡ false
-    slave = false_from_ne_true m (λ e. c (ok.never_refused e r).1)
+    slave = false_from_ne_true m (λ e. c (ok.never_rejects e r).1)
 formed_shape m s n x g ok (Follows r o a st b) = go s.out o st ok.shape
   where
     go : (xs : List Slot) → (xs ≡ [] → ⊥) → has_stop xs ≡ false → Shape m s xs → Shape m (formed_as s n x) (xs ++ x ∷ [])
@@ -64,7 +64,7 @@ formed_shape m s n x g ok (Follows r o a st b) = go s.out o st ok.shape
     go (y ∷ ys) o st h = record {
       asks = h.asks;
       start = h.start;
-      reject = λ e. absurd (both_ways s.refused r (h.reject e).1);
+      reject = λ e. absurd (both_ways s.rejects r (h.reject e).1);
       reply = h.reply;
       tail = tail_more (peer s) s.id ys x h.tail (or_parts (is_stop y) (has_stop ys) st).1 b;
       behind = λ e. a;
@@ -78,13 +78,13 @@ formed_ok m s n x nz g ok may = record {
   id_some = ok.id_some;
   peer_some = λ e h. ok.peer_some e (g e);
   ask_out = λ e h. not_nil s.out x [];
-  never_refused = λ e h. absurd (both_ways s.refused (unrefused e may) h);
+  never_rejects = λ e h. absurd (both_ways s.rejects (unrejected e may) h);
 }
   where
-    unrefused : m ≡ true → MayForm m s x → s.refused ≡ false
-    unrefused e (Starts o a r tu st k so d) = r
-    unrefused e (Rejects o r c j d) = absurd (c (ok.never_refused e r).1)
-    unrefused e (Follows r o a st b) = r
+    unrejected : m ≡ true → MayForm m s x → s.rejects ≡ false
+    unrejected e (Starts o a r tu st k so d) = r
+    unrejected e (Rejects o r c j d) = absurd (c (ok.never_rejects e r).1)
+    unrejected e (Follows r o a st b) = r
 
 pub formed_accounts : (c : ℕ) (s : Session) (n : ℕ) (x : Slot) → Accounts c s → Affords c s x → Accounts c (formed_as s n x)
 formed_accounts c s n x ac af =

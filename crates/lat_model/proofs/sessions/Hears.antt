@@ -31,15 +31,15 @@ starter_more (Stop to from reason ∷ xs) ys n = refl
 pub record SameFace (s : Session) (t : Session) : Type 0 where
   pub id : t.id ≡ s.id
   pub accepted : t.accepted ≡ s.accepted
-  pub refused : t.refused ≡ s.refused
+  pub rejects : t.rejects ≡ s.rejects
   pub peer : peer t ≡ peer s
   pub starts : starts t.came ≡ starts s.came
 
 pub head_keeps : (m : Bool) (s t : Session) (x : Slot) (xs : List Slot) → SameFace s t → Head m s x xs → Head m t x xs
 head_keeps m s t x xs f h = record {
   asks = h.asks;
-  start = λ e. ((h.start e).0 ∙ sym f.id, f.accepted ∙ (h.start e).1, f.refused ∙ (h.start e).2);
-  reject = λ e. ((h.reject e).0, f.refused ∙ (h.reject e).1, (h.reject e).2);
+  start = λ e. ((h.start e).0 ∙ sym f.id, f.accepted ∙ (h.start e).1, f.rejects ∙ (h.start e).2);
+  reject = λ e. ((h.reject e).0, f.rejects ∙ (h.reject e).1, (h.reject e).2);
   reply = λ e. ((h.reply e).0 ∙ sym f.peer, f.starts ∙ (h.reply e).1);
   tail = subst (λ w. Tail w t.id xs) (sym f.peer) (subst (λ w. Tail (peer s) w xs) (sym f.id) h.tail);
   behind = λ n. ap₂ (λ u v. u && v) f.accepted f.starts ∙ h.behind n;
@@ -50,7 +50,7 @@ shape_keeps m s t [] f h = tt
 shape_keeps m s t (x ∷ xs) f h = head_keeps m s t x xs f h
 
 pub face_heard : (s : Session) (x : Slot) → (s.came ≡ [] → ⊥) → SameFace s (heard s x)
-face_heard s x n = record { id = refl; accepted = refl; refused = refl; peer = starter_more s.came (x ∷ []) n; starts = starts_more s.came (x ∷ []) n }
+face_heard s x n = record { id = refl; accepted = refl; rejects = refl; peer = starter_more s.came (x ∷ []) n; starts = starts_more s.came (x ∷ []) n }
 
 -- a session that had heard something hears one slot more
 pub heard_more_ok : (m : Bool) (s : Session) (x : Slot) → (s.came ≡ [] → ⊥) → SessionOk m s → SessionOk m (heard s x)
@@ -61,11 +61,11 @@ heard_more_ok m s x n ok = record {
   id_some = ok.id_some;
   peer_some = λ z h q. ok.peer_some z h (sym (starter_more s.came (x ∷ []) n) ∙ q);
   ask_out = ok.ask_out;
-  never_refused = λ z r. absurd (n (ok.never_refused z r).1);
+  never_rejects = λ z r. absurd (n (ok.never_rejects z r).1);
 }
 
 -- a session of the master that had heard nothing has at most its ask out
-pub heard_first_ok : (s : Session) (x : Slot) → s.came ≡ [] → s.refused ≡ false → SessionOk true s → SessionOk true (heard s x)
+pub heard_first_ok : (s : Session) (x : Slot) → s.came ≡ [] → s.rejects ≡ false → SessionOk true s → SessionOk true (heard s x)
 heard_first_ok s x e r ok = record {
   shape = go s.out ok.shape;
   unnamed = ok.unnamed;
@@ -73,7 +73,7 @@ heard_first_ok s x e r ok = record {
   id_some = ok.id_some;
   peer_some = λ z. absurd (true≢false z);
   ask_out = ok.ask_out;
-  never_refused = λ z q. absurd (both_ways s.refused r q);
+  never_rejects = λ z q. absurd (both_ways s.rejects r q);
 }
   where
     no_answer : answered s ≡ true → ⊥

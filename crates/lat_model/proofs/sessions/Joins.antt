@@ -58,7 +58,7 @@ no_second_ask m s x ok n (Follows r o a st b) = behind_no_ask x b.kind
 -- one without forms nothing else
 only_ask : (m : Bool) (s : Session) (x : Slot) → m ≡ true → SessionOk m s → s.generation ≡ 0 → MayForm m s x → is_ask x ≡ true
 only_ask m s x e ok z (Starts o a r tu st k so d) = k ∙ e
-only_ask m s x e ok z (Rejects o r c j d) = absurd (c (ok.never_refused e r).1)
+only_ask m s x e ok z (Rejects o r c j d) = absurd (c (ok.never_rejects e r).1)
 only_ask m s x e ok z (Follows r o a st b) = absurd (o (ok.unnamed z))
 
 next_formed : (a : Sessions) (k : ℕ) (x : Slot) → EndOk a → ((a.session k).generation ≡ 0 → ⊥) → MayForm a.master (a.session k) x → Affords a.ceiling (a.session k) x → FormedBy a k x (next_form a k x) (a.session k).generation
@@ -135,9 +135,9 @@ closed_by false false false d e p q r = refl
 
 -- the session that forms isn't free, but to send its reject
 pub may_free : (m : Bool) (s : Session) (x : Slot) → SessionOk m s → (m ≡ false → s.generation ≡ 0 → ⊥) → MayForm m s x → starts (s.out ++ x ∷ []) ≡ true → free s ≡ false
-may_free m s x ok g (Starts o a r tu st k so d) h = closed_by s.refused (turned s.came) (has_stop s.out) (has_stop s.came) (s.closed || nat_le (length (items s.came)) s.taken) r tu (ap has_stop o)
+may_free m s x ok g (Starts o a r tu st k so d) h = closed_by s.rejects (turned s.came) (has_stop s.out) (has_stop s.came) (s.closed || nat_le (length (items s.came)) s.taken) r tu (ap has_stop o)
 may_free m s x ok g (Rejects o r c j d) h = absurd (both_ways (is_start x) (reject_turns x j) (sym (ap (λ z. starts (z ++ x ∷ [])) o) ∙ h))
-may_free m s x ok g (Follows r o a st b) h = closed_by s.refused (turned s.came) (has_stop s.out) (has_stop s.came) (s.closed || nat_le (length (items s.came)) s.taken) r (starts_not_turned s.came (and_parts s.accepted (starts s.came) a).1) st
+may_free m s x ok g (Follows r o a st b) h = closed_by s.rejects (turned s.came) (has_stop s.out) (has_stop s.came) (s.closed || nat_le (length (items s.came)) s.taken) r (starts_not_turned s.came (and_parts s.accepted (starts s.came) a).1) st
 
 -- the wire of the end that forms stays fresh
 fresh_formed : (a b : Sessions) (k : ℕ) (x : Slot) (f : Sessions) (n : ℕ) (wire : List TaggedSlot) → EndOk a → MayForm a.master (a.session k) x → FormedBy a k x f n → Flows a b wire → ((g : ℕ) → has_start (slots_of g wire) ≡ true → gone (of_generation a g) ≡ false) → Tags a.generations wire → Fresh a wire → Fresh f (wire ++ record { generation = n; slot = x } ∷ [])
@@ -388,7 +388,7 @@ up_ask m s o up down j a = record {
     src q =
         let out : (of_generation m o.generation).out ≡ o.slot ∷ slots_of o.generation up = j.flow_up.at_generation o.generation ∙ ap₂ (λ u v. u ++ v) (ap (λ (z : Session). z.came) (no_gen s j.slave_ok o.generation (omega (arith, n)))) (slots_here o up) in
         let h : Head m.master (of_generation m o.generation) o.slot (slots_of o.generation up) = subst (Shape m.master (of_generation m o.generation)) out (j.master_ok.each (m.serial_of o.generation)).shape in
-        let p : (source o.slot ≡ (of_generation m o.generation).id) × ((of_generation m o.generation).accepted ≡ true) × ((of_generation m o.generation).refused ≡ false) = h.start (ask_starts o.slot a) in
+        let p : (source o.slot ≡ (of_generation m o.generation).id) × ((of_generation m o.generation).accepted ≡ true) × ((of_generation m o.generation).rejects ≡ false) = h.start (ask_starts o.slot a) in
         (j.master_ok.each (m.serial_of o.generation)).id_some p.2 (sym p.0 ∙ q)
 
     one : ask_count o.slot ≡ 1

@@ -4,7 +4,7 @@ use Rattle.std.proofs.lemmas.Bool.{cases_lt, and_parts, and_from, or_parts, true
 use Rattle.lat_model.specs.sessions.Slots.{Item, Byte, Setting, Slot, items, items_of, has_stop, starts, turned, starter, is_start}
 use Rattle.lat_model.specs.sessions.Session.{Session, free, gone, answered, rejected, stopped, waits, unframed, held_from, held_slots, put_open, take_open}
 use Rattle.lat_model.specs.sessions.Sessions.{Sessions, of_generation, named, held}
-use Rattle.lat_model.specs.sessions.Calls.{touch, new_call, connect, put_items, put_count, take_count, answer, reject, Call, Connect, Put, Set, Attend, Take, Close, Answer, Refuse, call}
+use Rattle.lat_model.specs.sessions.Calls.{touch, new_call, connect, put_items, put_count, take_count, answer, reject, Call, Connect, Put, Set, Attend, Take, Close, Answer, RejectAsk, call}
 use Rattle.lat_model.specs.sessions.EndOk.{Head, Shape, SessionOk, Accounts, EndOk}
 use Rattle.lat_model.proofs.sessions.Words.{upd_other, upd_field, upd_all, not_blank}
 use Rattle.lat_model.proofs.sessions.Wire.{end_placed}
@@ -39,10 +39,10 @@ session_keeps m s t f o c g ok = record {
   shape = subst (Shape m t) (sym o) (shape_keeps m s t s.out f ok.shape);
   unnamed = λ z. o ∙ ok.unnamed (sym g ∙ z);
   asked = λ z n. ap starts c ∙ ok.asked z (λ q. n (g ∙ q));
-  id_some = λ r q. ok.id_some (sym f.refused ∙ r) (sym f.id ∙ q);
+  id_some = λ r q. ok.id_some (sym f.rejects ∙ r) (sym f.id ∙ q);
   peer_some = λ z n q. ok.peer_some z (λ w. n (g ∙ w)) (sym f.peer ∙ q);
   ask_out = λ z n q. ok.ask_out z (λ q. n (g ∙ q)) (sym o ∙ q);
-  never_refused = λ z r. (g ∙ (ok.never_refused z (sym f.refused ∙ r)).0, c ∙ (ok.never_refused z (sym f.refused ∙ r)).1);
+  never_rejects = λ z r. (g ∙ (ok.never_rejects z (sym f.rejects ∙ r)).0, c ∙ (ok.never_rejects z (sym f.rejects ∙ r)).1);
 }
 
 put_free : (s : Session) → put_open s ≡ true → free s ≡ false
@@ -69,7 +69,7 @@ puts : (e : Sessions) (id : ℕ) (xs : List Item) → EndOk e → put_open (name
 puts e id xs ok h =
     let s : Session = named e id in
     touched e (e.at_id id) (put_items s xs) ok (put_free s h) refl refl refl refl
-    (session_keeps e.master s (put_items s xs) (record { id = refl; accepted = refl; refused = refl; peer = refl; starts = refl }) refl refl refl (ok.each (e.at_id id)))
+    (session_keeps e.master s (put_items s xs) (record { id = refl; accepted = refl; rejects = refl; peer = refl; starts = refl }) refl refl refl (ok.each (e.at_id id)))
     (put_accounts e.ceiling s xs (ok.accounts (e.at_id id)))
 
 -- more taken, less held
@@ -98,7 +98,7 @@ takes e id n ok h =
     let s : Session = named e id in
     let ac : Accounts e.ceiling s = ok.accounts (e.at_id id) in
     touched e (e.at_id id) (record s { taken = s.taken + take_count s n }) ok (take_free s h) refl refl refl refl
-    (session_keeps e.master s (record s { taken = s.taken + take_count s n }) (record { id = refl; accepted = refl; refused = refl; peer = refl; starts = refl }) refl refl refl (ok.each (e.at_id id)))
+    (session_keeps e.master s (record s { taken = s.taken + take_count s n }) (record { id = refl; accepted = refl; rejects = refl; peer = refl; starts = refl }) refl refl refl (ok.each (e.at_id id)))
     (record { spends = ac.spends; spent = ac.spent; gives = omega (arith, ac.gives, held_taken s (take_count s n)); framed = ac.framed; taken = omega (arith, ac.taken) })
 
 closes : (e : Sessions) (id : ℕ) → EndOk e → take_open (named e id) ≡ true → Touched e (touch e (e.at_id id) (record (named e id) { closed = true }))
@@ -106,7 +106,7 @@ closes e id ok h =
     let s : Session = named e id in
     let ac : Accounts e.ceiling s = ok.accounts (e.at_id id) in
     touched e (e.at_id id) (record s { closed = true }) ok (take_free s h) refl refl refl refl
-    (session_keeps e.master s (record s { closed = true }) (record { id = refl; accepted = refl; refused = refl; peer = refl; starts = refl }) refl refl refl (ok.each (e.at_id id)))
+    (session_keeps e.master s (record s { closed = true }) (record { id = refl; accepted = refl; rejects = refl; peer = refl; starts = refl }) refl refl refl (ok.each (e.at_id id)))
     (record { spends = ac.spends; spent = ac.spent; gives = omega (arith, ac.gives, held_closed s); framed = ac.framed; taken = ac.taken })
 
 attends : (e : Sessions) (id flag : ℕ) → EndOk e → put_open (named e id) ≡ true → Touched e (touch e (e.at_id id) (record (named e id) { attention = Some flag }))
@@ -114,7 +114,7 @@ attends e id flag ok h =
     let s : Session = named e id in
     let ac : Accounts e.ceiling s = ok.accounts (e.at_id id) in
     touched e (e.at_id id) (record s { attention = Some flag }) ok (put_free s h) refl refl refl refl
-    (session_keeps e.master s (record s { attention = Some flag }) (record { id = refl; accepted = refl; refused = refl; peer = refl; starts = refl }) refl refl refl (ok.each (e.at_id id)))
+    (session_keeps e.master s (record s { attention = Some flag }) (record { id = refl; accepted = refl; rejects = refl; peer = refl; starts = refl }) refl refl refl (ok.each (e.at_id id)))
     (record { spends = ac.spends; spent = ac.spent; gives = ac.gives; framed = ac.framed; taken = ac.taken })
 
 -- an asked session has formed nothing
@@ -126,7 +126,7 @@ asked_silent s ok w = go s.out refl ok.shape
 
     head : (x : Slot) (xs : List Slot) → Head false s x xs → (b : Bool) → is_start x ≡ b → ⊥
     head x xs h true q = both_ways (answered s) (not-true (answered s) p.0) (and_from s.accepted (starts s.came) (h.start q).1 (h.reply refl).1)
-    head x xs h false q = both_ways s.refused (or_parts s.refused (turned s.came) (or_parts (rejected s) (stopped s) (not-true (gone s) p.1)).0).0 (h.reject q).1
+    head x xs h false q = both_ways s.rejects (or_parts s.rejects (turned s.came) (or_parts (rejected s) (stopped s) (not-true (gone s) p.1)).0).0 (h.reject q).1
 
     go : (xs : List Slot) → s.out ≡ xs → Shape false s xs → s.out ≡ []
     go [] e h = e
@@ -135,16 +135,16 @@ asked_silent s ok w = go s.out refl ok.shape
 waits_free : (s : Session) → waits s ≡ true → free s ≡ false
 waits_free s w = free_goes s (not-true (gone s) (and_parts (not (answered s)) (not (gone s)) w).1)
 
--- an asked session that is answered or refused
+-- an asked session that is answered or rejected
 settled_ok : (m : Bool) (s t : Session) → m ≡ false → waits s ≡ true → t.id ≡ s.id → t.out ≡ s.out → t.came ≡ s.came → t.generation ≡ s.generation → SessionOk m s → SessionOk m t
 settled_ok m s t e w i o c g ok = record {
   shape = subst (Shape m t) (sym (o ∙ asked_silent s (subst (λ z. SessionOk z s) e ok) w)) tt;
   unnamed = λ z. o ∙ ok.unnamed (sym g ∙ z);
   asked = λ z n. ap starts c ∙ ok.asked z (λ q. n (g ∙ q));
-  id_some = λ r q. ok.id_some (or_parts s.refused (turned s.came) (or_parts (rejected s) (stopped s) (not-true (gone s) (and_parts (not (answered s)) (not (gone s)) w).1)).0).0 (sym i ∙ q);
+  id_some = λ r q. ok.id_some (or_parts s.rejects (turned s.came) (or_parts (rejected s) (stopped s) (not-true (gone s) (and_parts (not (answered s)) (not (gone s)) w).1)).0).0 (sym i ∙ q);
   peer_some = λ z n q. ok.peer_some z (λ v. n (g ∙ v)) (sym (ap starter c) ∙ q);
   ask_out = λ z n q. absurd (true≢false (sym z ∙ e));
-  never_refused = λ z n. absurd (true≢false (sym z ∙ e));
+  never_rejects = λ z n. absurd (true≢false (sym z ∙ e));
 }
 
 answers : (e : Sessions) (id : ℕ) → EndOk e → e.master ≡ false → waits (named e id) ≡ true → Touched e (answer e id)
@@ -159,8 +159,8 @@ refuses : (e : Sessions) (id reason : ℕ) → EndOk e → e.master ≡ false �
 refuses e id reason ok m w =
     let s : Session = named e id in
     let ac : Accounts e.ceiling s = ok.accounts (e.at_id id) in
-    touched e (e.at_id id) (record s { refused = true; reason = reason }) ok (waits_free s w) refl refl refl refl
-    (settled_ok e.master s (record s { refused = true; reason = reason }) m w refl refl refl refl (ok.each (e.at_id id)))
+    touched e (e.at_id id) (record s { rejects = true; reason = reason }) ok (waits_free s w) refl refl refl refl
+    (settled_ok e.master s (record s { rejects = true; reason = reason }) m w refl refl refl refl (ok.each (e.at_id id)))
     (record { spends = ac.spends; spent = ac.spent; gives = ac.gives; framed = ac.framed; taken = ac.taken })
 
 connects : (e : Sessions) (service : List ℕ) (request : Option ℕ) → EndOk e → e.master ≡ true → held e < e.agreed → Touched e (connect e service request)
@@ -214,7 +214,7 @@ called e (Answer id) ok = go (not e.master && waits (named e id)) refl
     go : (b : Bool) → (not e.master && waits (named e id)) ≡ b → Touched e (cond b (answer e id) e)
     go true q = answers e id ok (not-true e.master (and_parts (not e.master) (waits (named e id)) q).0) (and_parts (not e.master) (waits (named e id)) q).1
     go false q = untouched e ok
-called e (Refuse id reason) ok = go (not e.master && waits (named e id)) refl
+called e (RejectAsk id reason) ok = go (not e.master && waits (named e id)) refl
   where
     go : (b : Bool) → (not e.master && waits (named e id)) ≡ b → Touched e (cond b (reject e id reason) e)
     go true q = refuses e id reason ok (not-true e.master (and_parts (not e.master) (waits (named e id)) q).0) (and_parts (not e.master) (waits (named e id)) q).1

@@ -4,7 +4,7 @@ use Rattle.std.proofs.lemmas.Bool.{and_parts}
 use Rattle.lat_model.specs.sessions.Slots.{Byte, Setting, Slot, Start, DataA, DataB, Attention, Reject, Stop}
 use Rattle.lat_model.specs.sessions.Session.{free, waits, put_open, take_open, unframed}
 use Rattle.lat_model.specs.sessions.Sessions.{Sessions, named, held, least_free}
-use Rattle.lat_model.specs.sessions.Calls.{Call, Connect, Put, Set, Attend, Take, Close, Answer, Refuse, call, connect, touch, put_items, put_count, take_count, answer, reject}
+use Rattle.lat_model.specs.sessions.Calls.{Call, Connect, Put, Set, Attend, Take, Close, Answer, RejectAsk, call, connect, touch, put_items, put_count, take_count, answer, reject}
 use Rattle.lat_model.specs.sessions.Hearing.{names, names_running, hear_at, behind_fits, is_full, ask_in, hear_slot}
 use Rattle.lat_model.specs.sessions.Offers.{Offer, Nothing, Unfit, Offers, offer}
 use Rattle.lat_model.specs.sessions.Packing.{Packing, turn_by, turn, first_form, next_form}
@@ -37,7 +37,7 @@ call_within n e (Attend id flag) ok a w = cond_within n (put_open (named e id)) 
 call_within n e (Take id k) ok a w = cond_within n (take_open (named e id)) (touch e (e.at_id id) (record (named e id) { taken = (named e id).taken + take_count (named e id) k })) e w w
 call_within n e (Close id) ok a w = cond_within n (take_open (named e id)) (touch e (e.at_id id) (record (named e id) { closed = true })) e w w
 call_within n e (Answer id) ok a w = cond_within n (not e.master && waits (named e id)) (answer e id) e w w
-call_within n e (Refuse id reason) ok a w = cond_within n (not e.master && waits (named e id)) (reject e id reason) e w w
+call_within n e (RejectAsk id reason) ok a w = cond_within n (not e.master && waits (named e id)) (reject e id reason) e w w
 
 pub turn_within : (n : ℕ) (p : Packing) (k : ℕ) → IdsWithin n p.after → IdsWithin n (turn p k).after
 turn_within n p k w = go p.going (offer p.after.master p.after.ceiling p.room (p.after.session k))

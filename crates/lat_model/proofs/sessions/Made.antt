@@ -141,7 +141,7 @@ ids_same e s ok i = (omega (arith, ok.at_made i), λ n. ap (λ (z : Session). z.
 -- the master connects
 pub connect_added : (e : Sessions) (service : List ℕ) (request : Option ℕ) → e.master ≡ true → held e < e.agreed → EndOk e → Added e (new_call e service request) (updated e.at_id (least_free e) (suc e.made)) e.generations e.serial_of
 connect_added e service request m h ok = record {
-  session_ok = record { shape = tt; unnamed = λ z. refl; asked = λ z n. absurd (n refl); id_some = λ z. least_some e h ok.agreed; peer_some = λ z n. absurd (n refl); ask_out = λ z n. absurd (n refl); never_refused = λ z n. absurd (false≢true n) };
+  session_ok = record { shape = tt; unnamed = λ z. refl; asked = λ z n. absurd (n refl); id_some = λ z. least_some e h ok.agreed; peer_some = λ z n. absurd (n refl); ask_out = λ z n. absurd (n refl); never_rejects = λ z n. absurd (false≢true n) };
   accounts = record { spends = omega arith; spent = omega arith; gives = omega arith; framed = ([], refl); taken = omega arith };
   new_id = λ f. upd_same e.at_id (least_free e) (suc e.made);
   old_ids = λ k f q. upd_other e.at_id (least_free e) (suc e.made) (e.session k).id (λ z. both_ways (free (e.session k)) f (sym (ap (λ n. free (e.session n)) (sym (ap e.at_id z) ∙ q)) ∙ least_is_free e h ok.agreed)) ∙ q;
@@ -157,7 +157,7 @@ connect_ok e service request m h ok = added_ok e (new_call e service request) (u
 pub ask_added : (e : Sessions) (from c size : ℕ) (service : List ℕ) (request : Option ℕ) → e.master ≡ false → (from ≡ 0 → ⊥) → EndOk e →
     (let x : Slot = Start 0 from c size service request in Added e (asked_session e x service request) (cond (nat_le e.agreed (held e)) e.at_id (updated e.at_id (least_free e) (suc e.made))) (suc e.generations) (updated e.serial_of (suc e.generations) (suc e.made)))
 ask_added e from c size service request m src ok = record {
-  session_ok = record { shape = tt; unnamed = λ z. absurd (omega (arith, z)); asked = λ z n. refl; id_some = λ z q. least_some e (leb-false e.agreed (held e) z) ok.agreed (sym (ap (λ b. cond b 0 (least_free e)) z) ∙ q); peer_some = λ z n. src; ask_out = λ z n. absurd (true≢false (sym z ∙ m)); never_refused = λ z n. absurd (true≢false (sym z ∙ m)) };
+  session_ok = record { shape = tt; unnamed = λ z. absurd (omega (arith, z)); asked = λ z n. refl; id_some = λ z q. least_some e (leb-false e.agreed (held e) z) ok.agreed (sym (ap (λ b. cond b 0 (least_free e)) z) ∙ q); peer_some = λ z n. src; ask_out = λ z n. absurd (true≢false (sym z ∙ m)); never_rejects = λ z n. absurd (true≢false (sym z ∙ m)) };
   accounts = record { spends = omega arith; spent = omega arith; gives = omega arith; framed = ([], refl); taken = omega arith };
   new_id = new_id (nat_le e.agreed (held e));
   old_ids = λ k f q. old_ids (nat_le e.agreed (held e)) refl k f q;
@@ -173,7 +173,7 @@ ask_added e from c size service request m src ok = record {
     ids true w i = ids_same e (asked_session e x service request) ok i
     ids false w i = ids_ok e (asked_session e x service request) ok (ap (λ b. cond b 0 (least_free e)) w) i
 
-    new_id : (b : Bool) → free (record (asked_session e x service request) { refused = b }) ≡ false → (cond b e.at_id (updated e.at_id (least_free e) (suc e.made))) (cond b 0 (least_free e)) ≡ suc e.made
+    new_id : (b : Bool) → free (record (asked_session e x service request) { rejects = b }) ≡ false → (cond b e.at_id (updated e.at_id (least_free e) (suc e.made))) (cond b 0 (least_free e)) ≡ suc e.made
     new_id true f = absurd (true≢false f)
     new_id false f = upd_same e.at_id (least_free e) (suc e.made)
 

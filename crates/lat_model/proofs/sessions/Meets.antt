@@ -66,7 +66,7 @@ tail_no_stop to from (y ∷ ys) x q t = go (is_stop y) refl (tail_no_stop to fro
 pub record Met (a : Session) (b : Session) : Type 0 where
   pub peer : peer a ≡ b.id
   pub accepted : b.accepted ≡ true
-  pub refused : b.refused ≡ false
+  pub rejects : b.rejects ≡ false
 
 pub met : (m : Bool) (a b : Session) (r : List Slot) → SessionOk m b → b.out ≡ a.came ++ r → starts a.came ≡ true → Met a b
 met m a b r ok e st =
@@ -76,7 +76,7 @@ met m a b r ok e st =
     record {
       peer = ap starter z.parts ∙ starter_is z.first z.rest z.start ∙ (h.start z.start).0;
       accepted = (h.start z.start).1;
-      refused = (h.start z.start).2;
+      rejects = (h.start z.start).2;
     }
 
 -- a slot x on its way from a to b, behind others
@@ -102,7 +102,7 @@ arrives_at ma mb a b y ys x q r oka okb came ea eb =
     let sb : starts b.came ≡ true = ap starts came ∙ sy in
     let mba : Met b a = met ma b a (x ∷ q) oka ea sb in
     let ns : has_stop b.came ≡ false = ap has_stop came ∙ or_both (is_stop y) (has_stop ys) (start_no_stop y sy) (tail_no_stop (peer a) a.id ys x q h.tail) in
-    let rj : rejected b ≡ false = or_both b.refused (turned b.came) mab.refused (ap turned came ∙ start_no_reject y sy) in
+    let rj : rejected b ≡ false = or_both b.rejects (turned b.came) mab.rejects (ap turned came ∙ start_no_reject y sy) in
     let sp : stopped b ≡ false = and_right_false (has_stop b.out) (has_stop b.came) ns in
     let be : Behind (peer a) a.id x = tail_at (peer a) a.id ys x q h.tail in
     record {

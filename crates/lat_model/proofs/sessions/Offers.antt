@@ -55,13 +55,13 @@ free_slot c s x ac k i d = record {
 
 -- a session that may send behind its start
 pub record Sends (s : Session) : Type 0 where
-  pub refused : s.refused ≡ false
+  pub rejects : s.rejects ≡ false
   pub started : s.out ≡ [] → ⊥
   pub answered : answered s ≡ true
   pub open_yet : has_stop s.out ≡ false
 
 sends : (m : Bool) (s : Session) (x : Slot) → Sends s → Behind (peer s) s.id x → MayForm m s x
-sends m s x w b = Follows w.refused w.started w.answered w.open_yet b
+sends m s x w b = Follows w.rejects w.started w.answered w.open_yet b
 
 credits_fine : (m : Bool) (c room n : ℕ) (s : Session) (x : Slot) → Sends s → Accounts c s → n ≤ due c s → credit_offer room n s ≡ Offers x → Fine m c s x
 credits_fine m c room zero s x w ac d e = absurd (wrong e)
@@ -135,7 +135,7 @@ live_fine m c room s x w ac None e = go (stop_due s) e
         (record { may = sends m s y w (record { kind = refl; destination = refl; source = refl }); affords = free_slot c s y ac refl refl (omega arith) })
     go false e = data_fine m c room s x w ac (unframed s) (decide (unframed s)) (stands (has_stop s.came) refl) e
 
-starts_fine : (m : Bool) (c room : ℕ) (s : Session) (x : Slot) → SessionOk m s → Accounts c s → (m ≡ false → s.generation ≡ 0 → ⊥) → s.out ≡ [] → s.accepted ≡ true → s.refused ≡ false → turned s.came ≡ false → fit room (start_of m c s) ≡ Offers x → Fine m c s x
+starts_fine : (m : Bool) (c room : ℕ) (s : Session) (x : Slot) → SessionOk m s → Accounts c s → (m ≡ false → s.generation ≡ 0 → ⊥) → s.out ≡ [] → s.accepted ≡ true → s.rejects ≡ false → turned s.came ≡ false → fit room (start_of m c s) ≡ Offers x → Fine m c s x
 starts_fine true c room s x ok ac g o a r tu e =
     let y : Slot = start_of true c s in
     subst (Fine true c s) (fit_is room y x e)
@@ -149,7 +149,7 @@ starts_fine false c room s x ok ac g o a r tu e =
     })
 
 pub offer_fine : (m : Bool) (c room : ℕ) (s : Session) (x : Slot) → SessionOk m s → Accounts c s → (m ≡ false → s.accepted ≡ true → s.generation ≡ 0 → ⊥) → offer m c room s ≡ Offers x → Fine m c s x
-offer_fine m c room s x ok ac g = go s.refused (is_empty s.out) (is_empty s.came) (s.accepted && not (turned s.came)) (answered s && not (has_stop s.out)) refl refl refl refl refl
+offer_fine m c room s x ok ac g = go s.rejects (is_empty s.out) (is_empty s.came) (s.accepted && not (turned s.came)) (answered s && not (has_stop s.out)) refl refl refl refl refl
   where
     nothing : Nothing ≡ Offers x → ⊥
     nothing q = cc
@@ -157,7 +157,7 @@ offer_fine m c room s x ok ac g = go s.refused (is_empty s.out) (is_empty s.came
     y : Slot
     y = Reject (peer s) 0 s.reason
 
-    go : (r o k a l : Bool) → s.refused ≡ r → is_empty s.out ≡ o → is_empty s.came ≡ k → (s.accepted && not (turned s.came)) ≡ a → (answered s && not (has_stop s.out)) ≡ l →
+    go : (r o k a l : Bool) → s.rejects ≡ r → is_empty s.out ≡ o → is_empty s.came ≡ k → (s.accepted && not (turned s.came)) ≡ a → (answered s && not (has_stop s.out)) ≡ l →
         cond r (cond (o && not k) (fit room y) Nothing) (cond o (cond a (fit room (start_of m c s)) Nothing) (cond l (live_offer c room s s.attention) Nothing)) ≡ Offers x → Fine m c s x
     go true true true a l er eo ek ea el e = absurd (nothing e)
     go true true false a l er eo ek ea el e =
@@ -170,5 +170,5 @@ offer_fine m c room s x ok ac g = go s.refused (is_empty s.out) (is_empty s.came
     go false true k false l er eo ek ea el e = absurd (nothing e)
     go false false k a true er eo ek ea el e =
         let p : (answered s ≡ true) × (not (has_stop s.out) ≡ true) = and_parts (answered s) (not (has_stop s.out)) el in
-        live_fine m c room s x (record { refused = er; started = full_is s.out eo; answered = p.0; open_yet = not-true (has_stop s.out) p.1 }) ac s.attention e
+        live_fine m c room s x (record { rejects = er; started = full_is s.out eo; answered = p.0; open_yet = not-true (has_stop s.out) p.1 }) ac s.attention e
     go false false k a false er eo ek ea el e = absurd (nothing e)

@@ -4,7 +4,7 @@ use Rattle.std.proofs.lemmas.Bool.{cases_lt, cases_eq, and_parts, and_from, or_p
 use Rattle.lat_model.specs.sessions.Slots.{Byte, Setting, Slot, Start, DataA, DataB, Attention, Reject, Stop, destination, source, is_stop, credits, costs, cost_of, has_stop, starts, turned}
 use Rattle.lat_model.specs.sessions.Session.{Session, gone, answered, runs, waits, rejecting, peer, put_open, take_open, unframed}
 use Rattle.lat_model.specs.sessions.Sessions.{Sessions, named, held}
-use Rattle.lat_model.specs.sessions.Calls.{Call, Connect, Put, Set, Attend, Take, Close, Answer, Refuse, call, connect, touch, put_items, put_count, take_count, answer, reject}
+use Rattle.lat_model.specs.sessions.Calls.{Call, Connect, Put, Set, Attend, Take, Close, Answer, RejectAsk, call, connect, touch, put_items, put_count, take_count, answer, reject}
 use Rattle.lat_model.specs.sessions.Hearing.{names, names_running, heard, hear_at, hear_behind, behind_fits, asked_session, ask_in, hear_slot}
 use Rattle.lat_model.specs.sessions.Offers.{Offer, Nothing, Unfit, Offers, offer}
 use Rattle.lat_model.specs.sessions.Packing.{Packing, turn_by, turn, form, formed, first_form, next_form, waiting_rejects}
@@ -99,16 +99,16 @@ call_apart e (Attend id flag) m ok a = cond_apart (put_open (named e id)) (touch
 call_apart e (Take id n) m ok a = cond_apart (take_open (named e id)) (touch e (e.at_id id) (record (named e id) { taken = (named e id).taken + take_count (named e id) n })) e (λ q. placed e.session (e.at_id id) (record (named e id) { taken = (named e id).taken + take_count (named e id) n }) (λ p u. u) a) a
 call_apart e (Close id) m ok a = cond_apart (take_open (named e id)) (touch e (e.at_id id) (record (named e id) { closed = true })) e (λ q. placed e.session (e.at_id id) (record (named e id) { closed = true }) (λ p u. u) a) a
 call_apart e (Answer id) m ok a = cond_apart (not e.master && waits (named e id)) (answer e id) e (λ q. placed e.session (e.at_id id) (record (named e id) { accepted = true }) (λ p u. u) a) a
-call_apart e (Refuse id reason) m ok a = cond_apart (not e.master && waits s) (reject e id reason) e (λ q. placed e.session (e.at_id id) t (refused (and_parts (not e.master) (waits s) q).1) a) a
+call_apart e (RejectAsk id reason) m ok a = cond_apart (not e.master && waits s) (reject e id reason) e (λ q. placed e.session (e.at_id id) t (rejects (and_parts (not e.master) (waits s) q).1) a) a
   where
     s : Session
     s = named e id
 
     t : Session
-    t = record s { refused = true; reason = reason }
+    t = record s { rejects = true; reason = reason }
 
-    refused : waits s ≡ true → (p : ℕ) → names p t ≡ true → names p s ≡ true
-    refused w p u = names_keeps s t (and_parts (starts s.came) (nat_eq (peer t) p && Stays t) u).0 refl (λ z. waits_stays s w) p u
+    rejects : waits s ≡ true → (p : ℕ) → names p t ≡ true → names p s ≡ true
+    rejects w p u = names_keeps s t (and_parts (starts s.came) (nat_eq (peer t) p && Stays t) u).0 refl (λ z. waits_stays s w) p u
 
 -- forming
 
@@ -121,7 +121,7 @@ form_apart e k x a = go (nat_eq (e.session k).generation 0)
     less : (n : ℕ) → Stays (formed_as s n x) ≡ true → Stays s ≡ true
     less n u = ⊎_elim {C = Stays s ≡ true}
         (λ v. or_left (not (gone s)) (rejecting s) (still (has_stop s.out) (has_stop (s.out ++ x ∷ [])) (λ z. has_stop-append s.out (x ∷ []) ∙ ap (λ y. y || has_stop (x ∷ [])) z) v))
-        (λ v. absurd (wrong s.out (and_parts s.refused (is_nil (s.out ++ x ∷ [])) v).1))
+        (λ v. absurd (wrong s.out (and_parts s.rejects (is_nil (s.out ++ x ∷ [])) v).1))
         (or_cases (not (gone (formed_as s n x))) (rejecting (formed_as s n x)) u)
       where
         is_nil : List Slot → Bool
@@ -132,9 +132,9 @@ form_apart e k x a = go (nat_eq (e.session k).generation 0)
         wrong [] q = false≢true q
         wrong (y ∷ ys) q = false≢true q
 
-        still : (b c : Bool) → (b ≡ true → c ≡ true) → not ((s.refused || turned s.came) || (c && has_stop s.came)) ≡ true → not ((s.refused || turned s.came) || (b && has_stop s.came)) ≡ true
-        still true c i v = ap (λ z. not ((s.refused || turned s.came) || (z && has_stop s.came))) (sym (i refl)) ∙ v
-        still false c i v = not_or (s.refused || turned s.came) (c && has_stop s.came) v
+        still : (b c : Bool) → (b ≡ true → c ≡ true) → not ((s.rejects || turned s.came) || (c && has_stop s.came)) ≡ true → not ((s.rejects || turned s.came) || (b && has_stop s.came)) ≡ true
+        still true c i v = ap (λ z. not ((s.rejects || turned s.came) || (z && has_stop s.came))) (sym (i refl)) ∙ v
+        still false c i v = not_or (s.rejects || turned s.came) (c && has_stop s.came) v
           where
             not_or : (d f : Bool) → not (d || f) ≡ true → not (d || false) ≡ true
             not_or true f z = z

@@ -112,7 +112,7 @@ first_heard s m o wire back sm mm sok mok qs qm f r fresh empty = go (is_start o
     meets = met m.master a b (slots_of o.generation back) (mok.each (m.serial_of o.generation)) (r.at_generation o.generation) (h.reply sm).1
 
     gone_b : gone b ≡ false
-    gone_b = not_gone b meets.refused (ap turned empty) (ap has_stop empty)
+    gone_b = not_gone b meets.rejects (ap turned empty) (ap has_stop empty)
 
     at : m.at_id (destination o.slot) ≡ m.serial_of o.generation
     at = ap m.at_id ((h.reply sm).0 ∙ meets.peer) ∙ mok.holds (m.serial_of o.generation) (free_goes b gone_b)
@@ -135,7 +135,7 @@ first_heard s m o wire back sm mm sok mok qs qm f r fresh empty = go (is_start o
     nb = who_some m (λ z. z.out ≡ [] → ⊥) (λ n. n refl) mok o.generation b_out
 
     so : SessionOk m.master (heard b o.slot)
-    so = subst (λ z. SessionOk z (heard b o.slot)) (sym mm) (heard_first_ok b o.slot empty meets.refused (subst (λ z. SessionOk z b) mm (mok.each (m.serial_of o.generation))))
+    so = subst (λ z. SessionOk z (heard b o.slot)) (sym mm) (heard_first_ok b o.slot empty meets.rejects (subst (λ z. SessionOk z b) mm (mok.each (m.serial_of o.generation))))
 
     kept : cost_of o.slot ≡ 0 → hear_slot m o.slot ≡ Some (hear_at m (m.serial_of o.generation) o.slot) → HeardBy s m o wire back
     kept c q = heard_kept s m o wire back mok f r nb (λ z. free_goes b gone_b) so (heard_accounts m.ceiling b o.slot (omega (arith, c, ap costs empty)) (mok.accounts (m.serial_of o.generation))) q

@@ -3,7 +3,7 @@ use Rattle.std.proofs.Common.{◌≡◌, ℕ, zero, suc, ◌+◌, ◌≤◌, sub
 use Rattle.lat_model.specs.sessions.Slots.{Byte, Setting, Slot, Start, DataA, DataB, Attention, Reject, Stop, items_of}
 use Rattle.lat_model.specs.sessions.Session.{Session, waits, put_open, take_open, unframed}
 use Rattle.lat_model.specs.sessions.Sessions.{Sessions, named, held}
-use Rattle.lat_model.specs.sessions.Calls.{Call, Connect, Put, Set, Attend, Take, Close, Answer, Refuse, call, new_call, connect, touch, put_items, put_count, take_count, answer, reject}
+use Rattle.lat_model.specs.sessions.Calls.{Call, Connect, Put, Set, Attend, Take, Close, Answer, RejectAsk, call, new_call, connect, touch, put_items, put_count, take_count, answer, reject}
 use Rattle.lat_model.specs.sessions.Hearing.{names, names_running, heard, hear_at, behind_fits, asked_session, ask_in, hear_slot}
 use Rattle.lat_model.specs.sessions.Offers.{Offer, Nothing, Unfit, Offers, offer}
 use Rattle.lat_model.specs.sessions.Packing.{Packing, turn_by, turn, formed, first_form, next_form}
@@ -29,7 +29,7 @@ call_small e (Attend id flag) a = cond_small (put_open (named e id)) _ e (put_sm
 call_small e (Take id n) a = cond_small (take_open (named e id)) _ e (put_small e (e.at_id id) (record (named e id) { taken = (named e id).taken + take_count (named e id) n }) (a (e.at_id id)) a) a
 call_small e (Close id) a = cond_small (take_open (named e id)) _ e (put_small e (e.at_id id) (record (named e id) { closed = true }) (a (e.at_id id)) a) a
 call_small e (Answer id) a = cond_small (not e.master && waits (named e id)) (answer e id) e (put_small e (e.at_id id) (record (named e id) { accepted = true }) (a (e.at_id id)) a) a
-call_small e (Refuse id reason) a = cond_small (not e.master && waits (named e id)) (reject e id reason) e (put_small e (e.at_id id) (record (named e id) { refused = true; reason = reason }) (a (e.at_id id)) a) a
+call_small e (RejectAsk id reason) a = cond_small (not e.master && waits (named e id)) (reject e id reason) e (put_small e (e.at_id id) (record (named e id) { rejects = true; reason = reason }) (a (e.at_id id)) a) a
 
 pub turn_small : (p : Packing) (k : ℕ) → AllSmall p.after → AllSmall (turn p k).after
 turn_small p k a = go p.going (offer p.after.master p.after.ceiling p.room (p.after.session k))

@@ -64,8 +64,8 @@ slots_here o wire = ap (λ b. cond b (o.slot ∷ slots_of o.generation wire) (sl
 
 -- states
 
-pub not_gone : (s : Session) → s.refused ≡ false → turned s.came ≡ false → has_stop s.came ≡ false → gone s ≡ false
-not_gone s r t h = go s.refused (turned s.came) (has_stop s.came) (has_stop s.out) r t h
+pub not_gone : (s : Session) → s.rejects ≡ false → turned s.came ≡ false → has_stop s.came ≡ false → gone s ≡ false
+not_gone s r t h = go s.rejects (turned s.came) (has_stop s.came) (has_stop s.out) r t h
   where
     go : (a b c d : Bool) → a ≡ false → b ≡ false → c ≡ false → ((a || b) || (d && c)) ≡ false
     go true b c d e f h = absurd (true≢false e)
@@ -82,9 +82,9 @@ free_goes s e = go (rejected s) (stopped s) (s.closed || nat_le (length (items s
     go false true c e = absurd (true≢false e)
     go false false c e = refl
 
--- a free session that wasn't refused
-pub free_cases : (s : Session) → s.refused ≡ false → free s ≡ true → (turned s.came ≡ true) ⊎ (stopped s ≡ true)
-free_cases s r f = go s.refused (turned s.came) (stopped s) (s.closed || nat_le (length (items s.came)) s.taken) r f
+-- a free session that doesn't reject
+pub free_cases : (s : Session) → s.rejects ≡ false → free s ≡ true → (turned s.came ≡ true) ⊎ (stopped s ≡ true)
+free_cases s r f = go s.rejects (turned s.came) (stopped s) (s.closed || nat_le (length (items s.came)) s.taken) r f
   where
     go : (a b c d : Bool) → a ≡ false → ((a || b) || (c && d)) ≡ true → (b ≡ true) ⊎ (c ≡ true)
     go true b c d e h = absurd (true≢false e)
@@ -99,8 +99,8 @@ stopped_goes s e = or_from_right (rejected s) (stopped s) e
     or_from_right true b h = refl
     or_from_right false b h = h
 
-pub refused_goes : (s : Session) → s.refused ≡ true → gone s ≡ true
-refused_goes s e = go s.refused e
+pub refused_goes : (s : Session) → s.rejects ≡ true → gone s ≡ true
+refused_goes s e = go s.rejects e
   where
     go : (a : Bool) → a ≡ true → ((a || turned s.came) || stopped s) ≡ true
     go true h = refl
@@ -152,4 +152,4 @@ no_clash a b o wire back aok bok f r fresh st fa na ida n ne sb p t =
     let c1 : has_stop sb'.came ≡ true = sym (ap has_stop all) ∙ hs.0 in
     let c2 : has_stop sb'.out ≡ true = ap has_stop (r.at_generation n) ∙ stop_in_front sa'.came (slots_of n back) hs.1 in
     stopped_goes sb' (and_from (has_stop sb'.out) (has_stop sb'.came) c2 c1) in
-    ⊎_elim {C = gone sb' ≡ true} (λ h. ⊎_elim {C = gone sb' ≡ true} t by_stop (free_cases sa' m.refused h)) (λ h. absurd (ne (one_holder a aok n o.generation na' na h fa ids))) (free_decides sa')
+    ⊎_elim {C = gone sb' ≡ true} (λ h. ⊎_elim {C = gone sb' ≡ true} t by_stop (free_cases sa' m.rejects h)) (λ h. absurd (ne (one_holder a aok n o.generation na' na h fa ids))) (free_decides sa')

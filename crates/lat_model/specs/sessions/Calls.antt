@@ -20,7 +20,7 @@ new_call e service request = record {
   service = service;
   request = request;
   accepted = true;
-  refused = false;
+  rejects = false;
   reason = 0;
   closed = false;
   attention = None;
@@ -83,7 +83,7 @@ abbrev pub answer : Sessions → ℕ → Sessions
 answer e id = touch e (e.at_id id) (record (named e id) { accepted = true })
 
 abbrev pub reject : Sessions → ℕ → ℕ → Sessions
-reject e id reason = touch e (e.at_id id) (record (named e id) { refused = true; reason = reason })
+reject e id reason = touch e (e.at_id id) (record (named e id) { rejects = true; reason = reason })
 
 -- a local call, which does nothing where it is refused or its condition doesn't hold
 pub data Call : Type 0 where
@@ -94,7 +94,7 @@ pub data Call : Type 0 where
   Take : ℕ → ℕ → Call
   Close : ℕ → Call
   Answer : ℕ → Call
-  Refuse : ℕ → ℕ → Call
+  RejectAsk : ℕ → ℕ → Call
 
 abbrev pub call : Sessions → Call → Sessions
 call e (Connect service request) = cond (e.master && nat_lt (held e) e.agreed) (connect e service request) e
@@ -104,4 +104,4 @@ call e (Attend id flag) = attend e id flag
 call e (Take id n) = take_items e id n
 call e (Close id) = close e id
 call e (Answer id) = cond (not e.master && waits (named e id)) (answer e id) e
-call e (Refuse id reason) = cond (not e.master && waits (named e id)) (reject e id reason) e
+call e (RejectAsk id reason) = cond (not e.master && waits (named e id)) (reject e id reason) e

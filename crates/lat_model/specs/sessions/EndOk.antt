@@ -27,8 +27,8 @@ Tail to from (x ∷ xs) = Behind to from x × (is_stop x ≡ true → xs ≡ [])
 -- the first slot that a session forms, with those behind it
 pub record Head (master : Bool) (s : Session) (x : Slot) (xs : List Slot) : Type 0 where
   pub asks : is_ask x ≡ master
-  pub start : is_start x ≡ true → (source x ≡ s.id) × (s.accepted ≡ true) × (s.refused ≡ false)
-  pub reject : is_start x ≡ false → (is_reject x ≡ true) × (s.refused ≡ true) × (xs ≡ [])
+  pub start : is_start x ≡ true → (source x ≡ s.id) × (s.accepted ≡ true) × (s.rejects ≡ false)
+  pub reject : is_start x ≡ false → (is_reject x ≡ true) × (s.rejects ≡ true) × (xs ≡ [])
   pub reply : master ≡ false → (destination x ≡ peer s) × (starts s.came ≡ true)
   pub tail : Tail (peer s) s.id xs
   pub behind : xs ≢ [] → answered s ≡ true
@@ -44,12 +44,12 @@ pub record SessionOk (master : Bool) (s : Session) : Type 0 where
   -- the slave has heard the ask of each of its sessions
   pub asked : master ≡ false → s.generation ≢ 0 → starts s.came ≡ true
   -- no session has the id 0, and no ask came from it
-  pub id_some : s.refused ≡ false → s.id ≢ 0
+  pub id_some : s.rejects ≡ false → s.id ≢ 0
   pub peer_some : master ≡ false → s.generation ≢ 0 → peer s ≢ 0
   -- at the master a session has its generation since its ask was formed
   pub ask_out : master ≡ true → s.generation ≢ 0 → s.out ≢ []
-  -- no session of a master is refused but the blank one
-  pub never_refused : master ≡ true → s.refused ≡ true → (s.generation ≡ 0) × (s.came ≡ [])
+  -- no session of a master rejects but the blank one
+  pub never_rejects : master ≡ true → s.rejects ≡ true → (s.generation ≡ 0) × (s.came ≡ [])
 
 -- the accounts of a session
 pub record Accounts (ceiling : ℕ) (s : Session) : Type 0 where

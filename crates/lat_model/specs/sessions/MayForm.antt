@@ -9,7 +9,7 @@ pub data MayForm (master : Bool) (s : Session) (x : Slot) : Type 0 where
   Starts :
       s.out ≡ [] →
       s.accepted ≡ true →
-      s.refused ≡ false →
+      s.rejects ≡ false →
       turned s.came ≡ false →
       is_start x ≡ true →
       is_ask x ≡ master →
@@ -18,13 +18,13 @@ pub data MayForm (master : Bool) (s : Session) (x : Slot) : Type 0 where
       MayForm master s x
   Rejects :
       s.out ≡ [] →
-      s.refused ≡ true →
+      s.rejects ≡ true →
       (s.came ≡ [] → ⊥) →
       is_reject x ≡ true →
       destination x ≡ peer s →
       MayForm master s x
   Follows :
-      s.refused ≡ false →
+      s.rejects ≡ false →
       (s.out ≡ [] → ⊥) →
       answered s ≡ true →
       has_stop s.out ≡ false →

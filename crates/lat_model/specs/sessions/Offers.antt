@@ -82,4 +82,4 @@ later_offer ceiling room s = cond (answered s && not (has_stop s.out)) (live_off
 
 abbrev pub offer : Bool → ℕ → ℕ → Session → Offer
 offer master ceiling room s =
-    cond s.refused (reject_offer room s) (cond (is_empty s.out) (start_offer master ceiling room s) (later_offer ceiling room s))
+    cond s.rejects (reject_offer room s) (cond (is_empty s.out) (start_offer master ceiling room s) (later_offer ceiling room s))

@@ -12,7 +12,7 @@ abbrev pub formed : Session → Slot → Session
 formed s x = record s { out = s.out ++ x ∷ []; attention = cond (is_attention x) None s.attention }
 
 abbrev pub served_after : Sessions → ℕ → ℕ
-served_after e k = cond (e.session k).refused e.served (e.session k).id
+served_after e k = cond (e.session k).rejects e.served (e.session k).id
 
 abbrev pub first_form : Sessions → ℕ → Slot → Sessions
 first_form e k x = record e {

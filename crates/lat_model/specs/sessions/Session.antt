@@ -10,7 +10,7 @@ pub record Session : Type 0 where
   pub service : List ℕ
   pub request : Option ℕ
   pub accepted : Bool  -- true at the master; at the slave once it is answered
-  pub refused : Bool  -- at the slave: a reject goes out, or went out
+  pub rejects : Bool  -- at the slave: a reject goes out, or went out
   pub reason : ℕ  -- of that reject
   pub closed : Bool  -- close was called
   pub attention : Option ℕ  -- waits to be sent
@@ -25,7 +25,7 @@ abbrev pub answered : Session → Bool
 answered s = s.accepted && starts s.came
 
 abbrev pub rejected : Session → Bool
-rejected s = s.refused || turned s.came
+rejected s = s.rejects || turned s.came
 
 abbrev pub peer : Session → ℕ
 peer s = starter s.came
@@ -51,7 +51,7 @@ waits s = not (answered s) && not (gone s)
 
 -- a reject waits to be sent
 abbrev pub rejecting : Session → Bool
-rejecting s = s.refused && is_empty s.out
+rejecting s = s.rejects && is_empty s.out
 
 pub data SessionState : Type 0 where
   Free : SessionState
@@ -98,7 +98,7 @@ blank = record {
   service = [];
   request = None;
   accepted = false;
-  refused = true;
+  rejects = true;
   reason = 0;
   closed = false;
   attention = None;

@@ -4,7 +4,7 @@ use Rattle.lat_model.specs.sessions.Session.{Session, waits, take_open}
 use Rattle.lat_model.specs.sessions.Sessions.{Sessions, named, held}
 use Rattle.lat_model.specs.sessions.Packing.{first_form, next_form, formed}
 use Rattle.lat_model.specs.sessions.Hearing.{heard, asked_session}
-use Rattle.lat_model.specs.sessions.Calls.{Call, Connect, Put, Set, Attend, Take, Close, Answer, Refuse, call, connect, new_call, touch, take_count, answer, reject}
+use Rattle.lat_model.specs.sessions.Calls.{Call, Connect, Put, Set, Attend, Take, Close, Answer, RejectAsk, call, connect, new_call, touch, take_count, answer, reject}
 use Rattle.lat_model.specs.Lists.{updated}
 use Rattle.lat_model.proofs.sessions.Words.{upd_all}
 use Rattle.lat_machines.specs.cores.Cores.{Core}
@@ -45,7 +45,7 @@ empties_call e (Attend id flag) a = absurd a
 empties_call e (Close id) a = absurd a
 empties_call e (Take id m) a = empties_cond (take_open (named e id)) e (touch e (e.at_id id) (record (named e id) { taken = (named e id).taken + take_count (named e id) m })) e (at_place e (e.at_id id) (record (named e id) { taken = (named e id).taken + take_count (named e id) m }) (λ u. u (e.at_id id))) (λ u. u)
 empties_call e (Answer id) a = empties_cond (not e.master && waits (named e id)) e (answer e id) e (at_place e (e.at_id id) (record (named e id) { accepted = true }) (λ u. u (e.at_id id))) (λ u. u)
-empties_call e (Refuse id reason) a = empties_cond (not e.master && waits (named e id)) e (reject e id reason) e (at_place e (e.at_id id) (record (named e id) { refused = true; reason = reason }) (λ u. u (e.at_id id))) (λ u. u)
+empties_call e (RejectAsk id reason) a = empties_cond (not e.master && waits (named e id)) e (reject e id reason) e (at_place e (e.at_id id) (record (named e id) { rejects = true; reason = reason }) (λ u. u (e.at_id id))) (λ u. u)
 
 -- of the circuits behind the n-th
 abbrev pub EmptyPast : ℕ → Core → Type 0

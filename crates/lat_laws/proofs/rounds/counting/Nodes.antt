@@ -4,7 +4,7 @@ use Rattle.std.specs.List.{find}
 use Rattle.lat_model.specs.sessions.Slots.{Slot}
 use Rattle.lat_model.specs.sessions.Session.{Session, waits}
 use Rattle.lat_model.specs.sessions.Sessions.{Sessions}
-use Rattle.lat_model.specs.sessions.Calls.{Call, Refuse}
+use Rattle.lat_model.specs.sessions.Calls.{Call, RejectAsk}
 use Rattle.lat_model.specs.Lists.{upwards}
 use Rattle.lat_model.specs.ends.End.{lives}
 use Rattle.lat_machines.specs.values.Names.{Name, same}
@@ -22,9 +22,9 @@ use Rattle.lat_machines.specs.node.Node.{NodeConfig, Node, NodeStep, node_side, 
 use Rattle.lat_laws.proofs.rounds.counting.Tables.{Turned, Holds, turned_same, run_turned, stop_turned, start_turned}
 use Rattle.lat_laws.proofs.rounds.counting.Cores.{EventAllows, times_hold, line_holds, local_holds, put_holds, set_holds, attend_holds, take_holds, close_holds}
 
-module _ (n : ℕ) (R : ℕ → Sessions → Sessions → Type 0) (A : Call → Type 0) (P : Core → Type 0) (h : Holds n false R A P) (config : NodeConfig) (accepts : (st : Node) (x id line : ℕ) (request : Option ℕ) → waits (asked_at st x id) ≡ true → P st.core → P (judged config st x id request (Accepts line)).core) (refuses : (id reason : ℕ) → A (Refuse id reason)) where
+module _ (n : ℕ) (R : ℕ → Sessions → Sessions → Type 0) (A : Call → Type 0) (P : Core → Type 0) (h : Holds n false R A P) (config : NodeConfig) (accepts : (st : Node) (x id line : ℕ) (request : Option ℕ) → waits (asked_at st x id) ≡ true → P st.core → P (judged config st x id request (Accepts line)).core) (refuses : (id reason : ℕ) → A (RejectAsk id reason)) where
   judged_holds : (st : Node) (x id : ℕ) (request : Option ℕ) (v : Verdict) → waits (asked_at st x id) ≡ true → P st.core → P (judged config st x id request v).core
-  judged_holds st x id request (Rejects reason) w p = local_holds n false R A P h (node_side config) st.core x (Refuse id reason) (refuses id reason) p
+  judged_holds st x id request (Rejects reason) w p = local_holds n false R A P h (node_side config) st.core x (RejectAsk id reason) (refuses id reason) p
   judged_holds st x id request (Accepts line) w p = accepts st x id line request w p
 
   one_holds : (st : Node) (x id : ℕ) → P st.core → P (answers_one config x st id).core

@@ -6,7 +6,7 @@ use Rattle.lat_model.specs.sessions.Session.{Session, put_open, take_open, unfra
 use Rattle.lat_model.specs.sessions.Sessions.{Sessions, named}
 use Rattle.lat_model.specs.sessions.Packing.{first_form, next_form, formed}
 use Rattle.lat_model.specs.sessions.Hearing.{heard, asked_session}
-use Rattle.lat_model.specs.sessions.Calls.{Call, Connect, Put, Set, Attend, Take, Close, Answer, Refuse, call, touch, put_items, put_count, take_count, reject}
+use Rattle.lat_model.specs.sessions.Calls.{Call, Connect, Put, Set, Attend, Take, Close, Answer, RejectAsk, call, touch, put_items, put_count, take_count, reject}
 use Rattle.lat_model.specs.Lists.{updated}
 use Rattle.lat_laws.specs.rounds.Counting.{Unseen}
 use Rattle.lat_laws.proofs.rounds.counting.Kept.{Kept}
@@ -53,7 +53,7 @@ makes_call e (Attend id flag) n = makes_touch (put_open (named e id)) e (e.at_id
 makes_call e (Take id m) n = makes_touch (take_open (named e id)) e (e.at_id id) (record (named e id) { taken = (named e id).taken + take_count (named e id) m })
 makes_call e (Close id) n = makes_touch (take_open (named e id)) e (e.at_id id) (record (named e id) { closed = true })
 makes_call e (Answer id) n = makes_touch (not e.master && waits (named e id)) e (e.at_id id) (record (named e id) { accepted = true })
-makes_call e (Refuse id reason) n = makes_touch (not e.master && waits (named e id)) e (e.at_id id) (record (named e id) { refused = true; reason = reason })
+makes_call e (RejectAsk id reason) n = makes_touch (not e.master && waits (named e id)) e (e.at_id id) (record (named e id) { rejects = true; reason = reason })
 
 -- at a node
 
@@ -115,4 +115,4 @@ hides_call e (Attend id flag) n = hides_open (put_open (named e id)) e (e.at_id 
 hides_call e (Take id m) n = hides_open (take_open (named e id)) e (e.at_id id) (record (named e id) { taken = (named e id).taken + take_count (named e id) m }) (take_closed (named e id))
 hides_call e (Close id) n = hides_open (take_open (named e id)) e (e.at_id id) (record (named e id) { closed = true }) (take_closed (named e id))
 hides_call e (Answer id) n = absurd n
-hides_call e (Refuse id reason) n = hides_cond (not e.master && waits (named e id)) e (reject e id reason) e (λ q. hides_at e (e.at_id id) (record (named e id) { refused = true; reason = reason }) (same_unseen (named e id) (record (named e id) { refused = true; reason = reason }) refl refl refl refl)) (hides_same e)
+hides_call e (RejectAsk id reason) n = hides_cond (not e.master && waits (named e id)) e (reject e id reason) e (λ q. hides_at e (e.at_id id) (record (named e id) { rejects = true; reason = reason }) (same_unseen (named e id) (record (named e id) { rejects = true; reason = reason }) refl refl refl refl)) (hides_same e)

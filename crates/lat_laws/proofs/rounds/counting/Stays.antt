@@ -7,7 +7,7 @@ use Rattle.lat_model.specs.sessions.Sessions.{Sessions, named, held, of_generati
 use Rattle.lat_model.specs.sessions.Offers.{Nothing, Offers, offer}
 use Rattle.lat_model.specs.sessions.Packing.{first_form, next_form, formed}
 use Rattle.lat_model.specs.sessions.Hearing.{heard, hear_at, asked_session, ask_in}
-use Rattle.lat_model.specs.sessions.Calls.{Call, Connect, Put, Set, Attend, Take, Close, Answer, Refuse, call, connect, new_call, touch, take_count}
+use Rattle.lat_model.specs.sessions.Calls.{Call, Connect, Put, Set, Attend, Take, Close, Answer, RejectAsk, call, connect, new_call, touch, take_count}
 use Rattle.lat_model.specs.Lists.{updated, IsPrefixOf}
 use Rattle.lat_model.proofs.sessions.Forms.{formed_free}
 use Rattle.lat_model.proofs.sessions.Words.{upd_other}
@@ -279,6 +279,6 @@ goes_call e (Take id m) a =
 goes_call e (Answer id) a =
     let s : Session = named e id in
     goes_touch (not e.master && waits s) e (e.at_id id) (record s { accepted = true }) refl (λ q. let f : free s ≡ false = asked_free e.master s q in (blank_free s f, held_one s (record s { accepted = true }) f refl ([], append_nil s.came) (omega arith) refl refl))
-goes_call e (Refuse id reason) a =
+goes_call e (RejectAsk id reason) a =
     let s : Session = named e id in
-    goes_touch (not e.master && waits s) e (e.at_id id) (record s { refused = true; reason = reason }) refl (λ q. let f : free s ≡ false = asked_free e.master s q in (blank_free s f, held_one s (record s { refused = true; reason = reason }) f refl ([], append_nil s.came) (omega arith) refl refl))
+    goes_touch (not e.master && waits s) e (e.at_id id) (record s { rejects = true; reason = reason }) refl (λ q. let f : free s ≡ false = asked_free e.master s q in (blank_free s f, held_one s (record s { rejects = true; reason = reason }) f refl ([], append_nil s.came) (omega arith) refl refl))

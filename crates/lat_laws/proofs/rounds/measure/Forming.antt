@@ -64,7 +64,7 @@ start_calm true c s = refl
 start_calm false c s = refl
 
 offer_calm : (m : Bool) (c room : ℕ) (s : Session) (x : Slot) → offer m c room s ≡ Offers x → is_attention x ≡ true → calm s.attention ≡ 0
-offer_calm m c room s x e a = go s.refused (is_empty s.out) e
+offer_calm m c room s x e a = go s.rejects (is_empty s.out) e
   where
     rejects : (b : Bool) → cond b (fit room (Reject (peer s) 0 s.reason)) Nothing ≡ Offers x → calm s.attention ≡ 0
     rejects true e = absurd (fit_calm room (Reject (peer s) 0 s.reason) x refl e a)

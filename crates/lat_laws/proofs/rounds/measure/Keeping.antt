@@ -5,7 +5,7 @@ use Rattle.lat_model.specs.sessions.Slots.{Item, Byte, Setting, Slot, Start, Dat
 use Rattle.lat_model.specs.sessions.Session.{Session, waits, put_open, take_open, unframed}
 use Rattle.lat_model.specs.sessions.Sessions.{Sessions, of_generation, named, held}
 use Rattle.lat_model.specs.sessions.Packing.{TaggedSlot}
-use Rattle.lat_model.specs.sessions.Calls.{Call, Connect, Put, Set, Attend, Take, Close, Answer, Refuse, call, connect, new_call, touch, put_items, put_count, take_count, answer, reject}
+use Rattle.lat_model.specs.sessions.Calls.{Call, Connect, Put, Set, Attend, Take, Close, Answer, RejectAsk, call, connect, new_call, touch, put_items, put_count, take_count, answer, reject}
 use Rattle.lat_model.specs.sessions.Hearing.{HeardAll, names, names_running, heard, hear_at, behind_fits, ask_in, hear_slot, hear_all}
 use Rattle.lat_model.specs.Lists.{any_up_to}
 use Rattle.lat_model.specs.sessions.EndOk.{EndOk}
@@ -40,7 +40,7 @@ call_same e (Take id n) ok h =
     cond_same (take_open (named e id)) (touch e (e.at_id id) s) e (touch_same e (e.at_id id) s refl)
 call_same e (Close id) ok h = cond_same (take_open (named e id)) (touch e (e.at_id id) (record (named e id) { closed = true })) e (touch_same e (e.at_id id) (record (named e id) { closed = true }) refl)
 call_same e (Answer id) ok h = cond_same (not e.master && waits (named e id)) (answer e id) e (touch_same e (e.at_id id) (record (named e id) { accepted = true }) refl)
-call_same e (Refuse id reason) ok h = cond_same (not e.master && waits (named e id)) (reject e id reason) e (touch_same e (e.at_id id) (record (named e id) { refused = true; reason = reason }) refl)
+call_same e (RejectAsk id reason) ok h = cond_same (not e.master && waits (named e id)) (reject e id reason) e (touch_same e (e.at_id id) (record (named e id) { rejects = true; reason = reason }) refl)
 
 -- hearing
 

@@ -4,7 +4,7 @@ use Rattle.std.proofs.lemmas.Bool.{true≢false}
 use Rattle.lat_model.specs.sessions.Slots.{Byte, Setting}
 use Rattle.lat_model.specs.sessions.Session.{Session, waits, put_open, take_open, unframed}
 use Rattle.lat_model.specs.sessions.Sessions.{Sessions, named, held}
-use Rattle.lat_model.specs.sessions.Calls.{Call, Connect, Put, Set, Attend, Take, Close, Answer, Refuse, call, connect, new_call, touch, put_items, put_count, take_count, answer, reject}
+use Rattle.lat_model.specs.sessions.Calls.{Call, Connect, Put, Set, Attend, Take, Close, Answer, RejectAsk, call, connect, new_call, touch, put_items, put_count, take_count, answer, reject}
 use Rattle.lat_model.specs.sessions.EndOk.{EndOk}
 use Rattle.lat_model.proofs.sessions.Words.{upd_all}
 use Rattle.lat_model.proofs.sessions.Low.{call_within}
@@ -53,10 +53,10 @@ call_called e (Answer id) l p =
     let h : PlainOne e.master e.ceiling (named e id) = p.each (e.at_id id) in
     cond_called e (not e.master && waits (named e id)) (answer e id) p
     (touch_called e (e.at_id id) (record (named e id) { accepted = true }) p (record { short = h.short; frugal = h.frugal; accepts = λ m r. refl; neat = h.neat }))
-call_called e (Refuse id reason) l p =
+call_called e (RejectAsk id reason) l p =
     let h : PlainOne e.master e.ceiling (named e id) = p.each (e.at_id id) in
     cond_called e (not e.master && waits (named e id)) (reject e id reason) p
-    (touch_called e (e.at_id id) (record (named e id) { refused = true; reason = reason }) p (record { short = h.short; frugal = h.frugal; accepts = λ m r. absurd (true≢false r); neat = h.neat }))
+    (touch_called e (e.at_id id) (record (named e id) { rejects = true; reason = reason }) p (record { short = h.short; frugal = h.frugal; accepts = λ m r. absurd (true≢false r); neat = h.neat }))
 
 pub call_plain : (e : Sessions) (c : Call) → EndOk e → ShortCall c → Plain e → Plain (call e c)
 call_plain e c ok l p =

@@ -88,7 +88,7 @@ empty_out s e = go s.out e
     go (x ∷ xs) e = absurd (false≢true e)
 
 offer_slot : (m : Bool) (c room : ℕ) (s : Session) (x : Slot) → length s.service ≤ 255 → offer m c room s ≡ Offers x → Fine_slot s c x
-offer_slot m c room s x l e = go s.refused (is_empty s.out) refl e
+offer_slot m c room s x l e = go s.rejects (is_empty s.out) refl e
   where
     rejects : (b d : Bool) → is_empty s.out ≡ b → cond (b && d) (fit room (Reject (peer s) 0 s.reason)) Nothing ≡ Offers x → Fine_slot s c x
     rejects true true q e = subst (λ z. Fine_slot s c z) (fit_is room (Reject (peer s) 0 s.reason) x e) (record { neat = tt; tells = λ n. absurd (n (empty_out s q)); first = λ o i. absurd (false≢true i) })

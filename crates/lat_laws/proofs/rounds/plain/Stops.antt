@@ -5,7 +5,7 @@ use Rattle.lat_model.specs.sessions.Slots.{Item, Byte, Setting, Slot, Start, Dat
 use Rattle.lat_model.specs.sessions.Session.{Session, answered, peer, unframed, due, waits, put_open, take_open}
 use Rattle.lat_model.specs.sessions.Sessions.{Sessions, of_generation, named, held}
 use Rattle.lat_model.specs.sessions.Packing.{TaggedSlot, form, tag, Packing, turn_by, turn, turn_all, turns, pack}
-use Rattle.lat_model.specs.sessions.Calls.{Call, Connect, Put, Set, Attend, Take, Close, Answer, Refuse, call, connect, new_call, touch, put_items, put_count, take_count}
+use Rattle.lat_model.specs.sessions.Calls.{Call, Connect, Put, Set, Attend, Take, Close, Answer, RejectAsk, call, connect, new_call, touch, put_items, put_count, take_count}
 use Rattle.lat_model.specs.sessions.Hearing.{HeardAll, names, names_running, heard, hear_at, behind_fits, ask_in, hear_slot, hear_all}
 use Rattle.lat_model.specs.sessions.Offers.{Offer, Nothing, Unfit, Offers, fit, leading, most_bytes, may_spend, bytes_offer, credit_offer, data_offer, live_offer, reject_offer, start_offer, later_offer, offer}
 use Rattle.lat_model.specs.Lists.{is_empty, updated, any_up_to}
@@ -59,7 +59,7 @@ call_opens e (Attend id flag) ok g w = touch_opens e (put_open (named e id)) (e.
 call_opens e (Take id n) ok g w = touch_opens e (take_open (named e id)) (e.at_id id) (record (named e id) { taken = (named e id).taken + take_count (named e id) n }) (λ w. w) g w
 call_opens e (Close id) ok g w = touch_opens e (take_open (named e id)) (e.at_id id) (record (named e id) { closed = true }) (λ w. absurd (true≢false w)) g w
 call_opens e (Answer id) ok g w = touch_opens e (not e.master && waits (named e id)) (e.at_id id) (record (named e id) { accepted = true }) (λ w. w) g w
-call_opens e (Refuse id reason) ok g w = touch_opens e (not e.master && waits (named e id)) (e.at_id id) (record (named e id) { refused = true; reason = reason }) (λ w. w) g w
+call_opens e (RejectAsk id reason) ok g w = touch_opens e (not e.master && waits (named e id)) (e.at_id id) (record (named e id) { rejects = true; reason = reason }) (λ w. w) g w
 
 pub call_up_stops : (m s : Sessions) (c : Call) → EndOk m → NoStops m s → NoStops (call m c) s
 call_up_stops m s c ok h = same_stops m s (call m c) s (call_opens m c ok) (λ g w. w) (called m c ok).out (λ g. refl) h
@@ -154,8 +154,8 @@ reject_no_stop (Reject to from reason) e = refl
 reject_no_stop (Stop to from reason) e = absurd (false≢true e)
 
 -- behind a start that is out, a session that is open on both sides forms no stop
-follow_stop : (m : Bool) (c room : ℕ) (s : Session) (x : Slot) → s.refused ≡ false → (s.out ≡ [] → ⊥) → offer m c room s ≡ Offers x → s.closed ≡ false → has_stop s.came ≡ false → is_stop x ≡ false
-follow_stop m c room s x r n e c0 h0 = false_from_ne_true (is_stop x) (λ a. go s.refused (is_empty s.out) r (filled s.out n) a e)
+follow_stop : (m : Bool) (c room : ℕ) (s : Session) (x : Slot) → s.rejects ≡ false → (s.out ≡ [] → ⊥) → offer m c room s ≡ Offers x → s.closed ≡ false → has_stop s.came ≡ false → is_stop x ≡ false
+follow_stop m c room s x r n e c0 h0 = false_from_ne_true (is_stop x) (λ a. go s.rejects (is_empty s.out) r (filled s.out n) a e)
   where
     filled : (xs : List Slot) → (xs ≡ [] → ⊥) → is_empty xs ≡ false
     filled [] n = absurd (n refl)

@@ -87,15 +87,15 @@ reject_gives (Attention to from flag) h = refl
 reject_gives (Reject to from reason) h = refl
 reject_gives (Stop to from reason) h = refl
 
-none_given : (m : Bool) (s : Session) (xs : List Slot) → Shape m s xs → (s.accepted ≡ false) ⊎ (s.refused ≡ true) → credits xs ≡ 0
+none_given : (m : Bool) (s : Session) (xs : List Slot) → Shape m s xs → (s.accepted ≡ false) ⊎ (s.rejects ≡ true) → credits xs ≡ 0
 none_given m s [] h n = refl
 none_given m s (x ∷ xs) h n = go (is_start x) refl
   where
     go : (b : Bool) → is_start x ≡ b → credits (x ∷ xs) ≡ 0
     go true q = ⊎_elim {C = credits (x ∷ xs) ≡ 0} (λ a. absurd (true≢false (sym (h.start q).1 ∙ a))) (λ a. absurd (true≢false (sym a ∙ (h.start q).2))) n
-    go false q = let r : (is_reject x ≡ true) × (s.refused ≡ true) × (xs ≡ []) = h.reject q in omega (arith, reject_gives x r.0, ap credits r.2)
+    go false q = let r : (is_reject x ≡ true) × (s.rejects ≡ true) × (xs ≡ []) = h.reject q in omega (arith, reject_gives x r.0, ap credits r.2)
 
-unspent : (m : Bool) (ceiling : ℕ) (s : Session) → SessionOk m s → Accounts ceiling s → (s.accepted ≡ false) ⊎ (s.refused ≡ true) → All_out s
+unspent : (m : Bool) (ceiling : ℕ) (s : Session) → SessionOk m s → Accounts ceiling s → (s.accepted ≡ false) ⊎ (s.rejects ≡ true) → All_out s
 unspent m ceiling s ok a n =
     let e : items s.came ≡ [] = none_cost s.came (omega (arith, a.spent, none_given m s s.out ok.shape n)) in
     let l : length (items s.came) ≡ 0 = ap length e in
@@ -150,8 +150,8 @@ turned_slave m s up down j k t = go (nat_eq v.generation 0) refl
     go true q = none_waits v (j.quiet_down k (eqb-true v.generation 0 q))
     go false q = absurd (not_both v.came ((j.slave_ok.each k).asked j.slave (eqb-false v.generation 0 q)) t)
 
-free_open : (s : Session) → free s ≡ true → s.closed ≡ false → (s.refused ≡ true) ⊎ ((turned s.came ≡ true) ⊎ All_out s)
-free_open s f c = go s.refused (turned s.came) (stopped s) s.closed (nat_le (length (items s.came)) s.taken) refl f c
+free_open : (s : Session) → free s ≡ true → s.closed ≡ false → (s.rejects ≡ true) ⊎ ((turned s.came ≡ true) ⊎ All_out s)
+free_open s f c = go s.rejects (turned s.came) (stopped s) s.closed (nat_le (length (items s.came)) s.taken) refl f c
   where
     go : (a b st d e : Bool) → nat_le (length (items s.came)) s.taken ≡ e → ((a || b) || (st && (d || e))) ≡ true → d ≡ false → (a ≡ true) ⊎ ((b ≡ true) ⊎ All_out s)
     go true b st d e q h n = inl refl

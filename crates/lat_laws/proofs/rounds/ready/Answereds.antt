@@ -4,7 +4,7 @@ use Rattle.std.proofs.lemmas.Bool.{true≢false, false≢true, eqb-false}
 use Rattle.lat_model.specs.sessions.Slots.{Slot}
 use Rattle.lat_model.specs.sessions.Session.{Session, waits, put_open, take_open}
 use Rattle.lat_model.specs.sessions.Sessions.{Sessions}
-use Rattle.lat_model.specs.sessions.Calls.{Call, Put, Set, Attend, Take, Close, Answer, Refuse}
+use Rattle.lat_model.specs.sessions.Calls.{Call, Put, Set, Attend, Take, Close, Answer, RejectAsk}
 use Rattle.lat_model.specs.Lists.{upwards}
 use Rattle.lat_model.specs.ends.End.{ReplyStart, End, Step, lives, call_end}
 use Rattle.lat_model.specs.ends.Timers.{note_empty, time_step}
@@ -136,7 +136,7 @@ record Behind (config : NodeConfig) (x : ℕ) (st : Node) : Type 0 where
 
 judged_but : (config : NodeConfig) (st : Node) (x id : ℕ) (request : Option ℕ) (v : Verdict) → AnsweredBut x st.core.circuits → AnsweredBut x (judged config st x id request v).core.circuits
 judged_but config st x id request (Accepts line) g = local_but st.core.circuits x (Answer id) g
-judged_but config st x id request (Rejects reason) g = local_but st.core.circuits x (Refuse id reason) g
+judged_but config st x id request (Rejects reason) g = local_but st.core.circuits x (RejectAsk id reason) g
 
 answers_but : (config : NodeConfig) (x : ℕ) (ids : List ℕ) (st : Node) → AnsweredBut x st.core.circuits → AnsweredBut x (answers_in config x ids st).core.circuits
 answers_but config x [] st g = g

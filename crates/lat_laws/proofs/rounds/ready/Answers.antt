@@ -4,7 +4,7 @@ use Rattle.std.proofs.lemmas.Bool.{cases_lt, and_parts, true≢false, false≢tr
 use Rattle.lat_model.specs.sessions.Slots.{Slot, Byte, Setting, has_stop, starts}
 use Rattle.lat_model.specs.sessions.Session.{Session, free, rejected, waits, put_open, take_open, unframed}
 use Rattle.lat_model.specs.sessions.Sessions.{Sessions, named, held}
-use Rattle.lat_model.specs.sessions.Calls.{Call, Connect, Put, Set, Attend, Take, Close, Answer, Refuse, call, connect, touch, put_items, put_count, take_count, answer, reject}
+use Rattle.lat_model.specs.sessions.Calls.{Call, Connect, Put, Set, Attend, Take, Close, Answer, RejectAsk, call, connect, touch, put_items, put_count, take_count, answer, reject}
 use Rattle.lat_model.specs.sessions.Packing.{Packing, turn_by, turn, turn_all, turns, pack, first_form, next_form}
 use Rattle.lat_model.specs.sessions.Offers.{Offer, Nothing, Unfit, Offers, offer}
 use Rattle.lat_model.specs.Lists.{updated, upwards}
@@ -47,8 +47,8 @@ accepts_less s h = go s.accepted (starts s.came) (not (rejected s || (has_stop s
     go true false c q = q
     go false false c q = q
 
-refused_done : (s : Session) (r : ℕ) → waits (record s { refused = true; reason = r }) ≡ false
-refused_done s r = go (not (s.accepted && starts s.came))
+rejects_done : (s : Session) (r : ℕ) → waits (record s { rejects = true; reason = r }) ≡ false
+rejects_done s r = go (not (s.accepted && starts s.came))
   where
     go : (a : Bool) → (a && false) ≡ false
     go true = refl
@@ -62,7 +62,7 @@ call_less e (Attend id flag) m = let s : Session = record (named e id) { attenti
 call_less e (Take id n) m = let s : Session = record (named e id) { taken = (named e id).taken + take_count (named e id) n } in cond_less (take_open (named e id)) (touch e (e.at_id id) s) e (λ q. put_less e.session (e.at_id id) s (λ w. w))
 call_less e (Close id) m = let s : Session = record (named e id) { closed = true } in cond_less (take_open (named e id)) (touch e (e.at_id id) s) e (λ q. put_less e.session (e.at_id id) s (λ w. w))
 call_less e (Answer id) m = let s : Session = record (named e id) { accepted = true } in cond_less (not e.master && waits (named e id)) (touch e (e.at_id id) s) e (λ q. put_less e.session (e.at_id id) s (accepts_less (named e id)))
-call_less e (Refuse id reason) m = let s : Session = record (named e id) { refused = true; reason = reason } in cond_less (not e.master && waits (named e id)) (touch e (e.at_id id) s) e (λ q. put_less e.session (e.at_id id) s (λ w. absurd (true≢false (sym w ∙ refused_done (named e id) reason))))
+call_less e (RejectAsk id reason) m = let s : Session = record (named e id) { rejects = true; reason = reason } in cond_less (not e.master && waits (named e id)) (touch e (e.at_id id) s) e (λ q. put_less e.session (e.at_id id) s (λ w. absurd (true≢false (sym w ∙ rejects_done (named e id) reason))))
 
 -- forming
 
@@ -130,18 +130,18 @@ answer_turned e id m w f = subst (λ z. Turned e z id) (sym is_answer) (record {
     asks : starts (named e id).came ≡ true
     asks = f.asked m (e.at_id id) some (f.made id)
 
-refuse_turned : (e : Sessions) (id reason : ℕ) → e.master ≡ false → waits (named e id) ≡ true → Turned e (call e (Refuse id reason)) id
-refuse_turned e id reason m w = subst (λ z. Turned e z id) (sym is_refuse) (record { less = put_less e.session (e.at_id id) s (λ q. absurd (true≢false (sym q ∙ refused_done (named e id) reason))); ids = λ i. refl; done = ap waits (upd_same e.session (e.at_id id) s) ∙ refused_done (named e id) reason })
+refuse_turned : (e : Sessions) (id reason : ℕ) → e.master ≡ false → waits (named e id) ≡ true → Turned e (call e (RejectAsk id reason)) id
+refuse_turned e id reason m w = subst (λ z. Turned e z id) (sym is_refuse) (record { less = put_less e.session (e.at_id id) s (λ q. absurd (true≢false (sym q ∙ rejects_done (named e id) reason))); ids = λ i. refl; done = ap waits (upd_same e.session (e.at_id id) s) ∙ rejects_done (named e id) reason })
   where
     s : Session
-    s = record (named e id) { refused = true; reason = reason }
+    s = record (named e id) { rejects = true; reason = reason }
 
-    is_refuse : call e (Refuse id reason) ≡ reject e id reason
+    is_refuse : call e (RejectAsk id reason) ≡ reject e id reason
     is_refuse = ap₂ (λ a b. cond (not a && b) (reject e id reason) e) m w
 
 judged_turned : (config : NodeConfig) (st : Node) (x id : ℕ) (request : Option ℕ) (v : Verdict) → waits (asked_at st x id) ≡ true → Answering config.lines x st.core → Turned (sess st.core.circuits x) (sess (judged config st x id request v).core.circuits x) id
 judged_turned config st x id request (Accepts line) w h = subst (λ z. Turned (sess st.core.circuits x) z id) (sym (local_sess st.core.circuits x (Answer id) h.alive)) (answer_turned (sess st.core.circuits x) id (h.seated.good.masters x) w (h.seated.good.found x))
-judged_turned config st x id request (Rejects reason) w h = subst (λ z. Turned (sess st.core.circuits x) z id) (sym (local_sess st.core.circuits x (Refuse id reason) h.alive)) (refuse_turned (sess st.core.circuits x) id reason (h.seated.good.masters x) w)
+judged_turned config st x id request (Rejects reason) w h = subst (λ z. Turned (sess st.core.circuits x) z id) (sym (local_sess st.core.circuits x (RejectAsk id reason) h.alive)) (refuse_turned (sess st.core.circuits x) id reason (h.seated.good.masters x) w)
 
 record OneTurned (config : NodeConfig) (x id : ℕ) (st : Node) : Type 0 where
   turned : Turned (sess st.core.circuits x) (sess (answers_one config x st id).core.circuits x) id

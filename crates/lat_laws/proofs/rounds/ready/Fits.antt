@@ -4,7 +4,7 @@ use Rattle.std.proofs.lemmas.Bool.{and_parts, false≢true}
 use Rattle.lat_model.specs.sessions.Slots.{Slot}
 use Rattle.lat_model.specs.sessions.Session.{waits}
 use Rattle.lat_model.specs.sessions.Sessions.{Sessions, named, held}
-use Rattle.lat_model.specs.sessions.Calls.{Call, Connect, Put, Set, Attend, Take, Close, Answer, Refuse, call, connect}
+use Rattle.lat_model.specs.sessions.Calls.{Call, Connect, Put, Set, Attend, Take, Close, Answer, RejectAsk, call, connect}
 use Rattle.lat_model.specs.ends.End.{ReplyStart, End, Step, lives, call_end}
 use Rattle.lat_model.specs.ends.Timers.{note_empty, time_step}
 use Rattle.lat_model.specs.ends.Run.{run_end}
@@ -71,7 +71,7 @@ call_ceiling e (Set id t) = (call_later e (Set id t) refl).ceiling
 call_ceiling e (Attend id flag) = (call_later e (Attend id flag) refl).ceiling
 call_ceiling e (Take id n) = (call_later e (Take id n) refl).ceiling
 call_ceiling e (Close id) = (call_later e (Close id) refl).ceiling
-call_ceiling e (Refuse id reason) = (call_later e (Refuse id reason) refl).ceiling
+call_ceiling e (RejectAsk id reason) = (call_later e (RejectAsk id reason) refl).ceiling
 
 local_fits : (p : Ways) (b : Bool) (c : Core) (x : ℕ) (y : Call) → CoreFits p c → CoreFits p (with_circuits c (local_at b c.circuits x y).table)
 local_fits p b c x y g =

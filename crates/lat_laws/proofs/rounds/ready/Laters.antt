@@ -4,7 +4,7 @@ use Rattle.std.proofs.lemmas.Bool.{and_parts, or_parts, true≢false, false≢tr
 use Rattle.lat_model.specs.sessions.Slots.{Item, Byte, Setting, Slot, Start, DataA, DataB, Attention, Reject, Stop, destination, source, is_start, is_stop, cost_of, credits_of, costs, credits, has_stop, starts, turned, items}
 use Rattle.lat_model.specs.sessions.Session.{Session, free, stopped, gone, answered, waits, runs, peer, put_open, take_open, unframed}
 use Rattle.lat_model.specs.sessions.Sessions.{Sessions, named, held, least_free}
-use Rattle.lat_model.specs.sessions.Calls.{Call, Connect, Put, Set, Attend, Take, Close, Answer, Refuse, call, connect, new_call, touch, put_items, put_count, take_count}
+use Rattle.lat_model.specs.sessions.Calls.{Call, Connect, Put, Set, Attend, Take, Close, Answer, RejectAsk, call, connect, new_call, touch, put_items, put_count, take_count}
 use Rattle.lat_model.specs.sessions.Hearing.{HeardAll, names, names_running, is_full, heard, hear_at, behind_fits, asked_session, ask_in, hear_slot, hear_all}
 use Rattle.lat_model.specs.sessions.Packing.{Packing, turn_by, turn, turn_all, turns, pack, form, first_form, next_form}
 use Rattle.lat_model.specs.sessions.Offers.{Offer, Nothing, Unfit, Offers, offer}
@@ -125,7 +125,7 @@ call_later e (Take id n) h = let s : Session = record (named e id) { taken = (na
     cond_later (take_open (named e id)) (touch e (e.at_id id) s) e (λ q. touch_later e (e.at_id id) s refl refl (takes_goes (named e id) q) (λ z. z))
 call_later e (Close id) h = let s : Session = record (named e id) { closed = true } in
     cond_later (take_open (named e id)) (touch e (e.at_id id) s) e (λ q. touch_later e (e.at_id id) s refl refl (takes_goes (named e id) q) (λ z. z))
-call_later e (Refuse id reason) h = let s : Session = record (named e id) { refused = true; reason = reason } in
+call_later e (RejectAsk id reason) h = let s : Session = record (named e id) { rejects = true; reason = reason } in
     cond_later (not e.master && waits (named e id)) (touch e (e.at_id id) s) e (λ q. touch_later e (e.at_id id) s refl refl (waits_goes (named e id) (and_parts (not e.master) (waits (named e id)) q).1) (λ z. z))
 
 -- one session more

@@ -4,7 +4,7 @@ use Rattle.std.proofs.lemmas.Bool.{cases_lt, and_parts, and_from, true≢false, 
 use Rattle.lat_model.specs.sessions.Slots.{starts}
 use Rattle.lat_model.specs.sessions.Session.{Session, free, answered, gone, waits}
 use Rattle.lat_model.specs.sessions.Sessions.{Sessions, named, held, least_free}
-use Rattle.lat_model.specs.sessions.Calls.{Call, Connect, Refuse, call, connect, new_call, answer}
+use Rattle.lat_model.specs.sessions.Calls.{Call, Connect, RejectAsk, call, connect, new_call, answer}
 use Rattle.lat_model.specs.Lists.{updated, upwards, Each}
 use Rattle.lat_model.specs.ends.End.{End, Step, lives, call_end}
 use Rattle.lat_model.specs.ends.Timers.{note_empty}
@@ -236,10 +236,10 @@ local_alive b t x c = go (lives (t.circuit_at x).end) (nat_eq x x)
     go true n = ap (λ (w : CircuitEntry). lives w.end) (upd_same t.circuit_at x new)
     go false n = refl
 
-refuse_answering : (config : NodeConfig) (x id reason : ℕ) (c : Core) → Answering config.lines x c → Answering config.lines x (local_call config x (Refuse id reason) c)
+refuse_answering : (config : NodeConfig) (x id reason : ℕ) (c : Core) → Answering config.lines x c → Answering config.lines x (local_call config x (RejectAsk id reason) c)
 refuse_answering config x id reason c h = record {
-  seated = seated_later false config.lines c (local_call config x (Refuse id reason) c) refl (local_later false false c.circuits x (Refuse id reason) refl) h.seated;
-  alive = local_alive false c.circuits x (Refuse id reason) ∙ h.alive;
+  seated = seated_later false config.lines c (local_call config x (RejectAsk id reason) c) refl (local_later false false c.circuits x (RejectAsk id reason) refl) h.seated;
+  alive = local_alive false c.circuits x (RejectAsk id reason) ∙ h.alive;
 }
 
 answer_answering : (config : NodeConfig) (st : Node) (x id : ℕ) (request : Option ℕ) (line : ℕ) → waits (asked_at st x id) ≡ true → line_exists config.lines line ≡ true → has_session st.core line ≡ false → Answering config.lines x st.core → Answering config.lines x (judged config st x id request (Accepts line)).core

@@ -4,7 +4,7 @@ use Rattle.std.proofs.lemmas.Bool.{false≢true, and_parts}
 use Rattle.std.proofs.lemmas.Option.{slice_get_within}
 use Rattle.lat_model.specs.Lists.{Each}
 use Rattle.lat_model.specs.ends.End.{lives}
-use Rattle.lat_model.specs.sessions.Calls.{Call, Connect, Put, Set, Attend, Take, Close, Answer, Refuse}
+use Rattle.lat_model.specs.sessions.Calls.{Call, Connect, Put, Set, Attend, Take, Close, Answer, RejectAsk}
 use Rattle.lat_model.specs.circuits.World.{Table, Wired, World, table}
 use Rattle.lat_model.specs.circuits.WorldOk.{WorldOk}
 use Rattle.lat_model.specs.circuits.Arriving.{is_of}
@@ -65,7 +65,7 @@ short_call (Attend id flag) h = tt
 short_call (Take id n) h = tt
 short_call (Close id) h = tt
 short_call (Answer id) h = tt
-short_call (Refuse id reason) h = tt
+short_call (RejectAsk id reason) h = tt
 
 short_event : (e : WorldEvent) → EventFits Short e → ShortWorldEvent e
 short_event (Calls address now) h = tt

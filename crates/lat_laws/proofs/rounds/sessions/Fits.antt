@@ -69,7 +69,7 @@ later_fits c room s h y = go s.accepted (starts s.came) (has_stop s.out) refl
     go false b d q = λ e. cc
 
 pub offer_fits : (m : Bool) (c room : ℕ) (s : Session) → 300 ≤ room → Handy s → offer m c room s ≢ Unfit
-offer_fits m c room s h y = go s.refused (is_empty s.out)
+offer_fits m c room s h y = go s.rejects (is_empty s.out)
   where
     rejects : (b : Bool) → cond b (fit room (Reject (peer s) 0 s.reason)) Nothing ≢ Unfit
     rejects true = fit_fits room (Reject (peer s) 0 s.reason) (omega arith)

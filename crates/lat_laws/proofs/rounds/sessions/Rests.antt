@@ -80,14 +80,14 @@ way_done ca cb a b h e f ra rb c t n p = ap items e ∙ sym (append-nil (items a
 -- both sessions of a generation, each with its start out
 
 record Running (c : ℕ) (room : ℕ) (s : Session) : Type 0 where
-  refused : s.refused ≡ false
+  rejects : s.rejects ≡ false
   accepted : s.accepted ≡ true
   out : is_empty s.out ≡ false
   came : starts s.came ≡ true
   stop : has_stop s.out ≡ false
 
 running_rests : (m : Bool) (c room : ℕ) (s : Session) → Running c room s → offer m c room s ≡ Nothing → Rested c s
-running_rests m c room s r e = go s.refused (is_empty s.out) s.accepted (starts s.came) (has_stop s.out) r.refused r.out r.accepted r.came r.stop e
+running_rests m c room s r e = go s.rejects (is_empty s.out) s.accepted (starts s.came) (has_stop s.out) r.rejects r.out r.accepted r.came r.stop e
   where
     go : (a b x y z : Bool) → a ≡ false → b ≡ false → x ≡ true → y ≡ true → z ≡ false → cond a (reject_offer room s) (cond b (start_offer m c room s) (cond ((x && y) && not z) (live_offer c room s s.attention) Nothing)) ≡ Nothing → Rested c s
     go true b x y z p q i j k e = absurd (true≢false p)
@@ -98,8 +98,8 @@ running_rests m c room s r e = go s.refused (is_empty s.out) s.accepted (starts 
     go false false true true false p q i j k e = live_none c room s s.attention e
 
 -- a session that hasn't formed its start, and may, has a slot
-start_some : (m : Bool) (c room : ℕ) (s : Session) → s.refused ≡ false → s.accepted ≡ true → turned s.came ≡ false → s.out ≡ [] → offer m c room s ≡ Nothing → ⊥
-start_some m c room s r a t o = go s.refused (is_empty s.out) s.accepted (turned s.came) r (ap is_empty o) a t
+start_some : (m : Bool) (c room : ℕ) (s : Session) → s.rejects ≡ false → s.accepted ≡ true → turned s.came ≡ false → s.out ≡ [] → offer m c room s ≡ Nothing → ⊥
+start_some m c room s r a t o = go s.rejects (is_empty s.out) s.accepted (turned s.came) r (ap is_empty o) a t
   where
     go : (x y z w : Bool) → x ≡ false → y ≡ true → z ≡ true → w ≡ false → cond x (reject_offer room s) (cond y (cond (z && not w) (fit room (start_of m c s)) Nothing) (later_offer c room s)) ≡ Nothing → ⊥
     go true y z w p q i j e = true≢false p
@@ -109,8 +109,8 @@ start_some m c room s r a t o = go s.refused (is_empty s.out) s.accepted (turned
     go false true true false p q i j e = fit_some room (start_of m c s) e
 
 -- a reject that waits is a slot
-reject_some : (m : Bool) (c room : ℕ) (s : Session) → s.refused ≡ true → s.out ≡ [] → is_empty s.came ≡ false → offer m c room s ≡ Nothing → ⊥
-reject_some m c room s r o n = go s.refused (is_empty s.out) (is_empty s.came) r (ap is_empty o) n
+reject_some : (m : Bool) (c room : ℕ) (s : Session) → s.rejects ≡ true → s.out ≡ [] → is_empty s.came ≡ false → offer m c room s ≡ Nothing → ⊥
+reject_some m c room s r o n = go s.rejects (is_empty s.out) (is_empty s.came) r (ap is_empty o) n
   where
     go : (x y z : Bool) → x ≡ true → y ≡ true → z ≡ false → cond x (cond (y && not z) (fit room (Reject (peer s) 0 s.reason)) Nothing) (cond y (start_offer m c room s) (later_offer c room s)) ≡ Nothing → ⊥
     go false y z p q i e = false≢true p
@@ -120,18 +120,18 @@ reject_some m c room s r o n = go s.refused (is_empty s.out) (is_empty s.came) r
 
 -- the parts of a session that is held
 record Held (s : Session) : Type 0 where
-  refused : s.refused ≡ false
+  rejects : s.rejects ≡ false
   turned : turned s.came ≡ false
 
 held_parts : (s : Session) → free s ≡ false → Held s
 held_parts s h =
     let p : (rejected s ≡ false) × ((stopped s && (s.closed || nat_le (length (items s.came)) s.taken)) ≡ false) = or_parts (rejected s) _ h in
-    let q : (s.refused ≡ false) × (turned s.came ≡ false) = or_parts s.refused (turned s.came) p.0 in
-    record { refused = q.0; turned = q.1 }
+    let q : (s.rejects ≡ false) × (turned s.came ≡ false) = or_parts s.rejects (turned s.came) p.0 in
+    record { rejects = q.0; turned = q.1 }
 
 -- the session of the slave is held where it isn't refused and there is no stop
-slave_held : (s : Session) → s.refused ≡ false → turned s.came ≡ false → has_stop s.out ≡ false → free s ≡ false
-slave_held s r t n = go s.refused (turned s.came) (has_stop s.out) r t n
+slave_held : (s : Session) → s.rejects ≡ false → turned s.came ≡ false → has_stop s.out ≡ false → free s ≡ false
+slave_held s r t n = go s.rejects (turned s.came) (has_stop s.out) r t n
   where
     go : (a b d : Bool) → a ≡ false → b ≡ false → d ≡ false → ((a || b) || ((d && has_stop s.came) && (s.closed || nat_le (length (items s.came)) s.taken))) ≡ false
     go true b d p q i = absurd (true≢false p)
@@ -140,8 +140,8 @@ slave_held s r t n = go s.refused (turned s.came) (has_stop s.out) r t n
     go false false false p q i = refl
 
 -- and is accepted where it doesn't wait
-slave_accepted : (s : Session) → s.refused ≡ false → starts s.came ≡ true → turned s.came ≡ false → has_stop s.out ≡ false → waits s ≡ false → s.accepted ≡ true
-slave_accepted s r st t n w = go s.accepted s.refused (starts s.came) (turned s.came) (has_stop s.out) r st t n w
+slave_accepted : (s : Session) → s.rejects ≡ false → starts s.came ≡ true → turned s.came ≡ false → has_stop s.out ≡ false → waits s ≡ false → s.accepted ≡ true
+slave_accepted s r st t n w = go s.accepted s.rejects (starts s.came) (turned s.came) (has_stop s.out) r st t n w
   where
     go : (a b x y z : Bool) → b ≡ false → x ≡ true → y ≡ false → z ≡ false → (not (a && x) && not ((b || y) || (z && has_stop s.came))) ≡ false → a ≡ true
     go true b x y z p q i j e = refl
@@ -160,20 +160,20 @@ start_turned (Reject to from reason ∷ xs) e = absurd (false≢true e)
 start_turned (Stop to from reason ∷ xs) e = refl
 
 -- what stands first in a list that isn't empty: a start, or the reject of a session that is refused
-first_out : (m : Bool) (s : Session) → (xs : List Slot) → Shape m s xs → (xs ≡ [] → ⊥) → s.refused ≡ false → starts xs ≡ true
+first_out : (m : Bool) (s : Session) → (xs : List Slot) → Shape m s xs → (xs ≡ [] → ⊥) → s.rejects ≡ false → starts xs ≡ true
 first_out m s [] h n r = absurd (n refl)
 first_out m s (x ∷ xs) h n r = go (is_start x) refl
   where
     go : (b : Bool) → is_start x ≡ b → b ≡ true
     go true e = refl
-    go false e = absurd (both_ways s.refused r (h.reject e).1)
+    go false e = absurd (both_ways s.rejects r (h.reject e).1)
 
-turned_out : (m : Bool) (s : Session) → (xs : List Slot) → Shape m s xs → (xs ≡ [] → ⊥) → s.refused ≡ true → turned xs ≡ true
+turned_out : (m : Bool) (s : Session) → (xs : List Slot) → Shape m s xs → (xs ≡ [] → ⊥) → s.rejects ≡ true → turned xs ≡ true
 turned_out m s [] h n r = absurd (n refl)
 turned_out m s (x ∷ xs) h n r = go (is_start x) refl
   where
     go : (b : Bool) → is_start x ≡ b → is_reject x ≡ true
-    go true e = absurd (both_ways s.refused (h.start e).2 r)
+    go true e = absurd (both_ways s.rejects (h.start e).2 r)
     go false e = (h.reject e).0
 
 list_case : (xs : List Slot) → (xs ≡ []) ⊎ (is_empty xs ≡ false)
@@ -211,7 +211,7 @@ both room back m s r k h = record {
   named = named;
   up = sym (append-nil b.came) ∙ sym (r.joined.flow_up.at_generation a.generation) ∙ ap (λ (z : Session). z.out) named;
   down = ap (λ (z : Session). z.came) (sym named) ∙ sym (append-nil (of_generation m a.generation).came) ∙ sym (r.joined.flow_down.at_generation a.generation);
-  started = first_out m.master a a.out (r.joined.master_ok.each k).shape some p.refused;
+  started = first_out m.master a a.out (r.joined.master_ok.each k).shape some p.rejects;
 }
   where
     a : Session
@@ -224,20 +224,20 @@ both room back m s r k h = record {
     p = held_parts a h
 
     some : a.out ≡ [] → ⊥
-    some e = start_some m.master m.ceiling room a p.refused (r.master_accepts k p.refused) p.turned e (r.master_silent k (held_turn m k r.joined.master_ok r.master_ids h))
+    some e = start_some m.master m.ceiling room a p.rejects (r.master_accepts k p.rejects) p.turned e (r.master_silent k (held_turn m k r.joined.master_ok r.master_ids h))
 
     named : of_generation m a.generation ≡ a
     named = ap m.session (r.joined.master_ok.serial_found k (λ e. some ((r.joined.master_ok.each k).unnamed e)))
 
 -- the slave has accepted it, and its own start is out
 record Replied (s : Session) : Type 0 where
-  refused : s.refused ≡ false
+  rejects : s.rejects ≡ false
   accepted : s.accepted ≡ true
   started : starts s.out ≡ true
   held : free s ≡ false
 
 replied : (room back : ℕ) (m s : Sessions) → AtRest room back m s → (k : ℕ) → free (m.session k) ≡ false → has_stop (of_generation s (m.session k).generation).out ≡ false → Replied (of_generation s (m.session k).generation)
-replied room back m s r k h n = go b.refused refl
+replied room back m s r k h n = go b.rejects refl
   where
     a : Session
     a = m.session k
@@ -266,24 +266,24 @@ replied room back m s r k h n = go b.refused refl
     turns_back : turned b.out ≡ false
     turns_back = ap turned (sym two.down) ∙ p.turned
 
-    waits_not : b.refused ≡ true → b.out ≡ [] → ⊥
+    waits_not : b.rejects ≡ true → b.out ≡ [] → ⊥
     waits_not e o = reject_some s.master s.ceiling back b e o (starts_full b.came came) (r.slave_silent j (reject_turn s j some made (ap₂ (λ x y. x && y) e (ap is_empty o))))
 
     unturned : turned b.came ≡ false
     unturned = start_turned b.came came
 
-    accepted : b.refused ≡ false → b.accepted ≡ true
+    accepted : b.rejects ≡ false → b.accepted ≡ true
     accepted e = slave_accepted b e came unturned n (r.slave_answers j)
 
-    held : b.refused ≡ false → free b ≡ false
+    held : b.rejects ≡ false → free b ≡ false
     held e = slave_held b e unturned n
 
-    out : b.refused ≡ false → b.out ≡ [] → ⊥
+    out : b.rejects ≡ false → b.out ≡ [] → ⊥
     out e o = start_some s.master s.ceiling back b e (accepted e) unturned o (r.slave_silent j (held_turn s j r.joined.slave_ok r.slave_ids (held e)))
 
-    go : (c : Bool) → b.refused ≡ c → Replied b
+    go : (c : Bool) → b.rejects ≡ c → Replied b
     go true e = absurd (false≢true (sym turns_back ∙ turned_out s.master b b.out (r.joined.slave_ok.each j).shape (waits_not e) e))
-    go false e = record { refused = e; accepted = accepted e; started = first_out s.master b b.out (r.joined.slave_ok.each j).shape (out e) e; held = held e }
+    go false e = record { rejects = e; accepted = accepted e; started = first_out s.master b b.out (r.joined.slave_ok.each j).shape (out e) e; held = held e }
 
 -- two ends at rest have brought all
 pub at_rest : (room back : ℕ) (m s : Sessions) → AtRest room back m s → AllThrough m s
@@ -323,7 +323,7 @@ at_rest room back m s r k h ca cb = (
     q = replied room back m s r k h stops.1
 
     ra : Rested m.ceiling a
-    ra = running_rests m.master m.ceiling room a (record { refused = p.refused; accepted = r.master_accepts k p.refused; out = starts_full a.out two.started; came = ap starts two.down ∙ q.started; stop = no_stop }) (r.master_silent k (held_turn m k r.joined.master_ok r.master_ids h))
+    ra = running_rests m.master m.ceiling room a (record { rejects = p.rejects; accepted = r.master_accepts k p.rejects; out = starts_full a.out two.started; came = ap starts two.down ∙ q.started; stop = no_stop }) (r.master_silent k (held_turn m k r.joined.master_ok r.master_ids h))
 
     rb : Rested s.ceiling b
-    rb = running_rests s.master s.ceiling back b (record { refused = q.refused; accepted = q.accepted; out = starts_full b.out q.started; came = ap starts two.up ∙ two.started; stop = stops.1 }) (r.slave_silent j (held_turn s j r.joined.slave_ok r.slave_ids q.held))
+    rb = running_rests s.master s.ceiling back b (record { rejects = q.rejects; accepted = q.accepted; out = starts_full b.out q.started; came = ap starts two.up ∙ two.started; stop = stops.1 }) (r.slave_silent j (held_turn s j r.joined.slave_ok r.slave_ids q.held))

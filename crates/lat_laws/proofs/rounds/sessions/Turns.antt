@@ -54,15 +54,15 @@ held_turn e k ok low h = in_right k (waiting_rejects e) (once_round e) (subst (�
     made : k ≡ 0 → ⊥
     made = not_blank e (λ s. free s ≡ false) blank_free ok.none k h
 
-    refused : (e.session k).refused ≡ false
-    refused = (or_parts (e.session k).refused _ (or_parts _ _ h).0).0
+    rejects : (e.session k).rejects ≡ false
+    rejects = (or_parts (e.session k).rejects _ (or_parts _ _ h).0).0
 
     pos : (n : ℕ) → (n ≡ 0 → ⊥) → 0 < n
     pos zero w = absurd (w refl)
     pos (suc n) w = omega arith
 
     some : 0 < i
-    some = pos i ((ok.each k).id_some refused)
+    some = pos i ((ok.each k).id_some rejects)
 
     most : i ≤ 64
     most = ⊎_elim {C = i ≤ 64} (λ w. absurd (made (sym found ∙ low i (inr w)))) (λ w. w) (cases_lt 64 i)

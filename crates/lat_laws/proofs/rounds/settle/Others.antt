@@ -4,7 +4,7 @@ use Rattle.std.proofs.lemmas.Bool.{true≢false, false≢true, and_parts, eqb-fa
 use Rattle.lat_model.specs.Lists.{upwards}
 use Rattle.lat_model.specs.sessions.Slots.{Slot}
 use Rattle.lat_model.specs.sessions.Session.{Session, waits}
-use Rattle.lat_model.specs.sessions.Calls.{Call, Refuse}
+use Rattle.lat_model.specs.sessions.Calls.{Call, RejectAsk}
 use Rattle.lat_model.specs.sessions.Calls as Calls
 use Rattle.lat_model.specs.ends.End.{Sent, Run, CallStart, ReplyStart, Stopped, End, Step, lives, call_end}
 use Rattle.lat_model.specs.ends.Run.{run_end}
@@ -93,7 +93,7 @@ local_else : (t : Table) (y z : ℕ) (c : Call) → y ≢ z → (local_at false 
 local_else t y z c n = at_cond y (t.circuit_at y) (lives (t.circuit_at z).end) (steps_at false t z (record { end = call_end c (t.circuit_at z).end; sent = [] })) (idle t) (steps_else t y z (record { end = call_end c (t.circuit_at z).end; sent = [] }) n) refl
 
 judge_else : (config : NodeConfig) (st : Node) (y z id : ℕ) (request : Option ℕ) (v : Verdict) → y ≢ z → (judged config st z id request v).core.circuits.circuit_at y ≡ st.core.circuits.circuit_at y
-judge_else config st y z id request (Rejects reason) n = local_else st.core.circuits y z (Refuse id reason) n
+judge_else config st y z id request (Rejects reason) n = local_else st.core.circuits y z (RejectAsk id reason) n
 judge_else config st y z id request (Accepts line) n = local_else st.core.circuits y z (Calls.Answer id) n
 
 ones_else : (config : NodeConfig) (y z : ℕ) (ids : List ℕ) (st : Node) → y ≢ z → (answers_in config z ids st).core.circuits.circuit_at y ≡ st.core.circuits.circuit_at y

@@ -4,7 +4,7 @@ use Rattle.std.proofs.lemmas.Bool.{and_parts, or_parts, true≢false}
 use Rattle.lat_model.specs.sessions.Slots.{turned}
 use Rattle.lat_model.specs.sessions.Session.{Session, free, gone, rejected, stopped, answered, waits}
 use Rattle.lat_model.specs.sessions.Sessions.{Sessions, named}
-use Rattle.lat_model.specs.sessions.Calls.{Answer, Refuse, answer, reject, call}
+use Rattle.lat_model.specs.sessions.Calls.{Answer, RejectAsk, answer, reject, call}
 use Rattle.lat_model.specs.ends.End.{Step, lives, call_end}
 use Rattle.lat_model.specs.ends.Timers.{note_empty}
 use Rattle.lat_model.specs.circuits.World.{CircuitEntry, Table}
@@ -26,8 +26,8 @@ use Rattle.lat_laws.proofs.tales.seats.Sound.{Rest, Sound, IsNew, IsFirst, Fresh
 carry : (P : Seat → Type 0) (y s : Seat) → y ≡ s → P s → P y
 carry P y s q h = subst P (sym q) h
 
-unrefused : (s : Session) → gone s ≡ false → s.refused ≡ false
-unrefused s h = (or_parts s.refused (turned s.came) (or_parts (rejected s) (stopped s) h).0).0
+unrejected : (s : Session) → gone s ≡ false → s.rejects ≡ false
+unrejected s h = (or_parts s.rejects (turned s.came) (or_parts (rejected s) (stopped s) h).0).0
 
 waits_here : (s : Session) → waits s ≡ true → gone s ≡ false
 waits_here s h = off (gone s) (and_parts (not (answered s)) (not (gone s)) h).1
@@ -37,7 +37,7 @@ unaccepted : (e : Sessions) (id : ℕ) → e.master ≡ false → Good e → wai
 unaccepted e id m g w = go (named e id).accepted refl
   where
     go : (b : Bool) → (named e id).accepted ≡ b → (named e id).accepted ≡ false
-    go true q = absurd (waits_alien e id m w g (record { accepted = q; refused = unrefused (named e id) (waits_here (named e id) w) }))
+    go true q = absurd (waits_alien e id m w g (record { accepted = q; rejects = unrejected (named e id) (waits_here (named e id) w) }))
     go false q = q
 
 module _ (config : NodeConfig) (x id : ℕ) (c : Core) (h : Sound false config.lines c) (l : lives (c.circuits.circuit_at x).end ≡ true) (w : waits (named (c.circuits.circuit_at x).end.half.sessions id) ≡ true) where
@@ -93,7 +93,7 @@ module _ (config : NodeConfig) (x id : ℕ) (c : Core) (h : Sound false config.l
   new_session = ap (λ k. (sess answering x).session k) serial_is ∙ (ap (λ (z : CircuitEntry). z.end.half.sessions.session ((sess c.circuits x).at_id id)) at_x ∙ upd_same (sess c.circuits x).session ((sess c.circuits x).at_id id) (record (named (sess c.circuits x) id) { accepted = true }))
 
   new_ours : Ours ((sess answering x).session ((sess answering x).at_id id))
-  new_ours = subst Ours (sym new_session) (record { accepted = refl; refused = unrefused (named (sess c.circuits x) id) (waits_here (named (sess c.circuits x) id) w) })
+  new_ours = subst Ours (sym new_session) (record { accepted = refl; rejects = unrejected (named (sess c.circuits x) id) (waits_here (named (sess c.circuits x) id) w) })
 
   rest : (line : ℕ) → Rest false (core_with answering line)
   rest line = record {
@@ -122,7 +122,7 @@ module _ (config : NodeConfig) (x id : ℕ) (c : Core) (h : Sound false config.l
   new_first : IsFirst ((sess answering x).session ((sess answering x).at_id id))
   new_first =
       let g : gone (named (sess c.circuits x) id) ≡ false = waits_here (named (sess c.circuits x) id) w in
-      subst IsFirst (sym new_session) (record { going = g; out = (h.rest.good x).silent ((sess c.circuits x).at_id id) (unaccepted (sess c.circuits x) id (h.seated.good.masters x) (h.rest.good x) w) (unrefused (named (sess c.circuits x) id) g) })
+      subst IsFirst (sym new_session) (record { going = g; out = (h.rest.good x).silent ((sess c.circuits x).at_id id) (unaccepted (sess c.circuits x) id (h.seated.good.masters x) (h.rest.good x) w) (unrejected (named (sess c.circuits x) id) g) })
 
   stays : (y k : ℕ) → IsFirst ((sess c.circuits y).session k) → IsFirst ((sess answering y).session k)
   stays y k f = go (nat_eq y x) refl
@@ -171,18 +171,18 @@ accepts_fresh config b st x id line request service w v l f = record {
 
 -- a session that is turned away has no line
 
-refuse_same : (e : Sessions) (id reason k : ℕ) → Good e → e.master ≡ false → Ours (e.session k) → (call e (Refuse id reason)).session k ≡ e.session k
+refuse_same : (e : Sessions) (id reason k : ℕ) → Good e → e.master ≡ false → Ours (e.session k) → (call e (RejectAsk id reason)).session k ≡ e.session k
 refuse_same e id reason k g m o = go (not e.master && waits (named e id)) refl
   where
     go : (b : Bool) → (not e.master && waits (named e id)) ≡ b → (cond b (reject e id reason) e).session k ≡ e.session k
     go false q = refl
-    go true q = upd_other e.session (e.at_id id) (record (named e id) { refused = true; reason = reason }) k (λ z. waits_alien e id m (and_parts (not e.master) (waits (named e id)) q).1 g (subst (λ y. Ours (e.session y)) z o))
+    go true q = upd_other e.session (e.at_id id) (record (named e id) { rejects = true; reason = reason }) k (λ z. waits_alien e id m (and_parts (not e.master) (waits (named e id)) q).1 g (subst (λ y. Ours (e.session y)) z o))
 
-refuse_session : (c : Core) (x id reason : ℕ) (s : Seat) → ((y : ℕ) → Good (sess c.circuits y)) → ((y : ℕ) → (sess c.circuits y).master ≡ false) → Ours (session_of c s) → session_of (with_circuits c (local_at false c.circuits x (Refuse id reason)).table) s ≡ session_of c s
+refuse_session : (c : Core) (x id reason : ℕ) (s : Seat) → ((y : ℕ) → Good (sess c.circuits y)) → ((y : ℕ) → (sess c.circuits y).master ≡ false) → Ours (session_of c s) → session_of (with_circuits c (local_at false c.circuits x (RejectAsk id reason)).table) s ≡ session_of c s
 refuse_session c x id reason s g m o = go (lives (c.circuits.circuit_at x).end)
   where
     step : Step
-    step = record { end = call_end (Refuse id reason) (c.circuits.circuit_at x).end; sent = [] }
+    step = record { end = call_end (RejectAsk id reason) (c.circuits.circuit_at x).end; sent = [] }
 
     new : CircuitEntry
     new = record { address = (c.circuits.circuit_at x).address; end = (note_empty (c.circuits.circuit_at x).end step).end }
@@ -197,11 +197,11 @@ refuse_session c x id reason s g m o = go (lives (c.circuits.circuit_at x).end)
     go true = at (nat_eq s.circuit x) refl
     go false = refl
 
-refuse_over : (c : Core) (x id reason : ℕ) (s : Seat) → ((y : ℕ) → Good (sess c.circuits y)) → ((y : ℕ) → (sess c.circuits y).master ≡ false) → Ours (session_of c s) → over (with_circuits c (local_at false c.circuits x (Refuse id reason)).table) s ≡ over c s
+refuse_over : (c : Core) (x id reason : ℕ) (s : Seat) → ((y : ℕ) → Good (sess c.circuits y)) → ((y : ℕ) → (sess c.circuits y).master ≡ false) → Ours (session_of c s) → over (with_circuits c (local_at false c.circuits x (RejectAsk id reason)).table) s ≡ over c s
 refuse_over c x id reason s g m o = go (lives (c.circuits.circuit_at x).end) (nat_eq s.circuit x) refl
   where
     step : Step
-    step = record { end = call_end (Refuse id reason) (c.circuits.circuit_at x).end; sent = [] }
+    step = record { end = call_end (RejectAsk id reason) (c.circuits.circuit_at x).end; sent = [] }
 
     new : CircuitEntry
     new = record { address = (c.circuits.circuit_at x).address; end = (note_empty (c.circuits.circuit_at x).end step).end }
@@ -217,9 +217,9 @@ refuse_over c x id reason s g m o = go (lives (c.circuits.circuit_at x).end) (na
     go true b q = at (nat_eq s.circuit x) refl
     go false b q = refl
 
-pub refuses_fresh : (lines : ℕ) (b c : Core) (x id reason : ℕ) → Fresh false lines b c → Fresh false lines b (with_circuits c (local_at false c.circuits x (Refuse id reason)).table)
+pub refuses_fresh : (lines : ℕ) (b c : Core) (x id reason : ℕ) → Fresh false lines b c → Fresh false lines b (with_circuits c (local_at false c.circuits x (RejectAsk id reason)).table)
 refuses_fresh lines b c x id reason f = record {
-  sound = sound_act false lines c d refl (local_later false false c.circuits x (Refuse id reason) refl) t (λ q. absurd (true≢false (sym q))) f.sound;
+  sound = sound_act false lines c d refl (local_later false false c.circuits x (RejectAsk id reason) refl) t (λ q. absurd (true≢false (sym q))) f.sound;
   table = turned_then b.circuits c.circuits d.circuits f.table t;
   more = f.more;
   seats = f.seats;
@@ -228,7 +228,7 @@ refuses_fresh lines b c x id reason f = record {
 }
   where
     d : Core
-    d = with_circuits c (local_at false c.circuits x (Refuse id reason)).table
+    d = with_circuits c (local_at false c.circuits x (RejectAsk id reason)).table
 
     t : Turned c.circuits d.circuits
-    t = local_turn false c.circuits x (Refuse id reason) tt f.sound.rest.good
+    t = local_turn false c.circuits x (RejectAsk id reason) tt f.sound.rest.good

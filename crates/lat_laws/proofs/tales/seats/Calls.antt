@@ -50,7 +50,7 @@ pub record Touches (e : Sessions) (k : ℕ) (y : Call) (new : Session) : Type 0 
   pub id : new.id ≡ (e.session k).id
   pub came : new.came ≡ (e.session k).came
   pub accepted : new.accepted ≡ (e.session k).accepted
-  pub refused : new.refused ≡ (e.session k).refused
+  pub rejects : new.rejects ≡ (e.session k).rejects
   pub generation : new.generation ≡ (e.session k).generation
   pub within : new.taken ≤ length (items new.came)
   pub none_accepted : accepts_none y ≡ true
@@ -128,7 +128,7 @@ module _ (k : Side) (lines : ℕ) (c : Core) (h : Sound k.server lines c) (s : S
         asked = λ m j a l. starting j (g.asked m j a l);
         within = λ j. upd_all (λ (z : Session). z.taken ≤ length (items z.came)) e.session s.serial new w.within g.within j;
         unseen = λ j. upd_all (λ (z : Session). z.accepted ≡ false → Untouched z) e.session s.serial new (λ a. absurd (true≢false (sym (w.accepted ∙ (h.rest.ours s n).accepted) ∙ a))) g.unseen j;
-        silent = λ j. upd_all (λ (z : Session). z.accepted ≡ false → z.refused ≡ false → z.out ≡ []) e.session s.serial new (λ a b. absurd (true≢false (sym (w.accepted ∙ (h.rest.ours s n).accepted) ∙ a))) g.silent j;
+        silent = λ j. upd_all (λ (z : Session). z.accepted ≡ false → z.rejects ≡ false → z.out ≡ []) e.session s.serial new (λ a b. absurd (true≢false (sym (w.accepted ∙ (h.rest.ours s n).accepted) ∙ a))) g.silent j;
       }
     where
       starting : (j : ℕ) → starts ((sess c.circuits s.circuit).session j).came ≡ true → starts (updated (sess c.circuits s.circuit).session s.serial new j).came ≡ true
@@ -161,7 +161,7 @@ module _ (k : Side) (lines : ℕ) (c : Core) (h : Sound k.server lines c) (s : S
       go true p true q =
           let e : session_of d t ≡ new = ap₂ (λ x j. (sess after x).session j) (eqb-true t.circuit s.circuit p) (eqb-true t.serial s.serial q) ∙ own_session in
           let u : Ours (session_of c s) = h.rest.ours s n in
-          subst Ours (sym e) (record { accepted = w.accepted ∙ u.accepted; refused = w.refused ∙ u.refused })
+          subst Ours (sym e) (record { accepted = w.accepted ∙ u.accepted; rejects = w.rejects ∙ u.rejects })
       go true p false q = old (λ a b. eqb-false t.serial s.serial q b)
       go false p b q = old (λ a b. eqb-false t.circuit s.circuit p a)
 

@@ -92,7 +92,7 @@ module _ (config : ServerConfig) (line x : ℕ) (service : Name) (key : Option K
   rest = record {
     good = turned.good;
     distinct = distinct_more c.seats s h.rest.distinct (λ y n a b. absurd (let p : Placed config.lines c y = h.seated.placed y n in let m : (sess c.circuits y.circuit).made ≡ (sess c.circuits x).made = ap (λ z. (sess c.circuits z).made) a in omega (arith, p.made, m, b)));
-    ours = λ y n. ⊎_elim {C = Ours (session_of d y)} (λ q. old_ours y q) (λ q. subst (λ z. Ours (session_of d z)) (sym q) (subst Ours (sym new_session) (record { accepted = refl; refused = refl }))) (is_either y s c.seats n);
+    ours = λ y n. ⊎_elim {C = Ours (session_of d y)} (λ q. old_ours y q) (λ q. subst (λ z. Ours (session_of d z)) (sym q) (subst Ours (sym new_session) (record { accepted = refl; rejects = refl }))) (is_either y s c.seats n);
     named = λ w. named;
   }
 

@@ -1,7 +1,7 @@
 -- What holds of the line sessions of a core in every run, and what an act that makes none leaves of it.
 use Rattle.std.proofs.Common.{◌≡◌, ℕ, inl, inr, ⊎_elim, refl, sym, ap, ◌∙◌, subst, Bool, true, false, cond, ◌&&◌, List, [], ◌∷◌, ◌++◌, nat_eq}
 use Rattle.lat_model.specs.sessions.Session.{Session, gone}
-use Rattle.lat_model.specs.sessions.Calls.{Call, Connect, Put, Set, Attend, Take, Close, Answer, Refuse}
+use Rattle.lat_model.specs.sessions.Calls.{Call, Connect, Put, Set, Attend, Take, Close, Answer, RejectAsk}
 use Rattle.lat_model.specs.Lists.{Each}
 use Rattle.lat_machines.specs.cores.Acts.{time_at, local_at}
 use Rattle.lat_machines.specs.cores.Hearing.{hear_run, hear_stop_at}
@@ -98,23 +98,23 @@ still_act m lines c d e q l t i s =
     record { sound = sound_act m lines d e q l v i s.sound; table = turned_then c.circuits d.circuits e.circuits s.table v; seats = q ∙ s.seats }
 
 -- the calls of acts
-abbrev pub IsPlain : Call → Type 0
-IsPlain (Attend id flag) = Unit {0}
-IsPlain (Close id) = Unit {0}
-IsPlain (Refuse id reason) = Unit {0}
-IsPlain _ = ⊥
+abbrev pub IsStill : Call → Type 0
+IsStill (Attend id flag) = Unit {0}
+IsStill (Close id) = Unit {0}
+IsStill (RejectAsk id reason) = Unit {0}
+IsStill _ = ⊥
 
-pub plain_quiet : (y : Call) → IsPlain y → IsQuiet y × NoConnect y × (accepts_none y ≡ true)
+pub plain_quiet : (y : Call) → IsStill y → IsQuiet y × NoConnect y × (accepts_none y ≡ true)
 plain_quiet (Attend id flag) p = (tt, tt, refl)
 plain_quiet (Close id) p = (tt, tt, refl)
-plain_quiet (Refuse id reason) p = (tt, tt, refl)
+plain_quiet (RejectAsk id reason) p = (tt, tt, refl)
 plain_quiet (Connect service request) p = absurd p
 plain_quiet (Put id bs) p = absurd p
 plain_quiet (Set id t) p = absurd p
 plain_quiet (Take id n) p = absurd p
 plain_quiet (Answer id) p = absurd p
 
-pub still_acts : (lines : ℕ) (k : Side) (c : Core) → Acts k IsPlain (Still k.server lines c)
+pub still_acts : (lines : ℕ) (k : Side) (c : Core) → Acts k IsStill (Still k.server lines c)
 still_acts lines k c = record {
   moment = λ d now s. still_act k.server lines c d (at_moment now d) refl (Laters.table_same k.server d.circuits) (turned_same d.circuits) (λ q. table_same d.circuits) s;
   renames = λ d ns s. still_act k.server lines c d (record d { names = ns }) refl (Laters.table_same k.server d.circuits) (turned_same d.circuits) (λ q. table_same d.circuits) s;

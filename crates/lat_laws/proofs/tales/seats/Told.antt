@@ -51,7 +51,7 @@ module _ (k : Side) (lines : ℕ) (c : Core) (h : Sound k.server lines c) (line 
             id = refl;
             came = refl;
             accepted = refl;
-            refused = refl;
+            rejects = refl;
             generation = refl;
             within = (h.rest.good s.circuit).within s.serial;
             none_accepted = refl;
@@ -75,7 +75,7 @@ module _ (k : Side) (lines : ℕ) (c : Core) (h : Sound k.server lines c) (line 
             id = refl;
             came = refl;
             accepted = refl;
-            refused = refl;
+            rejects = refl;
             generation = refl;
             within = (h.rest.good s.circuit).within s.serial;
             none_accepted = refl;
@@ -102,7 +102,7 @@ module _ (k : Side) (lines : ℕ) (c : Core) (h : Sound k.server lines c) (line 
             id = refl;
             came = refl;
             accepted = refl;
-            refused = refl;
+            rejects = refl;
             generation = refl;
             within = within ((h.rest.good s.circuit).within s.serial);
             none_accepted = refl;

@@ -8,7 +8,7 @@ use Rattle.lat_model.specs.sessions.Sessions.{Sessions, named, held, least_free}
 use Rattle.lat_model.specs.sessions.Offers.{Offer, Nothing, Offers, offer, reject_offer, start_offer, later_offer, live_offer, fit, start_of}
 use Rattle.lat_model.specs.sessions.Packing.{form, first_form, next_form, formed}
 use Rattle.lat_model.specs.sessions.Hearing.{HeardAll, names, names_running, is_full, heard, hear_at, behind_fits, asked_session, ask_in, hear_slot, hear_all}
-use Rattle.lat_model.specs.sessions.Calls.{Call, Connect, Put, Set, Attend, Take, Close, Answer, Refuse, call, connect, new_call, touch, answer, reject}
+use Rattle.lat_model.specs.sessions.Calls.{Call, Connect, Put, Set, Attend, Take, Close, Answer, RejectAsk, call, connect, new_call, touch, answer, reject}
 use Rattle.lat_model.specs.Lists.{updated, any_up_to, is_empty, IsPrefixOf}
 use Rattle.lat_model.specs.ends.Starting.{void_sessions}
 use Rattle.lat_model.proofs.sessions.Words.{upd_other, items-append}
@@ -31,11 +31,11 @@ pub record Good (e : Sessions) : Type 0 where
   pub asked : e.master ≡ false → (k : ℕ) → 0 < k → k ≤ e.made → starts (e.session k).came ≡ true
   pub within : (k : ℕ) → (e.session k).taken ≤ length (items (e.session k).came)
   pub unseen : (k : ℕ) → (e.session k).accepted ≡ false → Untouched (e.session k)
-  pub silent : (k : ℕ) → (e.session k).accepted ≡ false → (e.session k).refused ≡ false → (e.session k).out ≡ []
+  pub silent : (k : ℕ) → (e.session k).accepted ≡ false → (e.session k).rejects ≡ false → (e.session k).out ≡ []
 
 pub record Ours (s : Session) : Type 0 where
   pub accepted : s.accepted ≡ true
-  pub refused : s.refused ≡ false
+  pub rejects : s.rejects ≡ false
 
 pub record OneGoes (s : Session) (t : Session) : Type 0 where
   pub id : t.id ≡ s.id
@@ -44,8 +44,8 @@ pub record OneGoes (s : Session) (t : Session) : Type 0 where
   pub came : IsPrefixOf s.came t.came
   pub generation : s.generation ≢ 0 → t.generation ≡ s.generation
   pub accepts : s.accepted ≡ true → t.accepted ≡ true
-  pub refuses : s.refused ≡ true → t.refused ≡ true
-  pub silent : t.accepted ≡ false → t.refused ≡ false → t.out ≡ s.out
+  pub refuses : s.rejects ≡ true → t.rejects ≡ true
+  pub silent : t.accepted ≡ false → t.rejects ≡ false → t.out ≡ s.out
   pub ours : Ours s → Ours t
   pub final : Ours s → free s ≡ true → t ≡ s
 
@@ -83,7 +83,7 @@ one_then a b c p q = record {
   generation = λ n. q.generation (λ z. n (sym (p.generation n) ∙ z)) ∙ p.generation n;
   accepts = λ h. q.accepts (p.accepts h);
   refuses = λ h. q.refuses (p.refuses h);
-  silent = λ x y. q.silent x y ∙ p.silent (still_false b.accepted c.accepted q.accepts x) (still_false b.refused c.refused q.refuses y);
+  silent = λ x y. q.silent x y ∙ p.silent (still_false b.accepted c.accepted q.accepts x) (still_false b.rejects c.rejects q.refuses y);
   ours = λ h. q.ours (p.ours h);
   final = λ h f. (let e : b ≡ a = p.final h f in q.final (p.ours h) (ap free e ∙ f) ∙ e);
 }
@@ -136,7 +136,7 @@ touched e f k s fs fa fm fb n o g = record {
     asked = λ m j a l. came_starts (e.session j) (f.session j) (goes j) (g.asked (sym fb ∙ m) j a (omega (arith, l, fm)));
     within = λ j. came_within (e.session j) (f.session j) (goes j) (g.within j);
     unseen = λ j a. went_untouched (e.session j) (f.session j) (goes j) (g.unseen j (still_false (e.session j).accepted (f.session j).accepted (goes j).accepts a));
-    silent = λ j a b. (goes j).silent a b ∙ g.silent j (still_false (e.session j).accepted (f.session j).accepted (goes j).accepts a) (still_false (e.session j).refused (f.session j).refused (goes j).refuses b);
+    silent = λ j a b. (goes j).silent a b ∙ g.silent j (still_false (e.session j).accepted (f.session j).accepted (goes j).accepts a) (still_false (e.session j).rejects (f.session j).rejects (goes j).refuses b);
   };
   made = omega (arith, fm);
   master = fb;
@@ -194,9 +194,9 @@ added e f s fs fa fm fb st un so g = record {
     unseen j a true q = subst Untouched (sym (at j ∙ ap (λ b. cond b s (e.session j)) q)) un
     unseen j a false q = (let o : f.session j ≡ e.session j = other j (eqb-false j (suc e.made) q) in subst Untouched (sym o) (g.unseen j (sym (ap (λ (z : Session). z.accepted) o) ∙ a)))
 
-    silent : (j : ℕ) → (f.session j).accepted ≡ false → (f.session j).refused ≡ false → (b : Bool) → nat_eq j (suc e.made) ≡ b → (f.session j).out ≡ []
+    silent : (j : ℕ) → (f.session j).accepted ≡ false → (f.session j).rejects ≡ false → (b : Bool) → nat_eq j (suc e.made) ≡ b → (f.session j).out ≡ []
     silent j a r true q = ap (λ (z : Session). z.out) (at j ∙ ap (λ b. cond b s (e.session j)) q) ∙ so
-    silent j a r false q = (let o : f.session j ≡ e.session j = other j (eqb-false j (suc e.made) q) in ap (λ (z : Session). z.out) o ∙ g.silent j (sym (ap (λ (z : Session). z.accepted) o) ∙ a) (sym (ap (λ (z : Session). z.refused) o) ∙ r))
+    silent j a r false q = (let o : f.session j ≡ e.session j = other j (eqb-false j (suc e.made) q) in ap (λ (z : Session). z.out) o ∙ g.silent j (sym (ap (λ (z : Session). z.accepted) o) ∙ a) (sym (ap (λ (z : Session). z.rejects) o) ∙ r))
 
     within : (j : ℕ) (b : Bool) → nat_eq j (suc e.made) ≡ b → (f.session j).taken ≤ length (items (f.session j).came)
     within j true q = subst (λ (z : Session). z.taken ≤ length (items z.came)) (sym (at j ∙ ap (λ b. cond b s (e.session j)) q)) wi
@@ -220,7 +220,7 @@ empty_stops [] h = absurd (false≢true h)
 empty_stops (x ∷ xs) h = refl
 
 free_nothing : (m : Bool) (c room : ℕ) (s : Session) → Ours s → free s ≡ true → offer m c room s ≡ Nothing
-free_nothing m c room s h f = ap (λ b. cond b (reject_offer room s) rest) h.refused ∙ ⊎_elim {C = rest ≡ Nothing} turns stops (free_cases s h.refused f)
+free_nothing m c room s h f = ap (λ b. cond b (reject_offer room s) rest) h.rejects ∙ ⊎_elim {C = rest ≡ Nothing} turns stops (free_cases s h.rejects f)
   where
     rest : Offer
     rest = cond (is_empty s.out) (start_offer m c room s) (later_offer c room s)
@@ -238,7 +238,7 @@ free_nothing m c room s h f = ap (λ b. cond b (reject_offer room s) rest) h.ref
         ap (λ b. cond b (start_offer m c room s) (later_offer c room s)) (empty_stops s.out p.0)
         ∙ when_false (answered s && not (has_stop s.out)) (live_offer c room s s.attention) (and_false (answered s) (not (has_stop s.out)) (ap not p.0))
 
-unaccepted_nothing : (m : Bool) (c room : ℕ) (s : Session) → s.accepted ≡ false → s.refused ≡ false → offer m c room s ≡ Nothing
+unaccepted_nothing : (m : Bool) (c room : ℕ) (s : Session) → s.accepted ≡ false → s.rejects ≡ false → offer m c room s ≡ Nothing
 unaccepted_nothing m c room s a r = ap (λ b. cond b (reject_offer room s) (cond (is_empty s.out) (start_offer m c room s) (later_offer c room s))) r ∙ go (is_empty s.out)
   where
     go : (b : Bool) → cond b (start_offer m c room s) (later_offer c room s) ≡ Nothing
@@ -258,7 +258,7 @@ formed_goes m c room s n x o g = record {
   accepts = λ h. h;
   refuses = λ h. h;
   silent = λ a r. absurd (offers_some (offer m c room s) x (unaccepted_nothing m c room s a r) o);
-  ours = λ h. record { accepted = h.accepted; refused = h.refused };
+  ours = λ h. record { accepted = h.accepted; rejects = h.rejects };
   final = λ h f. absurd (offers_some (offer m c room s) x (free_nothing m c room s h f) o);
 }
 
@@ -278,11 +278,11 @@ pub free_blank : (s : Session) → free s ≡ false → s ≡ blank → ⊥
 free_blank s f b = true≢false (ap free (sym b) ∙ f)
 
 -- a session that isn't free gets these fields
-held_goes : (s t : Session) → free s ≡ false → t.id ≡ s.id → t.put ≡ s.put → t.taken ≡ s.taken → IsPrefixOf s.came t.came → t.generation ≡ s.generation → (s.accepted ≡ true → t.accepted ≡ true) → (s.refused ≡ true → t.refused ≡ true) → t.out ≡ s.out → (Ours s → Ours t) → OneGoes s t
+held_goes : (s t : Session) → free s ≡ false → t.id ≡ s.id → t.put ≡ s.put → t.taken ≡ s.taken → IsPrefixOf s.came t.came → t.generation ≡ s.generation → (s.accepted ≡ true → t.accepted ≡ true) → (s.rejects ≡ true → t.rejects ≡ true) → t.out ≡ s.out → (Ours s → Ours t) → OneGoes s t
 held_goes s t f i p k c n a r u h = record { id = i; put = p; taken = k; came = c; generation = λ z. n; accepts = a; refuses = r; silent = λ x y. u; ours = h; final = λ z g. absurd (true≢false (sym g ∙ f)) }
 
 goes_heard : (e : Sessions) (k : ℕ) (x : Slot) → free (e.session k) ≡ false → Goes e (hear_at e k x)
-goes_heard e k x f = touched e (hear_at e k x) k (heard (e.session k) x) refl (λ i. refl) refl refl (free_blank (e.session k) f) (held_goes (e.session k) (heard (e.session k) x) f refl refl refl (x ∷ [], refl) refl (λ h. h) (λ h. h) refl (λ h. record { accepted = h.accepted; refused = h.refused }))
+goes_heard e k x f = touched e (hear_at e k x) k (heard (e.session k) x) refl (λ i. refl) refl refl (free_blank (e.session k) f) (held_goes (e.session k) (heard (e.session k) x) f refl refl refl (x ∷ [], refl) refl (λ h. h) (λ h. h) refl (λ h. record { accepted = h.accepted; rejects = h.rejects }))
 
 new_ids : (e : Sessions) (i j : ℕ) → Good e → updated e.at_id j (suc e.made) i ≤ suc e.made
 new_ids e i j g = go (nat_eq i j)
@@ -387,15 +387,15 @@ goes_call e (Set id t) a = absurd a
 goes_call e (Take id n) a = absurd a
 goes_call e (Attend id flag) a =
     let s : Session = record (named e id) { attention = Some flag } in
-    goes_cond (put_open (named e id)) (touch e (e.at_id id) s) e (λ q. let f : free (named e id) ≡ false = open_goes (named e id) q in touched e (touch e (e.at_id id) s) (e.at_id id) s refl (λ i. refl) refl refl (free_blank (named e id) f) (held_goes (named e id) s f refl refl refl ([], append_nil (named e id).came) refl (λ h. h) (λ h. h) refl (λ h. record { accepted = h.accepted; refused = h.refused })))
+    goes_cond (put_open (named e id)) (touch e (e.at_id id) s) e (λ q. let f : free (named e id) ≡ false = open_goes (named e id) q in touched e (touch e (e.at_id id) s) (e.at_id id) s refl (λ i. refl) refl refl (free_blank (named e id) f) (held_goes (named e id) s f refl refl refl ([], append_nil (named e id).came) refl (λ h. h) (λ h. h) refl (λ h. record { accepted = h.accepted; rejects = h.rejects })))
 goes_call e (Close id) a =
     let s : Session = record (named e id) { closed = true } in
-    goes_cond (take_open (named e id)) (touch e (e.at_id id) s) e (λ q. let f : free (named e id) ≡ false = takes_goes (named e id) q in touched e (touch e (e.at_id id) s) (e.at_id id) s refl (λ i. refl) refl refl (free_blank (named e id) f) (held_goes (named e id) s f refl refl refl ([], append_nil (named e id).came) refl (λ h. h) (λ h. h) refl (λ h. record { accepted = h.accepted; refused = h.refused })))
+    goes_cond (take_open (named e id)) (touch e (e.at_id id) s) e (λ q. let f : free (named e id) ≡ false = takes_goes (named e id) q in touched e (touch e (e.at_id id) s) (e.at_id id) s refl (λ i. refl) refl refl (free_blank (named e id) f) (held_goes (named e id) s f refl refl refl ([], append_nil (named e id).came) refl (λ h. h) (λ h. h) refl (λ h. record { accepted = h.accepted; rejects = h.rejects })))
 goes_call e (Answer id) a =
     let s : Session = record (named e id) { accepted = true } in
-    goes_cond (not e.master && waits (named e id)) (answer e id) e (λ q. let f : free (named e id) ≡ false = waits_goes (named e id) (and_parts (not e.master) (waits (named e id)) q).1 in touched e (answer e id) (e.at_id id) s refl (λ i. refl) refl refl (free_blank (named e id) f) (held_goes (named e id) s f refl refl refl ([], append_nil (named e id).came) refl (λ h. refl) (λ h. h) refl (λ h. record { accepted = refl; refused = h.refused })))
-goes_call e (Refuse id reason) a =
-    let s : Session = record (named e id) { refused = true; reason = reason } in
+    goes_cond (not e.master && waits (named e id)) (answer e id) e (λ q. let f : free (named e id) ≡ false = waits_goes (named e id) (and_parts (not e.master) (waits (named e id)) q).1 in touched e (answer e id) (e.at_id id) s refl (λ i. refl) refl refl (free_blank (named e id) f) (held_goes (named e id) s f refl refl refl ([], append_nil (named e id).came) refl (λ h. refl) (λ h. h) refl (λ h. record { accepted = refl; rejects = h.rejects })))
+goes_call e (RejectAsk id reason) a =
+    let s : Session = record (named e id) { rejects = true; reason = reason } in
     goes_cond (not e.master && waits (named e id)) (reject e id reason) e
     (λ q g.
     let p : (not e.master ≡ true) × (waits (named e id) ≡ true) = and_parts (not e.master) (waits (named e id)) q in

@@ -6,7 +6,7 @@ use Rattle.lat_model.specs.sessions.Session.{waits, put_open, take_open}
 use Rattle.lat_model.specs.sessions.Sessions.{Sessions, named}
 use Rattle.lat_model.specs.sessions.Offers.{Offers, offer}
 use Rattle.lat_model.specs.sessions.Packing.{form, first_form, next_form}
-use Rattle.lat_model.specs.sessions.Calls.{Call, Connect, Put, Set, Attend, Take, Close, Answer, Refuse, call, answer, reject}
+use Rattle.lat_model.specs.sessions.Calls.{Call, Connect, Put, Set, Attend, Take, Close, Answer, RejectAsk, call, answer, reject}
 use Rattle.lat_model.specs.numbers.Link.{Frame}
 use Rattle.lat_model.specs.ends.End.{End, Step, lives, call_end}
 use Rattle.lat_model.specs.ends.Timers.{note_empty, time_step}
@@ -75,7 +75,7 @@ ids_call e (Attend id flag) n = ids_cond (put_open (named e id)) e _ (λ m. reco
 ids_call e (Take id k) n = ids_cond (take_open (named e id)) e _ (λ m. record { master = m; ids = λ i. refl })
 ids_call e (Close id) n = ids_cond (take_open (named e id)) e _ (λ m. record { master = m; ids = λ i. refl })
 ids_call e (Answer id) n = ids_cond (not e.master && waits (named e id)) e (answer e id) (λ m. record { master = m; ids = λ i. refl })
-ids_call e (Refuse id reason) n = ids_cond (not e.master && waits (named e id)) e (reject e id reason) (λ m. record { master = m; ids = λ i. refl })
+ids_call e (RejectAsk id reason) n = ids_cond (not e.master && waits (named e id)) e (reject e id reason) (λ m. record { master = m; ids = λ i. refl })
 
 -- acts
 

@@ -1,7 +1,7 @@
 -- A slave keeps the id of its peer, whatever is heard and called.
 use Rattle.std.proofs.Common.{◌≡◌, ℕ, suc, ◌≤◌, refl, sym, ap, ◌∙◌, arith, Bool, true, false, not, cond, ◌&&◌, ◌||◌, List, [], Option, nat_eq, nat_lt, eqb-true}
 use Rattle.lat_model.specs.sessions.Slots.{Slot}
-use Rattle.lat_model.specs.sessions.Calls.{Call, Answer, Refuse}
+use Rattle.lat_model.specs.sessions.Calls.{Call, Answer, RejectAsk}
 use Rattle.lat_model.specs.numbers.Link.{Frame}
 use Rattle.lat_model.specs.ends.End.{End, Step, still, lives, call_end}
 use Rattle.lat_model.specs.ends.Timers.{note_empty, time_step}
@@ -133,7 +133,7 @@ peers_acts config c = record {
   starts = λ d from source g p. peers_then c.circuits d.circuits _ p (start_peers (setup_of config.timing) d.circuits from source d.moment g);
   done = λ d p. p;
   accepts = λ st x id line request service w v l ex fr p. peers_then c.circuits st.core.circuits _ p (local_peers st.core.circuits x (Answer id));
-  refuses = λ d x id reason p. peers_then c.circuits d.circuits _ p (local_peers d.circuits x (Refuse id reason));
+  refuses = λ d x id reason p. peers_then c.circuits d.circuits _ p (local_peers d.circuits x (RejectAsk id reason));
 }
 
 pub node_peers : (config : NodeConfig) (rates : List ℕ) (st : Node) (e : Event) → KeepsPeers st.core.circuits (node_step config rates st e).state.core.circuits

@@ -5,7 +5,7 @@ use Rattle.std.specs.List.{list_any}
 use Rattle.lat_model.specs.sessions.Slots.{Slot}
 use Rattle.lat_model.specs.sessions.Session.{Session, waits, put_open, take_open, unframed}
 use Rattle.lat_model.specs.sessions.Sessions.{least_free}
-use Rattle.lat_model.specs.sessions.Calls.{Call, Put, Set, Attend, Take, Close, Refuse}
+use Rattle.lat_model.specs.sessions.Calls.{Call, Put, Set, Attend, Take, Close, RejectAsk}
 use Rattle.lat_model.specs.sessions.Calls as Calls
 use Rattle.lat_model.specs.Lists.{upwards, Each}
 use Rattle.lat_model.specs.ends.End.{lives, call_end}
@@ -58,7 +58,7 @@ pub record NodeActs (config : NodeConfig) (A : Call → Type 0) (P : Core → Ty
   pub starts : (c : Core) (from source : ℕ) (g : Agreed) → P c → P (with_circuits c (start_at (setup_of config.timing) c.circuits from source c.moment g (start_fact c.circuits from source)).table)
   pub done : (c : Core) → P c → Q c
   pub accepts : (st : Node) (x id line : ℕ) (request : Option ℕ) (service : Name) → waits (asked_at st x id) ≡ true → verdict config st service request ≡ Accepts line → lives (st.core.circuits.circuit_at x).end ≡ true → line_exists config.lines line ≡ true → has_session st.core line ≡ false → Q st.core → Q (judged config st x id request (Accepts line)).core
-  pub refuses : (c : Core) (x id reason : ℕ) → Q c → Q (with_circuits c (local_at false c.circuits x (Refuse id reason)).table)
+  pub refuses : (c : Core) (x id reason : ℕ) → Q c → Q (with_circuits c (local_at false c.circuits x (RejectAsk id reason)).table)
 
 -- what both cores do
 
@@ -266,7 +266,7 @@ module _ (config : NodeConfig) (A : Call → Type 0) (P : Core → Type 0) (Q : 
   judged_keeps st x id request service w a = go (verdict config st service request) refl
     where
       go : (v : Verdict) → verdict config st service request ≡ v → Answering Q x (judged config st x id request v).core
-      go (Rejects n) e = record { keeps = h.refuses st.core x id n a.keeps; alive = local_alive false st.core.circuits x (Refuse id n) ∙ a.alive }
+      go (Rejects n) e = record { keeps = h.refuses st.core x id n a.keeps; alive = local_alive false st.core.circuits x (RejectAsk id n) ∙ a.alive }
       go (Accepts line) e =
           let f : (line_exists config.lines line ≡ true) × (has_session st.core line ≡ false) = verdict_line config st service request line e in
           record { keeps = h.accepts st x id line request service w e a.alive f.0 f.1 a.keeps; alive = local_alive false st.core.circuits x (Calls.Answer id) ∙ a.alive }

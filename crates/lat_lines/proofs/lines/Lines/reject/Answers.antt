@@ -1,5 +1,5 @@
 use Rattle.std.proofs.Common.{◌≡◌, map, sym, subst}
-use Rattle.lat_model.specs.sessions.Calls.{Refuse}
+use Rattle.lat_model.specs.sessions.Calls.{RejectAsk}
 use Rattle.lat_queue.specs.Histories.{key_in}
 use Rattle.lat_lines.specs.circuits.Stands.{calling}
 use Rattle.lat_lines.specs.Kept.{Kept, side_of}
@@ -13,15 +13,15 @@ pub returns-clause-state : goal.returns-clause-state
 returns-clause-state c = λ d st.
     let k = shown c.self.inside in
     let st2 : Stands k d = subst (λ z. Stands z d) (sym c.self.view_is) st in
-    subst (λ (z : Kept). Stands c.reap.new.self (calling (side_of z) c.args.circuit (Refuse c.args.id c.args.reason) d)) c.self.view_is
-    (acted_calling k c.reap.new.self c.reject.new.self c.args.circuit (Refuse c.args.id c.args.reason) d st2 c.reject.ensures.same.ids (c.reject.ensures.state d st2.circuits) c.reap.ensures.state c.reap.ensures.circuits).state
+    subst (λ (z : Kept). Stands c.reap.new.self (calling (side_of z) c.args.circuit (RejectAsk c.args.id c.args.reason) d)) c.self.view_is
+    (acted_calling k c.reap.new.self c.reject.new.self c.args.circuit (RejectAsk c.args.id c.args.reason) d st2 c.reject.ensures.same.ids (c.reject.ensures.state d st2.circuits) c.reap.ensures.state c.reap.ensures.circuits).state
 
 pub returns-clause-freed : goal.returns-clause-freed
 returns-clause-freed c = λ d st.
     let k = shown c.self.inside in
     let st2 : Stands k d = subst (λ z. Stands z d) (sym c.self.view_is) st in
-    subst (λ (z : Kept). map key_in c.reap.new.self.freed ≡ freed_between d (calling (side_of z) c.args.circuit (Refuse c.args.id c.args.reason) d)) c.self.view_is
-    (acted_calling k c.reap.new.self c.reject.new.self c.args.circuit (Refuse c.args.id c.args.reason) d st2 c.reject.ensures.same.ids (c.reject.ensures.state d st2.circuits) c.reap.ensures.state c.reap.ensures.circuits).freed
+    subst (λ (z : Kept). map key_in c.reap.new.self.freed ≡ freed_between d (calling (side_of z) c.args.circuit (RejectAsk c.args.id c.args.reason) d)) c.self.view_is
+    (acted_calling k c.reap.new.self c.reject.new.self c.args.circuit (RejectAsk c.args.id c.args.reason) d st2 c.reject.ensures.same.ids (c.reject.ensures.state d st2.circuits) c.reap.ensures.state c.reap.ensures.circuits).freed
 
 pub returns-clause-same : goal.returns-clause-same
 returns-clause-same c =

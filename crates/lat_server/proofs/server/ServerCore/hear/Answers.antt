@@ -8,7 +8,7 @@ use Rattle.lat_payload.specs.Reads.{malformed, reading_of, Answers}
 use Rattle.lat_payload.specs.Reads.{value_shown}
 use Rattle.lat_payload.proofs.Heard.{answers_as_read}
 use Rattle.lat_server.specs.Kept.{config_of}
-use Rattle.lat_server.specs.Events.{HasDone, DoesAt}
+use Rattle.lat_server.specs.Events.{HasDone, SimulatesAt}
 use Rattle.lat_server.proofs.server.ServerCore.hear.Goals as goal
 
 pub returns-in-Err-Bad-clause-does : goal.returns-in-Err-Bad-clause-does
@@ -20,5 +20,5 @@ returns-in-Err-Bad-clause-does c = λ s st.
 pub returns-in-Ok-clause-does : goal.returns-in-Ok-clause-does
 returns-in-Ok-clause-does c =
     let is : reading_of c.args.payload.now ≡ Whole (value_shown c.in-Ok.value) = answers_as_read c.args.payload.now (Ok c.in-Ok.value) c.in-Ok.ensures.reading in
-    subst (λ (r : Reading). IfOk c.hear_value.result (λ a. DoesAt c.args.now (λ config s. hears config s (address c.args.from.0) r None) c.args.self.now c.hear_value.new.self a c.args.out.now c.hear_value.new.out)) (sym is)
+    subst (λ (r : Reading). IfOk c.hear_value.result (λ a. SimulatesAt c.args.now (λ config s. hears config s (address c.args.from.0) r None) c.args.self.now c.hear_value.new.self a c.args.out.now c.hear_value.new.out)) (sym is)
     c.hear_value.ensures.does

@@ -23,7 +23,7 @@ reject-requires c =
 pub returns-clause-state : goal.returns-clause-state
 returns-clause-state c = λ e st.
     let s : Session = named e c.args.id in
-    let next : Session = record s { refused = true; reason = c.args.reason } in
+    let next : Session = record s { rejects = true; reason = c.args.reason } in
     let was = kept_is c.args.self.now c.self.inside.sessions e c.in-Some.at c.args.id c.reach-session.result.now (ap (λ (t : Table). t.sessions) c.self.view_is) c.in-Some.ensures.0 c.in-Some.ensures.1 c.reach-session.ensures.value st in
     let asked : IsAsked e c.args.id = asked_told c.args.self.now e c.in-Some.at c.args.id st c.in-Some.ensures.0 c.in-Some.ensures.1 c.requires.asked in
     let sound : Sound false e.ceiling s = subst (λ m. Sound m e.ceiling s) asked.slave (sound_at c.args.self.now e (e.at_id c.args.id) st) in
@@ -33,7 +33,7 @@ returns-clause-state c = λ e st.
     let turn : ℕ → Ask → Ask = λ p a. cond (waits_as c.args.id a) (Rejected p c.args.reason) a in
     let written = with_items_is c.self.inside.asks c.reject_ask.new.asks (ap length c.reject_ask.ensures ∙ length-map c.deref_mut.result.now (turn c.peer-peer.result) ∙ c.deref_mut.ensures.len) in
     let asks = written ∙ c.reject_ask.ensures ∙ ap (map (turn c.peer-peer.result)) c.deref_mut.ensures.value ∙ ap (λ p. map (turn p) c.self.inside.asks.items) from ∙ ap (map (turn (peer s))) asks_now ∙ rejected_asks c.args.self.now e c.args.id c.args.reason st asked in
-    changed_stands c.args.self.now _ e (calls.Refuse c.args.id c.args.reason) c.in-Some.at c.args.id c.reject.new.self (not e.master && waits s) next (with_items c.self.inside.asks c.reject_ask.new.asks).items st c.in-Some.ensures.0 c.in-Some.ensures.1 refl
+    changed_stands c.args.self.now _ e (calls.RejectAsk c.args.id c.args.reason) c.in-Some.at c.args.id c.reject.new.self (not e.master && waits s) next (with_items c.self.inside.asks c.reject_ask.new.asks).items st c.in-Some.ensures.0 c.in-Some.ensures.1 refl
     (λ h. asked.used) (λ h. asks) (λ h. absurd (true≢false (sym (takes_asked e c.args.id asked) ∙ h)))
     (λ h. made ∙ ap (λ m. kept_of m e.ceiling next) (sym asked.slave)) (λ h. absurd (true≢false (sym (takes_asked e c.args.id asked) ∙ h)))
     (ap (λ (t : Table). record t { sessions = slice_set t.sessions c.in-Some.at c.reject.new.self; asks = (with_items c.self.inside.asks c.reject_ask.new.asks).items }) c.self.view_is)
