@@ -17,7 +17,7 @@ by_role roles.Tariff server node = node
 pub record IsPlanOf (config : Config) (plan : Plan) : Type 0 where
   pub own : plan.own ≡ config.station.address
   pub port : plan.port ≡ config.station.port
-  pub peers : plan.peers.now ≡ config.station.peers
+  pub peers : plan.peers.now ≡ config.station.peers.items
   pub lines : plan.lines ≡ config.lines.count
   pub line_port : plan.line_port ≡ config.lines.port
   pub service : plan.service ≡ by_role config.role (Some config.lines.service) None

@@ -1,10 +1,11 @@
 //! What opens the sockets.
 
-ghost use Rattle.std.specs.Prelude.{◌≡◌, ◌≤◌, length};
+ghost use Rattle.std.specs.Prelude.{◌≡◌};
 
 use crate::fault::{WAIT_MS, more};
 use crate::line::TcpLine;
-use crate::udp::{PEERS, UdpRx, UdpTx};
+use crate::udp::{UdpRx, UdpTx};
+use arrayvec::ArrayVec;
 use lat_base::Addr;
 use lat_outside::{Failed, Opener};
 use std::io;
@@ -37,14 +38,6 @@ fn accepted<R: Net<Listener = TcpListener, Stream = TcpStream>>(
     Ok(stream)
 }
 
-fn eight(peers: &[u16]) -> [u16; 8]
-    requires { length peers.now ≤ 8 }
-{
-    let mut all = [0; PEERS];
-    all[..peers.len()].copy_from_slice(peers);
-    all
-}
-
 impl<R: Net<Listener = TcpListener, Stream = TcpStream> + Clock + Copy> NetOpener<R> {
     /// An opener whose count of faults is 0.
     pub fn new(rt: R) -> NetOpener<R>
@@ -70,10 +63,10 @@ impl<R: Net<Listener = TcpListener, Stream = TcpStream> + Clock + Copy + Send> O
         port: u16,
         peers: &[u16],
     ) -> Result<(UdpTx, UdpRx), Failed> {
-        if peers.len() <= PEERS
+        if let Ok(peers) = ArrayVec::try_from(peers)
             && let Ok((sending, receiving)) = halves(&self.rt, port)
         {
-            let tx = UdpTx::new(sending, own, eight(peers), peers.len());
+            let tx = UdpTx::new(sending, own, peers);
             return Ok((tx, UdpRx::new(receiving, own)));
         }
         more(&mut self.faults);

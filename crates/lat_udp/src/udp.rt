@@ -5,6 +5,7 @@ ghost use Rattle.lat_outside.specs.Causes.{Rose};
 
 use crate::datagram::{DATAGRAM_BYTES, heard, put_datagram};
 use crate::fault::{is_quiet, more};
+use arrayvec::ArrayVec;
 use lat_base::{Addr, PAYLOAD_BYTES};
 use lat_outside::{Failed, Got, Rx, Tx};
 use std::net::{Ipv4Addr, UdpSocket};
@@ -18,21 +19,19 @@ pub const PEERS: usize = 8;
 pub struct UdpTx {
     socket: UdpSocket,
     own: Addr,
-    peers: [u16; 8],
-    count: usize,
+    peers: ArrayVec<u16, PEERS>,
     faults: u64,
 }
 
 impl UdpTx {
-    /// A half for the station with this address, which sends to the first `count` of these ports. Its count of faults is 0.
-    pub fn new(socket: UdpSocket, own: Addr, peers: [u16; 8], count: usize) -> UdpTx
+    /// A half for the station with this address, which sends to these ports. Its count of faults is 0.
+    pub fn new(socket: UdpSocket, own: Addr, peers: ArrayVec<u16, PEERS>) -> UdpTx
         ensures { result.faults ≡ 0 }
     {
         UdpTx {
             socket,
             own,
             peers,
-            count,
             faults: 0,
         }
     }
@@ -40,8 +39,7 @@ impl UdpTx {
     // To each peer, whether or not an earlier one failed.
     fn send_to_all(&self, datagram: &[u8]) -> bool {
         let mut whole = true;
-        let peers = self.peers;
-        for port in peers.as_slice().iter().take(self.count) {
+        for port in self.peers.iter() {
             match self.socket.send_to(datagram, (Ipv4Addr::LOCALHOST, *port)) {
                 Ok(count) => whole = whole && count == datagram.len(),
                 Err(_) => whole = false,

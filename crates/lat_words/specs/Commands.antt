@@ -1,5 +1,5 @@
 -- The command line of `latd`, as the crate `clap` defines a simple command.
-use Rattle.std.specs.Prelude.{◌≡◌, ℕ, Bool, true, false, List, [], ◌∷◌, Option, Some, None, codes, if◌then◌else◌}
+use Rattle.std.specs.Prelude.{Bool, true, false, List, [], ◌∷◌, Some, codes}
 use Rattle.clap.specs.Words.{App, Row, Rule, Text, new_app, new_rule, with_rule, matches_of, fault_of}
 use Rattle.clap.specs.declared.builder.ArgAction.TheVariants.{Set, Append}
 

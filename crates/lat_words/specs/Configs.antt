@@ -1,5 +1,5 @@
 -- What the words of `latd` say.
-use Rattle.std.specs.Prelude.{◌≡◌, ℕ, zero, suc, ◌-◌, ◌≤◌, List, [], ◌∷◌, Option, Some, None, option_map, option_and_then, bytes_eq, codes, if◌then◌else◌}
+use Rattle.std.specs.Prelude.{ℕ, zero, suc, ◌-◌, ◌≤◌, List, [], ◌∷◌, Option, Some, None, option_map, option_and_then, bytes_eq, codes, if◌then◌else◌}
 use Rattle.clap.specs.Words.{Row, Text, first_of, all_of}
 use Rattle.lat_text.specs.Numbers.{number_within}
 use Rattle.lat_text.specs.Digits.{address_of}
@@ -60,7 +60,7 @@ station_of rows = do
   port ← port_of port
   peers ← all_of (codes "peer") rows
   peers ← peers_of peers
-  Some (record { name = name; address = address; port = port; peers = peers })
+  Some (record { name = name; address = address; port = port; peers = record { items = peers } })
 
 -- line k listens on the port k - 1 above the first, and all have one
 abbrev pub lines_of : Role → List Row → Option Lines

@@ -1,6 +1,6 @@
 //! What the words of the daemon say.
 
-use crate::peers::Peers;
+use arrayvec::ArrayVec;
 use lat_base::{Addr, Name};
 
 /// Which kind of core it runs.
@@ -20,7 +20,8 @@ pub struct Station {
     pub address: Addr,
     /// The port that frames come to.
     pub port: u16,
-    pub peers: Peers,
+    /// The ports that frames go to, eight at most.
+    pub peers: ArrayVec<u16, 8>,
 }
 
 impl Drop for Station {

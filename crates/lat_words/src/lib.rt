@@ -3,9 +3,7 @@
 
 mod config;
 mod matching;
-mod peers;
 mod read;
 
 pub use config::{Config, Lines, Role, Station};
-pub use peers::Peers;
 pub use read::config_of;

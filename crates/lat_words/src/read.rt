@@ -1,12 +1,12 @@
 //! The values of the words.
 
-ghost use Rattle.std.specs.Prelude.{◌≡◌, ◌≤◌, IfOk, IfSome, map, string_bytes, length};
+ghost use Rattle.std.specs.Prelude.{◌≡◌, ◌≤◌, IfOk, IfSome, map, option_map, string_bytes, length};
 ghost use Rattle.clap.specs.Words.{rows_of, found_of};
 ghost use Rattle.lat_words.specs.Configs.{role_of, port_of, peers_of, most_lines, station_of, lines_of, number_of, name_at, config_in, config_of, Within};
 
 use crate::config::{Config, Lines, Role, Station};
 use crate::matching::matched;
-use crate::peers::Peers;
+use arrayvec::ArrayVec;
 use clap::ArgMatches;
 use lat_base::{Memory, Name};
 use lat_text::{address_of, name_of, number_within};
@@ -45,10 +45,10 @@ fn port_of(text: &[u8]) -> Option<u16>
     Some(number_within(1, 65_535, text)? as u16)
 }
 
-fn peers_of(texts: &[&str]) -> Option<Peers>
-    ensures { result ≡ peers_of (map (λ t. t.now) texts.now) }
+fn peers_of(texts: &[&str]) -> Option<ArrayVec<u16, 8>>
+    ensures { option_map (λ peers. peers.items) result ≡ peers_of (map (λ t. t.now) texts.now) }
 {
-    let mut peers = Peers::none();
+    let mut peers = ArrayVec::new();
     for text in texts {
         if peers.len() == 8 {
             return None;

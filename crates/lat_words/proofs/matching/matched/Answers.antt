@@ -1,5 +1,5 @@
 use Rattle.std.proofs.Common.{◌≡◌, true, map, string_bytes, subst, sym, ap, List, [], ℕ}
-use Rattle.clap.specs.Words.{App, HasMatchesOf, app_of, is_simple_and_free, fault_of, HasKind}
+use Rattle.clap.specs.Words.{App, HasMatchesOf, is_simple_and_free, fault_of, HasKind}
 use Rattle.lat_words.specs.Commands.{latd, no_fault}
 use Rattle.lat_words.proofs.Simple.{latd_free, matched_of, latd_simple}
 use Rattle.lat_words.proofs.matching.matched.Goals as goal

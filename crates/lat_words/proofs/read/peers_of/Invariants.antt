@@ -7,6 +7,6 @@ use Rattle.lat_words.proofs.read.peers_of.Given as goal
 abbrev pub invariant-loop-text : goal.invariant-loop-text
 invariant-loop-text l =
     record {
-      read : peers_of (map (λ t. t.now) l.texts) ≡ with_front l.peers (ports_of (8 - length l.peers) (map (λ t. t.now) (drop l.text-index l.texts)));
-      most : length l.peers ≤ 8;
+      read : peers_of (map (λ t. t.now) l.texts) ≡ with_front l.peers.items (ports_of (8 - length l.peers.items) (map (λ t. t.now) (drop l.text-index l.texts)));
+      most : length l.peers.items ≤ 8;
     }
