@@ -3,7 +3,7 @@ use Rattle.std.proofs.Common.{ℕ, Bool, sym, ap, ◌∙◌, subst}
 use Rattle.hex.specs.Hex.{IsBytes}
 use Rattle.lat_base.specs.declared.outbox.OutFrame.{OutFrame}
 use Rattle.lat_machines.specs.world.Machines.{Posted, Machines}
-use Rattle.lat_payload.specs.Frames.{FrameView}
+use Rattle.lat_circuit.specs.Frames.{FrameView}
 use Rattle.lat_audit.specs.AuditOf.{audit_of}
 use Rattle.lat_audit.specs.Printed.{GoesOut, printed}
 use Rattle.lat_audit.specs.Laws.{AllGoOut, PrintedIsLegal}

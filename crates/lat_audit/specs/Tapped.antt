@@ -3,7 +3,8 @@ use Rattle.std.specs.Prelude.{◌≡◌, ℕ, Bool, false, cond, ◌&&◌, List,
 use Rattle.lat_base.specs.declared.outbox.OutFrame.{OutFrame}
 use Rattle.lat_machines.specs.values.Addresses.{address}
 use Rattle.lat_machines.specs.world.Machines.{Setups, Posted}
-use Rattle.lat_payload.specs.Frames.{frame_view, expected, payload_of}
+use Rattle.lat_circuit.specs.Frames.{frame_view}
+use Rattle.lat_payload.specs.Frames.{expected, payload_of}
 use Rattle.lat_wire.specs.ledger.Books.{IsReadable}
 use Rattle.lat_circuit.specs.Payloads.{slots_as_text}
 use Rattle.lat_captures.specs.Captured.{RunHead, run_head_of, is_between, entries_of}

@@ -1,5 +1,5 @@
 -- What an end sends, as messages and as frames.
-use Rattle.std.specs.Prelude.{false, true, List, []}
+use Rattle.std.specs.Prelude.{ℕ, false, true, List, []}
 use Rattle.lat_base.specs.declared.outbox.OutFrame.{OutFrame}
 use Rattle.lat_base.specs.declared.outbox.Mark.{Mark as FrameMark}
 use Rattle.lat_base.specs.declared.outbox.Mark.TheVariants as marks
@@ -7,6 +7,7 @@ use Rattle.lat_fields.specs.Payloads.{padded}
 use Rattle.lat_frames.specs.Written.{message_text}
 use Rattle.lat_model.specs.Lists.{Each}
 use Rattle.lat_model.specs.ends.End.{Mark, Fresh, Again, Bare, Sent, Run, CallStart, ReplyStart, Stopped}
+use Rattle.lat_machines.specs.values.Addresses.{address}
 use Rattle.lat_machines.specs.values.Messages.{StartInfo, Message, StartMessage, StopMessage}
 use Rattle.lat_machines.specs.values.Runs.{run_message}
 use Rattle.lat_machines.specs.values.Timing.{Timing, wide_params, call_info, reply_info}
@@ -74,6 +75,17 @@ frame_sent k s = record {
   circuit = k.id;
   mark = mark_sent s;
 }
+
+-- what is seen of a frame from outside
+pub record FrameView : Type 0 where
+  pub to : ℕ
+  pub circuit : ℕ
+  pub mark : FrameMark
+  pub payload : List ℕ
+
+-- a frame as it goes out
+abbrev pub frame_view : OutFrame → FrameView
+frame_view f = record { to = address f.to.0; circuit = f.circuit; mark = f.mark; payload = f.payload }
 
 -- what an end of these facts sends is all of this kind
 abbrev pub AreFormed : Facts → List Sent → Type 0

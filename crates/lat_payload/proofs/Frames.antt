@@ -11,7 +11,8 @@ use Rattle.lat_notices.specs.Texts.{notice_text, IsWritable}
 use Rattle.lat_machines.specs.values.Addresses.{address}
 use Rattle.lat_machines.specs.values.Frames as machines
 use Rattle.lat_payload.specs.Notices.{notice_shown}
-use Rattle.lat_payload.specs.Frames.{FrameView, frame_view, expected, IsReadable, GoesOutAs, Emits}
+use Rattle.lat_circuit.specs.Frames.{FrameView, frame_view}
+use Rattle.lat_payload.specs.Frames.{expected, IsReadable, GoesOutAs, Emits}
 use Rattle.lat_payload.proofs.Notices.{notice_back}
 use Rattle.lat_payload.proofs.Readable.{notice_readable}
 

@@ -6,20 +6,12 @@ use Rattle.lat_base.specs.declared.outbox.Mark.TheVariants as marks
 use Rattle.lat_fields.specs.Payloads.{padded}
 use Rattle.lat_frames.specs.Written.{message_text}
 use Rattle.lat_notices.specs.Texts.{notice_text}
-use Rattle.lat_machines.specs.values.Addresses.{address}
 use Rattle.lat_machines.specs.values.Frames as machines
 use Rattle.lat_model.specs.Lists.{Each}
 use Rattle.lat_circuit.specs.Messages.{message_of}
-use Rattle.lat_circuit.specs.Frames.{mark_shown}
+use Rattle.lat_circuit.specs.Frames.{FrameView, frame_view, mark_shown}
 use Rattle.lat_payload.specs.Notices.{notice_of}
 use Rattle.lat_payload.specs.Reads.{reading_of}
-
--- a frame, whichever way it is known
-pub record FrameView : Type 0 where
-  pub to : ℕ
-  pub circuit : ℕ
-  pub mark : Mark
-  pub payload : List ℕ
 
 -- the payload that is written of a value
 abbrev pub payload_of : machines.Value → List ℕ
@@ -33,10 +25,6 @@ mark_of machines.Plain = marks.Plain
 -- a frame of the machines, as it is to go out
 abbrev pub expected : machines.OutFrame → FrameView
 expected f = record { to = f.to; circuit = f.circuit; mark = mark_of f.mark; payload = payload_of f.value }
-
--- a frame as it goes out
-abbrev pub frame_view : OutFrame → FrameView
-frame_view f = record { to = address f.to.0; circuit = f.circuit; mark = f.mark; payload = f.payload }
 
 -- what is written of its value reads as that value
 abbrev pub IsReadable : machines.OutFrame → Type 0

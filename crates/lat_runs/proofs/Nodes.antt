@@ -9,7 +9,8 @@ use Rattle.lat_machines.specs.values.Events.{Event}
 use Rattle.lat_machines.specs.node.Node.{Node, NodeConfig, node_step}
 use Rattle.lat_machines.specs.world.Histories.{RatedEvent, node_frames, node_answers}
 use Rattle.lat_machines.proofs.events.Ratings.{same_but_frames}
-use Rattle.lat_payload.specs.Frames.{frame_view, expected}
+use Rattle.lat_circuit.specs.Frames.{frame_view}
+use Rattle.lat_payload.specs.Frames.{expected}
 use Rattle.lat_lines.specs.AnswerValues.{answer_of}
 use Rattle.lat_lines.specs.Events.{event_shown}
 use Rattle.lat_node.specs.Kept.{Kept}

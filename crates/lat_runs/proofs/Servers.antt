@@ -9,7 +9,8 @@ use Rattle.lat_machines.specs.server.Queue.{LegalQueue}
 use Rattle.lat_machines.specs.server.Server.{Server}
 use Rattle.lat_machines.specs.world.Histories.{server_run, server_frames, server_answers}
 use Rattle.lat_machines.proofs.queue.Alone.{legal_alone}
-use Rattle.lat_payload.specs.Frames.{frame_view, expected}
+use Rattle.lat_circuit.specs.Frames.{frame_view}
+use Rattle.lat_payload.specs.Frames.{expected}
 use Rattle.lat_lines.specs.AnswerValues.{answer_of}
 use Rattle.lat_server.specs.Kept.{Kept}
 use Rattle.lat_server.specs.Stands.{Machine, IsMade, IsMachine, Frames, opening, stepped, next, answered}

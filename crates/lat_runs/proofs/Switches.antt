@@ -9,7 +9,8 @@ use Rattle.lat_machines.specs.server.Queue.{LegalQueue}
 use Rattle.lat_machines.specs.server.Server.{Server}
 use Rattle.lat_machines.specs.world.Histories.{server_run, server_frames}
 use Rattle.lat_machines.proofs.queue.Alone.{legal_alone}
-use Rattle.lat_payload.specs.Frames.{frame_view, expected}
+use Rattle.lat_circuit.specs.Frames.{frame_view}
+use Rattle.lat_payload.specs.Frames.{expected}
 use Rattle.lat_lines.specs.Events.{event_shown}
 use Rattle.lat_server.specs.Stands as server
 use Rattle.lat_switch.specs.Core.{IsMade, Frames, opening, next, answered}

@@ -7,7 +7,8 @@ use Rattle.lat_history.specs.History.{run_of, IsLegal, IsRun, FramesOf}
 use Rattle.lat_machines.specs.node.Node.{node_step}
 use Rattle.lat_machines.specs.world.Histories.{RatedEvent, node_frames}
 use Rattle.lat_machines.proofs.events.Ratings.{same_but_frames}
-use Rattle.lat_payload.specs.Frames.{frame_view, expected}
+use Rattle.lat_circuit.specs.Frames.{frame_view}
+use Rattle.lat_payload.specs.Frames.{expected}
 use Rattle.lat_lines.specs.Events.{event_shown}
 use Rattle.lat_node.specs.Stands as node
 use Rattle.lat_tariff.specs.Kept.{Kept, Machine, IsMade, IsMachine, Frames, opening, next, answered}

@@ -9,7 +9,8 @@ use Rattle.lat_machines.specs.values.Events.{Hears}
 use Rattle.lat_machines.specs.values.Frames as machines
 use Rattle.lat_machines.specs.server.Server.{server_step}
 use Rattle.lat_machines.specs.node.Node.{node_step}
-use Rattle.lat_payload.specs.Frames.{frame_view, expected, IsReadable}
+use Rattle.lat_circuit.specs.Frames.{frame_view}
+use Rattle.lat_payload.specs.Frames.{expected, IsReadable}
 use Rattle.lat_payload.specs.Reads.{reading_of}
 use Rattle.lat_lines.specs.AnswerValues.{answer_of}
 use Rattle.lat_server.specs.Stands as server

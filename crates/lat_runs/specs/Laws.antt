@@ -11,7 +11,8 @@ use Rattle.lat_machines.specs.world.Safe.{Fit, Safe}
 use Rattle.lat_machines.specs.world.Histories.{server_run, server_frames, server_answers}
 use Rattle.lat_machines.specs.world.Histories.{RatedEvent, node_run, node_frames, node_answers}
 use Rattle.lat_machines.specs.world.Histories.{Passed, server_part, node_part, moves_of, Honest}
-use Rattle.lat_payload.specs.Frames.{frame_view, expected}
+use Rattle.lat_circuit.specs.Frames.{frame_view}
+use Rattle.lat_payload.specs.Frames.{expected}
 use Rattle.lat_lines.specs.AnswerValues.{answer_of}
 use Rattle.lat_lines.specs.Events.{event_shown}
 use Rattle.lat_server.specs.Kept as servers

@@ -9,7 +9,8 @@ use Rattle.lat_machines.specs.cores.Lines.{line_state, waiting_at}
 use Rattle.lat_machines.specs.server.Server.{ServerConfig, Server, ServerStep, server_side, open_server, server_step, finished}
 use Rattle.lat_dir.specs.Stands as dir
 use Rattle.lat_queue.specs.Histories as queue
-use Rattle.lat_payload.specs.Frames.{frame_view, expected, IsReadable}
+use Rattle.lat_circuit.specs.Frames.{frame_view}
+use Rattle.lat_payload.specs.Frames.{expected, IsReadable}
 use Rattle.lat_stream.specs.Kept.{state_shown}
 use Rattle.lat_lines.specs.AnswerValues.{answer_of}
 use Rattle.lat_lines.specs.Events.{event_shown}

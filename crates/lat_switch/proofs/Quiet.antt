@@ -7,7 +7,8 @@ use Rattle.lat_model.specs.Lists.{upwards}
 use Rattle.lat_machines.specs.values.Events.{Puts, Sets, Attends, Closes}
 use Rattle.lat_machines.specs.server.Server as machine
 use Rattle.lat_machines.specs.server.Server.{ServerConfig, Server, Passing, Offer, offer_on, grantable, grants_by, grant_line, grant_lines, finished_requests}
-use Rattle.lat_payload.specs.Frames.{frame_view, expected}
+use Rattle.lat_circuit.specs.Frames.{frame_view}
+use Rattle.lat_payload.specs.Frames.{expected}
 use Rattle.lat_server.specs.Stands.{Machine, stepped, Frames}
 use Rattle.lat_switch.specs.Kept.{IsQuiet}
 

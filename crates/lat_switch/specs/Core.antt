@@ -7,7 +7,8 @@ use Rattle.lat_base.specs.declared.state.SessionState.{SessionState}
 use Rattle.lat_base.specs.declared.state.SessionState.TheVariants as states
 use Rattle.lat_model.specs.Lists.{Each}
 use Rattle.lat_machines.specs.cores.Lines.{line_exists}
-use Rattle.lat_payload.specs.Frames.{frame_view, expected, IsReadable}
+use Rattle.lat_circuit.specs.Frames.{frame_view}
+use Rattle.lat_payload.specs.Frames.{expected, IsReadable}
 use Rattle.lat_lines.specs.Answers as answers
 use Rattle.lat_lines.specs.Kept as kept
 use Rattle.lat_server.specs.Stands as server

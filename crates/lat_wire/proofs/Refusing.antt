@@ -10,7 +10,7 @@ use Rattle.lat_machines.specs.world.Machines.{Setups, Posted, Machines, own_of, 
 use Rattle.lat_machines.specs.world.Tally.{formed_in, shown_in}
 use Rattle.lat_machines.specs.world.Young.{head_of}
 use Rattle.lat_payload.specs.Reads.{reading_of}
-use Rattle.lat_payload.specs.Frames.{FrameView}
+use Rattle.lat_circuit.specs.Frames.{FrameView}
 use Rattle.lat_wire.specs.declared.ledger.post.Post.{Post}
 use Rattle.lat_laws.specs.rounds.Lossless.{sent_from}
 use Rattle.lat_wire.specs.declared.ledger.post.Sent.{Sent}

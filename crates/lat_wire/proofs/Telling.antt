@@ -18,7 +18,8 @@ use Rattle.lat_machines.proofs.events.Ratings.{same_but_frames}
 use Rattle.lat_server.specs.Stands as servers
 use Rattle.lat_node.specs.Stands as nodes
 use Rattle.lat_lines.specs.AnswerValues.{answer_shown, answer_of}
-use Rattle.lat_payload.specs.Frames.{frame_view, expected}
+use Rattle.lat_circuit.specs.Frames.{frame_view}
+use Rattle.lat_payload.specs.Frames.{expected}
 use Rattle.lat_wire.specs.ledger.Ways.{CameAtMost, Log}
 use Rattle.lat_wire.specs.declared.ledger.tallies.Tally.{Tally}
 use Rattle.lat_wire.specs.ledger.Tallies.{tally_at}

@@ -12,7 +12,8 @@ use Rattle.lat_machines.specs.cores.Cores.{Core}
 use Rattle.lat_machines.specs.server.Server.{server_step}
 use Rattle.lat_machines.specs.node.Node.{node_step}
 use Rattle.lat_machines.specs.world.Machines.{Setups, Machines}
-use Rattle.lat_payload.specs.Frames.{frame_view, expected}
+use Rattle.lat_circuit.specs.Frames.{frame_view}
+use Rattle.lat_payload.specs.Frames.{expected}
 use Rattle.lat_server.specs.Kept as servers
 use Rattle.lat_server.specs.Stands as server_stands
 use Rattle.lat_node.specs.Kept as nodes

@@ -5,7 +5,8 @@ use Rattle.lat_base.specs.declared.outbox.OutFrame.{OutFrame}
 use Rattle.lat_machines.specs.values.Events.{Event, Time, is_heard}
 use Rattle.lat_machines.specs.world.Machines.{Setups, Posted, Machines, is_for_other, heard_as}
 use Rattle.lat_machines.specs.world.Safe.{answer_by}
-use Rattle.lat_payload.specs.Frames.{frame_view, expected}
+use Rattle.lat_circuit.specs.Frames.{frame_view}
+use Rattle.lat_payload.specs.Frames.{expected}
 use Rattle.lat_wire.specs.declared.ledger.post.Sent.{Sent}
 use Rattle.lat_wire.specs.ledger.Books.{IsPost}
 use Rattle.lat_lines.specs.AnswerValues.{answer_of}

@@ -19,13 +19,13 @@ use Rattle.lat_machines.specs.cores.Acts.{put_at}
 use Rattle.lat_machines.specs.cores.Cores.{Core, Doing, acts, setup_of}
 use Rattle.lat_machines.specs.cores.Hearing.{Makes, Refuses}
 use Rattle.lat_circuit.specs.Messages.{message_of, IsFormed}
-use Rattle.lat_payload.specs.Frames.{Emits, frame_view}
+use Rattle.lat_circuit.specs.Frames.{frame_view, timing_shown}
+use Rattle.lat_payload.specs.Frames.{Emits}
 use Rattle.lat_payload.proofs.Frames.{adds_one}
 use Rattle.lat_payload.proofs.Readable.{message_readable}
 use Rattle.lat_circuit.specs.declared.config.CircuitConfig.{CircuitConfig}
 use Rattle.lat_circuit.specs.Kept as circuit
 use Rattle.lat_circuit.specs.Begins.{Begins, facts_answered}
-use Rattle.lat_circuit.specs.Frames.{timing_shown}
 use Rattle.lat_lines.specs.circuits.Kept.{Kept, Holds, IsClear, ids, side_of}
 use Rattle.lat_lines.specs.circuits.Stands.{Stands, Simulates}
 use Rattle.lat_lines.specs.circuits.Hears.{start_core, new_fact}

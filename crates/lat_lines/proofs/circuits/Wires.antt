@@ -7,10 +7,10 @@ use Rattle.lat_model.specs.circuits.World.{Wired, wire_all}
 use Rattle.lat_machines.specs.values.Addresses.{address}
 use Rattle.lat_machines.specs.cores.Cores.{Side, Core, sent_frame}
 use Rattle.lat_model.specs.Lists.{Each}
-use Rattle.lat_payload.specs.Frames.{frame_view, expected, IsReadable, Emits}
+use Rattle.lat_circuit.specs.Frames.{frame_view, timing_shown, frame_sent, message_sent, AreFormed}
+use Rattle.lat_payload.specs.Frames.{expected, IsReadable, Emits}
 use Rattle.lat_payload.proofs.Readable.{message_readable}
 use Rattle.lat_circuit.specs.Kept.{Facts}
-use Rattle.lat_circuit.specs.Frames.{timing_shown, frame_sent, message_sent, AreFormed}
 use Rattle.lat_circuit.specs.Messages.{IsFormed}
 
 -- The frames of a circuit with these facts bear what the core has of it

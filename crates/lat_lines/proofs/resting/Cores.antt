@@ -9,7 +9,8 @@ use Rattle.lat_model.specs.ends.End.{End, Sent, Step, lives}
 use Rattle.lat_model.specs.ends.Timers.{note_empty, time_step}
 use Rattle.lat_model.specs.circuits.World.{CircuitEntry, wire_all}
 use Rattle.lat_machines.specs.values.Frames as machines
-use Rattle.lat_payload.specs.Frames.{Emits, frame_view, expected}
+use Rattle.lat_circuit.specs.Frames.{frame_view}
+use Rattle.lat_payload.specs.Frames.{Emits, expected}
 use Rattle.lat_machines.specs.cores.Acts.{Acted, idle, steps_at, time_at}
 use Rattle.lat_machines.specs.cores.Cores.{Core, Side, Doing, with_circuits, acts, rests, then_doing, sent_frame, time_each, passes_time}
 use Rattle.lat_circuit.specs.Kept as circuit

@@ -7,7 +7,8 @@ use Rattle.lat_model.specs.Lists.{Each}
 use Rattle.lat_machines.specs.values.Frames.{FrameMark, OfRun, Plain, OutFrame}
 use Rattle.lat_machines.specs.world.Machines.{Setups, Posted, post_all}
 use Rattle.lat_machines.specs.world.Tally.{new_messages, is_run, Tallied, TalliedBy}
-use Rattle.lat_payload.specs.Frames.{frame_view, expected}
+use Rattle.lat_circuit.specs.Frames.{frame_view}
+use Rattle.lat_payload.specs.Frames.{expected}
 use Rattle.lat_wire.specs.declared.ledger.post.Post.{Post}
 use Rattle.lat_wire.specs.declared.ledger.tallies.Tally.{Tally}
 use Rattle.lat_wire.specs.ledger.Ways.{Log}

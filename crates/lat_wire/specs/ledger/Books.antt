@@ -5,7 +5,8 @@ use Rattle.lat_machines.specs.cores.Cores.{Core}
 use Rattle.lat_machines.specs.world.Machines.{Setups, Posted, Machines, core_of}
 use Rattle.lat_machines.specs.world.Tally.{formed_in, taken_in, shown_in, new_messages, number_of, is_run}
 use Rattle.lat_payload.specs.Reads.{reading_of}
-use Rattle.lat_payload.specs.Frames.{frame_view, expected, payload_of}
+use Rattle.lat_circuit.specs.Frames.{frame_view}
+use Rattle.lat_payload.specs.Frames.{expected, payload_of}
 use Rattle.lat_wire.specs.declared.ledger.post.Post.{Post}
 use Rattle.lat_wire.specs.declared.ledger.tallies.Tally.{Tally}
 use Rattle.lat_wire.specs.ledger.Ways.{Log}

@@ -2,7 +2,8 @@ use Rattle.std.proofs.Common.{◌≡◌, ◌<◌, ◌^◌, ap, ap₂, sym, subst
 use Rattle.lat_machines.specs.values.Addresses.{address, everyone}
 use Rattle.lat_machines.specs.world.Machines.{is_for_other}
 use Rattle.lat_machines.specs.world.Tally.{TalliedBy}
-use Rattle.lat_payload.specs.Frames.{FrameView, mark_of}
+use Rattle.lat_circuit.specs.Frames.{FrameView}
+use Rattle.lat_payload.specs.Frames.{mark_of}
 use Rattle.lat_wire.specs.ledger.Tallies.{tally_at}
 use Rattle.lat_wire.specs.ledger.Books.{IsBook, IsPost, tallies_of, tally_of, tally_by}
 use Rattle.lat_wire.proofs.ledger.Entered.{entered_all}
