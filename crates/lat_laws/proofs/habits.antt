@@ -11,3 +11,7 @@ pub mod Passes
 pub mod Refused
 pub mod Starts
 pub mod Foreign
+pub mod Growing
+pub mod Formed
+pub mod Credits
+pub mod Examples

@@ -5,3 +5,4 @@ pub mod Fullness
 pub mod Living
 pub mod Accepted
 pub mod Kinds
+pub mod Credits

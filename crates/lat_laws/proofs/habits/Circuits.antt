@@ -87,7 +87,7 @@ lone_acts key steady k = record {
   stops = λ c from to source reason h. stop_lone key steady k.server c.circuits h from to source c.moment reason;
 }
 
-any_allowed : (e : Event) → EventAllows (λ y. Unit {0}) e
+pub any_allowed : (e : Event) → EventAllows (λ y. Unit {0}) e
 any_allowed (Hears from payload k now) = tt
 any_allowed (Time now) = tt
 any_allowed (Connects line service) = tt

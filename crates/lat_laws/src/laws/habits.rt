@@ -6,6 +6,7 @@ ghost use Rattle.lat_laws.specs.habits.Fullness.{ServerLinesSuffice, NodeLinesSu
 ghost use Rattle.lat_laws.specs.habits.Living.{ServerCircuitsApart, NodeCircuitsApart};
 ghost use Rattle.lat_laws.specs.habits.Accepted.{AcceptedOnce};
 ghost use Rattle.lat_laws.specs.habits.Kinds.{ServerHearsItsKind, NodeHearsItsKind};
+ghost use Rattle.lat_laws.specs.habits.Credits.{ServerSlotsCredited, NodeSlotsCredited, ServerWithinCredits, NodeWithinCredits};
 
 /// A refused event connects no line: neither by itself nor by the grant pass behind it. A connect that no node serves draws
 /// a solicit id and sends a Solicit (`unserved`). A refused command is noted in the queue and answered by a Status
@@ -59,4 +60,15 @@ pub fn requests_are_accepted_once()
 pub fn runs_of_another_kind_are_foreign()
     ensures server { ServerHearsItsKind }
     ensures node { NodeHearsItsKind }
+{}
+
+/// Each credited slot had its credit when it was formed, whoever has the other end of the circuit and whatever that end
+/// sends: of each session that ever was on each circuit, also on one that broke, each slot was formed at some event, behind
+/// which the credited slots up to it are at most the credits in the slots that the session had heard (`server`, `node`). So
+/// at every moment no more credits are used up than were given (`server_total`, `node_total`).
+pub fn slots_had_their_credits()
+    ensures server { ServerSlotsCredited }
+    ensures node { NodeSlotsCredited }
+    ensures server_total { ServerWithinCredits }
+    ensures node_total { NodeWithinCredits }
 {}
