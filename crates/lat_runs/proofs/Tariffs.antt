@@ -13,7 +13,7 @@ use Rattle.lat_lines.specs.Events.{event_shown}
 use Rattle.lat_node.specs.Stands as node
 use Rattle.lat_tariff.specs.Kept.{Kept, Machine, IsMade, IsMachine, Frames, opening, next, answered}
 use Rattle.lat_runs.specs.Runs.{IsRated, AreOwnEach}
-use Rattle.lat_runs.specs.Laws.{AreTariffFrames, IsTariffRun, IsNodeCell}
+use Rattle.lat_runs.specs.Laws.{node_behind, AreTariffFrames, IsTariffRun, IsNodeCell}
 use Rattle.lat_runs.proofs.Nodes as nodes
 
 node_of : {H R : Type 0} (m : Machine H R) (h : List Past) → run_of next m h ≡ record { node = run_of node.next m.node h; rules = m.rules }
@@ -43,9 +43,12 @@ frames_run may m (p ∷ ps) fs h =
           ∙ sym (map-append expected (node_step n.config rates n.state e).frames (node_frames n.config more.rated (node_step n.config rates n.state e).state));
     }
 
+pub behind : {H R : Type 0} (m : Machine H R) (h : List Past) (rated : List RatedEvent) → IsRated rated h → run_of next m h ≡ record { node = node_behind m.node rated; rules = m.rules }
+behind m h rated is = node_of m h ∙ ap (λ n. record { node = n; rules = m.rules }) (nodes.behind m.node h rated is)
+
 pub tariff_run_of : {H R : Type 0} (may : R → ℕ → ℕ → ℕ → Type 0) (m : Machine H R) (h : List Past) → IsTariffRun may m h
 tariff_run_of may m h = record {
-  state = λ rated is. node_of m h ∙ ap (λ n. record { node = n; rules = m.rules }) (nodes.behind m.node h rated is);
+  state = behind m h;
   answers = λ rated is legal. nodes.answers_run m.node h rated is (legal_of m h legal);
   frames = frames_run may m h;
 }

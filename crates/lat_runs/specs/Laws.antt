@@ -4,8 +4,8 @@ use Rattle.lat_base.specs.declared.outbox.OutFrame.{OutFrame}
 use Rattle.lat_history.specs.declared.past.Past.{Past}
 use Rattle.lat_history.specs.History.{run_of, IsLegal, IsRun, FramesOf}
 use Rattle.lat_machines.specs.server.Queue.{LegalQueue}
-use Rattle.lat_machines.specs.server.Server.{open_server}
-use Rattle.lat_machines.specs.node.Node.{open_node}
+use Rattle.lat_machines.specs.server.Server.{Server, open_server}
+use Rattle.lat_machines.specs.node.Node.{Node, open_node}
 use Rattle.lat_machines.specs.world.Machines.{Setups, run, open_machines}
 use Rattle.lat_machines.specs.world.Safe.{Fit, Safe}
 use Rattle.lat_machines.specs.world.Histories.{server_run, server_frames, server_answers}
@@ -24,6 +24,7 @@ use Rattle.lat_switch.specs.Kept as switches
 use Rattle.lat_switch.specs.Runs.{inner_events}
 use Rattle.lat_switch.specs.Stands as switched
 use Rattle.lat_switch.specs.Switch.{Switch}
+use Rattle.lat_tariff.specs.declared.tariff.Rule.{Rule}
 use Rattle.lat_tariff.specs.Kept as tariff
 use Rattle.lat_runs.specs.Runs.{told, events_of, answers_of, IsRated, AreAllowed, AreOwnEach}
 
@@ -158,17 +159,31 @@ server_of u = record { config = u.server; state = open_server u.server }
 abbrev pub node_of : {H : Type 0} → Setups → H → node.Machine H
 node_of u rule = record { config = u.node; rule = rule; state = open_node u.node }
 
--- behind their histories both are the machines of the world that these passed in, and it is safe
-pub record AreAWorld {H : Type 0} (u : Setups) (rule : H) (order : List Passed) (ours theirs : List Past) : Type 0 where
-  pub server_state : (run_of server.next (server_of u) ours).state ≡ (run u (moves_of order) (open_machines u)).server
-  pub node_state : (run_of node.next (node_of u rule) theirs).state ≡ (run u (moves_of order) (open_machines u)).node
+-- the node with rules of its services
+abbrev pub tariff_of : {H R : Type 0} → Setups → H → List (Rule R) → tariff.Machine H R
+tariff_of u rule rules = record { node = node_of u rule; rules = rules }
+
+-- these are the states of the world that histories in this order passed in, and it is safe
+pub record AreAWorld (u : Setups) (order : List Passed) (ours : Server) (theirs : Node) : Type 0 where
+  pub server_state : ours ≡ (run u (moves_of order) (open_machines u)).server
+  pub node_state : theirs ≡ (run u (moves_of order) (open_machines u)).node
   pub safe : Safe u (run u (moves_of order) (open_machines u))
 
-abbrev pub CellsAreAWorld : Type 0 → Type 0
-CellsAreAWorld H =
-    (u : Setups) (rule : H) (order : List Passed) (ours theirs : List Past) →
+-- Of a server's history, and one of a node that is in this state behind it: where both passed in this order and the carrier
+-- was honest, the two states are those of a world
+abbrev pub PassInAWorld : (Setups → List Past → Node) → Type 0
+PassInAWorld its_state =
+    (u : Setups) (order : List Passed) (ours theirs : List Past) →
     Fit u →
     server_part order ≡ events_of ours →
     IsRated (node_part order) theirs →
     Honest u order (open_machines u) →
-    AreAWorld u rule order ours theirs
+    AreAWorld u order (run_of server.next (server_of u) ours).state (its_state u theirs)
+
+abbrev pub CellsAreAWorld : Type 0 → Type 0
+CellsAreAWorld H = (rule : H) → PassInAWorld (λ u theirs. (run_of node.next (node_of u rule) theirs).state)
+
+abbrev pub TariffCellsAreAWorld : Type 0 → Type 0 → Type 0
+TariffCellsAreAWorld H R =
+    (rule : H) (rules : List (Rule R)) →
+    PassInAWorld (λ u theirs. (run_of tariff.next (tariff_of u rule rules) theirs).node.state)

@@ -3,7 +3,7 @@
 ghost use Rattle.lat_runs.specs.Heard.{ServerHearsWhole, NodeHearsWhole};
 ghost use Rattle.lat_runs.specs.Laws.{ServersRun, NodesRun, TariffsRun, SwitchesRun};
 ghost use Rattle.lat_runs.specs.Laws.{ServerCellsRun, NodeCellsRun, TariffCellsRun, SwitchCellsRun};
-ghost use Rattle.lat_runs.specs.Laws.{ServerQueuesAreLegal, SwitchQueuesAreLegal, CellsAreAWorld};
+ghost use Rattle.lat_runs.specs.Laws.{ServerQueuesAreLegal, SwitchQueuesAreLegal, CellsAreAWorld, TariffCellsAreAWorld};
 
 use lat_node::RatingRule;
 use lat_tariff::SteadyRule;
@@ -50,9 +50,10 @@ pub fn queues_are_legal()
 
 /// The histories of a server and of a node, in any order in which each frame that one heard from the other's address is a young
 /// one that the other had made: both states are those of one world, and this world is safe. So each law of two ends holds of two
-/// cells.
-pub fn cells_are_a_world<H: RatingRule>()
-    ensures { CellsAreAWorld H }
+/// cells, of a node's (`node`) and of that of a node with a tariff (`tariff`).
+pub fn cells_are_a_world<H: RatingRule, P: SteadyRule>()
+    ensures node { CellsAreAWorld H }
+    ensures tariff { TariffCellsAreAWorld H P }
 {}
 
 /// Whatever a node sends at any event, by any rule of rating: no server answers the payload `Bad`, whoever hands it on, and
