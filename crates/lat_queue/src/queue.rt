@@ -114,13 +114,7 @@ impl Queue {
     /// `RecordsFull` where 65,536 records are kept, and gets no record then; else `NoService` where the service isn't
     /// offered; else `QueueFull` where 64 wait for it; else `Waiting` with its place, counted from 1. After `Memory`
     /// nothing has changed.
-    pub fn ask(
-        &mut self,
-        _alloc: Global,
-        key: &Key,
-        from: Addr,
-        service: &Name,
-    ) -> Result<Kept, Memory>
+    pub fn ask(&mut self, key: &Key, from: Addr, service: &Name) -> Result<Kept, Memory>
         ensures answer { (h : List QueueEvent) → Stands self.old h →
             IfOk result (λ a.
             kept_in a ≡ ask_answer self.old.offered (key_in key.now) service.now h) }

@@ -19,13 +19,11 @@ use lat_base::{Addr, Answer, Kept, Memory, OutBox};
 use lat_notices::{Action, Command, Outcome};
 use lat_payload::status_frame;
 use lat_queue::{Key, Queue};
-use std::alloc::Global;
 
 impl ServerCore {
     /// Hears a command, and sends the status of its request back.
     pub(crate) fn hear_command(
         &mut self,
-        alloc: Global,
         from: Addr,
         command: &Command,
         now: u64,
@@ -43,7 +41,7 @@ impl ServerCore {
         ensures most { length out.new ≤ length out.old + 1 }
         ensures err { OnErr result ((self.new ≡ self.old) × (out.new ≡ out.old)) }
     {
-        let kept = note(&mut self.queue, alloc, from, command)?;
+        let kept = note(&mut self.queue, from, command)?;
         out.push(status_frame(
             from,
             command.incarnation,
@@ -68,12 +66,7 @@ fn key_of(command: &Command) -> Key
 }
 
 // Tells the queue of the command; gives what is kept of its request then.
-fn note(
-    requests: &mut Queue,
-    alloc: Global,
-    from: Addr,
-    command: &Command,
-) -> Result<Option<Kept>, Memory>
+fn note(requests: &mut Queue, from: Addr, command: &Command) -> Result<Option<Kept>, Memory>
     ensures noted { (q : List QueueEvent) →
         queue.Stands requests.old q →
         IfOk result (λ kept. HasNoted
@@ -86,7 +79,7 @@ fn note(
 {
     let key = key_of(command);
     match command.action {
-        Action::Ask => Ok(Some(requests.ask(alloc, &key, from, &command.service)?)),
+        Action::Ask => Ok(Some(requests.ask(&key, from, &command.service)?)),
         Action::Cancel => Ok(requests.cancel(&key)),
     }
 }

@@ -150,7 +150,7 @@ impl ServerCore {
     {
         match notice {
             Notice::Announcement(a) => self.hear_announcement(alloc, from, a, now),
-            Notice::Command(c) => self.hear_command(alloc, from, c, now, out),
+            Notice::Command(c) => self.hear_command(from, c, now, out),
             Notice::Response(_) => Ok(self.pass_over(Answer::Noted, now)),
             Notice::Status(_) => Ok(self.pass_over(Answer::Ignored, now)),
             Notice::Solicit(_) => Ok(self.pass_over(Answer::Ignored, now)),
