@@ -7,7 +7,8 @@ use lat_base::{Memory, Name};
 use std::alloc::Global;
 use std::marker::Model;
 
-/// A list of at most 32 names of services. Contracts see the list of the names, in order.
+/// A list of at most 32 names of services. The 16 is the most bytes that a name has. Contracts see the list of the names,
+/// in order.
 pub struct Services16 {
     names: Vec<Name>,
 }
@@ -68,6 +69,7 @@ impl Services16 {
     pub fn place_of(&self, name: &Name) -> Option<usize>
         ensures { result ≡ position (λ n. same name.now n) self.now }
     {
-        self.names.iter().position(|n| name.folded() == n.folded())
+        let key = name.folded();
+        self.names.iter().position(|n| key == n.folded())
     }
 }
