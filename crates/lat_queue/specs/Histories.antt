@@ -8,7 +8,7 @@ use Rattle.lat_model.specs.Lists.{Each}
 use Rattle.lat_machines.specs.values.Names.{Name, same}
 use Rattle.lat_machines.specs.values.Addresses.{address}
 use Rattle.lat_machines.specs.values.Keys as keys
-use Rattle.lat_machines.specs.values.Notices.{Kept, Waiting, Granted, Cancelled, QueueFull, NoService, Done}
+use Rattle.lat_machines.specs.values.Notices.{Kept, Waiting, QueueFull, NoService}
 use Rattle.lat_machines.specs.server.Queue.{QueueEvent, Finishes, Request, cancels, grants, finishes, is_waiting, records, first_asks, LegalQueue}
 use Rattle.lat_machines.specs.server.Records as records
 use Rattle.lat_machines.specs.server.Records.{grants_of, grant_of, record_of, is_granted, kept_for}

@@ -1,5 +1,5 @@
 -- Keys that compare alike are hashed alike.
-use Rattle.std.specs.Prelude.{◌≡◌, ℕ, List, ◌∷◌, ◌++◌, Bool, true, ◌&&◌, IsTrue, ◌==◌}
+use Rattle.std.specs.Prelude.{◌≡◌, ℕ, List, ◌∷◌, ◌++◌, Bool, ◌&&◌, IsTrue, ◌==◌}
 use Rattle.std.proofs.Common.{ap₂, eqb-true}
 use Rattle.std.proofs.lemmas.Bool.{and_parts}
 use Rattle.std.specs.Hash as fed
