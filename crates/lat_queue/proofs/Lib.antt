@@ -8,3 +8,4 @@ pub mod StandLemmas
 pub mod TableLemmas
 pub mod InfoLemmas
 pub mod WaitLemmas
+pub mod AnyLemmas

@@ -9,7 +9,7 @@ use Rattle.lat_machines.specs.values.Names.{Name, same}
 use Rattle.lat_machines.specs.values.Addresses.{address}
 use Rattle.lat_machines.specs.values.Keys as keys
 use Rattle.lat_machines.specs.values.Notices.{Kept, Waiting, QueueFull, NoService}
-use Rattle.lat_machines.specs.server.Queue.{QueueEvent, Finishes, Request, cancels, grants, finishes, is_waiting, records, first_asks, LegalQueue}
+use Rattle.lat_machines.specs.server.Queue.{QueueEvent, Finishes, Request, cancels, grants, finishes, is_waiting, records, first_asks, waits, LegalQueue}
 use Rattle.lat_machines.specs.server.Records as records
 use Rattle.lat_machines.specs.server.Records.{grants_of, grant_of, record_of, is_granted, kept_for}
 use Rattle.lat_queue.specs.declared.key.Key.{Key}
@@ -116,6 +116,10 @@ pub record Stands (t : Table) (h : List QueueEvent) : Type 0 where
   pub known : (k : keys.Key) → record_of k h ≡ None → grant_of k h ≡ None
   pub room : length (records h) < 65536 → records h ≡ first_asks [] h
   pub legal : LegalQueue h
+
+-- whether a request waits, for whichever service
+abbrev pub is_any_waiting : List QueueEvent → Bool
+is_any_waiting h = list_any waits (records h)
 
 -- the end of a grant counts where the record is granted
 abbrev pub finish_history : keys.Key → List QueueEvent → List QueueEvent

@@ -3,7 +3,7 @@
 ghost use Rattle.std.specs.Prelude.{◌≡◌, ◌<◌, ◌≤◌, ◌+◌, [], ◌∷◌, ◌++◌, length, true, false, Some, None, replicate, OnOk, OnErr, IfOk, IfSome, IfNone, IsSome, OnSome, ◌↔◌, List, slice_get};
 ghost use Rattle.lat_machines.specs.server.Queue.{QueueEvent, Asks, Cancels, Grants, next_request};
 ghost use Rattle.lat_machines.specs.server.Records.{ask_answer, kept_for, record_at};
-ghost use Rattle.lat_queue.specs.Histories.{Stands, key_in, address_in, some_kept, some_first, some_request, some_key, request_key, some_record, finish_history};
+ghost use Rattle.lat_queue.specs.Histories.{Stands, key_in, address_in, some_kept, some_first, some_request, some_key, request_key, some_record, is_any_waiting, finish_history};
 ghost use Rattle.lat_queue.specs.KeptValues.{kept_in};
 ghost use Rattle.std.specs.Map.{lookup};
 ghost use Rattle.lat_queue.specs.KeyHash.{one_key};
@@ -26,7 +26,7 @@ const RECORDS: usize = 65536;
 /// The requests of a server: one record for each key, in the order of first commands, and for each service the line
 /// of those that wait. Contracts see a table; `Stands` says for which lists of events (asks with their answers, cancels,
 /// grants, ends) it stands, and what is asked of it follows from such a list alone. Each call but a first `ask` costs
-/// look-ups and the length of one line, and takes no memory.
+/// look-ups and the length of one line, `is_any_waiting` a look at each line, and takes no memory.
 pub struct Queue {
     offered: Services16,
     entries: IndexMap<Key, Entry>,
@@ -157,6 +157,13 @@ impl Queue {
             some_first result ≡ some_request (next_request service.now h) }
     {
         self.first_waiter(service)
+    }
+
+    /// Whether anybody waits, for whichever service. Where there are records it looks at each line once.
+    pub fn is_any_waiting(&self) -> bool
+        ensures { (h : List QueueEvent) → Stands self.now h → result ≡ is_any_waiting h }
+    {
+        !self.entries.is_empty() && self.lines.iter().any(|line| line.len() > 0)
     }
 
     /// Grants the first that waits for the service, and tells its key. None where nobody waits for it, and then nothing

@@ -1,16 +1,15 @@
 //! Granting requests, and finishing them.
 
-ghost use Rattle.std.specs.Prelude.{◌≡◌, ◌≤◌, ◌+◌, ◌||◌, is_none, length, map, false, true, List, Some, find, option_map, nat_eq};
+ghost use Rattle.std.specs.Prelude.{◌≡◌, ◌≤◌, ◌+◌, ◌||◌, not, length, map, false, true, List, Some, find, option_map, nat_eq};
 ghost use Rattle.lat_base.specs.declared.addr.Addr.{Addr};
 ghost use Rattle.lat_base.specs.declared.outbox.OutFrame.{OutFrame};
 ghost use Rattle.lat_machines.specs.cores.Cores.{Core};
 ghost use Rattle.lat_machines.specs.cores.Lines.{has_session};
 ghost use Rattle.lat_machines.specs.server.Queue.{QueueEvent, Request, next_request};
-ghost use Rattle.lat_machines.specs.server.Records.{record_at};
 ghost use Rattle.lat_machines.specs.server.Server.{Passing, can_open, fitting, grants_by, granting, grant_line};
 ghost use Rattle.lat_machines.specs.values.Addresses.{address};
 ghost use Rattle.lat_queue.specs.Histories as queue;
-ghost use Rattle.lat_queue.specs.Histories.{key_in, address_in};
+ghost use Rattle.lat_queue.specs.Histories.{key_in, address_in, is_any_waiting};
 ghost use Rattle.lat_lines.specs.Kept.{IsLine};
 ghost use Rattle.lat_lines.specs.Stands as lines;
 ghost use Rattle.lat_server.specs.declared.config.Offer.{Offer};
@@ -68,21 +67,13 @@ impl ServerCore {
         }
     }
 
-    // No line can grant: none offers a service, or no request has a record.
+    // No line can grant: none offers a service, or nobody waits.
     fn grants_none(&self) -> bool
         ensures { (q : List QueueEvent) →
             queue.Stands self.now.queue q →
-            result ≡ (nat_eq (length self.now.offers) 0 || is_none (record_at 0 q)) }
+            result ≡ (nat_eq (length self.now.offers) 0 || not (is_any_waiting q)) }
     {
-        self.offers.as_slice().is_empty() || self.has_no_record()
-    }
-
-    // No request has a record.
-    fn has_no_record(&self) -> bool
-        ensures { (q : List QueueEvent) → queue.Stands self.now.queue q →
-            result ≡ is_none (record_at 0 q) }
-    {
-        self.queue.record_at(0).is_none()
+        self.offers.as_slice().is_empty() || !self.queue.is_any_waiting()
     }
 
     // The service that a line offers.
