@@ -66,7 +66,8 @@ pub fn are_apart<R>(rules: &[Rule<R>]) -> bool
 fn is_named<R>(name: &Name, rules: &[Rule<R>]) -> bool
     ensures { result ≡ tariffs.is_named name.now rules.now }
 {
-    rules.iter().any(|r| name.folded() == r.name.folded())
+    let folded = name.folded();
+    rules.iter().any(|r| folded == r.name.folded())
 }
 
 impl<R: SteadyRule> Tariff<R> {
@@ -130,8 +131,7 @@ impl<R: SteadyRule> Tariff<R> {
     pub(crate) fn place_of(&self, service: &Name) -> Option<usize>
         ensures { result ≡ position (λ (r : Rule R). same service.now r.name) self.now }
     {
-        self.rules
-            .iter()
-            .position(|r| service.folded() == r.name.folded())
+        let folded = service.folded();
+        self.rules.iter().position(|r| folded == r.name.folded())
     }
 }
