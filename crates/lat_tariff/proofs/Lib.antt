@@ -1,4 +1,5 @@
 pub mod Announcing
+pub mod Beginning
 pub mod Known
 pub mod Own
 pub mod Rates

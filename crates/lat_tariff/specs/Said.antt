@@ -1,8 +1,10 @@
 -- What goes out with ratings at an event.
-use Rattle.std.specs.Prelude.{◌≡◌, ℕ, List, [], ◌∷◌, Option, Some, None}
+use Rattle.std.specs.Prelude.{◌≡◌, ℕ, ◌/◌, ◌==◌, Bool, false, List, [], ◌∷◌, Option, Some, None}
 use Rattle.lat_base.specs.declared.outbox.OutFrame.{OutFrame}
+use Rattle.lat_notices.specs.declared.kind.NoticeKind.TheVariants as kinds
 use Rattle.lat_notices.specs.declared.notice.Notice.{Notice}
 use Rattle.lat_notices.specs.declared.notice.Solicit.{Solicit}
+use Rattle.lat_notices.specs.Kinds.{bits_of}
 use Rattle.lat_machines.specs.cores.Lines.{used}
 use Rattle.lat_machines.specs.node.Node.{Node, NodeConfig, announcement, node_step, rates_of}
 use Rattle.lat_machines.specs.values.Addresses.{everyone}
@@ -66,6 +68,11 @@ pub record AnnouncedBy {H R : Type 0} (may : R → ℕ → ℕ → ℕ → Type 
 abbrev pub Solicits : Reading → Option Solicit → Type 0
 Solicits reading (Some n) = reading ≡ Whole (OfNotice (SolicitNotice (solicit_shown n)))
 Solicits reading None = IsElse reading
+
+-- the type in a payload's first byte is that of a Solicit
+abbrev pub begins_as_solicit : List ℕ → Bool
+begins_as_solicit [] = false
+begins_as_solicit (first ∷ rest) = first / 4 == bits_of kinds.Solicit
 
 -- it stands in the place of these frames
 abbrev pub in_place : Said → List OutFrame → List OutFrame

@@ -10,7 +10,7 @@ ghost use Rattle.lat_payload.specs.Reads.{reading_of, Answers, value_shown};
 ghost use Rattle.lat_payload.specs.Notices.{notice_shown, solicit_shown};
 ghost use Rattle.lat_lines.specs.Events.{event_shown};
 ghost use Rattle.lat_tariff.specs.Kept.{rule_of};
-ghost use Rattle.lat_tariff.specs.Said.{IsAnnounced, AnnouncedBy, SaysAt, SaysTo, Solicits};
+ghost use Rattle.lat_tariff.specs.Said.{IsAnnounced, AnnouncedBy, SaysAt, SaysTo, Solicits, begins_as_solicit};
 ghost use Rattle.lat_tariff.specs.Tariffs.{AreKnown};
 
 use crate::node::TariffCore;
@@ -19,7 +19,7 @@ use crate::tariff::Rule;
 use lat_base::{Addr, Bytes, EVERYONE, Event, Memory, OutFrame};
 use lat_fields::LayoutFault;
 use lat_node::RatingRule;
-use lat_notices::{Announcement, Notice, Solicit};
+use lat_notices::{Announcement, Notice, NoticeKind, Solicit};
 use lat_payload::{notice_frame, response_frame};
 use lat_value::{Value, read_value};
 use std::alloc::Global;
@@ -123,14 +123,24 @@ impl<H: RatingRule, R: SteadyRule> TariffCore<H, R> {
     }
 }
 
-// The Solicit that a payload is.
+// The Solicit that a payload is. One whose first byte has another type is not read further.
 fn solicit_in(alloc: Global, payload: &[u8]) -> Result<Option<Solicit>, Memory>
     ensures { IfOk result (Solicits (reading_of payload.now)) }
 {
+    if !begins_as_solicit(payload) {
+        return Ok(None);
+    }
     match read_value(alloc, payload) {
         Ok(value) => Ok(solicit_of(&value)),
         Err(fault) => unread(fault),
     }
+}
+
+// Whether the type in a payload's first byte is that of a Solicit.
+fn begins_as_solicit(payload: &[u8]) -> bool
+    ensures { result ≡ begins_as_solicit payload.now }
+{
+    matches!(payload, [first, ..] if first / 4 == NoticeKind::Solicit.bits())
 }
 
 // The Solicit that a value is.
