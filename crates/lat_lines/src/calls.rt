@@ -16,10 +16,8 @@ use crate::lines::Lines;
 use crate::seat::Seat;
 use lat_base::{Answer, Item, Items, Memory, SessionState};
 use lat_circuit::{SessionCall, SessionFault};
+use lat_stream::UNFRAMED_ITEMS;
 use std::alloc::Global;
-
-/// No put takes more bytes: so many items of a session wait to be framed at most.
-const MOST: usize = 4096;
 
 impl Lines {
     /// Does a call on the line's session: `Put` with how many bytes were taken, the first ones; `Done` of the others, but for a
@@ -136,11 +134,12 @@ fn answer_of_call(call: &SessionCall, answer: Result<usize, SessionFault>) -> An
     }
 }
 
+// No put takes more bytes than items may wait to be framed.
 fn answer_of_done(call: &SessionCall, taken: usize) -> Answer
     ensures { result ≡ done_answer call.now taken }
 {
     match call {
-        SessionCall::Put(_) => Answer::Put(taken.min(MOST) as u16),
+        SessionCall::Put(_) => Answer::Put(taken.min(UNFRAMED_ITEMS) as u16),
         SessionCall::Set(_) | SessionCall::Attend(_) | SessionCall::Close => Answer::Done,
     }
 }

@@ -21,7 +21,7 @@ ghost use Rattle.lat_lines.specs.Kept.{side_of, SameLines, IsLine};
 ghost use Rattle.lat_lines.specs.Stands.{Stands, freed_between, session_shown};
 ghost use Rattle.lat_lines.specs.Opens.{opening, way, IsWay, reaches, reached, seated_core, session_begun, accepted_core, request_of};
 
-use crate::circuits::{Circuits, Info};
+use crate::circuits::{CIRCUITS, Circuits, Info};
 use crate::getters::seat_of;
 use crate::lines::Lines;
 use crate::seat::Seat;
@@ -55,7 +55,7 @@ impl Lines {
         match self.circuits.to(peer) {
             Some(circuit) if self.circuits.has_room(circuit) => Ok(Some(circuit)),
             Some(_) => Err(OpenFault::SessionsFull),
-            None if self.circuits.living() >= 8 => Err(OpenFault::CircuitsFull),
+            None if self.circuits.living() >= CIRCUITS => Err(OpenFault::CircuitsFull),
             None if self.circuits.drawn() == u16::MAX => Err(OpenFault::IdsOut),
             None => Ok(None),
         }

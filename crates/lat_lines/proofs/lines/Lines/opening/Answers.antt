@@ -35,7 +35,7 @@ returns-in-None-clause-way c = λ d st.
     let s : Stands (shown c.self.inside) d = subst (λ z. Stands z d) (sym c.self.view_is) st in
     let is = ap id_or_zero (sym c.in-None.is) ∙ c.to.ensures.model d s.circuits in
     let many = c.living.ensures.model d s.circuits in
-    sym (way_none d (address c.args.peer.0) is ∙ ap (λ b. cond b (cond (nat_lt d.circuits.drawn 65535) (Ok None) (Err IdsOut)) (Err CircuitsFull)) (le-ltb _ _ (omega (arith, many, c.if-living-ge8.true))))
+    sym (way_none d (address c.args.peer.0) is ∙ ap (λ b. cond b (cond (nat_lt d.circuits.drawn 65535) (Ok None) (Err IdsOut)) (Err CircuitsFull)) (le-ltb _ _ (omega (arith, many, c.if-living-ge-CIRCUITS.true))))
 
 pub returns-in-None-2-clause-way : goal.returns-in-None-2-clause-way
 returns-in-None-2-clause-way c = λ d st.
@@ -44,7 +44,7 @@ returns-in-None-2-clause-way c = λ d st.
     let many = c.living.ensures.model d s.circuits in
     let last = c.drawn.ensures.model d s.circuits in
     sym (way_none d (address c.args.peer.0) is
-    ∙ ap (λ b. cond b (cond (nat_lt d.circuits.drawn 65535) (Ok None) (Err IdsOut)) (Err CircuitsFull)) (lt-ltb _ _ (omega (arith, many, c.if-living-ge8.false)))
+    ∙ ap (λ b. cond b (cond (nat_lt d.circuits.drawn 65535) (Ok None) (Err IdsOut)) (Err CircuitsFull)) (lt-ltb _ _ (omega (arith, many, c.if-living-ge-CIRCUITS.false)))
     ∙ ap (λ b. cond b (Ok None) (Err IdsOut)) (le-ltb _ _ (omega (arith, last, c.if-drawn.true))))
 
 pub returns-in-None-3-clause-way : goal.returns-in-None-3-clause-way
@@ -54,5 +54,5 @@ returns-in-None-3-clause-way c = λ d st.
     let many = c.living.ensures.model d s.circuits in
     let last = c.drawn.ensures.model d s.circuits in
     sym (way_none d (address c.args.peer.0) is
-    ∙ ap (λ b. cond b (cond (nat_lt d.circuits.drawn 65535) (Ok None) (Err IdsOut)) (Err CircuitsFull)) (lt-ltb _ _ (omega (arith, many, c.if-living-ge8.false)))
+    ∙ ap (λ b. cond b (cond (nat_lt d.circuits.drawn 65535) (Ok None) (Err IdsOut)) (Err CircuitsFull)) (lt-ltb _ _ (omega (arith, many, c.if-living-ge-CIRCUITS.false)))
     ∙ ap (λ b. cond b (Ok None) (Err IdsOut)) (lt-ltb _ _ (omega (arith, last, c.if-drawn.false, c.drawn.type_inv))))
