@@ -122,7 +122,8 @@ impl Lines {
         ensures same { SameLines self.old self.new }
     {
         self.circuits.answer(circuit, id);
-        self.reap();
+        // An answer ends no session and changes nothing that lines tell of theirs.
+        self.rest();
         self.seat(line, None, circuit, id);
     }
 

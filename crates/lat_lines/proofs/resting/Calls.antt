@@ -3,9 +3,9 @@ use Rattle.std.proofs.Common.{◌≡◌, ℕ, ◌+◌, Bool, true, false, not, �
 use Rattle.std.proofs.lemmas.Bool.{cond_both, and_parts, not-true, true≢false}
 use Rattle.lat_base.specs.declared.state.SessionState.TheVariants as states
 use Rattle.lat_model.specs.sessions.Slots.{Byte, Setting, has_stop}
-use Rattle.lat_model.specs.sessions.Session.{Session, Free, Calling, Asked, Live, Closing, Left, free, gone, answered, put_open, take_open, unframed}
+use Rattle.lat_model.specs.sessions.Session.{Session, Free, Calling, Asked, Live, Closing, Left, free, gone, answered, waits, put_open, take_open, unframed}
 use Rattle.lat_model.specs.sessions.Sessions.{Sessions, named}
-use Rattle.lat_model.specs.sessions.Calls.{Call, Put, Set, Attend, Take, Close, call, touch, put_items, put_count, take_count}
+use Rattle.lat_model.specs.sessions.Calls.{Call, Put, Set, Attend, Take, Close, Answer, call, touch, put_items, put_count, take_count}
 use Rattle.lat_model.specs.ends.End.{End, Step, lives, call_end}
 use Rattle.lat_model.specs.ends.Timers.{note_empty}
 use Rattle.lat_model.specs.circuits.World.{CircuitEntry}
@@ -49,6 +49,9 @@ set_looks s id setting = open_looks s (put_open (named s id) && nat_lt (length (
 
 attend_looks : (s : Sessions) (id flag : ℕ) → SameLooks s (call s (Attend id flag))
 attend_looks s id flag = open_looks s (put_open (named s id)) (s.at_id id) (record (named s id) { attention = Some flag }) (λ h. refl)
+
+answer_looks : (s : Sessions) (id : ℕ) → SameLooks s (call s (Answer id))
+answer_looks s id = open_looks s (not s.master && waits (named s id)) (s.at_id id) (record (named s id) { accepted = true }) (λ h. refl)
 
 -- one that wasn't free and isn't now
 still_free : (u v : Session) → v.out ≡ u.out → v.came ≡ u.came → v.rejects ≡ u.rejects → v.reason ≡ u.reason → free u ≡ false → free v ≡ false → look v ≡ look u
@@ -155,3 +158,7 @@ call_calm k x id (calls.Put bytes) c f = calling_calm k x (Put id bytes.now) c (
 call_calm k x id (calls.Set setting) c f = calling_calm k x (Set id setting) c (λ h. set_looks (c.circuits.circuit_at x).end.half.sessions id setting)
 call_calm k x id (calls.Attend flag) c f = calling_calm k x (Attend id flag) c (λ h. attend_looks (c.circuits.circuit_at x).end.half.sessions id flag)
 call_calm k x id calls.Close c f = close_calm k x id c f
+
+-- an ask that is accepted
+pub answer_calm : (k : Side) (x id : ℕ) (c : Core) → CoreCalm c (calling k x (Answer id) c)
+answer_calm k x id c = calling_calm k x (Answer id) c (λ h. answer_looks (c.circuits.circuit_at x).end.half.sessions id)

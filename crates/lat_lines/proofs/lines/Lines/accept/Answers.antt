@@ -8,10 +8,11 @@ use Rattle.lat_lines.specs.Kept.{Kept, side_of}
 use Rattle.lat_lines.specs.Stands.{Stands, freed_between}
 use Rattle.lat_lines.specs.Opens.{accepted_core}
 use Rattle.lat_lines.specs.Shown.{shown}
-use Rattle.lat_lines.proofs.CallSteps.{acted_calling}
 use Rattle.lat_lines.proofs.Acting.{ok_of}
 use Rattle.lat_lines.proofs.CoresLater.{calling_later}
 use Rattle.lat_lines.proofs.Accepting.{none_still, called_lives, accepted_leads, accepted_frees}
+use Rattle.lat_lines.proofs.resting.Calls.{answer_calm}
+use Rattle.lat_lines.proofs.resting.Rested.{rested}
 use Rattle.lat_lines.proofs.Unchanged.{lines_same}
 use Rattle.lat_lines.proofs.lines.Lines.accept.Goals as goal
 
@@ -23,10 +24,11 @@ returns-clause-state c = λ d st none l w.
     let e : Core = calling (side_of k) x call d in
     let st2 : Stands k d = subst (λ z. Stands z d) (sym c.self.view_is) st in
     let did = c.answer.ensures.state d st2.circuits in
-    let done : Stands c.reap.new.self e = (acted_calling k c.reap.new.self c.answer.new.self x call d st2 c.answer.ensures.same.ids did c.reap.ensures.state c.reap.ensures.circuits).state in
+    let later = calling_later (side_of k) x call d (ok_of k d st2) in
+    let done : Stands c.rest.new.self e = (rested k c.answer.new.self c.rest.new.self d e st2 did later (answer_calm (side_of k) x c.args.id d) c.rest.ensures).state in
     let going : lives (e.circuits.circuit_at x).end ≡ true = called_lives (side_of k) x call d l in
-    let node : c.reap.new.self.circuits.server ≡ false = ap (λ z. z.server) c.reap.ensures.circuits ∙ c.answer.ensures.same.core.server ∙ ap (λ (z : Kept). z.circuits.server) c.self.view_is ∙ c.requires.node in
-    let free_still = none_still k c.answer.new.self d e c.args.line st2 did (calling_later (side_of k) x call d (ok_of k d st2)) none in
+    let node : c.rest.new.self.circuits.server ≡ false = ap (λ (z : Kept). z.circuits.server) c.rest.ensures ∙ c.answer.ensures.same.core.server ∙ ap (λ (z : Kept). z.circuits.server) c.self.view_is ∙ c.requires.node in
+    let free_still = none_still k c.answer.new.self d e c.args.line st2 did later none in
     let leads = accepted_leads k (side_of k) x c.args.id d st2 l w (c.seat.ensures.side e done free_still going ∙ node) in
     subst (λ (z : Kept). Stands c.seat.new.self (accepted_core (side_of z) c.args.line x c.args.id d)) c.self.view_is
     (c.seat.ensures.state e ((e.circuits.circuit_at x).end.half.sessions.at_id c.args.id) done free_still going leads)
@@ -36,10 +38,12 @@ returns-clause-freed c = λ d st.
     let k = shown c.self.inside in
     let x = c.args.circuit in
     let st2 : Stands k d = subst (λ z. Stands z d) (sym c.self.view_is) st in
-    let did = acted_calling k c.reap.new.self c.answer.new.self x (Answer c.args.id) d st2 c.answer.ensures.same.ids (c.answer.ensures.state d st2.circuits) c.reap.ensures.state c.reap.ensures.circuits in
+    let call = Answer c.args.id in
+    let later = calling_later (side_of k) x call d (ok_of k d st2) in
+    let did = rested k c.answer.new.self c.rest.new.self d (calling (side_of k) x call d) st2 (c.answer.ensures.state d st2.circuits) later (answer_calm (side_of k) x c.args.id d) c.rest.ensures in
     subst (λ (z : Kept). map key_in c.seat.new.self.freed ≡ freed_between d (accepted_core (side_of z) c.args.line x c.args.id d)) c.self.view_is
     (ap (map key_in) c.seat.ensures.freed ∙ did.freed ∙ accepted_frees (side_of k) c.args.line x c.args.id d)
 
 pub returns-clause-same : goal.returns-clause-same
 returns-clause-same c =
-    lines_same (shown c.self.inside) c.args.self.now c.seat.new.self c.answer.new.self (record { was = c.self.view_is; circuits = c.seat.ensures.circuits ∙ c.reap.ensures.circuits }) (c.seat.ensures.lines ∙ c.reap.ensures.same.lines) c.answer.ensures.same.core
+    lines_same (shown c.self.inside) c.args.self.now c.seat.new.self c.answer.new.self (record { was = c.self.view_is; circuits = c.seat.ensures.circuits ∙ ap (λ (z : Kept). z.circuits) c.rest.ensures }) (c.seat.ensures.lines ∙ ap (λ (z : Kept). z.lines) c.rest.ensures) c.answer.ensures.same.core
