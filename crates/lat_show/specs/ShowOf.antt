@@ -1,14 +1,13 @@
 -- What is printed of a whole input.
-use Rattle.std.specs.Prelude.{ℕ, ◌+◌, List, [], ◌++◌, length, Option, None, Some, Result, Ok, Err, nat_lt, if◌then◌else◌}
-use Rattle.std.specs.Result.{result_ok}
-use Rattle.hex.specs.Hex.{decode_of}
+use Rattle.std.specs.Prelude.{ℕ, ◌+◌, List, [], ◌++◌, Option, None, Some, Result, Ok, Err}
+use Rattle.lat_text.specs.Digits.{bytes_of}
 use Rattle.lat_text.specs.Lines.{Lines, End, Cut, Line, lines_of}
 use Rattle.lat_text.specs.WrongLine.{wrong_line}
 use Rattle.lat_show.specs.PayloadShown.{payload_shown}
 
 -- the payload that a line writes: an even number of hex digits of either case, at most 8,192, perhaps none
 unfoldable pub payload_of : List ℕ → Option (List ℕ)
-payload_of line = if nat_lt 8192 (length line) then None else result_ok (decode_of line)
+payload_of line = bytes_of 0 8192 line
 
 -- a text in front of what further lines print, unless one of them is wrong
 abbrev pub shown_before : List ℕ → Result (List ℕ) ℕ → Result (List ℕ) ℕ

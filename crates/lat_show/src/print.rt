@@ -5,9 +5,8 @@ ghost use Rattle.std.specs.Option.{option_map};
 ghost use Rattle.lat_show.specs.ShowOf.{payload_of, show_of};
 
 use crate::payload::payload_onto;
-use hex::FromHexError;
 use lat_base::Memory;
-use lat_text::{first_line, wrong_line};
+use lat_text::{LineFault, bytes_of, first_line, wrong_line};
 use std::alloc::Global;
 
 /// A line has at most so many hex digits.
@@ -19,13 +18,10 @@ fn payload_of(alloc: Global, line: &[u8]) -> Result<Option<Vec<u8>>, Memory>
     ensures { IfOk result (λ found.
         option_map (λ payload. payload.items) found ≡ payload_of line.now) }
 {
-    if line.len() > MOST_DIGITS {
-        return Ok(None);
-    }
-    match hex::decode(alloc, line) {
+    match bytes_of(alloc, 0, MOST_DIGITS, line) {
         Ok(payload) => Ok(Some(payload)),
-        Err(FromHexError::OutOfMemory) => Err(Memory),
-        Err(_) => Ok(None),
+        Err(LineFault::Form) => Ok(None),
+        Err(LineFault::Memory) => Err(Memory),
     }
 }
 
