@@ -1,8 +1,9 @@
 -- Addresses as numbers, and their bytes.
-use Rattle.std.proofs.Common.{◌≡◌, ℕ, ◌+◌, ◌*◌, ◌/◌, ◌%◌, ◌<◌, List, [], ◌∷◌, length, get_or, refl, sym, ap, ◌∙◌, arith}
+use Rattle.std.proofs.Common.{◌≡◌, ℕ, ◌+◌, ◌*◌, ◌/◌, ◌%◌, ◌<◌, List, [], ◌∷◌, length, get_or, refl, sym, ap, arith}
 use Rattle.lat_machines.specs.values.Addresses.{address}
 use Rattle.hex.specs.Hex.{encode_lower}
-use Rattle.lat_text.specs.HexText.{hex_text}
+use Rattle.lat_base.specs.declared.addr.Addr.{Addr}
+use Rattle.lat_text.specs.AddressText.{address_text}
 use Rattle.lat_show.specs.choice.Printed.{low_bytes}
 
 high_part : (n b : ℕ) → b < 256 → (256 * n + b) / 256 ≡ n
@@ -22,7 +23,7 @@ six a b c d e f ha hb hc hd he hf =
     rw (high_part n4 f hf, low_part n4 f hf, high_part n3 e he, low_part n3 e he, high_part n2 d hd, low_part n2 d hd, high_part n1 c hc, low_part n1 c hc, high_part n0 b hb, low_part n0 b hb, low_part 0 a ha) refl
 
 -- the six bytes of an address are those of its number
-pub bytes_of_address : (bytes : List ℕ) → length bytes ≡ 6 → ((i : ℕ) → get_or bytes i 0 < 256) → low_bytes 6 (address bytes) ≡ bytes
+bytes_of_address : (bytes : List ℕ) → length bytes ≡ 6 → ((i : ℕ) → get_or bytes i 0 < 256) → low_bytes 6 (address bytes) ≡ bytes
 bytes_of_address (a ∷ b ∷ c ∷ d ∷ e ∷ f ∷ []) long small = six a b c d e f (small 0) (small 1) (small 2) (small 3) (small 4) (small 5)
 bytes_of_address [] long small = absurd (omega (arith, long))
 bytes_of_address (a ∷ []) long small = absurd (omega (arith, long))
@@ -32,10 +33,6 @@ bytes_of_address (a ∷ b ∷ c ∷ d ∷ []) long small = absurd (omega (arith,
 bytes_of_address (a ∷ b ∷ c ∷ d ∷ e ∷ []) long small = absurd (omega (arith, long))
 bytes_of_address (a ∷ b ∷ c ∷ d ∷ e ∷ f ∷ g ∷ more) long small = absurd (omega (arith, long))
 
--- they print as that number's bytes
-pub station_shown : (bytes : List ℕ) → length bytes ≡ 6 → ((i : ℕ) → get_or bytes i 0 < 256) → hex_text bytes ≡ encode_lower (low_bytes 6 (address bytes))
-station_shown bytes long small = some bytes long ∙ ap encode_lower (sym (bytes_of_address bytes long small))
-  where
-    some : (xs : List ℕ) → length xs ≡ 6 → hex_text xs ≡ encode_lower xs
-    some [] six = absurd (omega (arith, six))
-    some (x ∷ xs) six = refl
+-- so it prints as that number's bytes
+pub station_shown : (station : Addr) → length station.0 ≡ 6 → ((i : ℕ) → get_or station.0 i 0 < 256) → address_text station ≡ encode_lower (low_bytes 6 (address station.0))
+station_shown station long small = ap encode_lower (sym (bytes_of_address station.0 long small))

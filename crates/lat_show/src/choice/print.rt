@@ -1,19 +1,17 @@
 //! What is printed of an entry.
 
-ghost use Rattle.std.specs.Prelude.{◌≡◌, ◌≤◌, ◌++◌, List, length, OnOk, string_bytes, option_map};
+ghost use Rattle.std.specs.Prelude.{◌≡◌, ◌≤◌, ◌++◌, List, OnOk, string_bytes, option_map};
 ghost use Rattle.lat_machines.specs.server.Directory.{HeardAnnouncement, best};
-ghost use Rattle.lat_machines.specs.values.Addresses.{address};
-ghost use Rattle.hex.specs.Hex.{encode_lower};
 ghost use Rattle.lat_dir.specs.Words.{best_shown};
 ghost use Rattle.lat_dir.specs.Stands.{Stands};
 ghost use Rattle.lat_show.specs.choice.Entries.{moment};
-ghost use Rattle.lat_show.specs.choice.Printed.{bad_line, full_line, low_bytes, choice_line, hear_printed, with_heard, entry_printed, heard_after};
+ghost use Rattle.lat_show.specs.choice.Printed.{bad_line, full_line, choice_line, hear_printed, with_heard, entry_printed, heard_after};
 
 use crate::choice::entry::Entry;
 use lat_base::{Addr, Bad, Memory, Name};
 use lat_dir::{Best, DirFault, Directory};
 use lat_notices::Announcement;
-use lat_text::hex_onto;
+use lat_text::address_onto;
 use std::alloc::{AllocError, Global};
 
 fn bad_onto(text: &mut String, number: usize, bad: Bad) -> Result<(), AllocError>
@@ -29,15 +27,6 @@ fn full_onto(text: &mut String, number: usize) -> Result<(), AllocError>
     write!(text, "line {number} full\n")
 }
 
-// Adds the six bytes of a station's address.
-fn station_onto(alloc: Global, text: &mut String, station: &[u8]) -> Result<(), AllocError>
-    requires { length station.now ≡ 6 }
-    ensures { OnOk result (string_bytes text.new
-        ≡ string_bytes text.old ++ encode_lower (low_bytes 6 (address station.now))) }
-{
-    hex_onto(alloc, text, station)
-}
-
 fn choice_onto(alloc: Global, text: &mut String, best: Option<Best>) -> Result<(), AllocError>
     ensures { OnOk result (string_bytes text.new
         ≡ string_bytes text.old ++ choice_line (option_map best_shown best)) }
@@ -46,7 +35,7 @@ fn choice_onto(alloc: Global, text: &mut String, best: Option<Best>) -> Result<(
         return text.push_str("none\n");
     };
     let rating = best.rating;
-    station_onto(alloc, text, &best.from.0)?;
+    address_onto(alloc, text, best.from)?;
     write!(text, " {rating}\n")
 }
 
