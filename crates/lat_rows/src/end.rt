@@ -54,46 +54,69 @@ impl End {
         heard_onto(text, heard)
     }
 
-    fn connect(&mut self, service: &Name, text: &mut String) -> Result<(), AllocError> {
+    fn connect(
+        &mut self,
+        alloc: Global,
+        service: &Name,
+        text: &mut String,
+    ) -> Result<(), AllocError> {
         if !self.circuit.lives() || !self.circuit.is_master() {
             return text.push_str(NOT_NOW);
         }
         match self.circuit.connect(service, None) {
             Ok(id) => write!(text, "connected {id}\n"),
-            Err(fault) => done_onto(text, Err(fault)),
+            Err(fault) => done_onto(alloc, text, Err(fault)),
         }
     }
 
-    fn answer(&mut self, id: u8, text: &mut String) -> Result<(), AllocError> {
+    fn answer(&mut self, alloc: Global, id: u8, text: &mut String) -> Result<(), AllocError> {
         if !self.circuit.lives() || self.circuit.state(id) != SessionState::Asked {
             return text.push_str(NOT_NOW);
         }
         self.circuit.answer_session(id);
-        done_onto(text, Ok(()))
+        done_onto(alloc, text, Ok(()))
     }
 
-    fn reject(&mut self, id: u8, reason: u8, text: &mut String) -> Result<(), AllocError> {
+    fn reject(
+        &mut self,
+        alloc: Global,
+        id: u8,
+        reason: u8,
+        text: &mut String,
+    ) -> Result<(), AllocError> {
         if reason > 15 || !self.circuit.lives() || self.circuit.state(id) != SessionState::Asked {
             return text.push_str(NOT_NOW);
         }
         self.circuit.reject(id, reason);
-        done_onto(text, Ok(()))
+        done_onto(alloc, text, Ok(()))
     }
 
-    fn put(&mut self, id: u8, bytes: &[u8], text: &mut String) -> Result<(), AllocError> {
+    fn put(
+        &mut self,
+        alloc: Global,
+        id: u8,
+        bytes: &[u8],
+        text: &mut String,
+    ) -> Result<(), AllocError> {
         if !self.circuit.lives() {
             return text.push_str(NOT_NOW);
         }
         let answer = self.circuit.put(id, bytes);
-        count_onto(text, answer)
+        count_onto(alloc, text, answer)
     }
 
-    fn set(&mut self, id: u8, setting: [u8; 5], text: &mut String) -> Result<(), AllocError> {
+    fn set(
+        &mut self,
+        alloc: Global,
+        id: u8,
+        setting: [u8; 5],
+        text: &mut String,
+    ) -> Result<(), AllocError> {
         if !self.circuit.lives() {
             return text.push_str(NOT_NOW);
         }
         let answer = self.circuit.set(id, setting);
-        done_onto(text, answer)
+        done_onto(alloc, text, answer)
     }
 
     fn take(&mut self, alloc: Global, id: u8, most: u16, text: &mut String) -> Result<(), Memory> {
@@ -103,24 +126,30 @@ impl End {
         let mut items = vec![in alloc; Item::Byte(0); usize::from(most)]?;
         match self.circuit.take(id, &mut items) {
             Ok(count) => Ok(took_onto(alloc, text, &items[..count])?),
-            Err(fault) => Ok(done_onto(text, Err(fault))?),
+            Err(fault) => Ok(done_onto(alloc, text, Err(fault))?),
         }
     }
 
-    fn attend(&mut self, id: u8, flag: u8, text: &mut String) -> Result<(), AllocError> {
+    fn attend(
+        &mut self,
+        alloc: Global,
+        id: u8,
+        flag: u8,
+        text: &mut String,
+    ) -> Result<(), AllocError> {
         if !self.circuit.lives() {
             return text.push_str(NOT_NOW);
         }
         let answer = self.circuit.attend(id, flag);
-        done_onto(text, answer)
+        done_onto(alloc, text, answer)
     }
 
-    fn close(&mut self, id: u8, text: &mut String) -> Result<(), AllocError> {
+    fn close(&mut self, alloc: Global, id: u8, text: &mut String) -> Result<(), AllocError> {
         if !self.circuit.lives() {
             return text.push_str(NOT_NOW);
         }
         let answer = self.circuit.close(id);
-        done_onto(text, answer)
+        done_onto(alloc, text, answer)
     }
 
     // The ask of the least id.
@@ -135,11 +164,16 @@ impl End {
     }
 
     /// What it answers to a command that names no end: the calls that one end alone has.
-    pub fn own_call(&mut self, line: &str, text: &mut String) -> Result<(), ScriptFault> {
+    pub fn own_call(
+        &mut self,
+        alloc: Global,
+        line: &str,
+        text: &mut String,
+    ) -> Result<(), ScriptFault> {
         match word(line, 0) {
-            "connect" => self.connect(&name(line, 1)?, text)?,
-            "answer" => self.answer(byte(line, 1)?, text)?,
-            "reject" => self.reject(byte(line, 1)?, byte(line, 2)?, text)?,
+            "connect" => self.connect(alloc, &name(line, 1)?, text)?,
+            "answer" => self.answer(alloc, byte(line, 1)?, text)?,
+            "reject" => self.reject(alloc, byte(line, 1)?, byte(line, 2)?, text)?,
             "asked" => self.asked(text)?,
             _ => return Err(no_command(0)),
         }
@@ -155,9 +189,9 @@ impl End {
     ) -> Result<(), ScriptFault> {
         match word(line, 0) {
             "put" | "fill" | "set" => self.put_call(alloc, line, text)?,
-            "attend" => self.attend(byte(line, 2)?, byte(line, 3)?, text)?,
+            "attend" => self.attend(alloc, byte(line, 2)?, byte(line, 3)?, text)?,
             "take" => self.take(alloc, byte(line, 2)?, short(line, 3)?, text)?,
-            "close" => self.close(byte(line, 2)?, text)?,
+            "close" => self.close(alloc, byte(line, 2)?, text)?,
             "state" | "waiting" | "totals" => self.tell_session(line, text)?,
             _ => self.tell(line, text)?,
         }
@@ -173,9 +207,9 @@ impl End {
     ) -> Result<(), ScriptFault> {
         let id = byte(line, 2)?;
         match word(line, 0) {
-            "put" => self.put(id, &bytes(alloc, line, 3)?, text)?,
-            "set" => self.set(id, setting(line, 3)?, text)?,
-            "fill" => self.put(id, &filling(alloc, line, 3)?, text)?,
+            "put" => self.put(alloc, id, &bytes(alloc, line, 3)?, text)?,
+            "set" => self.set(alloc, id, setting(line, 3)?, text)?,
+            "fill" => self.put(alloc, id, &filling(alloc, line, 3)?, text)?,
             _ => return Err(no_command(0)),
         }
         Ok(())

@@ -2,7 +2,7 @@
 
 use lat_base::{Answer, Heard, Memory, OutFrame, SessionEnd};
 use lat_circuit::{Due, SessionFault};
-use lat_script::{answer_word, end_onto, heard_onto, number_onto, put_onto};
+use lat_script::{answer_onto, end_onto, heard_onto, number_onto, put_onto};
 use lat_show::payload_onto;
 use std::alloc::{AllocError, Global};
 
@@ -25,18 +25,23 @@ fn answer_of(answer: Result<(), SessionFault>) -> Answer {
 }
 
 /// Adds a call's answer to the text.
-pub fn done_onto(text: &mut String, answer: Result<(), SessionFault>) -> Result<(), AllocError> {
-    text.push_str(answer_word(&answer_of(answer)))
+pub fn done_onto(
+    alloc: Global,
+    text: &mut String,
+    answer: Result<(), SessionFault>,
+) -> Result<(), AllocError> {
+    answer_onto(alloc, text, &answer_of(answer))
 }
 
 /// Adds the answer of a put to the text.
 pub fn count_onto(
+    alloc: Global,
     text: &mut String,
     answer: Result<usize, SessionFault>,
 ) -> Result<(), AllocError> {
     match answer {
         Ok(count) => put_onto(text, count as u64),
-        Err(fault) => done_onto(text, Err(fault)),
+        Err(fault) => done_onto(alloc, text, Err(fault)),
     }
 }
 

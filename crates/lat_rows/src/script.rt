@@ -207,13 +207,14 @@ impl Play {
     // The calls that one end alone has.
     fn own_call(
         &mut self,
+        alloc: Global,
         of_master: bool,
         line: &str,
         text: &mut String,
     ) -> Result<(), ScriptFault> {
         let end = pick(&mut self.master, &mut self.slave, of_master);
         match end {
-            Some(end) => end.own_call(line, text),
+            Some(end) => end.own_call(alloc, line, text),
             None => Ok(text.push_str(NO_CIRCUIT)?),
         }
     }
@@ -255,8 +256,8 @@ impl Play {
             "deliver" => self.deliver(alloc, line, text),
             "hear" => self.inject(alloc, line, text),
             "rounds" => self.rounds(alloc, line, text),
-            "connect" => self.own_call(true, line, text),
-            "answer" | "reject" | "asked" => self.own_call(false, line, text),
+            "connect" => self.own_call(alloc, true, line, text),
+            "answer" | "reject" | "asked" => self.own_call(alloc, false, line, text),
             _ => self.session_call(alloc, line, text),
         }
     }

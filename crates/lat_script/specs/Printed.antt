@@ -20,29 +20,6 @@ use Rattle.lat_base.specs.declared.state.SessionState.TheVariants as states
 use Rattle.lat_text.specs.HexText.{byte_text, hex_text}
 use Rattle.lat_text.specs.Line.{line}
 
--- the line of an answer without a number; no letter for each other one
-abbrev pub answer_word : Answer → List ℕ
-answer_word answers.StartRefused = codes "start-refused\n"
-answer_word answers.Announced = codes "announced\n"
-answer_word answers.DirectoryFull = codes "directory-full\n"
-answer_word answers.NotKept = codes "not-kept\n"
-answer_word answers.Noted = codes "noted\n"
-answer_word answers.Apart = codes "apart\n"
-answer_word answers.Solicited = codes "solicited\n"
-answer_word answers.Ignored = codes "ignored\n"
-answer_word answers.Done = codes "done\n"
-answer_word answers.NoLine = codes "no-line\n"
-answer_word answers.Busy = codes "busy\n"
-answer_word answers.NoService = codes "no-service\n"
-answer_word answers.SessionsFull = codes "sessions-full\n"
-answer_word answers.CircuitsFull = codes "circuits-full\n"
-answer_word answers.IdsOut = codes "ids-out\n"
-answer_word answers.Closed = codes "closed\n"
-answer_word answers.Full = codes "full\n"
-answer_word answers.IdUsed = codes "id-used\n"
-answer_word answers.NotHere = codes "not-here\n"
-answer_word answer = []
-
 abbrev pub heard_text : Heard → List ℕ
 heard_text heard.Running = line (codes "running" ∷ [])
 heard_text (heard.Taken slots) = line (codes "taken " ∷ decimal slots ∷ [])
@@ -126,4 +103,22 @@ answer_text (answers.Bad bad) = bad_text bad
 answer_text (answers.Connected circuit session) = connected_text circuit session
 answer_text (answers.Put count) = put_text count
 answer_text (answers.Took items) = took_text items
-answer_text answer = answer_word answer
+answer_text answers.StartRefused = codes "start-refused\n"
+answer_text answers.Announced = codes "announced\n"
+answer_text answers.DirectoryFull = codes "directory-full\n"
+answer_text answers.NotKept = codes "not-kept\n"
+answer_text answers.Noted = codes "noted\n"
+answer_text answers.Apart = codes "apart\n"
+answer_text answers.Solicited = codes "solicited\n"
+answer_text answers.Ignored = codes "ignored\n"
+answer_text answers.Done = codes "done\n"
+answer_text answers.NoLine = codes "no-line\n"
+answer_text answers.Busy = codes "busy\n"
+answer_text answers.NoService = codes "no-service\n"
+answer_text answers.SessionsFull = codes "sessions-full\n"
+answer_text answers.CircuitsFull = codes "circuits-full\n"
+answer_text answers.IdsOut = codes "ids-out\n"
+answer_text answers.Closed = codes "closed\n"
+answer_text answers.Full = codes "full\n"
+answer_text answers.IdUsed = codes "id-used\n"
+answer_text answers.NotHere = codes "not-here\n"

@@ -32,8 +32,8 @@ pub use fault::{Pair, ScriptFault, Wanted, refused_onto};
 pub use lines::{Part, is_command, line_behind};
 pub use pattern::{Came, byte_of};
 pub use print::{
-    answer_onto, answer_word, bad_onto, end_onto, frame_onto, heard_onto, kept_onto, number_onto,
-    put_onto, state_onto, state_word, took_onto, totals_onto,
+    answer_onto, bad_onto, end_onto, frame_onto, heard_onto, kept_onto, number_onto, put_onto,
+    state_onto, state_word, took_onto, totals_onto,
 };
 pub use program::{INPUT_BYTES, run};
 pub use words::{

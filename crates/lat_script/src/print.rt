@@ -4,7 +4,6 @@ ghost use Rattle.std.specs.Prelude.{◌≡◌, [], ◌∷◌, ◌++◌, OnOk, de
 ghost use Rattle.lat_text.specs.Line.{line};
 ghost use Rattle.lat_script.specs.Printed.{
   answer_text,
-  answer_word,
   bad_text,
   connected_text,
   end_text,
@@ -26,34 +25,6 @@ ghost use Rattle.lat_script.specs.Printed.{
 use lat_base::{Answer, Bad, Heard, Item, Kept, Mark, SessionEnd, SessionState};
 use lat_text::{byte_onto, hex_onto};
 use std::alloc::{AllocError, Global};
-
-/// The line of an answer without a number; no letter for each other one.
-pub fn answer_word(answer: &Answer) -> &'static str
-    ensures { result.now ≡ answer_word answer.now }
-{
-    match answer {
-        Answer::StartRefused => "start-refused\n",
-        Answer::Announced => "announced\n",
-        Answer::DirectoryFull => "directory-full\n",
-        Answer::NotKept => "not-kept\n",
-        Answer::Noted => "noted\n",
-        Answer::Apart => "apart\n",
-        Answer::Solicited => "solicited\n",
-        Answer::Ignored => "ignored\n",
-        Answer::Done => "done\n",
-        Answer::NoLine => "no-line\n",
-        Answer::Busy => "busy\n",
-        Answer::NoService => "no-service\n",
-        Answer::SessionsFull => "sessions-full\n",
-        Answer::CircuitsFull => "circuits-full\n",
-        Answer::IdsOut => "ids-out\n",
-        Answer::Closed => "closed\n",
-        Answer::Full => "full\n",
-        Answer::IdUsed => "id-used\n",
-        Answer::NotHere => "not-here\n",
-        _ => "",
-    }
-}
 
 /// Adds the line of a number.
 pub fn number_onto(text: &mut String, number: u64) -> Result<(), AllocError>
@@ -128,7 +99,25 @@ pub fn answer_onto(alloc: Global, text: &mut String, answer: &Answer) -> Result<
         Answer::Connected { circuit, session } => connected_onto(text, *circuit, *session),
         Answer::Put(count) => put_onto(text, u64::from(*count)),
         Answer::Took(items) => took_onto(alloc, text, items.as_slice()),
-        _ => text.push_str(answer_word(answer)),
+        Answer::StartRefused => text.push_str("start-refused\n"),
+        Answer::Announced => text.push_str("announced\n"),
+        Answer::DirectoryFull => text.push_str("directory-full\n"),
+        Answer::NotKept => text.push_str("not-kept\n"),
+        Answer::Noted => text.push_str("noted\n"),
+        Answer::Apart => text.push_str("apart\n"),
+        Answer::Solicited => text.push_str("solicited\n"),
+        Answer::Ignored => text.push_str("ignored\n"),
+        Answer::Done => text.push_str("done\n"),
+        Answer::NoLine => text.push_str("no-line\n"),
+        Answer::Busy => text.push_str("busy\n"),
+        Answer::NoService => text.push_str("no-service\n"),
+        Answer::SessionsFull => text.push_str("sessions-full\n"),
+        Answer::CircuitsFull => text.push_str("circuits-full\n"),
+        Answer::IdsOut => text.push_str("ids-out\n"),
+        Answer::Closed => text.push_str("closed\n"),
+        Answer::Full => text.push_str("full\n"),
+        Answer::IdUsed => text.push_str("id-used\n"),
+        Answer::NotHere => text.push_str("not-here\n"),
     }
 }
 
