@@ -7,11 +7,8 @@ ghost use Rattle.lat_frames.specs.Reading.{timer_fits, keepalive_fits, timed_at,
 use crate::message::{Limits, Message, StartInfo};
 use crate::read_head::{Circuits, asks, is_master};
 use lat_base::Field;
-use lat_fields::{LayoutFault, byte_of, copy_of, name_of, number_of, params_of, wanted};
+use lat_fields::{LayoutFault, VERSION, byte_of, copy_of, name_of, number_of, params_of, wanted};
 use std::alloc::Global;
-
-/// The protocol version that is spoken here.
-pub const VERSION: u8 = 5;
 
 fn timer_fits(master: bool, timer: u8) -> bool
     ensures { result ≡ timer_fits master timer }

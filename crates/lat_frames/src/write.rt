@@ -12,9 +12,8 @@ ghost use Rattle.lat_frames.specs.Written.{IsWritable, message_text, slots_text}
 
 use crate::kind::MessageKind;
 use crate::message::{Head, Limits, Message, StartInfo, WideHead};
-use crate::read_start::VERSION;
 use lat_base::Payload;
-use lat_fields::{write_counted, write_number, write_padding, write_params};
+use lat_fields::{VERSION, write_counted, write_number, write_padding, write_params};
 use lat_slots::{Slot, write_slot};
 
 fn bit(set: bool) -> u8

@@ -8,10 +8,7 @@ ghost use Rattle.lat_notices.specs.Outcomes.{place_fits, placed};
 
 use crate::notice::{Action, Outcome};
 use lat_base::{Field, Kept};
-use lat_fields::{LayoutFault, byte_of, counted_of, known, number_of, wanted};
-
-/// The version of the protocol that each notice has.
-pub const VERSION: u8 = 5;
+use lat_fields::{LayoutFault, VERSION, byte_of, counted_of, known, number_of, wanted};
 
 /// A mask of groups has at most so many bytes.
 pub const MASK_BYTES: usize = 32;

@@ -6,12 +6,11 @@ ghost use Rattle.lat_notices.specs.Texts.{HasNames, IsAnnouncement, Suits, annou
 ghost use Rattle.lat_notices.specs.Writing.{fields_len, CanBeWritten};
 ghost use Rattle.lat_notices.specs.declared.notice.Notice.TheVariants as notices;
 
-use crate::fields::VERSION;
 use crate::kind::NoticeKind;
 use crate::notice::{Announcement, Command, Notice, Response, Solicit, Status};
 use crate::write_services::write_services;
 use lat_base::Payload;
-use lat_fields::{write_counted, write_number, write_padding};
+use lat_fields::{VERSION, write_counted, write_number, write_padding};
 
 fn write_announcement(out: &mut Payload, a: &Announcement)
     requires suits { IsAnnouncement a.now }
