@@ -4,12 +4,13 @@ ghost use Rattle.std.specs.Prelude.{◌≡◌, ◌+◌, ◌≤◌};
 ghost use Rattle.lat_cell.specs.Minds.{left_of};
 
 use crate::mind::LineMind;
+use crate::write::PIECE_BYTES;
 
 /// The mind, and the bytes that it speaks of: from `at` on, as many as it has left, were read and not yet put.
 #[derive(Drop)]
 pub struct Desk {
     pub mind: LineMind,
-    pub buf: [u8; 1024],
+    pub buf: [u8; PIECE_BYTES],
     pub at: usize,
     ghost within: { at + left_of mind ≤ 1024 },
 }
@@ -23,7 +24,7 @@ impl Desk {
     {
         Desk {
             mind: LineMind::make(calls),
-            buf: [0; 1024],
+            buf: [0; PIECE_BYTES],
             at: 0,
         }
     }

@@ -2,7 +2,7 @@
 
 ghost use Rattle.std.specs.Prelude.{◌≡◌, ◌||◌, is_some};
 
-use lat_base::{Addr, Bytes, Core, Event};
+use lat_base::{Addr, Bytes, Core, Event, PAYLOAD_BYTES};
 use lat_history::{Cell, LineShare};
 use lat_outside::{Failed, Got, Rx, Tx};
 use std::alloc::Global;
@@ -53,7 +53,7 @@ pub fn wire_worker<C: Core, T: Tx, X: Rx, E: Ledger, B: Ledger, F: Ledger, R: Wa
         if over(&cell.lock(rt)) {
             return share;
         }
-        let mut buf = [0; 1500];
+        let mut buf = [0; PAYLOAD_BYTES];
         match rx.recv(&mut buf) {
             Ok(Got::Frame { from, len }) => hear(
                 alloc,

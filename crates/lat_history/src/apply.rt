@@ -6,7 +6,7 @@ ghost use Rattle.lat_history.specs.CellView.{AreFull, IsRefused, SameFull, with_
 ghost use Rattle.lat_history.specs.Counts.{seat_of, bytes_in, put_of, put_by, past, ShowsLimit, IsFullAt, MayAdd};
 ghost use Rattle.lat_history.specs.History.{Grew, SameBefore, state_of};
 
-use crate::cell::{BYTES, Cell, MOST};
+use crate::cell::{Cell, MOST_EVENT_BYTES, MOST_EVENTS};
 use crate::fault::{CellFault, FullAt, Receipt};
 use crate::past::{Past, bytes, put};
 use crate::share::LineShare;
@@ -35,7 +35,7 @@ impl<C: Core, T: Tx, E: Ledger, B: Ledger, F: Ledger> Cell<C, T, E, B, F> {
     {
         let more = bytes(event);
         let place = self.history.len();
-        if place < MOST && more <= BYTES - self.kept {
+        if place < MOST_EVENTS && more <= MOST_EVENT_BYTES - self.kept {
             return None;
         }
         Some(FullAt {

@@ -6,7 +6,7 @@ ghost use Rattle.lat_history.specs.Audits.{SeatAgrees, IsFirstToDiffer};
 
 use crate::cell::Cell;
 use crate::fault::SeatFault;
-use crate::past::{Past, put, seat};
+use crate::past::{Past, SEATS, put, seat};
 use crate::share::LineShare;
 use lat_base::Core;
 use lat_outside::Tx;
@@ -84,7 +84,7 @@ fn audited<E: Ledger, B: Ledger, F: Ledger>(
     requires { length history.now ≤ 1000000 }
     ensures { result ≡ audit_of history.now shares.now }
 {
-    for seat in 0..66 {
+    for seat in 0..SEATS {
         if let Some(fault) = seat_fault(seat, history, shares) {
             return Some(fault);
         }

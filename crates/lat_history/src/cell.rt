@@ -18,11 +18,11 @@ use std::alloc::Global;
 use std::marker::Model;
 use std::sync::ledger::{Book, Ledger};
 
-/// How many events a cell keeps.
-pub const MOST: usize = 1_000_000;
+/// How many events a cell keeps at most.
+pub const MOST_EVENTS: usize = 1_000_000;
 
-/// How many bytes of events, of payloads and puts, a cell keeps.
-pub const BYTES: u64 = 268_435_456;
+/// How many bytes of events, of payloads and puts, a cell keeps at most.
+pub const MOST_EVENT_BYTES: u64 = 268_435_456;
 
 /// A core, the history of its events with their answers, and the carrier that its frames are handed to. Whenever nobody is in
 /// the middle of a call, the core is the run of the history from the opening that it was made with, and the frames tried since

@@ -15,9 +15,9 @@ mod share;
 mod shares;
 
 pub use audit::{past_bytes, past_events};
-pub use cell::{BYTES, Cell, MOST};
+pub use cell::{Cell, MOST_EVENT_BYTES, MOST_EVENTS};
 pub use fault::{CellFault, FullAt, Receipt, SeatFault};
-pub use past::{Past, put, seat};
+pub use past::{CLOCK, Past, WIRE, put, seat};
 pub use seen::Seen;
 pub use share::LineShare;
 pub use shares::{Blanks, Shares};

@@ -5,6 +5,15 @@ ghost use Rattle.lat_history.specs.Counts.{seat_of, bytes_in, put_of};
 
 use lat_base::{Answer, Event};
 
+/// The seat of the wire. The lines have the seats behind it, by their numbers.
+pub const WIRE: u8 = 0;
+
+/// The seat of the clock.
+pub const CLOCK: u8 = 65;
+
+/// How many seats there are: the wire, 64 lines and the clock.
+pub(crate) const SEATS: u8 = 66;
+
 /// An event and what it was answered.
 pub struct Past {
     pub event: Event,
@@ -17,19 +26,20 @@ impl Drop for Past {
     }
 }
 
-/// Whose event it is: its line for an event with a line, 0 (the wire) for what was heard, 65 (the clock) for the others.
+/// Whose event it is: its line for an event with a line, `WIRE` for what was heard, `CLOCK` for the others.
 pub fn seat(event: &Event) -> u8
     ensures { result ≡ seat_of event.now }
 {
     match event {
-        Event::Heard { .. } => 0,
+        Event::Heard { .. } => WIRE,
         Event::Connect { line, .. }
         | Event::Put { line, .. }
         | Event::Set { line, .. }
         | Event::Take { line, .. }
         | Event::Attend { line, .. }
         | Event::Close { line } => *line,
-        Event::Time { .. } | Event::Request { .. } | Event::Cancel { .. } | Event::Announce => 65,
+        Event::Time { .. } | Event::Request { .. } | Event::Cancel { .. } | Event::Announce =>
+            CLOCK,
     }
 }
 

@@ -5,6 +5,7 @@ ghost use Rattle.lat_history.specs.Ledgers.{AreBlanks};
 ghost use Rattle.lat_history.specs.Seats.{all_seats, fresh, seats_from};
 ghost use Rattle.lat_history.specs.Uncut.{EachParts, NoneCounted, SameParts};
 
+use crate::past::{CLOCK, SEATS};
 use crate::share::LineShare;
 use lat_base::Memory;
 use std::alloc::Global;
@@ -26,9 +27,9 @@ impl Blanks {
             × (result.full.parts ≡ 66) }
     {
         Blanks {
-            events: Blank::new(66),
-            bytes: Blank::new(66),
-            full: Blank::new(66),
+            events: Blank::new(SEATS as u64),
+            bytes: Blank::new(SEATS as u64),
+            full: Blank::new(SEATS as u64),
         }
     }
 }
@@ -178,7 +179,7 @@ pub fn opened<E: Ledger, B: Ledger, F: Ledger>(
         full,
     };
     cut_lines(&mut uncut, &mut shares, lines);
-    shares.push_reserved(uncut.last(65));
+    shares.push_reserved(uncut.last(CLOCK));
     let books = Books {
         events: events_book,
         bytes: bytes_book,

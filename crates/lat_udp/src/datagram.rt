@@ -12,7 +12,7 @@ const KIND: [u8; 2] = [0x60, 0x04];
 pub const DATAGRAM_BYTES: usize = 1514;
 
 // Puts bytes behind the first `at` of the place, and answers how many it has then.
-fn put_behind(at: usize, bytes: &[u8], place: &mut [u8; 1514]) -> usize
+fn put_behind(at: usize, bytes: &[u8], place: &mut [u8; DATAGRAM_BYTES]) -> usize
     requires { at + length bytes.now ≤ 1514 }
     ensures end { result ≡ at + length bytes.now }
     ensures bytes { take result place.new ≡ take at place.old ++ bytes.now }
@@ -23,7 +23,7 @@ fn put_behind(at: usize, bytes: &[u8], place: &mut [u8; 1514]) -> usize
 }
 
 /// Puts the datagram of a payload of at most 1,500 bytes at the front of the place, and answers how many bytes it has.
-pub fn put_datagram(to: Addr, from: Addr, payload: &[u8], place: &mut [u8; 1514]) -> usize
+pub fn put_datagram(to: Addr, from: Addr, payload: &[u8], place: &mut [u8; DATAGRAM_BYTES]) -> usize
     requires { length payload.now ≤ 1500 }
     ensures end { result ≡ length payload.now + 14 }
     ensures bytes { take result place.new ≡ datagram to.0 from.0 payload.now }

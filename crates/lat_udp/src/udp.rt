@@ -93,9 +93,9 @@ impl Rx for UdpRx {
 
     ghost faults = { λ rx. rx.faults };
 
-    fn recv(&mut self, buf: &mut [u8; 1500]) -> Result<Got, Failed> {
+    fn recv(&mut self, buf: &mut [u8; PAYLOAD_BYTES]) -> Result<Got, Failed> {
         // one byte more than a datagram may have, so that a longer one shows
-        let mut place = [0; 1515];
+        let mut place = [0; DATAGRAM_BYTES + 1];
         let count = match self.socket.recv_from(&mut place) {
             Ok((count, _)) => count,
             Err(error) => {

@@ -3,6 +3,9 @@
 use arrayvec::ArrayVec;
 use lat_base::{Addr, Name};
 
+/// How many ports frames go to at most.
+pub const PEERS: usize = 8;
+
 /// Which kind of core it runs.
 #[derive(Clone, Copy, Debug, PartialEq, Eq)]
 pub enum Role {
@@ -20,8 +23,8 @@ pub struct Station {
     pub address: Addr,
     /// The port that frames come to.
     pub port: u16,
-    /// The ports that frames go to, eight at most.
-    pub peers: ArrayVec<u16, 8>,
+    /// The ports that frames go to.
+    pub peers: ArrayVec<u16, PEERS>,
 }
 
 impl Drop for Station {

@@ -5,5 +5,5 @@ mod config;
 mod matching;
 mod read;
 
-pub use config::{Config, Lines, Role, Station};
+pub use config::{Config, Lines, PEERS, Role, Station};
 pub use read::config_of;

@@ -5,6 +5,7 @@ ghost use Rattle.clap.specs.Words.{rule_of, app_of, rows_of, HasKind, found_of, 
 ghost use Rattle.clap.specs.declared.error.kind.ErrorKind.{ErrorKind};
 ghost use Rattle.lat_words.specs.Commands.{latd, option_rule, peers_rule, is_matched, no_fault, rows};
 
+use crate::config::PEERS;
 use clap::error::ErrorKind;
 use clap::{Arg, ArgAction, ArgMatches, Command, Error};
 use lat_base::Memory;
@@ -21,7 +22,7 @@ fn option<'a>(alloc: Global, id: &'a str) -> Arg<'a>
         .action(ArgAction::Set)
 }
 
-// One to eight peer ports.
+// One peer port at least, and `PEERS` at most.
 fn peers<'a>(alloc: Global) -> Arg<'a>
     ensures rule { rule_of result ≡ peers_rule }
     ensures global { result.global ≡ false }
@@ -29,7 +30,7 @@ fn peers<'a>(alloc: Global) -> Arg<'a>
     Arg::new(alloc, "peer")
         .required(true)
         .action(ArgAction::Append)
-        .num_args(1..=8)
+        .num_args(1..=PEERS)
 }
 
 // The command with one more option.

@@ -4,7 +4,7 @@ ghost use Rattle.std.specs.Prelude.{◌≡◌, ◌≤◌, IfOk, IfSome, map, opt
 ghost use Rattle.clap.specs.Words.{rows_of, found_of};
 ghost use Rattle.lat_words.specs.Configs.{role_of, port_of, peers_of, most_lines, station_of, lines_of, number_of, name_at, config_in, config_of, Within};
 
-use crate::config::{Config, Lines, Role, Station};
+use crate::config::{Config, Lines, PEERS, Role, Station};
 use crate::matching::matched;
 use arrayvec::ArrayVec;
 use clap::ArgMatches;
@@ -45,12 +45,12 @@ fn port_of(text: &[u8]) -> Option<u16>
     Some(number_within(1, 65_535, text)? as u16)
 }
 
-fn peers_of(texts: &[&str]) -> Option<ArrayVec<u16, 8>>
+fn peers_of(texts: &[&str]) -> Option<ArrayVec<u16, PEERS>>
     ensures { option_map (λ peers. peers.items) result ≡ peers_of (map (λ t. t.now) texts.now) }
 {
     let mut peers = ArrayVec::new();
     for text in texts {
-        if peers.len() == 8 {
+        if peers.len() == PEERS {
             return None;
         }
         peers.push(port_of(text.as_bytes())?);

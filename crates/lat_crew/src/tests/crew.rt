@@ -8,6 +8,7 @@ use super::far::Far;
 use super::outside::{FarRx, FarTx, RoundClock, RoundGate, RoundLine, Signs};
 use lat_base::{Core, Name};
 use lat_cell::{Blanks, Cell, LineDone, LineShare, Shares, line_worker, time_worker, wire_worker};
+use lat_history::{CLOCK, WIRE};
 use lat_outside::Tx;
 use std::alloc::Global;
 use std::sync::ledger::Ledger;
@@ -152,7 +153,7 @@ fn seats_of<E: Ledger, B: Ledger, F: Ledger>(shares: Shares<E, B, F>) -> Option<
     let mut shares = shares.into_vec();
     let (two, clock) = last_two(&mut shares)?;
     let (wire, one) = last_two(&mut shares)?;
-    if wire.seat() != 0 || clock.seat() != 65 {
+    if wire.seat() != WIRE || clock.seat() != CLOCK {
         return None;
     }
     Some(Seats {

@@ -8,7 +8,7 @@ use lat_base::{Bytes, Core, Event};
 use lat_cell::{
     Blanks, Cell, CellFault, FullAt, LineDone, LineShare, Receipt, SeatFault, line_worker,
 };
-use lat_history::{MOST, past_events, seat};
+use lat_history::{MOST_EVENTS, past_events, seat};
 use lat_outside::{FreeGate, MemLine, MemTx, Tx};
 use std::alloc::Global;
 use std::marker::Brand;
@@ -74,7 +74,7 @@ fn fill_cell<E: Ledger, B: Ledger, F: Ledger>(alloc: Global, blanks: Blanks) -> 
         mut clock,
         ..
     } = make_cell::<MemTx, E, B, F>(alloc, tx, blanks)?;
-    for now in 0..MOST as u64 {
+    for now in 0..MOST_EVENTS as u64 {
         act(alloc, &mut cell, &mut clock, Event::Time { now }).ok()?;
     }
     let answer = match act(alloc, &mut cell, &mut clock, Event::Time { now: 0 }) {

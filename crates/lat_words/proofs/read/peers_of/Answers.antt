@@ -3,8 +3,8 @@ use Rattle.std.proofs.lemmas.Grind.{common_steps}
 use Rattle.lat_words.proofs.Ports.{too_many, some_left}
 use Rattle.lat_words.proofs.read.peers_of.Goals as goal
 
-pub returns-then-len-eq8 : goal.returns-then-len-eq8
-returns-then-len-eq8 c =
+pub returns-then-len-eq-PEERS : goal.returns-then-len-eq-PEERS
+returns-then-len-eq-PEERS c =
     let l = c.loop-text in
     let full : length l.peers.items ≡ 8 = search rules in
     let more : l.text-index < length c.args.texts.now = search rules in
