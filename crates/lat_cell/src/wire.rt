@@ -15,28 +15,25 @@ fn over<C: Core, T: Tx, E: Ledger, B: Ledger, F: Ledger>(cell: &Cell<C, T, E, B,
     cell.stopping() || cell.full().is_some()
 }
 
-// Applies what was heard, with the cell's moment. An event without memory is left out.
+// Applies what was heard, with the cell's moment. An event for which no memory is found is left out.
 fn hear<C: Core, T: Tx, E: Ledger, B: Ledger, F: Ledger>(
     alloc: Global,
     cell: &mut Cell<C, T, E, B, F>,
     share: &mut LineShare<E, B, F>,
     from: Addr,
-    payload: &[u8],
+    payload: Bytes,
 )
     requires { share.old.seat ≡ 0 }
     ensures { (share.new.seat ≡ share.old.seat) × (share.new.parts ≡ share.old.parts) }
 {
-    let Ok(payload) = Bytes::copy(alloc, payload) else {
-        return;
-    };
     let now = cell.moment();
     let event = Event::Heard { from, payload, now };
     let _ = cell.apply(alloc, event, share);
 }
 
-/// Applies what the wire brings, until the cell stops or is full. A read that fails is counted by the carrier alone: it brings
-/// nothing, as a quiet one, and the next follows at once. The worker itself never pauses, so a carrier whose every read fails
-/// without waiting is read without rest until the cell stops.
+/// Applies what the wire brings, until the cell stops or is full. A frame for which no memory is found is left out. A read that
+/// fails is counted by the carrier alone: it brings nothing, as a quiet one, and the next follows at once. The worker itself
+/// never pauses, so a carrier whose every read fails without waiting is read without rest until the cell stops.
 pub fn wire_worker<C: Core, T: Tx, X: Rx, E: Ledger, B: Ledger, F: Ledger, R: Wait>(
     rt: &R,
     alloc: Global,
@@ -49,19 +46,17 @@ pub fn wire_worker<C: Core, T: Tx, X: Rx, E: Ledger, B: Ledger, F: Ledger, R: Wa
 {
     let mut share = share;
     let mut rx = rx;
+    let mut buf = [0; PAYLOAD_BYTES];
     for _ in rt.forever() {
         if over(&cell.lock(rt)) {
             return share;
         }
-        let mut buf = [0; PAYLOAD_BYTES];
         match rx.recv(&mut buf) {
-            Ok(Got::Frame { from, len }) => hear(
-                alloc,
-                &mut cell.lock(rt),
-                &mut share,
-                from,
-                &buf[..len as usize],
-            ),
+            Ok(Got::Frame { from, len }) => {
+                if let Ok(payload) = Bytes::copy(alloc, &buf[..len as usize]) {
+                    hear(alloc, &mut cell.lock(rt), &mut share, from, payload);
+                }
+            }
             Ok(Got::Quiet) | Err(Failed) => {}
         }
     }
