@@ -14,6 +14,10 @@ use Rattle.lat_base.specs.declared.state.SessionState.TheVariants as states
 abbrev pub left_of : LineMind → ℕ
 left_of m = m.left
 
+-- whether it connects its line
+abbrev pub calls_of : LineMind → Bool
+calls_of m = m.calls
+
 -- a mind that was told nothing
 abbrev pub fresh_mind : Bool → LineMind
 fresh_mind calls = record {

@@ -7,6 +7,8 @@ use Rattle.lat_cell.specs.Minds.{left_of}
 use Rattle.lat_cell.specs.declared.mind.Move.{Move}
 use Rattle.lat_cell.specs.declared.mind.Move.TheVariants as moves
 use Rattle.lat_cell.specs.declared.desk.Desk.{Desk}
+use Rattle.lat_cell.specs.declared.hold.HoldDone.{HoldDone}
+use Rattle.lat_cell.specs.declared.hold.HoldDone.TheVariants as holds
 
 -- the bytes that were read and not yet put
 abbrev pub unput : Desk → List ℕ
@@ -19,6 +21,13 @@ move_event moves.Take line service bytes = Some (events.Take line 4096)
 move_event moves.Put line service bytes = Some (events.Put line bytes)
 move_event moves.Close line service bytes = Some (events.Close line)
 move_event _ line service bytes = None
+
+-- what comes of a move without an event: of one that has an event, that no memory was found for it
+abbrev pub done_without : Move → HoldDone
+done_without moves.Finish = holds.Finish
+done_without moves.Read = holds.Read
+done_without moves.Rest = holds.Rest
+done_without _ = holds.Memory
 
 abbrev pub is_put : Move → Bool
 is_put moves.Put = true

@@ -1,7 +1,7 @@
 //! What a line's worker has before it.
 
 ghost use Rattle.std.specs.Prelude.{◌≡◌, ◌+◌, ◌≤◌};
-ghost use Rattle.lat_cell.specs.Minds.{left_of};
+ghost use Rattle.lat_cell.specs.Minds.{calls_of, left_of};
 
 use crate::mind::LineMind;
 use crate::write::PIECE_BYTES;
@@ -20,7 +20,8 @@ impl Desk {
 
     /// A desk with nothing on it.
     pub fn new(calls: bool) -> Desk
-        ensures { left_of result.mind ≡ 0 }
+        ensures left { left_of result.mind ≡ 0 }
+        ensures calls { calls_of result.mind ≡ calls }
     {
         Desk {
             mind: LineMind::make(calls),

@@ -1,9 +1,9 @@
 //! What a line's worker does under the lock.
 
-ghost use Rattle.std.specs.Prelude.{◌≡◌, ◌+◌, ◌≤◌, IfSome, IfOk, true, false};
-ghost use Rattle.lat_cell.specs.Minds.{left_of};
+ghost use Rattle.std.specs.Prelude.{◌≡◌, ◌+◌, ◌≤◌, Some, IsSome, IfOk, IfErr, is_some, true, false};
+ghost use Rattle.lat_cell.specs.Minds.{calls_of, left_of};
 ghost use Rattle.lat_history.specs.Counts.{seat_of, put_by, put_of};
-ghost use Rattle.lat_cell.specs.Moves.{is_put, move_event, unput};
+ghost use Rattle.lat_cell.specs.Moves.{done_without, is_put, move_event, unput};
 ghost use Rattle.lat_cell.specs.Within.{in_hand, is_read};
 
 use crate::desk::Desk;
@@ -17,40 +17,51 @@ use std::sync::ledger::Ledger;
 /// What came of one hold of the lock.
 #[derive(Drop)]
 pub enum HoldDone {
+    /// The worker's work is done.
     Finish,
-    Applied(u64),
-    Took(u64, Items),
+    /// An event was applied, and stands at this place of the history.
+    Applied { place: u64 },
+    /// A take was applied, stands at this place of the history, and gave these items.
+    Took { place: u64, items: Items },
+    /// The line is to be read.
     Read,
+    /// The line is to pause.
     Rest,
+    /// The cell had no room for the event.
     Full,
+    /// No memory was found for the event.
     Memory,
 }
 
-// The event of a move, and none for a move that is no event.
+// The event of a move, or what comes of one that has none.
 fn event_of(
     alloc: Global,
     desk: &Desk,
     line: u8,
     service: Option<Name>,
     go: Move,
-) -> Result<Option<Event>, Memory>
-    ensures seat { IfOk result (λ r. IfSome r (λ e. seat_of e ≡ line)) }
-    ensures event { IfOk result (λ r. r ≡ move_event go line service (unput desk.now)) }
-    ensures put { IfOk result (λ r. IfSome r (λ e. put_by e ≤ left_of desk.now.mind)) }
-    ensures other { IfOk result (λ r. IfSome r (λ e. is_put go ≡ false → put_by e ≡ 0)) }
+) -> Result<Event, HoldDone>
+    requires { go ≡ Move.Connect → IsSome service }
+    ensures seat { IfOk result (λ e. seat_of e ≡ line) }
+    ensures event { IfOk result (λ e. Some e ≡ move_event go line service (unput desk.now)) }
+    ensures put { IfOk result (λ e. put_by e ≤ left_of desk.now.mind) }
+    ensures other { IfOk result (λ e. is_put go ≡ false → put_by e ≡ 0) }
+    ensures done { IfErr result (λ done. done ≡ done_without go) }
 {
     match go {
+        Move::Finish => Err(HoldDone::Finish),
         Move::Connect => match service {
-            Some(service) => Ok(Some(Event::Connect { line, service })),
-            None => Ok(None),
+            Some(service) => Ok(Event::Connect { line, service }),
+            None => unreachable!(),
         },
-        Move::Take => Ok(Some(Event::Take { line, n: 4096 })),
-        Move::Put => {
-            let bytes = Bytes::copy(alloc, desk.unput())?;
-            Ok(Some(Event::Put { line, bytes }))
-        }
-        Move::Close => Ok(Some(Event::Close { line })),
-        Move::Read | Move::Rest | Move::Finish => Ok(None),
+        Move::Take => Ok(Event::Take { line, n: 4096 }),
+        Move::Put => match Bytes::copy(alloc, desk.unput()) {
+            Ok(bytes) => Ok(Event::Put { line, bytes }),
+            Err(Memory) => Err(HoldDone::Memory),
+        },
+        Move::Close => Ok(Event::Close { line }),
+        Move::Read => Err(HoldDone::Read),
+        Move::Rest => Err(HoldDone::Rest),
     }
 }
 
@@ -58,7 +69,8 @@ fn event_of(
 fn tell(desk: &mut Desk, go: Move, answer: &Answer, moment: u64)
     requires put { put_of answer.now ≤ left_of desk.old.mind }
     requires other { is_put go ≡ false → put_of answer.now ≡ 0 }
-    ensures { left_of desk.new.mind + put_of answer.now ≡ left_of desk.old.mind }
+    ensures left { left_of desk.new.mind + put_of answer.now ≡ left_of desk.old.mind }
+    ensures calls { calls_of desk.new.mind ≡ calls_of desk.old.mind }
 {
     match go {
         Move::Connect => {
@@ -92,13 +104,14 @@ fn applied<C: Core, T: Tx, E: Ledger, B: Ledger, F: Ledger>(
     ensures seat { (share.new.seat ≡ share.old.seat) × (share.new.parts ≡ share.old.parts) }
     ensures full { result ≡ HoldDone.Full → share.new.full ≡ true }
     ensures read { is_read result ≡ false }
+    ensures calls { calls_of desk.new.mind ≡ calls_of desk.old.mind }
 {
     match cell.apply(alloc, event, share) {
         Ok(Receipt { place, answer }) => {
             tell(desk, go, &answer, moment);
             match answer {
-                Answer::Took(items) => HoldDone::Took(place, items),
-                _ => HoldDone::Applied(place),
+                Answer::Took(items) => HoldDone::Took { place, items },
+                _ => HoldDone::Applied { place },
             }
         }
         Err(CellFault::Full(_)) => HoldDone::Full,
@@ -106,7 +119,7 @@ fn applied<C: Core, T: Tx, E: Ledger, B: Ledger, F: Ledger>(
     }
 }
 
-/// What is done under one hold of the lock.
+/// What is done under one hold of the lock. A mind that calls has a service.
 pub fn hold<C: Core, T: Tx, E: Ledger, B: Ledger, F: Ledger>(
     desk: &mut Desk,
     alloc: Global,
@@ -114,10 +127,12 @@ pub fn hold<C: Core, T: Tx, E: Ledger, B: Ledger, F: Ledger>(
     share: &mut LineShare<E, B, F>,
     service: Option<Name>,
 ) -> HoldDone
+    requires { calls_of desk.old.mind ≡ is_some service }
     ensures counts { in_hand share.new desk.new ≤ in_hand share.old desk.old }
     ensures seat { (share.new.seat ≡ share.old.seat) × (share.new.parts ≡ share.old.parts) }
     ensures full { result ≡ HoldDone.Full → share.new.full ≡ true }
     ensures read { result ≡ HoldDone.Read → left_of desk.new.mind ≡ 0 }
+    ensures calls { calls_of desk.new.mind ≡ calls_of desk.old.mind }
 {
     let line = share.seat();
     let see = cell.look(line);
@@ -125,16 +140,8 @@ pub fn hold<C: Core, T: Tx, E: Ledger, B: Ledger, F: Ledger>(
         desk.mind.told(Fact::Free);
     }
     let go = desk.mind.next(&see);
-    match go {
-        Move::Finish => HoldDone::Finish,
-        Move::Read => HoldDone::Read,
-        Move::Rest => HoldDone::Rest,
-        Move::Connect | Move::Take | Move::Put | Move::Close => {
-            match event_of(alloc, desk, line, service, go) {
-                Ok(Some(event)) => applied(desk, alloc, cell, share, event, go, see.moment),
-                Ok(None) => HoldDone::Rest,
-                Err(Memory) => HoldDone::Memory,
-            }
-        }
+    match event_of(alloc, desk, line, service, go) {
+        Ok(event) => applied(desk, alloc, cell, share, event, go, see.moment),
+        Err(done) => done,
     }
 }

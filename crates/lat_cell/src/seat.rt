@@ -1,7 +1,7 @@
 //! A line's worker.
 
-ghost use Rattle.std.specs.Prelude.{◌≡◌, ◌+◌, ◌≤◌, Some, OnErr, true, ℕ};
-ghost use Rattle.lat_cell.specs.Minds.{left_of};
+ghost use Rattle.std.specs.Prelude.{◌≡◌, ◌+◌, ◌≤◌, Some, OnErr, is_some, true, ℕ};
+ghost use Rattle.lat_cell.specs.Minds.{calls_of, left_of};
 ghost use Rattle.lat_outside.specs.Causes.{Rose};
 ghost use Rattle.lat_cell.specs.Within.{Within, in_hand};
 
@@ -45,6 +45,7 @@ fn read_some<L: LineEnd>(line: &mut L, desk: &mut Desk) -> Result<(), Failed>
     ensures gave { (b : ℕ) → Within (L.left line.old) (L.left line.new) b (b + left_of desk.new.mind) }
     ensures later { L.faults line.old ≤ L.faults line.new }
     ensures fault { OnErr result (Rose (L.faults line.old) (L.faults line.new)) }
+    ensures calls { calls_of desk.new.mind ≡ calls_of desk.old.mind }
 {
     match line.read(&mut desk.buf)? {
         LineGot::Bytes(n) => {
@@ -67,6 +68,7 @@ impl<L: LineEnd, E: Ledger, B: Ledger, F: Ledger> Seat<L, E, B, F> {
         gate: &G,
         desk: &mut Desk,
     ) -> Option<LineDone>
+        requires { calls_of desk.old.mind ≡ is_some self.old.service }
         ensures seat { (self.new.share.seat ≡ self.old.share.seat)
             × (self.new.share.parts ≡ self.old.share.parts) }
         ensures gave { Within (L.left self.old.line) (L.left self.new.line)
@@ -75,6 +77,7 @@ impl<L: LineEnd, E: Ledger, B: Ledger, F: Ledger> Seat<L, E, B, F> {
         ensures fault { result ≡ Some LineDone.Fault →
             Rose (L.faults self.old.line) (L.faults self.new.line) }
         ensures full { result ≡ Some LineDone.Full → self.new.share.full ≡ true }
+        ensures calls { calls_of desk.new.mind ≡ is_some self.new.service }
     {
         let held = hold(
             desk,
@@ -87,11 +90,11 @@ impl<L: LineEnd, E: Ledger, B: Ledger, F: Ledger> Seat<L, E, B, F> {
             HoldDone::Finish => Some(LineDone::End),
             HoldDone::Full => Some(LineDone::Full),
             HoldDone::Memory => Some(LineDone::Memory),
-            HoldDone::Applied(place) => {
+            HoldDone::Applied { place } => {
                 gate.pass(self.share.seat(), place);
                 None
             }
-            HoldDone::Took(place, items) => {
+            HoldDone::Took { place, items } => {
                 gate.pass(self.share.seat(), place);
                 match write_items(&mut self.line, items.as_slice()) {
                     Ok(()) => None,

@@ -1,5 +1,6 @@
 use Rattle.std.proofs.Common.{◌≡◌, ◌≤◌, ◌+◌}
-use Rattle.lat_cell.specs.Minds.{left_of}
+use Rattle.std.specs.Prelude.{is_some}
+use Rattle.lat_cell.specs.Minds.{calls_of, left_of}
 use Rattle.lat_cell.specs.Within.{Within}
 use Rattle.lat_cell.proofs.seat.Seat.work.Given as goal
 
@@ -12,5 +13,6 @@ invariant-loop g l =
       seat : l.self.share.seat ≡ l.initial.self.share.seat;
       parts : l.self.share.parts ≡ l.initial.self.share.parts;
       gave : Within (k.left l.initial.self.line) (k.left l.self.line) l.initial.self.share.bytes (l.self.share.bytes + left_of l.desk.mind);
+      calls : calls_of l.desk.mind ≡ is_some l.self.service;
       later : k.faults l.initial.self.line ≤ k.faults l.self.line;
     }
