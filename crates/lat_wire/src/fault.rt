@@ -1,5 +1,6 @@
 //! What a world refuses.
 
+use crate::report::old_word;
 use lat_base::Memory;
 use thiserror::Error;
 
@@ -29,7 +30,7 @@ pub enum EventFault {
     },
     /// The circuit that the frame names lives, and the frame isn't young: its message number, or else its acknowledgement, is
     /// half a range or more below the newest that its sender has sent on its circuit.
-    #[error("old {number} {newest}")]
+    #[error("old {} {number} {newest}", old_word(*.acknowledgement))]
     Old {
         acknowledgement: bool,
         number: u64,

@@ -5,5 +5,6 @@ mod refused;
 mod rows;
 
 pub use noted::{Noted, Refusal, noted_onto};
+pub(crate) use refused::old_word;
 pub use refused::{Refused, refused_onto, why_onto};
 pub use rows::{Flow, SessionRow, done_onto, frames_onto, grant_onto, request_onto, session_onto};

@@ -32,7 +32,8 @@ pub enum Refused {
     EventsLimit,
 }
 
-fn old_word(acknowledgement: bool) -> &'static str
+// Which of the two numbers of a frame is too old.
+pub(crate) fn old_word(acknowledgement: bool) -> &'static str
     ensures { result.now ≡ old_word acknowledgement }
 {
     if acknowledgement {
