@@ -1,5 +1,5 @@
 -- A row that is changed beside the one that it shows.
-use Rattle.std.proofs.Common.{◌≡◌, ◌≢◌, ℕ, zero, suc, ◌+◌, ◌-◌, ◌*◌, ◌<◌, ◌≤◌, refl, sym, ap, ap₂, ◌∙◌, subst, arith, Bool, true, false, cond, ◌&&◌, List, [], ◌∷◌, ◌++◌, length, length-append, get_or, get_or-set_same, get_or-set_other, slice_set, slice_index, nat_eq, eqb-true}
+use Rattle.std.proofs.Common.{◌≡◌, ◌≢◌, ℕ, zero, suc, ◌+◌, ◌-◌, ◌<◌, ◌≤◌, refl, sym, ap, ap₂, ◌∙◌, subst, arith, Bool, true, false, cond, ◌&&◌, List, [], ◌∷◌, ◌++◌, length, length-append, get_or, get_or-set_same, get_or-set_other, slice_set, slice_index, nat_eq, eqb-true}
 use Rattle.std.proofs.lemmas.Bool.{eqb-false}
 use Rattle.std.proofs.lemmas.List.{map-append, append-nil, length-replicate}
 use Rattle.std.specs.Prelude.{map, replicate, slice_get, Some}
@@ -14,10 +14,11 @@ use Rattle.lat_laws.specs.tales.Rows.{RowAfter}
 use Rattle.lat_replay.specs.declared.roster.figures.Figures.{Figures}
 use Rattle.lat_machines.specs.cores.Cores.{Seat}
 use Rattle.lat_laws.specs.tales.Keeping.{change, no_rows, new_row, connects, accepts}
+use Rattle.lat_replay.specs.declared.roster.names.Key.{Key}
 use Rattle.lat_replay.specs.declared.roster.row.Row.{Row}
 use Rattle.lat_replay.specs.roster.Rows.{ShowsFigures, ShowsRow, IsSeat, HasReserved}
 use Rattle.lat_replay.specs.roster.Roster.{Kept, ShowsRows, HasRows, Holds, last_row}
-use Rattle.lat_replay.specs.roster.Names.{key_of, place_of}
+use Rattle.lat_replay.specs.roster.Names.{key_of, place_of, same_key}
 
 changed_at : (ks : List Row) (rs : List rows.RowAfter) (i : ℕ) (d k : Row) (f : rows.RowAfter → rows.RowAfter) → i < length ks → ShowsRows ks rs → ((r : rows.RowAfter) → ShowsRow (get_or ks i d) r → ShowsRow k (f r)) → ShowsRows (slice_set ks i k) (change (suc i) f rs)
 changed_at [] rs i d k f l h g = absurd (omega (arith, l))
@@ -43,7 +44,7 @@ zeros n xs i e = ap (λ z. get_or z i 0) e ∙ zero_at n i
 
 -- each line has the place 0
 
-pub holds_none : (n : ℕ) (k : Kept) → n ≡ 256 → k.server_lines ≡ replicate n 0 → k.node_lines ≡ replicate n 0 → ((key : ℕ) → place_of k.names key ≡ 0) → Holds k
+pub holds_none : (n : ℕ) (k : Kept) → n ≡ 256 → k.server_lines ≡ replicate n 0 → k.node_lines ≡ replicate n 0 → ((key : Key) → place_of k.names key ≡ 0) → Holds k
 holds_none n k all server node names = record {
   server_len = ap length server ∙ (length-replicate n 0 ∙ all);
   node_len = ap length node ∙ (length-replicate n 0 ∙ all);
@@ -52,12 +53,12 @@ holds_none n k all server node names = record {
   name_places = λ key. let e = names key in omega (arith, e);
 }
 
-pub shows_none : (n : ℕ) (k : Kept) → k.rows ≡ [] → k.server_lines ≡ replicate n 0 → k.node_lines ≡ replicate n 0 → ((key : ℕ) → place_of k.names key ≡ 0) → HasRows k no_rows
+pub shows_none : (n : ℕ) (k : Kept) → k.rows ≡ [] → k.server_lines ≡ replicate n 0 → k.node_lines ≡ replicate n 0 → ((key : Key) → place_of k.names key ≡ 0) → HasRows k no_rows
 shows_none n k rows server node names = record {
   rows = subst (λ z. ShowsRows z []) (sym rows) refl;
   server_lines = λ line l. zeros n k.server_lines line server;
   node_lines = λ line l. zeros n k.node_lines line node;
-  names = λ circuit id l. names (key_of circuit id);
+  names = λ circuit id. names (key_of circuit id);
 }
 
 -- one row more
@@ -99,18 +100,6 @@ last_more circuit id n found (y ∷ rs) r =
     plus : (n m : ℕ) → suc n + m ≡ n + suc m
     plus n m = omega arith
 
--- ids in one number tell the ids
-pub keys_differ : (circuit id c i : ℕ) → id < 256 → i < 256 → nat_eq (key_of circuit id) (key_of c i) ≡ (nat_eq circuit c && nat_eq id i)
-keys_differ circuit id c i a b = go (nat_eq (key_of circuit id) (key_of c i)) refl (nat_eq circuit c) refl (nat_eq id i) refl
-  where
-    go : (x : Bool) → nat_eq (key_of circuit id) (key_of c i) ≡ x → (y : Bool) → nat_eq circuit c ≡ y → (z : Bool) → nat_eq id i ≡ z → x ≡ (y && z)
-    go true p true q true r = refl
-    go false p true q true r = absurd (eqb-false (key_of circuit id) (key_of c i) p (ap₂ key_of (eqb-true circuit c q) (eqb-true id i r)))
-    go true p false q z r = absurd (eqb-false circuit c q (let e : circuit * 256 + id ≡ c * 256 + i = eqb-true (key_of circuit id) (key_of c i) p in omega (arith, e, a, b)))
-    go false p false q z r = refl
-    go true p true q false r = absurd (eqb-false id i r (let e : circuit * 256 + id ≡ c * 256 + i = eqb-true (key_of circuit id) (key_of c i) p in omega (arith, e, a, b)))
-    go false p true q false r = refl
-
 -- the places of lines
 
 lines_set : (xs : List ℕ) (i v j : ℕ) → i < length xs → get_or (slice_set xs i v) j 0 ≡ cond (nat_eq j i) v (get_or xs j 0)
@@ -134,17 +123,17 @@ accepted k v r f b line place left h n l e g changed server node names = record 
   rows = subst (λ z. ShowsRows v.rows (change place (λ y. record y { node_line = line }) (change z (λ y. record y { node = f }) r.rows))) (e ∙ h.node_lines line l) (changed h.rows (λ z. g (λ y. z (e ∙ y))));
   server_lines = λ j m. ap (λ z. get_or z j 0) server ∙ h.server_lines j m;
   node_lines = λ j m. ap (λ z. get_or z j 0) node ∙ (lines_set k.node_lines line place j (omega (arith, n, l)) ∙ ap (λ z. cond (nat_eq j line) place z) (h.node_lines j m));
-  names = λ c i m. ap (λ z. place_of z (key_of c i)) names ∙ (h.names c i m ∙ sym (last_changed c i 0 0 place (λ y. record y { node_line = line }) (change (r.node_lines line) (λ y. record y { node = f }) r.rows) (λ y. (refl, refl)) ∙ last_changed c i 0 0 (r.node_lines line) (λ y. record y { node = f }) r.rows (λ y. (refl, refl))));
+  names = λ c i. ap (λ z. place_of z (key_of c i)) names ∙ (h.names c i ∙ sym (last_changed c i 0 0 place (λ y. record y { node_line = line }) (change (r.node_lines line) (λ y. record y { node = f }) r.rows) (λ y. (refl, refl)) ∙ last_changed c i 0 0 (r.node_lines line) (λ y. record y { node = f }) r.rows (λ y. (refl, refl))));
 }
 
-pub connected : (k v : Kept) (r : rows.RowsAfter) (f : rows.Figures) (b : Figures) (s : Seat) (row : Row) (list : List Row) (line circuit id left : ℕ) → HasRows k r → IsSeat s line circuit id → length k.server_lines ≡ 256 → line < 256 → id < 256 → left ≡ get_or k.server_lines line 0 → (get_or k.server_lines line 0 ≢ 0 → ShowsFigures b f) → (ShowsRows k.rows r.rows → (left ≢ 0 → ShowsFigures b f) → ShowsRows list (change left (λ y. record y { server = f }) r.rows)) → ShowsRow row (new_row s) → v.rows ≡ list ++ row ∷ [] → v.server_lines ≡ slice_set k.server_lines line (length v.rows) → v.node_lines ≡ k.node_lines → ((q : ℕ) → place_of v.names q ≡ cond (nat_eq (key_of circuit id) q) (length v.rows) (place_of k.names q)) → HasRows v (connects s f r)
-connected k v r f b s row list line circuit id left h is n l m e g leaves new at server node names = record {
+pub connected : (k v : Kept) (r : rows.RowsAfter) (f : rows.Figures) (b : Figures) (s : Seat) (row : Row) (list : List Row) (line circuit id left : ℕ) → HasRows k r → IsSeat s line circuit id → length k.server_lines ≡ 256 → line < 256 → left ≡ get_or k.server_lines line 0 → (get_or k.server_lines line 0 ≢ 0 → ShowsFigures b f) → (ShowsRows k.rows r.rows → (left ≢ 0 → ShowsFigures b f) → ShowsRows list (change left (λ y. record y { server = f }) r.rows)) → ShowsRow row (new_row s) → v.rows ≡ list ++ row ∷ [] → v.server_lines ≡ slice_set k.server_lines line (length v.rows) → v.node_lines ≡ k.node_lines → ((q : Key) → place_of v.names q ≡ cond (same_key (key_of circuit id) q) (length v.rows) (place_of k.names q)) → HasRows v (connects s f r)
+connected k v r f b s row list line circuit id left h is n l e g leaves new at server node names = record {
   rows = subst (λ z. ShowsRows z (changed ++ new_row s ∷ [])) (sym at) (shows_more list changed row (new_row s) shown new);
   server_lines = λ j o. ap (λ z. get_or z j 0) server ∙ (lines_set k.server_lines line (length v.rows) j (omega (arith, n, l)) ∙ (ap₂ (λ y z. cond (nat_eq j line) y z) count (h.server_lines j o) ∙ ap (λ z. cond (nat_eq j z) (suc (length r.rows)) (r.server_lines j)) (sym is.line)));
   node_lines = λ j o. ap (λ z. get_or z j 0) node ∙ h.node_lines j o;
-  names = λ c i o.
+  names = λ c i.
       names (key_of c i)
-      ∙ (ap₂ (λ y z. cond y (length v.rows) z) (keys_differ circuit id c i m o) (h.names c i o ∙ sym (last_changed c i 0 0 (r.server_lines s.line) (λ y. record y { server = f }) r.rows (λ y. (refl, refl))))
+      ∙ (ap (λ z. cond (nat_eq circuit c && nat_eq id i) (length v.rows) z) (h.names c i ∙ sym (last_changed c i 0 0 (r.server_lines s.line) (λ y. record y { server = f }) r.rows (λ y. (refl, refl))))
       ∙ sym (last_more c i 0 0 changed (new_row s) ∙ (ap₂ (λ x y. cond (nat_eq x c && nat_eq y i) (suc (0 + length changed)) (last_row c i 0 0 changed)) is.circuit is.id ∙ ap (λ z. cond (nat_eq circuit c && nat_eq id i) z (last_row c i 0 0 changed)) (sym count2))));
 }
   where
@@ -210,7 +199,7 @@ added k v r b line place ps ts h l e changed server node names = record {
   rows = subst (λ z. ShowsRows v.rows (change z (with_items b ps ts) r.rows)) (e ∙ at b) (changed h.rows);
   server_lines = λ j m. ap (λ z. slice_index z j) server ∙ h.server_lines j m;
   node_lines = λ j m. ap (λ z. slice_index z j) node ∙ h.node_lines j m;
-  names = λ c i m. ap (λ z. place_of z (key_of c i)) names ∙ (h.names c i m ∙ sym (last_changed c i 0 0 (lines_of b r line) (with_items b ps ts) r.rows (ids b)));
+  names = λ c i. ap (λ z. place_of z (key_of c i)) names ∙ (h.names c i ∙ sym (last_changed c i 0 0 (lines_of b r line) (with_items b ps ts) r.rows (ids b)));
 }
   where
     at : (b : Bool) → slice_index (cond b k.server_lines k.node_lines) line ≡ lines_of b r line

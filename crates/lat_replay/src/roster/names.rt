@@ -1,17 +1,25 @@
 //! The rows by the ids of their sessions.
 
-ghost use Rattle.std.specs.Prelude.{◌≡◌, ◌+◌, ◌*◌, ◌<◌, ◌≤◌, ℕ, cond, nat_eq, OnOk, OnErr};
-ghost use Rattle.lat_replay.specs.roster.Names.{key_of, place_of};
+ghost use Rattle.std.specs.Prelude.{◌≡◌, ◌+◌, ◌<◌, ◌≤◌, cond, OnOk};
+ghost use Rattle.lat_replay.specs.roster.Names.{key_of, place_of, same_key};
+ghost use Rattle.lat_replay.specs.declared.roster.names.Key.{Key};
 
 use indexmap::IndexMap;
 use lat_base::Memory;
 use std::alloc::Global;
 use std::marker::Model;
 
+/// The server's ids of the circuit and of the session.
+#[derive(Clone, Copy, PartialEq, Eq, Hash)]
+pub(crate) struct Key {
+    circuit: u16,
+    id: u8,
+}
+
 /// For each circuit and session id of the server the place, from 1 on, of the last row that has them. Contracts see the places
 /// as a function of the ids, and for how many more there is room.
 pub(crate) struct Names {
-    places: IndexMap<u32, usize>,
+    places: IndexMap<Key, usize>,
 }
 
 impl Drop for Names {
@@ -29,17 +37,10 @@ impl Model for Names {
     ghost view = { λ a. record { entries = a.places.entries; reserved = spare a.places } };
 }
 
-// The ids in one number.
-fn key(circuit: u16, id: u8) -> u32
-    ensures { result ≡ key_of circuit id }
-{
-    u32::from(circuit) * 256 + u32::from(id)
-}
-
 impl Names {
     /// No places. It takes no memory.
     pub(crate) fn new(alloc: Global) -> Names
-        ensures { (key : ℕ) → place_of result key ≡ 0 }
+        ensures { (key : Key) → place_of result key ≡ 0 }
     {
         Names {
             places: IndexMap::new(alloc),
@@ -48,7 +49,7 @@ impl Names {
 
     /// Takes room for `n` more. `Memory` where none is found.
     pub(crate) fn reserve(&mut self, n: usize) -> Result<(), Memory>
-        ensures same { (key : ℕ) → place_of self.new key ≡ place_of self.old key }
+        ensures same { (key : Key) → place_of self.new key ≡ place_of self.old key }
         ensures ok { OnOk result (n ≤ self.new.reserved) }
     {
         self.places.reserve(n)?;
@@ -58,11 +59,11 @@ impl Names {
     /// Notes the place of the last row with these ids, for which there is room.
     pub(crate) fn set(&mut self, circuit: u16, id: u8, place: usize)
         requires { 0 < self.old.reserved }
-        ensures place { (k : ℕ) → place_of self.new k
-            ≡ cond (nat_eq (key_of circuit id) k) place (place_of self.old k) }
+        ensures place { (k : Key) → place_of self.new k
+            ≡ cond (same_key (key_of circuit id) k) place (place_of self.old k) }
         ensures reserved { self.old.reserved ≤ self.new.reserved + 1 }
     {
-        let Ok(_) = self.places.insert(key(circuit, id), place) else {
+        let Ok(_) = self.places.insert(Key { circuit, id }, place) else {
             unreachable!()
         };
     }
@@ -71,7 +72,7 @@ impl Names {
     pub(crate) fn get(&self, circuit: u16, id: u8) -> usize
         ensures { result ≡ place_of self.now (key_of circuit id) }
     {
-        match self.places.get(&key(circuit, id)) {
+        match self.places.get(&Key { circuit, id }) {
             Some(place) => *place,
             None => 0,
         }
