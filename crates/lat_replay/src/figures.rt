@@ -12,7 +12,7 @@ ghost use Rattle.lat_server.specs.Stands as servers;
 ghost use Rattle.lat_node.specs.Stands as nodes;
 ghost use Rattle.lat_laws.specs.tales.Rows as rows;
 ghost use Rattle.lat_laws.specs.tales.Reported.{server_figures, node_figures};
-ghost use Rattle.lat_replay.specs.roster.Rows.{ShowsFigures};
+ghost use Rattle.lat_replay.specs.roster.Rows.{ShowsFigures, some_line};
 ghost use Rattle.lat_replay.specs.Rows.{figures_shown};
 ghost use Rattle.lat_replay.specs.Standing.{StandsFor, HasHad, RowAt};
 
@@ -94,21 +94,20 @@ pub(crate) fn node_figures<H: RatingRule>(
     wire: &Wire<H>,
     roster: &Roster,
     place: usize,
-    line: u8,
+    line: Option<u8>,
     written: Figures,
 ) -> Figures
     requires { 0 < place }
     ensures { (w : Machines) (k : rows.RowsAfter) (r : rows.RowAfter) →
         StandsFor wire.now roster.now w k →
         RowAt k place r →
-        r.node_line ≡ line →
+        line ≡ some_line r.node_line →
         ShowsFigures written r.node →
         ShowsFigures result (node_figures w k place r) }
 {
-    let none = line == 0;
-    if none {
+    let Some(line) = line else {
         return Figures::NONE;
-    }
+    };
     let newest = roster.newest(false, line) == place;
     if newest {
         at_node(wire.node(), line)

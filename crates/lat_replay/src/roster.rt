@@ -202,7 +202,8 @@ impl Roster {
     /// A line of the node has a session more, whose row is the one at this place; at 0 it has none. The figures of the line's
     /// session before are written down, where it had a row.
     pub fn accepts(&mut self, line: u8, place: usize, before: Figures)
-        requires { place ≤ length self.old.rows }
+        requires line { 0 < line }
+        requires place { place ≤ length self.old.rows }
         ensures shows { (r : rows.RowsAfter) (f : rows.Figures) →
             HasRows self.old r →
             (slice_index self.old.node_lines line ≢ 0 → ShowsFigures before f) →

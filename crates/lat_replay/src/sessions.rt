@@ -1,6 +1,6 @@
 //! The lines of the sessions.
 
-ghost use Rattle.std.specs.Prelude.{◌≡◌, ◌<◌, ◌++◌, OnOk, cond, Some, None, nat_eq, string_bytes};
+ghost use Rattle.std.specs.Prelude.{◌≡◌, ◌<◌, ◌++◌, OnOk, string_bytes};
 ghost use Rattle.lat_machines.specs.world.Machines.{Machines};
 ghost use Rattle.lat_wire.specs.report.ReportText.{row_text, rows_text};
 ghost use Rattle.lat_wire.specs.report.Rows.{row_in};
@@ -16,13 +16,6 @@ use lat_base::Memory;
 use lat_wire::{Flow, RatingRule, SessionRow, Wire, session_onto};
 use std::alloc::Global;
 
-// The node's line as it is told; none for 0.
-fn some_line(line: u8) -> Option<u8>
-    ensures { result ≡ cond (nat_eq line 0) None (Some line) }
-{
-    if line == 0 { None } else { Some(line) }
-}
-
 // The session of a row, with its figures at both ends.
 fn session_row(row: &Row, server: Figures, node: Figures) -> SessionRow<'_>
     ensures { (r : rows.RowAfter) → ShowsRow row.now r →
@@ -30,7 +23,7 @@ fn session_row(row: &Row, server: Figures, node: Figures) -> SessionRow<'_>
 {
     SessionRow {
         line: row.line,
-        node_line: some_line(row.node_line),
+        node_line: row.node_line,
         ended: server.end,
         up: Flow {
             put: row.up.put.as_slice(),

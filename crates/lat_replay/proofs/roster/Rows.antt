@@ -2,7 +2,7 @@
 use Rattle.std.proofs.Common.{◌≡◌, ◌≢◌, ℕ, zero, suc, ◌+◌, ◌-◌, ◌<◌, ◌≤◌, refl, sym, ap, ap₂, ◌∙◌, subst, arith, Bool, true, false, cond, ◌&&◌, List, [], ◌∷◌, ◌++◌, length, length-append, get_or, get_or-set_same, get_or-set_other, slice_set, slice_index, nat_eq, eqb-true}
 use Rattle.std.proofs.lemmas.Bool.{eqb-false}
 use Rattle.std.proofs.lemmas.List.{map-append, append-nil, length-replicate}
-use Rattle.std.specs.Prelude.{map, replicate, slice_get, Some}
+use Rattle.std.specs.Prelude.{map, replicate, slice_get, Some, None}
 use Rattle.lat_base.specs.declared.item.Item.{Item}
 use Rattle.lat_base.specs.declared.item.Item.TheVariants.{Byte}
 use Rattle.lat_model.specs.sessions.Slots as slots
@@ -16,7 +16,7 @@ use Rattle.lat_machines.specs.cores.Cores.{Seat}
 use Rattle.lat_laws.specs.tales.Keeping.{change, no_rows, new_row, connects, accepts}
 use Rattle.lat_replay.specs.declared.roster.names.Key.{Key}
 use Rattle.lat_replay.specs.declared.roster.row.Row.{Row}
-use Rattle.lat_replay.specs.roster.Rows.{ShowsFigures, ShowsRow, IsSeat, HasReserved}
+use Rattle.lat_replay.specs.roster.Rows.{ShowsFigures, ShowsRow, IsSeat, HasReserved, some_line}
 use Rattle.lat_replay.specs.roster.Roster.{Kept, ShowsRows, HasRows, Holds, last_row}
 use Rattle.lat_replay.specs.roster.Names.{key_of, place_of, same_key}
 
@@ -31,6 +31,29 @@ shows_changed ks rs zero d k f a b h g = absurd (omega (arith, a))
 shows_changed ks rs (suc i) d k f a b h g =
     let e : suc i - 1 ≡ i = omega arith in
     subst (λ j. ShowsRows (slice_set ks j k) (change (suc i) f rs)) (sym e) (changed_at ks rs i d k f (omega (arith, b)) h (λ r q. g r (subst (λ j. ShowsRow (get_or ks j d) r) (sym e) q)))
+
+-- the line of the node
+
+pub line_given : (line : ℕ) → 0 < line → Some line ≡ some_line line
+line_given line l = go (nat_eq line 0) refl
+  where
+    go : (b : Bool) → nat_eq line 0 ≡ b → Some line ≡ cond b None (Some line)
+    go true q = absurd (let e : line ≡ 0 = eqb-true line 0 q in omega (arith, e, l))
+    go false q = refl
+
+pub given_line : (n line : ℕ) → Some line ≡ some_line n → (n ≡ line) × (line ≢ 0)
+given_line n line e = go (nat_eq n 0) refl e
+  where
+    go : (b : Bool) → nat_eq n 0 ≡ b → Some line ≡ cond b None (Some n) → (n ≡ line) × (line ≢ 0)
+    go true q e = let z : ⊥ = cc in absurd z
+    go false q e = let s : n ≡ line = cc in (s, λ z. eqb-false n 0 q (s ∙ z))
+
+pub none_given : (n : ℕ) → None ≡ some_line n → n ≡ 0
+none_given n e = go (nat_eq n 0) refl e
+  where
+    go : (b : Bool) → nat_eq n 0 ≡ b → None ≡ cond b None (Some n) → n ≡ 0
+    go true q e = eqb-true n 0 q
+    go false q e = let z : ⊥ = cc in absurd z
 
 -- lists of places
 

@@ -1,5 +1,5 @@
 -- What the rows of a roster show.
-use Rattle.std.specs.Prelude.{◌≡◌, ℕ, ◌+◌, ◌≤◌, Bool, true, false, map, option_map, vec_len, vec_capacity}
+use Rattle.std.specs.Prelude.{◌≡◌, ℕ, ◌+◌, ◌≤◌, Bool, true, false, cond, map, Option, Some, None, option_map, nat_eq, vec_len, vec_capacity}
 use Rattle.lat_stream.specs.Kept.{item_of, saturated}
 use Rattle.lat_lines.specs.Stands.{end_shown}
 use Rattle.lat_machines.specs.cores.Cores.{Seat}
@@ -13,11 +13,15 @@ pub record ShowsFigures (f : Figures) (r : rows.Figures) : Type 0 where
   pub used_up : f.used ≡ saturated r.used_up
   pub end : option_map end_shown f.end ≡ r.end
 
+-- the line that the node gave, which is 0 in the laws while it gave none
+abbrev pub some_line : ℕ → Option ℕ
+some_line line = cond (nat_eq line 0) None (Some line)
+
 pub record ShowsRow (k : Row) (r : rows.RowAfter) : Type 0 where
   pub line : k.line ≡ r.line
   pub circuit : k.circuit ≡ r.circuit
   pub id : k.id ≡ r.id
-  pub node_line : k.node_line ≡ r.node_line
+  pub node_line : k.node_line ≡ some_line r.node_line
   pub put_up : k.up.put.items ≡ map item_of r.put_up
   pub taken_up : k.up.taken.items ≡ map item_of r.taken_up
   pub put_down : k.down.put.items ≡ map item_of r.put_down

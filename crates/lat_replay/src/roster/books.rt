@@ -1,6 +1,6 @@
 //! What the two ends tell of their lines.
 
-ghost use Rattle.std.specs.Prelude.{◌≡◌, length, MatchOption};
+ghost use Rattle.std.specs.Prelude.{◌≡◌, ◌<◌, length, IfSome, MatchOption};
 ghost use Rattle.lat_machines.specs.cores.Books.{book};
 ghost use Rattle.lat_machines.specs.world.Machines.{Machines, core_of};
 ghost use Rattle.lat_stream.specs.Kept.{saturated};
@@ -49,9 +49,10 @@ fn present_on<H: RatingRule>(
     number: u64,
 ) -> Option<Newcomer>
     requires { IsLine (lines_at server (setups_of wire.now)) line }
-    ensures { (w : Machines) → Stands wire.now w →
+    ensures finds { (w : Machines) → Stands wire.now w →
         MatchOption result (NotOn (core_of w server) number line) (λ n.
         IsPresent (core_of w server) number n) }
+    ensures line { IfSome result (λ n. 0 < n.line) }
 {
     let book = book_on(wire, server, line);
     let session = book.present?;
@@ -73,7 +74,9 @@ pub(crate) fn present_at<H: RatingRule>(
     number: u64,
 ) -> Option<Newcomer>
     requires { lines_at server (setups_of wire.now) ≡ lines }
-    ensures { (w : Machines) → Stands wire.now w → Finds (core_of w server) number lines result }
+    ensures finds { (w : Machines) → Stands wire.now w →
+        Finds (core_of w server) number lines result }
+    ensures line { IfSome result (λ n. 0 < n.line) }
 {
     for below in 0..lines {
         let found = present_on(wire, server, below + 1, number);

@@ -1,6 +1,6 @@
 //! What is changed in one row.
 
-ghost use Rattle.std.specs.Prelude.{◌≡◌, ◌≢◌, ◌+◌, ◌-◌, ◌≤◌, [], ◌++◌, ℕ, List, length, map, OnOk};
+ghost use Rattle.std.specs.Prelude.{◌≡◌, ◌≢◌, ◌+◌, ◌-◌, ◌<◌, ◌≤◌, [], ◌++◌, ℕ, List, length, map, OnOk};
 ghost use Rattle.lat_model.specs.sessions.Slots as slots;
 ghost use Rattle.lat_laws.specs.tales.Rows as rows;
 ghost use Rattle.lat_laws.specs.tales.Keeping.{change, with_items};
@@ -40,11 +40,12 @@ pub(crate) fn leave_node(list: &mut [Row], place: usize, figures: Figures)
 
 // The row at this place gets the node's line; nothing at 0.
 pub(crate) fn join(list: &mut [Row], place: usize, line: u8)
-    requires { place ≤ length list.old }
+    requires place { place ≤ length list.old }
+    requires line { 0 < line }
     ensures { Changes list.old list.new place (λ r. record r { node_line = line }) }
 {
     if place > 0 {
-        list[place - 1].node_line = line;
+        list[place - 1].node_line = Some(line);
     }
 }
 
@@ -52,6 +53,7 @@ pub(crate) fn join(list: &mut [Row], place: usize, line: u8)
 pub(crate) fn hand_over(list: &mut [Row], left: usize, figures: Figures, place: usize, line: u8)
     requires left { left ≤ length list.old }
     requires place { place ≤ length list.old }
+    requires line { 0 < line }
     ensures { (rs : List rows.RowAfter) (f : rows.Figures) →
         ShowsRows list.old rs →
         (left ≢ 0 → ShowsFigures figures f) →

@@ -25,14 +25,14 @@ impl Drop for Flow {
     }
 }
 
-/// What is kept of one session of the server. `node_line` is the line that the node gave it, 0 while it gave none. The
-/// figures are those that were written down when the line of that end got another session.
+/// What is kept of one session of the server. `node_line` is the line that the node gave it, if it gave one. The figures are
+/// those that were written down when the line of that end got another session.
 pub struct Row {
     pub line: u8,
     /// The server's ids of circuit and session.
     pub circuit: u16,
     pub id: u8,
-    pub node_line: u8,
+    pub node_line: Option<u8>,
     /// From the server to the node.
     pub up: Flow,
     /// From the node to the server.
@@ -78,7 +78,7 @@ impl Row {
             line,
             circuit,
             id,
-            node_line: 0,
+            node_line: None,
             up: Flow::new(alloc),
             down: Flow::new(alloc),
             server: Figures::NONE,

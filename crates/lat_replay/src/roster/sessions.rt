@@ -132,6 +132,7 @@ fn connect(alloc: Global, newcomer: Newcomer, roster: &mut Roster)
 
 // A line of the node has got a session.
 fn accept<H: RatingRule>(wire: &Wire<H>, newcomer: Newcomer, roster: &mut Roster)
+    requires { 0 < newcomer.line }
     ensures places { (n : ℕ) → HasPlaces n roster.old → HasPlaces n roster.new }
     ensures stage { (u : Setups) (x : Machines) (front rest : List Seat) (t : Seat)
         (k target : RowsAfter) →

@@ -11,4 +11,4 @@ returns g c = λ w k r st at sh.
     c.in_ok-session_onto.ensures
     (c.session_row.ensures r sh)
     (c.in_ok-server.ensures (server_figures w k c.args.place r) (c.server_figures.ensures w k r st (sym sh.line) sh.server))
-    (c.in_ok-node.ensures (node_figures w k c.args.place r) (c.node_figures.ensures w k r st at (sym sh.node_line) sh.node))
+    (c.in_ok-node.ensures (node_figures w k c.args.place r) (c.node_figures.ensures w k r st at sh.node_line sh.node))
