@@ -14,10 +14,11 @@ pub enum Span {
 }
 
 impl Span {
-    // Half of the range of a number field. A field is heard as the whole number that leaves it modulo twice
-    // this and lies from this below the number last known up to this less one above it.
-    pub(crate) fn half(self) -> u16
-        ensures { result ≡ half self }
+    /// Half of the range of a number field. A field is heard as the whole number that leaves it modulo twice
+    /// this and lies from this below the number last known up to this less one above it.
+    pub fn half(self) -> u16
+        ensures value { result ≡ half self }
+        ensures above { 0 < result }
     {
         match self {
             Span::Byte => 128,

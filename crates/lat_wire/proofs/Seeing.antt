@@ -10,14 +10,15 @@ use Rattle.lat_machines.specs.cores.Cores.{Core, Side, span}
 use Rattle.lat_machines.specs.cores.Hearing.{names}
 use Rattle.lat_machines.specs.cores.Lines.{end_of, session_of, seat_at, has_session, line_state}
 use Rattle.lat_seq.specs.declared.span.Span.{Span}
+use Rattle.lat_seq.specs.Spans.{half}
 use Rattle.lat_stream.specs.Kept.{state_shown}
 use Rattle.lat_lines.specs.circuits.Info.{some_span}
 use Rattle.lat_wire.specs.declared.ledger.heading.Heading.{Heading}
-use Rattle.lat_wire.specs.Ends.{half_at, half_named, half_span, is_held}
+use Rattle.lat_wire.specs.Ends.{half_at, half_named, is_held}
 
 -- half the range of a circuit, by what the core tells of it
 
-told_span : (o : Option Bool) → option_map half_span (some_span o) ≡ option_map half_range o
+told_span : (o : Option Bool) → option_map half (some_span o) ≡ option_map half_range o
 told_span None = refl
 told_span (Some true) = refl
 told_span (Some false) = refl

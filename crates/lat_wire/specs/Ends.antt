@@ -19,7 +19,7 @@ use Rattle.lat_server.specs.Stands as server_stands
 use Rattle.lat_node.specs.Kept as nodes
 use Rattle.lat_node.specs.Stands as node_stands
 use Rattle.lat_seq.specs.declared.span.Span.{Span}
-use Rattle.lat_seq.specs.declared.span.Span.TheVariants as spans
+use Rattle.lat_seq.specs.Spans.{half}
 use Rattle.lat_wire.specs.declared.ledger.heading.Heading.{Heading}
 use Rattle.lat_wire.specs.ledger.Books.{IsReadable}
 use Rattle.lat_wire.specs.Rates.{RatesWhatIsLeft, rates}
@@ -61,13 +61,9 @@ pub record MadeFrames (u : Setups) (w : Machines) (server : Bool) (e : Event) (o
 abbrev pub half_at : Core → ℕ → Heading → Option ℕ
 half_at c from h = cond (names c.circuits from h.to h.from) (Some (half_range (c.circuits.circuit_at h.to).end.wide)) None
 
-abbrev pub half_span : Span → ℕ
-half_span spans.Byte = 128
-half_span spans.Word = 32768
-
--- of the span of a circuit, where it is named
+-- half the range of the span of a circuit, where it is named
 abbrev pub half_named : Bool → Option Span → Option ℕ
-half_named named span = cond named (option_map half_span span) None
+half_named named span = cond named (option_map half span) None
 
 -- whether it is the state of a session that a line has
 abbrev pub is_held : SessionState → Bool

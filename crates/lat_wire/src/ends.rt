@@ -8,7 +8,7 @@ ghost use Rattle.lat_machines.specs.values.Addresses.{address};
 ghost use Rattle.lat_machines.specs.values.Timing.{half_range};
 ghost use Rattle.lat_machines.specs.world.Machines.{Machines, core_of, tell};
 ghost use Rattle.lat_lines.specs.Events.{event_shown};
-ghost use Rattle.lat_wire.specs.Ends.{AreEnds, MadeFrames, setups_of, half_at, half_named, half_span, is_held};
+ghost use Rattle.lat_wire.specs.Ends.{AreEnds, MadeFrames, setups_of, half_at, half_named, is_held};
 ghost use Rattle.lat_wire.specs.Rates.{rates};
 ghost use Rattle.lat_wire.specs.Told.{answered};
 
@@ -143,21 +143,14 @@ fn is_held(state: SessionState) -> bool
     !matches!(state, SessionState::Free)
 }
 
-// Half the range of the numbers of this span.
-fn half_span(span: Span) -> u64
-    ensures value { result ≡ half_span span }
-    ensures above { 0 < result }
-{
-    match span {
-        Span::Byte => 128,
-        Span::Word => 32_768,
-    }
-}
-
 // Half the range of the circuit of this span, where it is named.
 fn half_of(names: bool, span: Option<Span>) -> Option<u64>
     ensures value { result ≡ half_named names span }
     ensures above { IfSome result (λ half. 0 < half) }
 {
-    if names { Some(half_span(span?)) } else { None }
+    if names {
+        Some(u64::from(span?.half()))
+    } else {
+        None
+    }
 }
