@@ -50,7 +50,7 @@ pub is_run : (ss : List Slot) (facts : List SlotFacts) (text : List ℕ) → All
     → IsRun tell (map slot_heard ss) facts text
 is_run ss facts text ok few same is = record {
   facts_are = same ∙ each_heard ss;
-  told = ap tell is ∙ heard_back ss ok;
+  reads = ap tell is ∙ heard_back ss ok;
   few = omega (arith, length-map ss slot_heard, few);
   low = all_low ss ok;
 }

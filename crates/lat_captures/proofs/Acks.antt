@@ -77,7 +77,7 @@ side_stays tell s seen texts lists more e h = subst (SideStands tell s seen text
 
 side_acks : (tell : List ℕ → List Slot) (s : Side) (seen : Seen) (texts : List (List ℕ)) (lists more : List (List Owned)) (a : ℕ) → more ≡ lists → SideStands tell s seen texts lists
     → SideStands tell (acknowledging s a) (record { messages = seen.messages; beside = seen.beside; acknowledged = a }) texts more
-side_acks tell s seen texts lists more a e h = record { count = h.count; acknowledged = refl; told = h.told; texts_are = h.texts_are; slots_are = h.slots_are ∙ ap (λ z. last_eight (map (map owned_slot_of) z)) (sym e) }
+side_acks tell s seen texts lists more a e h = record { count = h.count; acknowledged = refl; reads = h.reads; texts_are = h.texts_are; slots_are = h.slots_are ∙ ap (λ z. last_eight (map (map owned_slot_of) z)) (sym e) }
 
 each_rise : (n k : ℕ) (bs : List ℕ) → n ≤ k → Each (λ a. a ≤ n) bs → Each (λ a. a ≤ k) bs
 each_rise n k [] h e = tt

@@ -44,7 +44,7 @@ told_as : (m : Bool) (c : Checker) (h : RunHead) (facts : List SlotFacts) (text 
 told_as m c h facts text bare q t tell ask b x xs r s i =
     let same : bare ≡ is_empty xs = t.0 ∙ ap (λ z. length z == 0) i.facts_are ∙ bare_is xs in
     subst (TestsAs c.title b x (run_by m r text) h.wide (head_shown ask h) xs) (sym (t.1 ∙ ap (λ z. tested c m h z text) same))
-    (tests_by m tell c b x ask h xs r text s i.told t.2)
+    (tests_by m tell c b x ask h xs r text s i.reads t.2)
 
 pub refused : (m : Bool) (c d : Checker) (h : RunHead) (facts : List SlotFacts) (text : List ℕ) (bare : Bool) (rule : Rule) → Told m c h facts text bare (Err rule)
     → AnswersRunBy m c h facts text d (Ok (Some rule))

@@ -65,7 +65,7 @@ pub side_sends : (tell : List ℕ → List Slot) (s : Side) (seen : Seen) (texts
 side_sends tell s seen texts lists more text xs kept os bs e k t h = record {
   count = ap (λ z. z + 1) h.count ∙ sym (length-append seen.messages (xs ∷ []));
   acknowledged = h.acknowledged;
-  told = map-append tell texts (text ∷ []) ∙ ap₂ (λ u v. u ++ v ∷ []) h.told t;
+  reads = map-append tell texts (text ∷ []) ∙ ap₂ (λ u v. u ++ v ∷ []) h.reads t;
   texts_are = map_pushed (λ (m : Message). m.text) s.recent (record { text = text; slots = kept }) ∙ ap (λ z. pushed z text) h.texts_are ∙ pushed_eight texts text;
   slots_are =
       map_pushed (λ (m : Message). m.slots) s.recent (record { text = text; slots = kept }) ∙ ap₂ pushed h.slots_are k ∙ pushed_eight (map (map owned_slot_of) lists) (map owned_slot_of os)

@@ -18,8 +18,8 @@ none_held = record {
 
 pub starts_from : (tell : List ℕ → List Slot) (c : Checker) → c.master ≡ record { count = 0; acknowledged = 0; recent = [] } → c.slave ≡ record { count = 0; acknowledged = 0; recent = [] } → sums_of c.accounts ≡ no_sums → c.places ≡ 0 → c.runs ≡ 0 → Stands tell c nothing no_texts
 starts_from tell c m s a p r = record {
-  master = subst (λ z. SideStands tell z nothing.master [] []) (sym m) (record { count = refl; acknowledged = refl; told = refl; texts_are = refl; slots_are = refl });
-  slave = subst (λ z. SideStands tell z nothing.slave [] []) (sym s) (record { count = refl; acknowledged = refl; told = refl; texts_are = refl; slots_are = refl });
+  master = subst (λ z. SideStands tell z nothing.master [] []) (sym m) (record { count = refl; acknowledged = refl; reads = refl; texts_are = refl; slots_are = refl });
+  slave = subst (λ z. SideStands tell z nothing.slave [] []) (sym s) (record { count = refl; acknowledged = refl; reads = refl; texts_are = refl; slots_are = refl });
   sums = subst (Holds nothing [] [] [] []) (sym a) none_held;
   places = p;
   master_shows = record { sent = omega arith; near = omega arith; each = refl; rising = tt };

@@ -64,7 +64,7 @@ text_at tell s seen texts lists n text h low high near =
     count = length seen.messages
 
     many : length texts ≡ count
-    many = sym (length-map texts tell) ∙ ap length h.told
+    many = sym (length-map texts tell) ∙ ap length h.reads
 
     long : length s.recent ≡ count - (count - 8)
     long = sym (length-map s.recent (λ (m : Message). m.text)) ∙ ap length h.texts_are ∙ length-drop (length texts - 8) texts ∙ ap (λ z. z - (z - 8)) many
@@ -124,8 +124,8 @@ slots_are tell s seen texts lists n (x ∷ xs) text h f told = go (nat_le n coun
     go true e =
         let high : n ≤ count = leb-true n count e in
         let sent : nat_lt s.count n ≡ false = let k = h.count in grind (arith, nat_tests) in
-        let many : length texts ≡ count = sym (length-map texts tell) ∙ ap length h.told in
-        let message : get_or seen.messages (n - 1) [] ≡ tell (get_or texts (n - 1) []) = ap (λ z. get_or z (n - 1) []) (sym h.told) ∙ get_or-map tell texts (n - 1) [] [] (omega (arith, many, high, f.0)) in
+        let many : length texts ≡ count = sym (length-map texts tell) ∙ ap length h.reads in
+        let message : get_or seen.messages (n - 1) [] ≡ tell (get_or texts (n - 1) []) = ap (λ z. get_or z (n - 1) []) (sym h.reads) ∙ get_or-map tell texts (n - 1) [] [] (omega (arith, many, high, f.0)) in
         ap (λ c. not c || (same_slots (get_or seen.messages (n - 1) []) (x ∷ xs) && same_bytes (get_or texts (n - 1) []) text)) e
         ∙ both_same (get_or seen.messages (n - 1) []) (x ∷ xs) (get_or texts (n - 1) []) text (λ q. message ∙ ap tell q ∙ told)
         ∙ sym (text_at tell s seen texts lists n text h f.0 high f.1)

@@ -27,7 +27,7 @@ title_of c = c.title
 -- These are the facts of a RUN's slots, of which there are 255 at most with at most 255 credits each; the text tells them
 pub record IsRun (tell : List ℕ → List Slot) (slots : List Slot) (facts : List SlotFacts) (text : List ℕ) : Type 0 where
   pub facts_are : facts ≡ map facts_of slots
-  pub told : tell text ≡ slots
+  pub reads : tell text ≡ slots
   pub few : length slots ≤ 255
   pub low : Each (λ x. credits_of x ≤ 255) slots
 

@@ -67,7 +67,7 @@ pub record SideStands (tell : List ℕ → List Slot) (s : Side) (seen : Seen)
     (texts : List (List ℕ)) (lists : List (List Owned)) : Type 0 where
   pub count : s.count ≡ length seen.messages
   pub acknowledged : s.acknowledged ≡ seen.acknowledged
-  pub told : map tell texts ≡ seen.messages
+  pub reads : map tell texts ≡ seen.messages
   pub texts_are : map (λ m. m.text) s.recent ≡ last_eight texts
   pub slots_are : map (λ m. m.slots) s.recent ≡ last_eight (map (map owned_slot_of) lists)
 

@@ -9,6 +9,7 @@ use Rattle.lat_model.specs.sessions.Slots as model
 use Rattle.lat_model.specs.sessions.Hearing.{HeardAll, hear_all}
 use Rattle.lat_model.specs.ends.End.{End, still, finish}
 use Rattle.lat_model.specs.ends.Run.{ack_end, run_end}
+use Rattle.lat_model.specs.Reasons.{broken}
 use Rattle.lat_machines.specs.values.Messages.{Head}
 use Rattle.lat_machines.specs.values.Answers.{Heard, Taken, Again, AckOnly, Foreign, Broke}
 use Rattle.lat_machines.specs.cores.Hearing.{fits_kind, numbers_at, run_frame}
@@ -170,7 +171,7 @@ then_applies h slots r k m l is state body = λ e st.
     )
 
 abbrev step_of : (e : End) (o : Option Heard) → HeardStep
-step_of e o = elim o [ None ↦ record { step = finish 2 e; answer = Broke 2 } | Some answer ↦ record { step = slave_occasion e; answer = answer } ]
+step_of e o = elim o [ None ↦ record { step = finish broken e; answer = Broke broken } | Some answer ↦ record { step = slave_occasion e; answer = answer } ]
 
 pub applied_ok : {E : Type 0} (f : End → Applied) (r : Result OwnHeard E) (answer : OwnHeard) (k m l : Kept) (o p : List OutFrame) → r ≡ Ok answer
     → Applies f r k m → Simulates slave_occasion m l o p → SimulatesHearing (λ e. applied_step (f e)) answer k l o p
@@ -181,11 +182,11 @@ applied_ok f r answer k m l o p is a did = λ e st.
     subst P (ap (λ z. step_of (f e).end z) (ap some_answer (sym is) ∙ x.1)) (y.0, y.1, refl, y.2)
 
 pub applied_err : {E : Type 0} (f : End → Applied) (r : Result OwnHeard E) (b : E) (k m l : Kept) (o p : List OutFrame) → r ≡ Err b
-    → Applies f r k m → Simulates (finish 2) m l o p → SimulatesHearing (λ e. applied_step (f e)) (answers.Broke 2) k l o p
+    → Applies f r k m → Simulates (finish broken) m l o p → SimulatesHearing (λ e. applied_step (f e)) (answers.Broke broken) k l o p
 applied_err f r b k m l o p is a did = λ e st.
     let x = a e st in
     let y = did (f e).end x.0 in
-    let P : HeardStep → Type 0 = λ s. Stands l s.step.end × (p ≡ o ++ map (frame_sent l.facts) s.step.sent) × (Broke 2 ≡ s.answer) × AreFormed l.facts s.step.sent in
+    let P : HeardStep → Type 0 = λ s. Stands l s.step.end × (p ≡ o ++ map (frame_sent l.facts) s.step.sent) × (Broke broken ≡ s.answer) × AreFormed l.facts s.step.sent in
     subst P (ap (λ z. step_of (f e).end z) (ap some_answer (sym is) ∙ x.1)) (y.0, y.1, refl, y.2)
 
 -- which RUNs belong to the circuit

@@ -18,6 +18,7 @@ use Rattle.lat_session.specs.Hears.{Hears}
 use Rattle.lat_session.specs.Stands as sessions
 use Rattle.lat_session.specs.Table.{Table}
 use Rattle.lat_model.specs.numbers.Near.{near}
+use Rattle.lat_model.specs.Reasons.{broken}
 use Rattle.lat_machines.specs.values.Timing.{half_range}
 use Rattle.lat_seq.specs.Acks.{by_numbers}
 use Rattle.lat_seq.specs.Spans.{half}
@@ -48,8 +49,8 @@ after_is false x y p q l r = r
 
 broken_is : (s : Sessions) (e : End) → answered (after_run (broken_end s e)) ≡ applied_step (record { end = record e { half = record (e.half) { sessions = s } }; answer = None })
 broken_is s e =
-    let f : Step = finish 2 (record e { half = record (e.half) { sessions = s } }) in
-    ap (λ z. record { step = record { end = f.end; sent = z }; answer = Broke 2 }) (append-nil f.sent)
+    let f : Step = finish broken (record e { half = record (e.half) { sessions = s } }) in
+    ap (λ z. record { step = record { end = f.end; sent = z }; answer = Broke broken }) (append-nil f.sent)
 
 slots_are : (slots : List model.Slot) (e : End) → answered (after_run (take_end slots e)) ≡ applied_step (apply_slots slots e)
 slots_are slots e =

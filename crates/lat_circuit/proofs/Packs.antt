@@ -3,7 +3,7 @@ use Rattle.std.proofs.Common.{◌≡◌, ℕ, zero, suc, ◌+◌, ◌-◌, Bool,
 use Rattle.std.proofs.Math.Seq.{take-append_seam}
 use Rattle.std.proofs.lemmas.Bool.{false≢true}
 use Rattle.lat_base.specs.declared.outbox.OutFrame.{OutFrame}
-use Rattle.lat_base.specs.declared.outbox.Mark.{Mark as FrameMark}
+use Rattle.lat_base.specs.declared.outbox.Mark.{Mark as OwnMark}
 use Rattle.lat_base.specs.declared.outbox.Mark.TheVariants as marks
 use Rattle.lat_model.specs.Lists.{is_empty}
 use Rattle.lat_model.specs.numbers.Link.{Link, Frame, frames_from, again_frames}
@@ -101,7 +101,7 @@ round_whole k n l h =
     (length_marked k.facts (again_frames l) ∙ length_from l.known (length l.came) (drop l.known l.sent) ∙ sym h)
 
 -- a frame of a circuit
-abbrev pub framed : Inside → List ℕ → FrameMark → OutFrame
+abbrev pub framed : Inside → List ℕ → OwnMark → OutFrame
 framed a payload mark = record { to = a.config.peer; payload = payload; circuit = a.link.ids.from; mark = mark }
 
 some_same : (x y : List ℕ) → Some x ≡ Some y → x ≡ y

@@ -1,7 +1,7 @@
 -- What an end sends, as messages and as frames.
 use Rattle.std.specs.Prelude.{ℕ, false, true, List, []}
 use Rattle.lat_base.specs.declared.outbox.OutFrame.{OutFrame}
-use Rattle.lat_base.specs.declared.outbox.Mark.{Mark as FrameMark}
+use Rattle.lat_base.specs.declared.outbox.Mark.{Mark as OwnMark}
 use Rattle.lat_base.specs.declared.outbox.Mark.TheVariants as marks
 use Rattle.lat_fields.specs.Payloads.{padded}
 use Rattle.lat_frames.specs.Written.{message_text}
@@ -56,13 +56,13 @@ message_sent k ReplyStart =
     StartMessage false false k.peer k.id (reply_info (timing_shown k.config.timing) k.wide k.config.name k.config.peer_name)
 message_sent k (Stopped reason) = StopMessage k.master false k.peer k.id reason []
 
-abbrev pub mark_shown : Mark → FrameMark
-mark_shown Fresh = marks.Fresh
-mark_shown (Again back) = marks.Again back
-mark_shown Bare = marks.Bare
+abbrev pub mark_formed : Mark → OwnMark
+mark_formed Fresh = marks.Fresh
+mark_formed (Again back) = marks.Again back
+mark_formed Bare = marks.Bare
 
-abbrev pub mark_sent : Sent → FrameMark
-mark_sent (Run m ask f) = mark_shown m
+abbrev pub mark_sent : Sent → OwnMark
+mark_sent (Run m ask f) = mark_formed m
 mark_sent CallStart = marks.Plain
 mark_sent ReplyStart = marks.Plain
 mark_sent (Stopped reason) = marks.Plain
@@ -80,7 +80,7 @@ frame_sent k s = record {
 pub record FrameView : Type 0 where
   pub to : ℕ
   pub circuit : ℕ
-  pub mark : FrameMark
+  pub mark : OwnMark
   pub payload : List ℕ
 
 -- a frame as it goes out

@@ -8,7 +8,7 @@ ghost use Rattle.lat_model.specs.ends.End.{End, lives};
 ghost use Rattle.lat_model.specs.sessions.Session.{state, peer, take_open, waits};
 ghost use Rattle.lat_model.specs.sessions.Sessions.{named, held};
 ghost use Rattle.lat_model.specs.sessions.Slots.{items, credits, costs};
-ghost use Rattle.lat_stream.specs.Kept.{saturated, state_shown};
+ghost use Rattle.lat_stream.specs.Kept.{saturated, state_of};
 ghost use Rattle.lat_session.specs.States.{asked_of, asked_at, is_asked, held_in};
 ghost use Rattle.lat_session.specs.Table.{state_at, waiting_at};
 ghost use Rattle.lat_circuit.specs.Agrees.{span_of};
@@ -119,7 +119,7 @@ impl Circuit {
         ensures model { (e : End) →
             Stands self.now e →
             result ≡ length (filter
-            (λ id. is_asked (state_shown (state e.half.sessions.master (named e.half.sessions id))))
+            (λ id. is_asked (state_of (state e.half.sessions.master (named e.half.sessions id))))
             (upwards 0 64)) }
         ensures slave { (e : End) →
             Stands self.now e →
@@ -135,7 +135,7 @@ impl Circuit {
         ensures id { IfSome result (λ a. a.id ≡ id) }
         ensures model { (e : End) →
             Stands self.now e →
-            result ≡ cond (is_asked (state_shown (state e.half.sessions.master
+            result ≡ cond (is_asked (state_of (state e.half.sessions.master
             (named e.half.sessions id))))
             (Some (asked_at e.half.sessions id))
             None }

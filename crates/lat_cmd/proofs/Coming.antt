@@ -103,7 +103,7 @@ done_fits : (status : ℕ) (is : Bool) → (status ≡ 0) × (is ≡ true) → i
 done_fits status is h = h.1 ∙ ap (λ n. nat_eq n 0) (sym h.0)
 
 pub fits : (c : Command) (input : List ℕ) → Fits c (answer_to c input)
-fits Show input = show_fits (shows.lines_shown 1 (lines_of input))
+fits Show input = show_fits (shows.lines_printed 1 (lines_of input))
 fits Choose input = choose_fits (chooses.printed_after (chooses.opening_of (lines_of input)))
 fits Replay input = tale_fits reported input report_fits
 fits (Capture p) input = tale_fits (captured p) input (capture_fits p)

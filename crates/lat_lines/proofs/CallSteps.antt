@@ -21,7 +21,7 @@ use Rattle.lat_lines.proofs.OnLines.{HasSeat, Found, found, is_seat_of}
 use Rattle.lat_lines.proofs.HeldSeats.{IsHeld, held_seat, circuit_is, id_is}
 use Rattle.lat_lines.proofs.Standing.{stands_as}
 use Rattle.lat_lines.proofs.CoresLater.{calling_later}
-use Rattle.lat_lines.proofs.Acting.{Settles, SettlesUnless, Acted, same_held, ok_of, acted, acted_unless}
+use Rattle.lat_lines.proofs.Acting.{Reaps, ReapsUnless, Acted, same_held, ok_of, acted, acted_unless}
 use Rattle.lat_lines.proofs.Calling.{Agrees}
 
 -- the session of a line, or none
@@ -94,17 +94,17 @@ refused k line f a e c st = by (line_exists k.lines line) refl (find (is_seat_of
 -- a call that the circuits did
 
 pub acted_calling : (k m : Kept) (q : circuits.Kept) (x : ℕ) (call : Call) (c : Core) → Stands k c → circuits.ids q ≡ circuits.ids k.circuits
-    → stands.Stands q (stands.calling (side_of k) x call c) → Settles (record k { circuits = q }) m → m.circuits ≡ q
+    → stands.Stands q (stands.calling (side_of k) x call c) → Reaps (record k { circuits = q }) m → m.circuits ≡ q
     → Acted c (stands.calling (side_of k) x call c) m
-acted_calling k m q x call c st ids h settles same =
-    acted k q m c (stands.calling (side_of k) x call c) st (same_held k.circuits q ids) h (calling_later (side_of k) x call c (ok_of k c st)) settles same
+acted_calling k m q x call c st ids h reaps same =
+    acted k q m c (stands.calling (side_of k) x call c) st (same_held k.circuits q ids) h (calling_later (side_of k) x call c (ok_of k c st)) reaps same
 
-pub settled_calling : (k m : Kept) (q : circuits.Kept) (x : ℕ) (call : Call) (calm : Bool) (c : Core) → Stands k c → circuits.ids q ≡ circuits.ids k.circuits
-    → stands.Stands q (stands.calling (side_of k) x call c) → SettlesUnless (record k { circuits = q }) m calm → m.circuits ≡ q
+pub reaped_calling : (k m : Kept) (q : circuits.Kept) (x : ℕ) (call : Call) (calm : Bool) (c : Core) → Stands k c → circuits.ids q ≡ circuits.ids k.circuits
+    → stands.Stands q (stands.calling (side_of k) x call c) → ReapsUnless (record k { circuits = q }) m calm → m.circuits ≡ q
     → (calm ≡ true → CoreCalm c (stands.calling (side_of k) x call c))
     → Acted c (stands.calling (side_of k) x call c) m
-settled_calling k m q x call calm c st ids h settles same calms =
-    acted_unless k q m calm c (stands.calling (side_of k) x call c) st (same_held k.circuits q ids) h (calling_later (side_of k) x call c (ok_of k c st)) settles same calms
+reaped_calling k m q x call calm c st ids h reaps same calms =
+    acted_unless k q m calm c (stands.calling (side_of k) x call c) st (same_held k.circuits q ids) h (calling_later (side_of k) x call c (ok_of k c st)) reaps same calms
 
 -- A call X of the circuits on the kept session agrees with the machines' call f on the line's one
 pub says_called : (k m : Kept) (line : ℕ) (s : own.Seat) (f : Core → Seat → Said) (x : Call) (a : base.Answer)

@@ -13,7 +13,7 @@ use Rattle.lat_model.specs.ends.End.{End, lives}
 use Rattle.lat_machines.specs.cores.Books.{LineSession, LineBook, book_of, book, line_history}
 use Rattle.lat_machines.specs.cores.Cores.{Core}
 use Rattle.lat_machines.specs.cores.Lines.{session_of, seat_at, has_session, line_state, waiting_at}
-use Rattle.lat_stream.specs.Kept.{state_shown}
+use Rattle.lat_stream.specs.Kept.{state_of}
 use Rattle.lat_circuit.specs.Info.{session_state}
 use Rattle.lat_lines.specs.declared.seat.Seat as own
 use Rattle.lat_lines.specs.Kept.{Kept, IsLine, side_of}
@@ -55,7 +55,7 @@ last_told k c line o st l e = by o ∙ ap last_shown (sym e) ∙ st.seated.last 
 
 pub state_told : (k : Kept) (c : Core) (line : ℕ) (s : own.Seat) → Stands k c → HasSeat c line s
     → (lives (c.circuits.circuit_at s.session.circuit).end ≡ true → (c.circuits.circuit_at s.session.circuit).end.half.sessions.master ≡ k.circuits.server)
-    → session_state (c.circuits.circuit_at s.session.circuit).end s.session.session ≡ state_shown (line_state (side_of k) c line)
+    → session_state (c.circuits.circuit_at s.session.circuit).end s.session.session ≡ state_of (line_state (side_of k) c line)
 state_told k c line s st f side =
     let h = held_seat k c line st f.holds in
     let x = (seat_at c line).circuit in
@@ -63,12 +63,12 @@ state_told k c line s st f side =
     let here = circuit_is c line s f in
     let master : e.half.sessions.master ≡ k.circuits.server = subst (λ z. lives (c.circuits.circuit_at z).end ≡ true → (c.circuits.circuit_at z).end.half.sessions.master ≡ k.circuits.server) here side h.lives in
     ap₂ (λ z i. session_state (c.circuits.circuit_at z).end i) here (id_is c line s f)
-    ∙ ap (λ b. cond b (state_shown (state e.half.sessions.master (named e.half.sessions (seat_at c line).id))) states.Free) h.lives
-    ∙ ap₂ (λ m t. state_shown (state m t)) master h.named
-    ∙ ap (λ b. state_shown (cond b (state k.circuits.server (session_of c (seat_at c line))) Free)) (sym f.holds)
+    ∙ ap (λ b. cond b (state_of (state e.half.sessions.master (named e.half.sessions (seat_at c line).id))) states.Free) h.lives
+    ∙ ap₂ (λ m t. state_of (state m t)) master h.named
+    ∙ ap (λ b. state_of (cond b (state k.circuits.server (session_of c (seat_at c line))) Free)) (sym f.holds)
 
-pub state_none : (k : Kept) (c : Core) (line : ℕ) → has_session c line ≡ false → states.Free ≡ state_shown (line_state (side_of k) c line)
-state_none k c line f = ap (λ b. state_shown (cond b (state k.circuits.server (session_of c (seat_at c line))) Free)) (sym f)
+pub state_none : (k : Kept) (c : Core) (line : ℕ) → has_session c line ≡ false → states.Free ≡ state_of (line_state (side_of k) c line)
+state_none k c line f = ap (λ b. state_of (cond b (state k.circuits.server (session_of c (seat_at c line))) Free)) (sym f)
 
 -- the items that a take could give
 

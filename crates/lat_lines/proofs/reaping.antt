@@ -5,4 +5,4 @@ pub mod Seats
 pub mod After
 pub mod Noted
 pub mod Books
-pub mod Settled
+pub mod Reaped

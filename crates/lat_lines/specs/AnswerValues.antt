@@ -5,7 +5,7 @@ use Rattle.lat_base.specs.declared.answer.Answer.TheVariants as answers
 use Rattle.lat_machines.specs.values.Answers.{Answer, Circuit, Started, StartRefused, Announced, DirectoryFull, KeptIs, NotKept, Noted, Apart, Solicited, Ignored, Bad, Done, Connected, Accepted, Took, NoLine, Busy, NoService, SessionsFull, CircuitsFull, IdsOut, Closed, Full, IdUsed, NotHere}
 use Rattle.lat_stream.specs.Kept.{item_shown, item_of}
 use Rattle.lat_circuit.specs.Hears.{heard_shown, heard_of}
-use Rattle.lat_queue.specs.KeptValues.{kept_in, kept_of}
+use Rattle.lat_queue.specs.KeptValues.{kept_shown, kept_of}
 use Rattle.lat_payload.specs.FieldNumbers.{field_number, field_of}
 
 abbrev pub answer_shown : base.Answer → Answer
@@ -14,7 +14,7 @@ answer_shown (answers.Started id) = Started id
 answer_shown answers.StartRefused = StartRefused
 answer_shown answers.Announced = Announced
 answer_shown answers.DirectoryFull = DirectoryFull
-answer_shown (answers.Kept kept) = KeptIs (kept_in kept)
+answer_shown (answers.Kept kept) = KeptIs (kept_shown kept)
 answer_shown answers.NotKept = NotKept
 answer_shown answers.Noted = Noted
 answer_shown answers.Apart = Apart

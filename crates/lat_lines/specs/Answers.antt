@@ -14,7 +14,7 @@ use Rattle.lat_lines.specs.declared.seat.Seat.{Seat}
 use Rattle.lat_lines.specs.AnswerValues.{answer_shown}
 use Rattle.lat_lines.specs.Kept.{Kept}
 use Rattle.lat_lines.specs.Stands.{Stands, freed_between}
-use Rattle.lat_queue.specs.Histories.{key_in}
+use Rattle.lat_queue.specs.Histories.{key_shown}
 
 -- it tells neither of bytes that were put nor of items that were taken
 abbrev pub IsPlain : base.Answer → Type 0
@@ -26,7 +26,7 @@ IsPlain a = Unit {0}
 pub record HasAnswered (c : Core) (s : Said) (new : Kept) (answer : base.Answer) : Type 0 where
   pub state : Stands new s.core
   pub answered : answer_shown answer ≡ s.answer
-  pub freed : map key_in new.freed ≡ freed_between c s.core
+  pub freed : map key_shown new.freed ≡ freed_between c s.core
 
 abbrev pub SimulatesCall : (Core → Said) → (old new : Kept) → base.Answer → Type 0
 SimulatesCall call old new answer = (c : Core) → Stands old c → HasAnswered c (call c) new answer

@@ -12,7 +12,7 @@ use Rattle.lat_machines.specs.values.Keys as keys
 use Rattle.lat_machines.specs.cores.Books.{SessionEnd, EndedClosed, EndedRejected, EndedCircuit, LineSession, line_session, LineBook, book}
 use Rattle.lat_machines.specs.cores.Cores.{Seat, Core, Doing}
 use Rattle.lat_machines.specs.cores.Lines.{sessions_of, session_of, over, ended, saturated_count}
-use Rattle.lat_queue.specs.Histories.{key_in, some_key}
+use Rattle.lat_queue.specs.Histories.{key_shown, some_key}
 use Rattle.lat_stream.specs.Kept.{saturated}
 use Rattle.lat_payload.specs.Frames.{Emits}
 use Rattle.lat_lines.specs.circuits.Stands as circuits
@@ -122,7 +122,7 @@ pub record Stands (k : Kept) (c : Core) : Type 0 where
 pub record HasStepped (c : Core) (d : Doing) (new : Kept) (before after : List OutFrame) : Type 0 where
   pub state : Stands new d.core
   pub frames : Emits d.frames before after
-  pub freed : map key_in new.freed ≡ freed_between c d.core
+  pub freed : map key_shown new.freed ≡ freed_between c d.core
 
 abbrev pub Simulates : (Core → Doing) → (old new : Kept) → (before after : List OutFrame) → Type 0
 Simulates step old new before after = (c : Core) → Stands old c → HasStepped c (step c) new before after

@@ -11,7 +11,7 @@ ghost use Rattle.lat_machines.specs.cores.Cores.{Core, span};
 ghost use Rattle.lat_machines.specs.cores.Hearing.{names};
 ghost use Rattle.lat_machines.specs.cores.Lines.{has_session, used, ended, saturated_count, line_exists, line_state, waiting_at};
 ghost use Rattle.lat_session.specs.States.{asked_at};
-ghost use Rattle.lat_stream.specs.Kept.{state_shown, saturated};
+ghost use Rattle.lat_stream.specs.Kept.{state_of, saturated};
 ghost use Rattle.lat_lines.specs.circuits.Kept.{has_id};
 ghost use Rattle.lat_lines.specs.circuits.Info.{sessions_at, session_at, some_span};
 ghost use Rattle.lat_lines.specs.circuits.Opens.{id_or_zero};
@@ -89,7 +89,7 @@ impl Lines {
     /// The state of the line's session: `Free` where it has none.
     pub fn state(&self, line: u8) -> SessionState
         ensures { (c : Core) → Stands self.now c →
-            result ≡ state_shown (line_state (side_of self.now) c line) }
+            result ≡ state_of (line_state (side_of self.now) c line) }
     {
         match seat_of(self.seats.as_slice(), line) {
             Some(seat) => self

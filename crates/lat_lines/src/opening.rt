@@ -9,7 +9,7 @@ ghost use Rattle.lat_machines.specs.values.Addresses.{address};
 ghost use Rattle.lat_machines.specs.cores.Cores.{Core};
 ghost use Rattle.lat_machines.specs.cores.Lines.{has_session};
 ghost use Rattle.lat_machines.specs.server.Server.{ServerConfig, server_side, has_room, can_open, opens};
-ghost use Rattle.lat_queue.specs.Histories.{key_in, some_key};
+ghost use Rattle.lat_queue.specs.Histories.{key_shown, some_key};
 ghost use Rattle.lat_payload.specs.Frames.{Emits};
 ghost use Rattle.lat_frames.specs.Timings.{IsTiming};
 ghost use Rattle.lat_lines.specs.circuits.Kept.{side_of as circuits_side, IsClear, SameCore, SameCircuits, has_id};
@@ -117,7 +117,7 @@ impl Lines {
             Stands self.new (accepted_core (side_of self.old) line circuit id c) }
         ensures freed { (c : Core) →
             Stands self.old c →
-            map key_in self.new.freed
+            map key_shown self.new.freed
             ≡ freed_between c (accepted_core (side_of self.old) line circuit id c) }
         ensures same { SameLines self.old self.new }
     {
@@ -135,7 +135,7 @@ impl Lines {
             Stands self.new (calling (side_of self.old) circuit (RejectAsk id reason) c) }
         ensures freed { (c : Core) →
             Stands self.old c →
-            map key_in self.new.freed
+            map key_shown self.new.freed
             ≡ freed_between c (calling (side_of self.old) circuit (RejectAsk id reason) c) }
         ensures same { SameLines self.old self.new }
     {

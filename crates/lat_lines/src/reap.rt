@@ -12,7 +12,7 @@ ghost use Rattle.lat_lines.specs.Calm.{CoreCalm};
 ghost use Rattle.lat_lines.specs.Cores.{CoreLater, Covers};
 ghost use Rattle.lat_lines.specs.Looks.{Looks, session_closed, session_reviewed, last_after, finished_after, freed_after};
 ghost use Rattle.lat_lines.specs.circuits.Info.{telling};
-ghost use Rattle.lat_queue.specs.Histories.{key_in};
+ghost use Rattle.lat_queue.specs.Histories.{key_shown};
 ghost use Rattle.lat_lines.specs.declared.seat.Seat.{Seat};
 
 use crate::circuits::{Circuits, Info};
@@ -29,7 +29,7 @@ impl Lines {
             Covers self.old →
             circuits.Stands self.old.circuits d →
             CoreLater c d →
-            Seated self.new d × (map key_in self.new.freed ≡ freed_between c d) }
+            Seated self.new d × (map key_shown self.new.freed ≡ freed_between c d) }
         ensures same { SameLines self.old self.new }
         ensures circuits { self.new.circuits ≡ self.old.circuits }
     {
@@ -63,7 +63,7 @@ impl Lines {
             CoreLater c d →
             lives (c.circuits.circuit_at 0).end ≡ false →
             (is_calm ≡ true → CoreCalm c d) →
-            Seated self.new d × (map key_in self.new.freed ≡ freed_between c d) }
+            Seated self.new d × (map key_shown self.new.freed ≡ freed_between c d) }
         ensures same { SameLines self.old self.new }
         ensures circuits { self.new.circuits ≡ self.old.circuits }
     {

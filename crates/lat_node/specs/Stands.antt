@@ -12,7 +12,7 @@ use Rattle.lat_machines.specs.cores.Lines.{line_state, waiting_at, saturated_cou
 use Rattle.lat_machines.specs.node.Node.{NodeConfig, Requested, Node, NodeStep, NodeFrames, node_side, open_node, node_step, finished}
 use Rattle.lat_circuit.specs.Frames.{frame_view}
 use Rattle.lat_payload.specs.Frames.{expected, IsReadable}
-use Rattle.lat_stream.specs.Kept.{state_shown}
+use Rattle.lat_stream.specs.Kept.{state_of}
 use Rattle.lat_lines.specs.AnswerValues.{answer_of}
 use Rattle.lat_lines.specs.Events.{event_shown}
 use Rattle.lat_lines.specs.Stands as lines
@@ -81,7 +81,7 @@ pub record Frames {H : Type 0} (may : H → ℕ → ℕ → ℕ → Type 0) (m :
   pub readable : Each IsReadable made
 
 abbrev pub line_of : {H : Type 0} → Machine H → ℕ → SessionState
-line_of m line = state_shown (line_state (node_side m.config) m.state.core line)
+line_of m line = state_of (line_state (node_side m.config) m.state.core line)
 
 abbrev pub moment_of : {H : Type 0} → Machine H → ℕ
 moment_of m = m.state.core.moment

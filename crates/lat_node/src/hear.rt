@@ -53,12 +53,12 @@ impl<H: RatingRule> NodeCore<H> {
     {
         match read_value(alloc, payload) {
             Ok(value) => self.hear_value(alloc, from, &value, now, out),
-            Err(fault) => self.misread(fault, now),
+            Err(fault) => self.pass_over(fault, now),
         }
     }
 
     // A payload that reads as nothing.
-    fn misread(&mut self, fault: LayoutFault, now: u64) -> Result<Answer, Memory>
+    fn pass_over(&mut self, fault: LayoutFault, now: u64) -> Result<Answer, Memory>
         ensures steps { (reading : Reading) (from : ℕ) (frames : List OutFrame) →
             reads.Answers (Err fault) reading →
             IfOk result (λ a.

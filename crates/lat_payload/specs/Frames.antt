@@ -9,7 +9,7 @@ use Rattle.lat_notices.specs.Texts.{notice_text}
 use Rattle.lat_machines.specs.values.Frames as machines
 use Rattle.lat_model.specs.Lists.{Each}
 use Rattle.lat_circuit.specs.Messages.{message_of}
-use Rattle.lat_circuit.specs.Frames.{FrameView, frame_view, mark_shown}
+use Rattle.lat_circuit.specs.Frames.{FrameView, frame_view, mark_formed}
 use Rattle.lat_payload.specs.Notices.{notice_of}
 use Rattle.lat_payload.specs.Reads.{reading_of}
 
@@ -19,7 +19,7 @@ payload_of (machines.OfCircuit m) = padded (message_text (message_of m))
 payload_of (machines.OfNotice n) = padded (notice_text (notice_of n))
 
 abbrev pub mark_of : machines.FrameMark → Mark
-mark_of (machines.OfRun m) = mark_shown m
+mark_of (machines.OfRun m) = mark_formed m
 mark_of machines.Plain = marks.Plain
 
 -- a frame of the machines, as it is to go out

@@ -11,7 +11,7 @@ use Rattle.lat_notices.specs.declared.notice.Notice.{Notice}
 use Rattle.lat_notices.specs.declared.notice.Notice.TheVariants as notices
 use Rattle.lat_machines.specs.values.Notices as model
 use Rattle.lat_dir.specs.Announcements.{announcement_shown, announcement_of}
-use Rattle.lat_queue.specs.KeptValues.{kept_in, kept_of}
+use Rattle.lat_queue.specs.KeptValues.{kept_shown, kept_of}
 use Rattle.lat_queue.specs.Tables.{HasPlace}
 
 abbrev pub action_shown : Action → model.Action
@@ -23,7 +23,7 @@ action_of model.Ask = actions.Ask
 action_of model.Cancel = actions.Cancel
 
 abbrev pub outcome_shown : Outcome → model.Outcome
-outcome_shown (outcomes.Kept k) = model.KeptAs (kept_in k)
+outcome_shown (outcomes.Kept k) = model.KeptAs (kept_shown k)
 outcome_shown outcomes.Unknown = model.Unknown
 
 abbrev pub outcome_of : model.Outcome → Outcome

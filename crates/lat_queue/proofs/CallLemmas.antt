@@ -17,14 +17,15 @@ use Rattle.lat_machines.specs.server.Queue.{QueueEvent, Asks, Cancels, Grants, F
 use Rattle.lat_machines.specs.server.Records.{grants_of, grant_of, place_among, kept_for, record_of, is_granted}
 use Rattle.lat_base.specs.declared.addr.Addr.{Addr}
 use Rattle.lat_base.specs.declared.kept.Kept as base
+use Rattle.lat_machines.specs.values.Addresses.{address}
 use Rattle.lat_queue.specs.declared.key.Key.{Key}
 use Rattle.lat_queue.specs.declared.entry.Entry.{Entry}
 use Rattle.lat_queue.specs.declared.entry.Standing.{Standing}
 use Rattle.lat_queue.specs.declared.entry.Standing.TheVariants as stands
 use Rattle.lat_queue.specs.KeyHash.{one_key}
 use Rattle.lat_queue.specs.Tables.{Table, waits_somewhere, waiters, info_of, entry_info, info, standing_at, new_standing, new_info, added, with_standing, restood, waiting_entry, waiting_found, cancelled_by, cancelled, given_by, given, finished_entry, finished_by, finished, first_of}
-use Rattle.lat_queue.specs.Histories.{Noted, noted, key_in, address_in, some_kept, some_first, some_request, request_key, waited, refused_as, line_of, standing_in, noted_in, is_first_answer, IsFirst, Stands, finish_history}
-use Rattle.lat_queue.specs.KeptValues.{kept_in}
+use Rattle.lat_queue.specs.Histories.{Noted, noted, key_shown, some_kept, some_first, some_request, request_key, waited, refused_as, line_of, standing_in, noted_in, is_first_answer, IsFirst, Stands, finish_history}
+use Rattle.lat_queue.specs.KeptValues.{kept_shown}
 use Rattle.lat_queue.proofs.KeyLemmas.{key_self, key_turn, key_right}
 use Rattle.lat_queue.proofs.EventLemmas.{extend, Grows, grows_cancel, grows_grant, grows_finish, grows_again, full_asks, grows_new, grants_more, place_other, place_same}
 use Rattle.lat_machines.proofs.queue.Legal.{legal_none}
@@ -54,27 +55,27 @@ still_stands t es h e st g q n f entries legal =
 asks_stay : (o : List Name) (h : List QueueEvent) (k : keys.Key) (from : ℕ) (s : Name) (a : Kept) (rs : List Request) → map (noted_in o h) rs ≡ map (λ r. noted_in o (h ++ Asks k from s a ∷ []) (extend (Asks k from s a) r)) rs
 asks_stay o h k from s a rs = sym (map_same (λ (r : Request). noted_in o (h ++ Asks k from s a ∷ []) (extend (Asks k from s a) r)) (noted_in o h) rs (each_of (λ (r : Request). noted_in o (h ++ Asks k from s a ∷ []) (extend (Asks k from s a) r) ≡ noted_in o h r) (λ r. stays o h (Asks k from s a) r (grant_still h (Asks k from s a) r.key refl) refl refl) rs))
 
-pub stands_again : (t : Table) (h : List QueueEvent) (k : Key) (from : Addr) (s : Name) (a : base.Kept) → Stands t h → info t k ≡ Some a → Stands t (h ++ Asks (key_in k) (address_in from) s (kept_in a) ∷ [])
+pub stands_again : (t : Table) (h : List QueueEvent) (k : Key) (from : Addr) (s : Name) (a : base.Kept) → Stands t h → info t k ≡ Some a → Stands t (h ++ Asks (key_shown k) (address from.0) s (kept_shown a) ∷ [])
 stands_again t h k from s a st q = by (lookup (one_key k) t.entries) refl q
   where
     e : QueueEvent
-    e = Asks (key_in k) (address_in from) s (kept_in a)
+    e = Asks (key_shown k) (address from.0) s (kept_shown a)
 
     by : (o : Option Entry) → lookup (one_key k) t.entries ≡ o → entry_info t.entries k o ≡ Some a → Stands t (h ++ e ∷ [])
     by None l q = let z : ⊥ = cc in absurd z
     by (Some x) l q =
         let f : Found (noted_in t.offered h) (records h) k x = info_known t h k x st l in
-        still_stands t t.entries h e st (grows_again h (key_in k) (address_in from) s (kept_in a) f.request f.found) refl (λ j. refl) (λ r n. refl)
-        (st.entries ∙ asks_stay t.offered h (key_in k) (address_in from) s (kept_in a) (records h)) (legal_ask h (key_in k) (address_in from) s (kept_in a) st.legal)
+        still_stands t t.entries h e st (grows_again h (key_shown k) (address from.0) s (kept_shown a) f.request f.found) refl (λ j. refl) (λ r n. refl)
+        (st.entries ∙ asks_stay t.offered h (key_shown k) (address from.0) s (kept_shown a) (records h)) (legal_ask h (key_shown k) (address from.0) s (kept_shown a) st.legal)
 
-pub stands_full : (t : Table) (h : List QueueEvent) (k : Key) (from : Addr) (s : Name) → Stands t h → 65536 ≤ length t.entries → Stands t (h ++ Asks (key_in k) (address_in from) s answers.RecordsFull ∷ [])
+pub stands_full : (t : Table) (h : List QueueEvent) (k : Key) (from : Addr) (s : Name) → Stands t h → 65536 ≤ length t.entries → Stands t (h ++ Asks (key_shown k) (address from.0) s answers.RecordsFull ∷ [])
 stands_full t h k from s st n =
-    let e : QueueEvent = Asks (key_in k) (address_in from) s answers.RecordsFull in
-    let are : records (h ++ e ∷ []) ≡ map (extend e) (records h) = full_asks h (key_in k) (address_in from) s answers.RecordsFull refl in
+    let e : QueueEvent = Asks (key_shown k) (address from.0) s answers.RecordsFull in
+    let are : records (h ++ e ∷ []) ≡ map (extend e) (records h) = full_asks h (key_shown k) (address from.0) s answers.RecordsFull refl in
     let c : length (records (h ++ e ∷ [])) ≡ length t.entries = ap length are ∙ length-map (records h) (extend e) ∙ sym (count_is t h st) in
     stands_quiet t t.entries h e [] st refl (λ j. refl) (λ r m. refl) (are ∙ sym (append-nil (map (extend e) (records h)))) (λ l. absurd (omega (arith, l, c, n))) tt
-    (st.entries ∙ asks_stay t.offered h (key_in k) (address_in from) s answers.RecordsFull (records h) ∙ sym (map_twice (noted_in t.offered (h ++ e ∷ [])) (extend e) (records h)) ∙ ap (map (noted_in t.offered (h ++ e ∷ []))) (sym (append-nil (map (extend e) (records h)))))
-    (legal_ask h (key_in k) (address_in from) s answers.RecordsFull st.legal)
+    (st.entries ∙ asks_stay t.offered h (key_shown k) (address from.0) s answers.RecordsFull (records h) ∙ sym (map_twice (noted_in t.offered (h ++ e ∷ [])) (extend e) (records h)) ∙ ap (map (noted_in t.offered (h ++ e ∷ []))) (sym (append-nil (map (extend e) (records h)))))
+    (legal_ask h (key_shown k) (address from.0) s answers.RecordsFull st.legal)
 
 -- a new record
 
@@ -84,61 +85,61 @@ record NewStands (o : List Name) (s : Name) (a : Kept) (standing : Standing) : T
   pub stands : standing ≡ cond (is_waiting a) (stands.Waits (line_of o s)) (refused_as a)
   pub offered : is_waiting a ≡ true → line_of o s < length o
 
-new_stands : (t : Table) (s : Name) → NewStands t.offered s (kept_in (new_info t (new_standing t s))) (new_standing t s)
+new_stands : (t : Table) (s : Name) → NewStands t.offered s (kept_shown (new_info t (new_standing t s))) (new_standing t s)
 new_stands t s = by (position (λ n. same s n) t.offered) refl
   where
-    at : (i : ℕ) → line_of t.offered s ≡ i → i < length t.offered → (b : Bool) → NewStands t.offered s (kept_in (new_info t (cond b stands.QueueFull (stands.Waits i)))) (cond b stands.QueueFull (stands.Waits i))
+    at : (i : ℕ) → line_of t.offered s ≡ i → i < length t.offered → (b : Bool) → NewStands t.offered s (kept_shown (new_info t (cond b stands.QueueFull (stands.Waits i)))) (cond b stands.QueueFull (stands.Waits i))
     at i l w true = record { not_full = refl; answered = refl; stands = refl; offered = λ q. absurd (true≢false (sym q)) }
     at i l w false = record { not_full = refl; answered = refl; stands = ap stands.Waits (sym l); offered = λ q. subst (λ z. z < length t.offered) (sym l) w }
 
-    by : (p : Option ℕ) → position (λ n. same s n) t.offered ≡ p → NewStands t.offered s (kept_in (new_info t (standing_at t.entries p))) (standing_at t.entries p)
+    by : (p : Option ℕ) → position (λ n. same s n) t.offered ≡ p → NewStands t.offered s (kept_shown (new_info t (standing_at t.entries p))) (standing_at t.entries p)
     by None q = record { not_full = refl; answered = refl; stands = refl; offered = λ m. absurd (true≢false (sym m)) }
     by (Some i) q = let p : Stood t.offered s (position (λ n. same s n) t.offered) i = stood t.offered s i q in at i p.line p.within (nat_le 64 (length (waiters i t.entries)))
 
 pub stands_new : (t : Table) (h : List QueueEvent) (k : Key) (from : Addr) (s : Name) → Stands t h → lookup (one_key k) t.entries ≡ None → length t.entries < 65536
-    → Stands (added t k (record { from = from; service = s; standing = new_standing t s })) (h ++ Asks (key_in k) (address_in from) s (kept_in (new_info t (new_standing t s))) ∷ [])
+    → Stands (added t k (record { from = from; service = s; standing = new_standing t s })) (h ++ Asks (key_shown k) (address from.0) s (kept_shown (new_info t (new_standing t s))) ∷ [])
 stands_new t h k from s st l n =
     stands_quiet t (t.entries ++ (k, entry) ∷ []) h e (new ∷ []) st refl (λ j. refl) (λ r m. refl) grown.are (rooms t h e (new ∷ []) st grown) (first, tt)
-    (map-append noted t.entries ((k, entry) ∷ []) ∙ ap₂ (λ a b. a ++ b ∷ []) (st.entries ∙ asks_stay t.offered h (key_in k) (address_in from) s answer (records h) ∙ sym (map_twice (noted_in t.offered (h ++ e ∷ [])) (extend e) (records h))) one ∙ sym (map-append (noted_in t.offered (h ++ e ∷ [])) (map (extend e) (records h)) (new ∷ [])))
-    (legal_ask h (key_in k) (address_in from) s answer st.legal)
+    (map-append noted t.entries ((k, entry) ∷ []) ∙ ap₂ (λ a b. a ++ b ∷ []) (st.entries ∙ asks_stay t.offered h (key_shown k) (address from.0) s answer (records h) ∙ sym (map_twice (noted_in t.offered (h ++ e ∷ [])) (extend e) (records h))) one ∙ sym (map-append (noted_in t.offered (h ++ e ∷ [])) (map (extend e) (records h)) (new ∷ [])))
+    (legal_ask h (key_shown k) (address from.0) s answer st.legal)
   where
     answer : Kept
-    answer = kept_in (new_info t (new_standing t s))
+    answer = kept_shown (new_info t (new_standing t s))
 
     e : QueueEvent
-    e = Asks (key_in k) (address_in from) s answer
+    e = Asks (key_shown k) (address from.0) s answer
 
     entry : Entry
     entry = record { from = from; service = s; standing = new_standing t s }
 
     new : Request
-    new = record { key = key_in k; from = address_in from; service = s; answer = answer; later = [] }
+    new = record { key = key_shown k; from = address from.0; service = s; answer = answer; later = [] }
 
     is : NewStands t.offered s answer (new_standing t s)
     is = new_stands t s
 
-    none : record_of (key_in k) h ≡ None
+    none : record_of (key_shown k) h ≡ None
     none = unknown t h k st l
 
-    no_grant : grant_of (key_in k) (h ++ e ∷ []) ≡ None
-    no_grant = grant_still h e (key_in k) refl ∙ st.known (key_in k) none
+    no_grant : grant_of (key_shown k) (h ++ e ∷ []) ≡ None
+    no_grant = grant_still h e (key_shown k) refl ∙ st.known (key_shown k) none
 
     grown : Grows h e (new ∷ [])
-    grown = grows_new h (key_in k) (address_in from) s answer none (st.room (let c : length t.entries ≡ length (records h) = count_is t h st in omega (arith, c, n))) is.not_full
+    grown = grows_new h (key_shown k) (address from.0) s answer none (st.room (let c : length t.entries ≡ length (records h) = count_is t h st in omega (arith, c, n))) is.not_full
 
     first : IsFirst t.offered (h ++ e ∷ []) new
     first = record { answered = is.answered; offered_then = is.offered; granted_then = ap is_some (sym no_grant); asked_then = λ m. no_grant; ended_then = λ m. refl }
 
     one : noted (k, entry) ≡ noted_in t.offered (h ++ e ∷ []) new
-    one = ap (λ z. record { key = key_in k; from = address_in from; service = s; standing = z }) (is.stands ∙ ap (λ z. cond (is_waiting answer) (waited z false false (stands.Waits (line_of t.offered s))) (refused_as answer)) (sym no_grant))
+    one = ap (λ z. record { key = key_shown k; from = address from.0; service = s; standing = z }) (is.stands ∙ ap (λ z. cond (is_waiting answer) (waited z false false (stands.Waits (line_of t.offered s))) (refused_as answer)) (sym no_grant))
 
 -- a cancel
 
-pub stands_cancelled : (t : Table) (h : List QueueEvent) (k : Key) → Stands t h → Stands (cancelled t k) (h ++ Cancels (key_in k) ∷ [])
+pub stands_cancelled : (t : Table) (h : List QueueEvent) (k : Key) → Stands t h → Stands (cancelled t k) (h ++ Cancels (key_shown k) ∷ [])
 stands_cancelled t h k st = by (lookup (one_key k) t.entries) refl
   where
     e : QueueEvent
-    e = Cancels (key_in k)
+    e = Cancels (key_shown k)
 
     g : Request → Noted
     g = noted_in t.offered h
@@ -146,17 +147,17 @@ stands_cancelled t h k st = by (lookup (one_key k) t.entries) refl
     g' : Request → Noted
     g' r = noted_in t.offered (h ++ e ∷ []) (extend e r)
 
-    others : (r : Request) → same_key r.key (key_in k) ≡ false → g' r ≡ g r
+    others : (r : Request) → same_key r.key (key_shown k) ≡ false → g' r ≡ g r
     others r q = stays t.offered h e r (grant_still h e r.key refl) q refl
 
     then : (es : List (Key × Entry)) → map noted es ≡ map g' (records h) → Stands (record { offered = t.offered; entries = es; granted = t.granted }) (h ++ e ∷ [])
-    then es q = still_stands t es h e st (grows_cancel h (key_in k)) refl (λ j. refl) (λ r n. refl) q (legal_cancel h (key_in k) st.legal)
+    then es q = still_stands t es h e st (grows_cancel h (key_shown k)) refl (λ j. refl) (λ r n. refl) q (legal_cancel h (key_shown k) st.legal)
 
     idle : (x : Entry) → lookup (one_key k) t.entries ≡ Some x → waits_somewhere x.standing ≡ false → Stands t (h ++ e ∷ [])
-    idle x l w = then t.entries (unmoved g g' (λ r. refl) k x others (λ r q s. cancel_stays t.offered h (key_in k) r q (ap waits_somewhere s ∙ w)) t.entries (records h) st.entries (distinct_records h) l)
+    idle x l w = then t.entries (unmoved g g' (λ r. refl) k x others (λ r q s. cancel_stays t.offered h (key_shown k) r q (ap waits_somewhere s ∙ w)) t.entries (records h) st.entries (distinct_records h) l)
 
     at : (x : Entry) (s : Standing) → x.standing ≡ s → lookup (one_key k) t.entries ≡ Some x → Stands (cancelled_by t k (waiting_entry x s)) (h ++ e ∷ [])
-    at x (stands.Waits i) q l = then (insert_entry one_key t.entries k (with_standing x stands.Cancelled)) (moved (λ r. Unit {0}) g g' (λ r. refl) k x stands.Cancelled others (λ r u p s. cancel_waits t.offered h (key_in k) r i p (s ∙ q)) t.entries (records h) st.entries (distinct_records h) (each_of (λ r. Unit {0}) (λ r. tt) (records h)) l)
+    at x (stands.Waits i) q l = then (insert_entry one_key t.entries k (with_standing x stands.Cancelled)) (moved (λ r. Unit {0}) g g' (λ r. refl) k x stands.Cancelled others (λ r u p s. cancel_waits t.offered h (key_shown k) r i p (s ∙ q)) t.entries (records h) st.entries (distinct_records h) (each_of (λ r. Unit {0}) (λ r. tt) (records h)) l)
     at x (stands.Granted n) q l = idle x l (ap waits_somewhere q)
     at x (stands.Done n) q l = idle x l (ap waits_somewhere q)
     at x stands.Cancelled q l = idle x l (ap waits_somewhere q)
@@ -164,16 +165,16 @@ stands_cancelled t h k st = by (lookup (one_key k) t.entries) refl
     at x stands.NoService q l = idle x l (ap waits_somewhere q)
 
     by : (o : Option Entry) → lookup (one_key k) t.entries ≡ o → Stands (cancelled_by t k (waiting_found o)) (h ++ e ∷ [])
-    by None l = then t.entries (st.entries ∙ sym (unmoved_none g g' (key_in k) others (records h) (unknown t h k st l)))
+    by None l = then t.entries (st.entries ∙ sym (unmoved_none g g' (key_shown k) others (records h) (unknown t h k st l)))
     by (Some x) l = at x x.standing refl l
 
 -- an end
 
-pub stands_finished : (t : Table) (h : List QueueEvent) (k : Key) → Stands t h → Stands (finished t k) (finish_history (key_in k) h)
+pub stands_finished : (t : Table) (h : List QueueEvent) (k : Key) → Stands t h → Stands (finished t k) (finish_history (key_shown k) h)
 stands_finished t h k st = by (lookup (one_key k) t.entries) refl (info_right t h k st)
   where
     e : QueueEvent
-    e = Finishes (key_in k)
+    e = Finishes (key_shown k)
 
     g : Request → Noted
     g = noted_in t.offered h
@@ -181,26 +182,26 @@ stands_finished t h k st = by (lookup (one_key k) t.entries) refl (info_right t 
     g' : Request → Noted
     g' r = noted_in t.offered (h ++ e ∷ []) (extend e r)
 
-    others : (r : Request) → same_key r.key (key_in k) ≡ false → g' r ≡ g r
+    others : (r : Request) → same_key r.key (key_shown k) ≡ false → g' r ≡ g r
     others r q = stays t.offered h e r (grant_still h e r.key refl) refl q
 
-    idle : is_granted (kept_for (key_in k) h) ≡ false → Stands t (finish_history (key_in k) h)
+    idle : is_granted (kept_for (key_shown k) h) ≡ false → Stands t (finish_history (key_shown k) h)
     idle q = subst (λ b. Stands t (cond b (h ++ e ∷ []) h)) (sym q) st
 
-    granted_of : (n : ℕ) (x : Entry) → x.standing ≡ stands.Granted n → (f : Found g (records h) k x) → grant_of (key_in k) h ≡ Some n
-    granted_of n x q f = sym (place_same f.request.key (key_in k) 1 (grants_of h) f.key) ∙ (granted_is t.offered h f.request n (f.standing ∙ q)).grant
+    granted_of : (n : ℕ) (x : Entry) → x.standing ≡ stands.Granted n → (f : Found g (records h) k x) → grant_of (key_shown k) h ≡ Some n
+    granted_of n x q f = sym (place_same f.request.key (key_shown k) 1 (grants_of h) f.key) ∙ (granted_is t.offered h f.request n (f.standing ∙ q)).grant
 
-    apart : (n : ℕ) → grant_of (key_in k) h ≡ Some n → (r : Request) → grant_of r.key h ≡ None → (b : Bool) → same_key r.key (key_in k) ≡ b → same_key r.key (key_in k) ≡ false
+    apart : (n : ℕ) → grant_of (key_shown k) h ≡ Some n → (r : Request) → grant_of r.key h ≡ None → (b : Bool) → same_key r.key (key_shown k) ≡ b → same_key r.key (key_shown k) ≡ false
     apart n q r m false p = p
-    apart n q r m true p = let z : ⊥ = (let w : Some n ≡ None = sym q ∙ sym (place_same r.key (key_in k) 1 (grants_of h) p) ∙ m in cc) in absurd z
+    apart n q r m true p = let z : ⊥ = (let w : Some n ≡ None = sym q ∙ sym (place_same r.key (key_shown k) 1 (grants_of h) p) ∙ m in cc) in absurd z
 
     ends : (x : Entry) (n : ℕ) → x.standing ≡ stands.Granted n → lookup (one_key k) t.entries ≡ Some x → Stands (restood t k x (stands.Done n) t.granted) (h ++ e ∷ [])
     ends x n q l =
         let f : Found g (records h) k x = info_known t h k x st l in
-        still_stands t (insert_entry one_key t.entries k (with_standing x (stands.Done n))) h e st (grows_finish h (key_in k)) refl (λ j. refl) (λ r m. apart n (granted_of n x q f) r m (same_key r.key (key_in k)) refl)
-        (moved (λ r. Unit {0}) g g' (λ r. refl) k x (stands.Done n) others (λ r u p s. finish_granted t.offered h (key_in k) r n p (s ∙ q)) t.entries (records h) st.entries (distinct_records h) (each_of (λ r. Unit {0}) (λ r. tt) (records h)) l) (legal_finish h (key_in k) st.legal)
+        still_stands t (insert_entry one_key t.entries k (with_standing x (stands.Done n))) h e st (grows_finish h (key_shown k)) refl (λ j. refl) (λ r m. apart n (granted_of n x q f) r m (same_key r.key (key_shown k)) refl)
+        (moved (λ r. Unit {0}) g g' (λ r. refl) k x (stands.Done n) others (λ r u p s. finish_granted t.offered h (key_shown k) r n p (s ∙ q)) t.entries (records h) st.entries (distinct_records h) (each_of (λ r. Unit {0}) (λ r. tt) (records h)) l) (legal_finish h (key_shown k) st.legal)
 
-    at : (x : Entry) (s : Standing) → x.standing ≡ s → lookup (one_key k) t.entries ≡ Some x → Some (kept_in (info_of t.entries k s)) ≡ kept_for (key_in k) h → Stands (finished_entry t k x s) (finish_history (key_in k) h)
+    at : (x : Entry) (s : Standing) → x.standing ≡ s → lookup (one_key k) t.entries ≡ Some x → Some (kept_shown (info_of t.entries k s)) ≡ kept_for (key_shown k) h → Stands (finished_entry t k x s) (finish_history (key_shown k) h)
     at x (stands.Granted n) q l r = subst (λ b. Stands (restood t k x (stands.Done n) t.granted) (cond b (h ++ e ∷ []) h)) (ap is_granted r) (ends x n q l)
     at x (stands.Waits i) q l r = idle (sym (ap is_granted r))
     at x (stands.Done n) q l r = idle (sym (ap is_granted r))
@@ -208,7 +209,7 @@ stands_finished t h k st = by (lookup (one_key k) t.entries) refl (info_right t 
     at x stands.QueueFull q l r = idle (sym (ap is_granted r))
     at x stands.NoService q l r = idle (sym (ap is_granted r))
 
-    by : (o : Option Entry) → lookup (one_key k) t.entries ≡ o → some_kept (info t k) ≡ kept_for (key_in k) h → Stands (finished_by t k o) (finish_history (key_in k) h)
+    by : (o : Option Entry) → lookup (one_key k) t.entries ≡ o → some_kept (info t k) ≡ kept_for (key_shown k) h → Stands (finished_by t k o) (finish_history (key_shown k) h)
     by None l r = idle (sym (ap is_granted (sym (ap (λ o. some_kept (entry_info t.entries k o)) l) ∙ r)))
     by (Some x) l r = at x x.standing refl l (sym (ap (λ o. some_kept (entry_info t.entries k o)) l) ∙ r)
 
@@ -275,11 +276,11 @@ waits_stands o h r first w = by (is_waiting r.answer) (grant_of r.key h) (list_a
     by true None false f q p m = refl
     by true (Some n) c f q p m = absurd (true≢false m)
 
-pub stands_given : (t : Table) (h : List QueueEvent) (s : Name) (k : Key) (from : Addr) → Stands t h → first_of t s ≡ Some (k, from) → Stands (given t k) (h ++ Grants (key_in k) s ∷ [])
+pub stands_given : (t : Table) (h : List QueueEvent) (s : Name) (k : Key) (from : Addr) → Stands t h → first_of t s ≡ Some (k, from) → Stands (given t k) (h ++ Grants (key_shown k) s ∷ [])
 stands_given t h s k from st q = by (next_request s h) refl (sym (ap some_first q) ∙ first_right t h s st)
   where
     e : QueueEvent
-    e = Grants (key_in k) s
+    e = Grants (key_shown k) s
 
     g : Request → Noted
     g = noted_in t.offered h
@@ -287,38 +288,38 @@ stands_given t h s k from st q = by (next_request s h) refl (sym (ap some_first 
     g' : Request → Noted
     g' r = noted_in t.offered (h ++ e ∷ []) (extend e r)
 
-    others : (r : Request) → same_key r.key (key_in k) ≡ false → g' r ≡ g r
-    others r p = stays t.offered h e r (ap (place_among r.key 1) (grants_more h e) ∙ place_other r.key (key_in k) 1 (grants_of h) p) refl refl
+    others : (r : Request) → same_key r.key (key_shown k) ≡ false → g' r ≡ g r
+    others r p = stays t.offered h e r (ap (place_among r.key 1) (grants_more h e) ∙ place_other r.key (key_shown k) 1 (grants_of h) p) refl refl
 
-    grants_it : (r : Request) (x : Entry) (l : ℕ) → next_request s h ≡ Some r → r.key ≡ key_in k → find (λ (y : Request). same_key y.key (key_in k)) (records h) ≡ Some r → is_waiting r.answer ≡ true → x.standing ≡ stands.Waits l → lookup (one_key k) t.entries ≡ Some x
+    grants_it : (r : Request) (x : Entry) (l : ℕ) → next_request s h ≡ Some r → r.key ≡ key_shown k → find (λ (y : Request). same_key y.key (key_shown k)) (records h) ≡ Some r → is_waiting r.answer ≡ true → x.standing ≡ stands.Waits l → lookup (one_key k) t.entries ≡ Some x
         → Stands (restood t k x (stands.Granted (t.granted + 1)) (t.granted + 1)) (h ++ e ∷ [])
     grants_it r x l n i there w p look =
-        let told : Each (λ (y : Request). same_key y.key (key_in k) ≡ true → is_waiting y.answer ≡ true) (records h) = each_all (λ (y : Request). same_key y.key (key_in k) ≡ true → y ≡ r) (λ (y : Request). same_key y.key (key_in k) ≡ true → is_waiting y.answer ≡ true) (records h) (λ y f m. ap (λ (z : Request). is_waiting z.answer) (f m) ∙ w) (only_found (key_in k) (records h) r (distinct_records h) there) in
-        let grown : Grows h e [] = grows_grant h (key_in k) s in
-        stands_grant t (insert_entry one_key t.entries k (with_standing x (stands.Granted (t.granted + 1)))) h (key_in k) s r st there told (grown.are ∙ append-nil (map (extend e) (records h))) (rooms t h e [] st grown)
-        (moved (IsFirst t.offered h) g g' (λ y. refl) k x (stands.Granted (t.granted + 1)) others (λ y f m c. grant_waits t.offered h (key_in k) s y l f m (c ∙ p) ∙ ap (λ z. restand (stands.Granted (z + 1)) (g y)) (sym st.granted)) t.entries (records h) st.entries (distinct_records h) st.firsts look ∙ sym (map_twice (noted_in t.offered (h ++ e ∷ [])) (extend e) (records h)))
-        (legal_grant h r (key_in k) s n i st.legal)
+        let told : Each (λ (y : Request). same_key y.key (key_shown k) ≡ true → is_waiting y.answer ≡ true) (records h) = each_all (λ (y : Request). same_key y.key (key_shown k) ≡ true → y ≡ r) (λ (y : Request). same_key y.key (key_shown k) ≡ true → is_waiting y.answer ≡ true) (records h) (λ y f m. ap (λ (z : Request). is_waiting z.answer) (f m) ∙ w) (only_found (key_shown k) (records h) r (distinct_records h) there) in
+        let grown : Grows h e [] = grows_grant h (key_shown k) s in
+        stands_grant t (insert_entry one_key t.entries k (with_standing x (stands.Granted (t.granted + 1)))) h (key_shown k) s r st there told (grown.are ∙ append-nil (map (extend e) (records h))) (rooms t h e [] st grown)
+        (moved (IsFirst t.offered h) g g' (λ y. refl) k x (stands.Granted (t.granted + 1)) others (λ y f m c. grant_waits t.offered h (key_shown k) s y l f m (c ∙ p) ∙ ap (λ z. restand (stands.Granted (z + 1)) (g y)) (sym st.granted)) t.entries (records h) st.entries (distinct_records h) st.firsts look ∙ sym (map_twice (noted_in t.offered (h ++ e ∷ [])) (extend e) (records h)))
+        (legal_grant h r (key_shown k) s n i st.legal)
 
-    at : (r : Request) → next_request s h ≡ Some r → r.key ≡ key_in k → (o : Option Entry) → lookup (one_key k) t.entries ≡ o → Stands (given_by t k (waiting_found o)) (h ++ e ∷ [])
+    at : (r : Request) → next_request s h ≡ Some r → r.key ≡ key_shown k → (o : Option Entry) → lookup (one_key k) t.entries ≡ o → Stands (given_by t k (waiting_found o)) (h ++ e ∷ [])
     at r n i None l =
         let f : FirstFound (λ x. waits x && same x.service s) (records h) r = first_found (λ x. waits x && same x.service s) (records h) r (distinct_records h) n in
         let z : ⊥ = (let p : Some r ≡ None = sym (subst (λ j. find (λ (y : Request). same_key y.key j) (records h) ≡ Some r) i f.found) ∙ unknown t h k st l in cc) in absurd z
     at r n i (Some x) l =
         let test : Request → Bool = λ y. waits y && same y.service s in
         let f : FirstFound test (records h) r = first_found test (records h) r (distinct_records h) n in
-        let there : find (λ (y : Request). same_key y.key (key_in k)) (records h) ≡ Some r = subst (λ j. find (λ (y : Request). same_key y.key j) (records h) ≡ Some r) i f.found in
+        let there : find (λ (y : Request). same_key y.key (key_shown k)) (records h) ≡ Some r = subst (λ j. find (λ (y : Request). same_key y.key j) (records h) ≡ Some r) i f.found in
         let d : Found g (records h) k x = info_known t h k x st l in
         let one : Some d.request ≡ Some r = sym d.found ∙ there in
         let is : d.request ≡ r = cc in
-        let first : IsFirst t.offered h r = each_found (IsFirst t.offered h) (λ (y : Request). same_key y.key (key_in k)) (records h) r st.firsts there in
+        let first : IsFirst t.offered h r = each_found (IsFirst t.offered h) (λ (y : Request). same_key y.key (key_shown k)) (records h) r st.firsts there in
         let w : waits r ≡ true = (and_parts (waits r) (same r.service s) f.passes).0 in
         let p : x.standing ≡ stands.Waits (line_of t.offered r.service) = sym d.standing ∙ ap (standing_in t.offered h) is ∙ waits_stands t.offered h r first w in
         subst (λ z. Stands (given_by t k (waiting_entry x z)) (h ++ e ∷ [])) (sym p) (grants_it r x (line_of t.offered r.service) n i there (and_parts (is_waiting r.answer) (not (list_any (λ y. cancels r.key y || grants r.key y) r.later)) w).0 p l)
 
-    by : (o : Option Request) → next_request s h ≡ o → Some (key_in k, address_in from) ≡ some_request o → Stands (given t k) (h ++ e ∷ [])
+    by : (o : Option Request) → next_request s h ≡ o → Some (key_shown k, address from.0) ≡ some_request o → Stands (given t k) (h ++ e ∷ [])
     by None n p = let z : ⊥ = cc in absurd z
     by (Some r) n p =
-        let pair : (key_in k, address_in from) ≡ (r.key, r.from) = cc in
+        let pair : (key_shown k, address from.0) ≡ (r.key, r.from) = cc in
         at r n (sym (ap (λ (z : keys.Key × ℕ). z.0) pair)) (lookup (one_key k) t.entries) refl
 
 -- no event
@@ -336,12 +337,12 @@ pub ok_both : {A E : Type 0} (r : Result A E) (P Q : A → Type 0) (N : Type 0) 
 ok_both (Ok a) P Q N p n f = f a p n
 ok_both (Err e) P Q N p n f = tt
 
-pub key_right_some : (t : Table) (h : List QueueEvent) (s : Name) (k : Key) (from : Addr) → Stands t h → first_of t s ≡ Some (k, from) → Some (key_in k) ≡ request_key (next_request s h)
+pub key_right_some : (t : Table) (h : List QueueEvent) (s : Name) (k : Key) (from : Addr) → Stands t h → first_of t s ≡ Some (k, from) → Some (key_shown k) ≡ request_key (next_request s h)
 key_right_some t h s k from st q = by (next_request s h) (sym (ap some_first q) ∙ first_right t h s st)
   where
-    by : (o : Option Request) → Some (key_in k, address_in from) ≡ some_request o → Some (key_in k) ≡ request_key o
+    by : (o : Option Request) → Some (key_shown k, address from.0) ≡ some_request o → Some (key_shown k) ≡ request_key o
     by None p = let z : ⊥ = cc in absurd z
-    by (Some r) p = let pair : (key_in k, address_in from) ≡ (r.key, r.from) = cc in ap Some (ap (λ (z : keys.Key × ℕ). z.0) pair)
+    by (Some r) p = let pair : (key_shown k, address from.0) ≡ (r.key, r.from) = cc in ap Some (ap (λ (z : keys.Key × ℕ). z.0) pair)
 
 pub key_right_none : (t : Table) (h : List QueueEvent) (s : Name) → Stands t h → first_of t s ≡ None → None ≡ request_key (next_request s h)
 key_right_none t h s st q = by (next_request s h) (sym (ap some_first q) ∙ first_right t h s st)

@@ -7,10 +7,10 @@ use Rattle.std.specs.Ordering.{on, eq_of_both}
 use Rattle.lat_machines.specs.values.Names.{Name, folded, same}
 use Rattle.lat_machines.specs.values.Keys.{Key, same_key}
 use Rattle.lat_queue.specs.KeyHash.{one_key}
-use Rattle.lat_queue.specs.Histories.{key_in}
+use Rattle.lat_queue.specs.Histories.{key_shown}
 use Rattle.lat_queue.specs.declared.key.Key as own
 
-one_is : (a b : own.Key) → one_key a b ≡ same_key (key_in a) (key_in b)
+one_is : (a b : own.Key) → one_key a b ≡ same_key (key_shown a) (key_shown b)
 one_is a b = refl
 
 keys_equiv : IsEquivalence (eq_of_both (on (λ (k : Key). folded k.node) (pointwise nat_eq)) (eq_of_both (on (λ (k : Key). k.incarnation) nat_eq) (on (λ (k : Key). k.request) nat_eq)))

@@ -13,7 +13,7 @@ use Rattle.lat_queue.specs.declared.entry.Entry.{Entry}
 use Rattle.lat_queue.specs.declared.entry.Standing.{Standing}
 use Rattle.lat_queue.specs.KeyHash.{one_key}
 use Rattle.lat_queue.specs.Tables.{with_standing}
-use Rattle.lat_queue.specs.Histories.{Noted, noted, key_in}
+use Rattle.lat_queue.specs.Histories.{Noted, noted, key_shown}
 use Rattle.lat_queue.proofs.KeyLemmas.{key_turn, key_right}
 
 -- no two records have one key
@@ -71,16 +71,16 @@ distinct_records h = distinct_filter (λ (x : Request). not (is_overfull x.answe
 
 pub record Found (g : Request → Noted) (rs : List Request) (k : Key) (e : Entry) : Type 0 where
   pub request : Request
-  pub found : find (λ (x : Request). same_key x.key (key_in k)) rs ≡ Some request
+  pub found : find (λ (x : Request). same_key x.key (key_shown k)) rs ≡ Some request
   pub standing : (g request).standing ≡ e.standing
-  pub key : same_key request.key (key_in k) ≡ true
+  pub key : same_key request.key (key_shown k) ≡ true
 
 -- `g` keeps the key
 abbrev pub KeepsKey : (Request → Noted) → Type 0
 KeepsKey g = (r : Request) → (g r).key ≡ r.key
 
-head_key : (g : Request → Noted) → KeepsKey g → (x : Key × Entry) (r : Request) → noted x ≡ g r → (k : Key) → same_key r.key (key_in k) ≡ one_key k x.0
-head_key g keep x r q k = ap (λ z. same_key z (key_in k)) (sym (keep r)) ∙ ap (λ (z : Noted). same_key z.key (key_in k)) (sym q) ∙ key_turn (key_in x.0) (key_in k)
+head_key : (g : Request → Noted) → KeepsKey g → (x : Key × Entry) (r : Request) → noted x ≡ g r → (k : Key) → same_key r.key (key_shown k) ≡ one_key k x.0
+head_key g keep x r q k = ap (λ z. same_key z (key_shown k)) (sym (keep r)) ∙ ap (λ (z : Noted). same_key z.key (key_shown k)) (sym q) ∙ key_turn (key_shown x.0) (key_shown k)
 
 pub look_found : (g : Request → Noted) → KeepsKey g → (k : Key) (e : Entry) (es : List (Key × Entry)) (rs : List Request) → map noted es ≡ map g rs → lookup (one_key k) es ≡ Some e → Found g rs k e
 look_found g keep k e [] rs q h = let z : ⊥ = cc in absurd z
@@ -93,22 +93,22 @@ look_found g keep k e (x ∷ xs) (r ∷ rs) q h =
     by : noted x ≡ g r → (b : Bool) → one_key k x.0 ≡ b → cond b (Some x.1) (lookup (one_key k) xs) ≡ Some e → (lookup (one_key k) xs ≡ Some e → Found g rs k e) → Found g (r ∷ rs) k e
     by one true i h m =
         let s : x.1 ≡ e = cc in
-        let t : same_key r.key (key_in k) ≡ true = head_key g keep x r one k ∙ i in
-        record { request = r; found = ap (λ z. cond z (Some r) (find (λ (y : Request). same_key y.key (key_in k)) rs)) t; standing = ap (λ (z : Noted). z.standing) (sym one) ∙ ap (λ (z : Entry). z.standing) s; key = t }
+        let t : same_key r.key (key_shown k) ≡ true = head_key g keep x r one k ∙ i in
+        record { request = r; found = ap (λ z. cond z (Some r) (find (λ (y : Request). same_key y.key (key_shown k)) rs)) t; standing = ap (λ (z : Noted). z.standing) (sym one) ∙ ap (λ (z : Entry). z.standing) s; key = t }
     by one false i h m =
         let f : Found g rs k e = m h in
-        record { request = f.request; found = ap (λ z. cond z (Some r) (find (λ (y : Request). same_key y.key (key_in k)) rs)) (head_key g keep x r one k ∙ i) ∙ f.found; standing = f.standing; key = f.key }
+        record { request = f.request; found = ap (λ z. cond z (Some r) (find (λ (y : Request). same_key y.key (key_shown k)) rs)) (head_key g keep x r one k ∙ i) ∙ f.found; standing = f.standing; key = f.key }
 
-pub look_none : (g : Request → Noted) → KeepsKey g → (k : Key) (es : List (Key × Entry)) (rs : List Request) → map noted es ≡ map g rs → lookup (one_key k) es ≡ None → find (λ (x : Request). same_key x.key (key_in k)) rs ≡ None
+pub look_none : (g : Request → Noted) → KeepsKey g → (k : Key) (es : List (Key × Entry)) (rs : List Request) → map noted es ≡ map g rs → lookup (one_key k) es ≡ None → find (λ (x : Request). same_key x.key (key_shown k)) rs ≡ None
 look_none g keep k [] [] q h = refl
 look_none g keep k [] (r ∷ rs) q h = let z : ⊥ = cc in absurd z
 look_none g keep k (x ∷ xs) [] q h = let z : ⊥ = cc in absurd z
 look_none g keep k (x ∷ xs) (r ∷ rs) q h =
     let one : noted x ≡ g r = cc in
     let rest : map noted xs ≡ map g rs = cc in
-    ap (λ z. cond z (Some r) (find (λ (y : Request). same_key y.key (key_in k)) rs)) (head_key g keep x r one k) ∙ by (one_key k x.0) h (look_none g keep k xs rs rest)
+    ap (λ z. cond z (Some r) (find (λ (y : Request). same_key y.key (key_shown k)) rs)) (head_key g keep x r one k) ∙ by (one_key k x.0) h (look_none g keep k xs rs rest)
   where
-    by : (b : Bool) → cond b (Some x.1) (lookup (one_key k) xs) ≡ None → (lookup (one_key k) xs ≡ None → find (λ (y : Request). same_key y.key (key_in k)) rs ≡ None) → cond b (Some r) (find (λ (y : Request). same_key y.key (key_in k)) rs) ≡ None
+    by : (b : Bool) → cond b (Some x.1) (lookup (one_key k) xs) ≡ None → (lookup (one_key k) xs ≡ None → find (λ (y : Request). same_key y.key (key_shown k)) rs ≡ None) → cond b (Some r) (find (λ (y : Request). same_key y.key (key_shown k)) rs) ≡ None
     by true h m = let z : ⊥ = cc in absurd z
     by false h m = m h
 
@@ -126,11 +126,11 @@ map_twice f g [] = refl
 map_twice f g (x ∷ xs) = ap (λ z. f (g x) ∷ z) (map_twice f g xs)
 
 -- the other records of a list stay where they differ in the key
-tail_stays : (g g' : Request → Noted) (k : Key) (r : Request) (rs : List Request) → same_key r.key (key_in k) ≡ true → Each (λ (y : Request). same_key y.key r.key ≡ false) rs → ((y : Request) → same_key y.key (key_in k) ≡ false → g' y ≡ g y) → map g' rs ≡ map g rs
+tail_stays : (g g' : Request → Noted) (k : Key) (r : Request) (rs : List Request) → same_key r.key (key_shown k) ≡ true → Each (λ (y : Request). same_key y.key r.key ≡ false) rs → ((y : Request) → same_key y.key (key_shown k) ≡ false → g' y ≡ g y) → map g' rs ≡ map g rs
 tail_stays g g' k r rs t d others =
-    map_same g' g rs (each_all (λ (y : Request). same_key y.key r.key ≡ false) (λ (y : Request). g' y ≡ g y) rs (λ y n. others y (sym (key_right y.key r.key (key_in k) t) ∙ n)) d)
+    map_same g' g rs (each_all (λ (y : Request). same_key y.key r.key ≡ false) (λ (y : Request). g' y ≡ g y) rs (λ y n. others y (sym (key_right y.key r.key (key_shown k) t) ∙ n)) d)
 
-pub moved : (P : Request → Type 0) (g g' : Request → Noted) → KeepsKey g → (k : Key) (e : Entry) (s : Standing) → ((y : Request) → same_key y.key (key_in k) ≡ false → g' y ≡ g y) → ((y : Request) → P y → same_key y.key (key_in k) ≡ true → (g y).standing ≡ e.standing → g' y ≡ restand s (g y))
+pub moved : (P : Request → Type 0) (g g' : Request → Noted) → KeepsKey g → (k : Key) (e : Entry) (s : Standing) → ((y : Request) → same_key y.key (key_shown k) ≡ false → g' y ≡ g y) → ((y : Request) → P y → same_key y.key (key_shown k) ≡ true → (g y).standing ≡ e.standing → g' y ≡ restand s (g y))
     → (es : List (Key × Entry)) (rs : List Request) → map noted es ≡ map g rs → Distinct rs → Each P rs → lookup (one_key k) es ≡ Some e → map noted (insert_entry one_key es k (with_standing e s)) ≡ map g' rs
 moved P g g' keep k e s others this [] rs q d p h = let z : ⊥ = cc in absurd z
 moved P g g' keep k e s others this (x ∷ xs) [] q d p h = let z : ⊥ = cc in absurd z
@@ -143,12 +143,12 @@ moved P g g' keep k e s others this (x ∷ xs) (r ∷ rs) q d p h =
         → map noted (cond b ((x.0, with_standing e s) ∷ xs) (x ∷ insert_entry one_key xs k (with_standing e s))) ≡ g' r ∷ map g' rs
     by one rest true i h m =
         let a : x.1 ≡ e = cc in
-        let t : same_key r.key (key_in k) ≡ true = head_key g keep x r one k ∙ i in
+        let t : same_key r.key (key_shown k) ≡ true = head_key g keep x r one k ∙ i in
         let n : noted (x.0, with_standing e s) ≡ restand s (noted x) = ap (λ (z : Entry). restand s (noted (x.0, z))) (sym a) in
         ap₂ (λ y z. y ∷ z) (n ∙ ap (restand s) one ∙ sym (this r p.0 t (ap (λ (z : Noted). z.standing) (sym one) ∙ ap (λ (z : Entry). z.standing) a))) (rest ∙ sym (tail_stays g g' k r rs t d.0 others))
     by one rest false i h m = ap₂ (λ y z. y ∷ z) (one ∙ sym (others r (head_key g keep x r one k ∙ i))) (m h)
 
-pub unmoved : (g g' : Request → Noted) → KeepsKey g → (k : Key) (e : Entry) → ((y : Request) → same_key y.key (key_in k) ≡ false → g' y ≡ g y) → ((y : Request) → same_key y.key (key_in k) ≡ true → (g y).standing ≡ e.standing → g' y ≡ g y)
+pub unmoved : (g g' : Request → Noted) → KeepsKey g → (k : Key) (e : Entry) → ((y : Request) → same_key y.key (key_shown k) ≡ false → g' y ≡ g y) → ((y : Request) → same_key y.key (key_shown k) ≡ true → (g y).standing ≡ e.standing → g' y ≡ g y)
     → (es : List (Key × Entry)) (rs : List Request) → map noted es ≡ map g rs → Distinct rs → lookup (one_key k) es ≡ Some e → map noted es ≡ map g' rs
 unmoved g g' keep k e others this [] rs q d h = let z : ⊥ = cc in absurd z
 unmoved g g' keep k e others this (x ∷ xs) [] q d h = let z : ⊥ = cc in absurd z
@@ -160,7 +160,7 @@ unmoved g g' keep k e others this (x ∷ xs) (r ∷ rs) q d h =
     by : noted x ≡ g r → map noted xs ≡ map g rs → (b : Bool) → one_key k x.0 ≡ b → cond b (Some x.1) (lookup (one_key k) xs) ≡ Some e → (lookup (one_key k) xs ≡ Some e → map noted xs ≡ map g' rs) → noted x ∷ map noted xs ≡ g' r ∷ map g' rs
     by one rest true i h m =
         let a : x.1 ≡ e = cc in
-        let t : same_key r.key (key_in k) ≡ true = head_key g keep x r one k ∙ i in
+        let t : same_key r.key (key_shown k) ≡ true = head_key g keep x r one k ∙ i in
         ap₂ (λ y z. y ∷ z) (one ∙ sym (this r t (ap (λ (z : Noted). z.standing) (sym one) ∙ ap (λ (z : Entry). z.standing) a))) (rest ∙ sym (tail_stays g g' k r rs t d.0 others))
     by one rest false i h m = ap₂ (λ y z. y ∷ z) (one ∙ sym (others r (head_key g keep x r one k ∙ i))) (m h)
 

@@ -14,7 +14,7 @@ use Rattle.lat_queue.specs.declared.entry.Standing.{Standing}
 use Rattle.lat_queue.specs.declared.entry.Standing.TheVariants.{Waits, Granted, Done, Cancelled, QueueFull, NoService}
 use Rattle.lat_queue.specs.declared.entry.Entry.{Entry}
 use Rattle.lat_queue.specs.declared.entry.Waiter.{Waiter}
-use Rattle.lat_queue.specs.Histories.{key_in}
+use Rattle.lat_queue.specs.Histories.{key_shown}
 use Rattle.lat_queue.specs.KeyHash.{one_key}
 use Rattle.lat_queue.proofs.KeyLemmas.{key_self}
 use Rattle.lat_queue.specs.Lines.{has_key, without_at, without}
@@ -369,7 +369,7 @@ placed_in_line k es e place l = in_line k es e.standing (λ i w. go i es place (
     go i [] n w l = let z : ⊥ = cc in absurd z
     go i (x ∷ xs) zero w l =
         let s : x ≡ (k, e) = cc in
-        let here : waits_as i k x ≡ true = ap (waits_as i k) s ∙ ap (λ b. b && waits_at i e.standing) (key_self (key_in k)) ∙ w in
+        let here : waits_as i k x ≡ true = ap (waits_as i k) s ∙ ap (λ b. b && waits_at i e.standing) (key_self (key_shown k)) ∙ w in
         ap (λ b. b || list_any (waits_as i k) xs) here
     go i (x ∷ xs) (suc n) w l = by (waits_as i k x) (go i xs n w l)
       where

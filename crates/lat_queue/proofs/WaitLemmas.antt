@@ -5,6 +5,7 @@ use Rattle.std.specs.Option.{is_some}
 use Rattle.std.proofs.lemmas.Bool.Decides.{nat_tests}
 use Rattle.std.proofs.lemmas.Iterator.Adapters.{position_from-zero}
 use Rattle.lat_model.specs.Lists.{Each}
+use Rattle.lat_machines.specs.values.Addresses.{address}
 use Rattle.lat_machines.specs.values.Names.{Name, same}
 use Rattle.lat_machines.specs.values.Keys as keys
 use Rattle.lat_machines.specs.values.Keys.{same_key}
@@ -17,7 +18,7 @@ use Rattle.lat_queue.specs.declared.entry.Standing.{Standing}
 use Rattle.lat_queue.specs.declared.entry.Standing.TheVariants.{Waits}
 use Rattle.lat_queue.specs.Lines.{has_key, place_at, place_of}
 use Rattle.lat_queue.specs.Tables.{Table, waits_at, waits_somewhere, waiters, waiter_info, first_waiter, first_of}
-use Rattle.lat_queue.specs.Histories.{Noted, noted, key_in, address_in, waited, refused_as, line_of, standing_in, noted_in, some_first, some_request, IsFirst, Stands}
+use Rattle.lat_queue.specs.Histories.{Noted, noted, key_shown, waited, refused_as, line_of, standing_in, noted_in, some_first, some_request, IsFirst, Stands}
 use Rattle.lat_queue.proofs.KeyLemmas.{key_left, name_turn, name_left}
 use Rattle.lat_queue.proofs.TableLemmas.{not_at}
 use Rattle.lat_queue.proofs.RecordLemmas.{each_all}
@@ -115,7 +116,7 @@ waits_test o h s i r l w first =
     ∙ ap (λ z. (is_waiting r.answer && not z) && same r.service s) (ap (λ z. list_any (cancels r.key) r.later || z) (sym first.granted_then) ∙ sym (any_either (cancels r.key) (grants r.key) r.later))
 
 abbrev pub waiter_in : Waiter → keys.Key × ℕ
-waiter_in w = (key_in w.key, address_in w.from)
+waiter_in w = (key_shown w.key, address w.from.0)
 
 abbrev pub request_in : Request → keys.Key × ℕ
 request_in r = (r.key, r.from)
@@ -131,8 +132,8 @@ lines_are g keep i test (x ∷ xs) (r ∷ rs) q t =
   where
     by : noted x ≡ g r → (b : Bool) → map waiter_in (waiters i xs) ≡ map request_in (filter test rs) → map waiter_in (cond b (record { key = x.0; from = x.1.from } ∷ waiters i xs) (waiters i xs)) ≡ map request_in (cond b (r ∷ filter test rs) (filter test rs))
     by one true m =
-        let k : key_in x.0 ≡ r.key = ap (λ (z : Noted). z.key) one ∙ (keep r).0 in
-        let f : address_in x.1.from ≡ r.from = ap (λ (z : Noted). z.from) one ∙ (keep r).1 in
+        let k : key_shown x.0 ≡ r.key = ap (λ (z : Noted). z.key) one ∙ (keep r).0 in
+        let f : address x.1.from.0 ≡ r.from = ap (λ (z : Noted). z.from) one ∙ (keep r).1 in
         ap₂ (λ y z. y ∷ z) (ap₂ (λ a b. (a, b)) k f) m
     by one false m = m
 
@@ -191,7 +192,7 @@ placed_from k n (w ∷ ws) = by (has_key k w) (placed_from k (n + 1) ws)
         let b : n + 1 + placed k ws ≡ n + suc (placed k ws) = omega arith in
         ap (λ z. place_at z (position_from (has_key k) (n + 1) ws)) a ∙ m ∙ b
 
-placed_in : (k : Key) (j : keys.Key) → same_key j (key_in k) ≡ true → (ws : List Waiter) (rs : List Request) → map waiter_in ws ≡ map request_in rs → placed k ws ≡ place_in j rs
+placed_in : (k : Key) (j : keys.Key) → same_key j (key_shown k) ≡ true → (ws : List Waiter) (rs : List Request) → map waiter_in ws ≡ map request_in rs → placed k ws ≡ place_in j rs
 unfolding placed
 placed_in k j q [] [] e = refl
 placed_in k j q [] (r ∷ rs) e = let z : ⊥ = cc in absurd z
@@ -199,10 +200,10 @@ placed_in k j q (w ∷ ws) [] e = let z : ⊥ = cc in absurd z
 placed_in k j q (w ∷ ws) (r ∷ rs) e =
     let p : waiter_in w ≡ request_in r = cc in
     let rest : map waiter_in ws ≡ map request_in rs = cc in
-    let i : key_in w.key ≡ r.key = ap (λ (z : keys.Key × ℕ). z.0) p in
-    ap₂ (λ b z. cond b 1 (suc z)) (sym (key_left j (key_in k) (key_in w.key) q) ∙ ap (same_key j) i) (placed_in k j q ws rs rest)
+    let i : key_shown w.key ≡ r.key = ap (λ (z : keys.Key × ℕ). z.0) p in
+    ap₂ (λ b z. cond b 1 (suc z)) (sym (key_left j (key_shown k) (key_shown w.key) q) ∙ ap (same_key j) i) (placed_in k j q ws rs rest)
 
-pub place_right : (k : Key) (j : keys.Key) → same_key j (key_in k) ≡ true → (ws : List Waiter) (rs : List Request) → map waiter_in ws ≡ map request_in rs → place_of k ws ≡ place_in j rs
+pub place_right : (k : Key) (j : keys.Key) → same_key j (key_shown k) ≡ true → (ws : List Waiter) (rs : List Request) → map waiter_in ws ≡ map request_in rs → place_of k ws ≡ place_in j rs
 place_right k j q ws rs e =
     let z : length ws ≡ 0 + length ws = omega arith in
     let y : 0 + placed k ws ≡ placed k ws = omega arith in

@@ -17,36 +17,33 @@ use Rattle.lat_queue.specs.declared.entry.Standing.{Standing}
 use Rattle.lat_queue.specs.declared.entry.Standing.TheVariants as stands
 use Rattle.lat_queue.specs.declared.entry.Entry.{Entry}
 use Rattle.lat_queue.specs.declared.record.Record.{Record}
-use Rattle.lat_queue.specs.KeptValues.{kept_in}
+use Rattle.lat_queue.specs.KeptValues.{kept_shown}
 use Rattle.lat_queue.specs.Tables.{Table}
 
 -- this crate's values in the words of the machines
 
-abbrev pub key_in : Key → keys.Key
-key_in k = record { node = k.node; incarnation = k.incarnation; request = k.request }
+abbrev pub key_shown : Key → keys.Key
+key_shown k = record { node = k.node; incarnation = k.incarnation; request = k.request }
 
-abbrev pub address_in : Addr → ℕ
-address_in a = address a.0
-
-abbrev pub record_in : Record → records.Record
-record_in r = record { key = key_in r.key; service = r.service; kept = kept_in r.kept; grant = r.grant }
+abbrev pub record_shown : Record → records.Record
+record_shown r = record { key = key_shown r.key; service = r.service; kept = kept_shown r.kept; grant = r.grant }
 
 abbrev pub some_kept : Option base.Kept → Option Kept
 some_kept None = None
-some_kept (Some k) = Some (kept_in k)
+some_kept (Some k) = Some (kept_shown k)
 
 abbrev pub some_record : Option Record → Option records.Record
 some_record None = None
-some_record (Some r) = Some (record_in r)
+some_record (Some r) = Some (record_shown r)
 
 abbrev pub some_key : Option Key → Option keys.Key
 some_key None = None
-some_key (Some k) = Some (key_in k)
+some_key (Some k) = Some (key_shown k)
 
 -- what is known of a first ask: the key, the address that it came from, and the key's service
 abbrev pub some_first : Option (Key × Addr) → Option (keys.Key × ℕ)
 some_first None = None
-some_first (Some p) = Some (key_in p.0, address_in p.1)
+some_first (Some p) = Some (key_shown p.0, address p.1.0)
 
 abbrev pub some_request : Option Request → Option (keys.Key × ℕ)
 some_request None = None
@@ -65,7 +62,7 @@ pub record Noted : Type 0 where
   pub standing : Standing
 
 abbrev pub noted : Key × Entry → Noted
-noted e = record { key = key_in e.0; from = address_in e.1.from; service = e.1.service; standing = e.1.standing }
+noted e = record { key = key_shown e.0; from = address e.1.from.0; service = e.1.service; standing = e.1.standing }
 
 abbrev pub refused_as : Kept → Standing
 refused_as QueueFull = stands.QueueFull

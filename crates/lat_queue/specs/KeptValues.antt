@@ -3,14 +3,14 @@ use Rattle.lat_base.specs.declared.kept.Kept.{Kept}
 use Rattle.lat_base.specs.declared.kept.Kept.TheVariants as own
 use Rattle.lat_machines.specs.values.Notices as model
 
-abbrev pub kept_in : Kept → model.Kept
-kept_in (own.Waiting place) = model.Waiting place
-kept_in own.Granted = model.Granted
-kept_in own.Cancelled = model.Cancelled
-kept_in own.QueueFull = model.QueueFull
-kept_in own.NoService = model.NoService
-kept_in own.RecordsFull = model.RecordsFull
-kept_in own.Done = model.Done
+abbrev pub kept_shown : Kept → model.Kept
+kept_shown (own.Waiting place) = model.Waiting place
+kept_shown own.Granted = model.Granted
+kept_shown own.Cancelled = model.Cancelled
+kept_shown own.QueueFull = model.QueueFull
+kept_shown own.NoService = model.NoService
+kept_shown own.RecordsFull = model.RecordsFull
+kept_shown own.Done = model.Done
 
 abbrev pub kept_of : model.Kept → Kept
 kept_of (model.Waiting place) = own.Waiting place

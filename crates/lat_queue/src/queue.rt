@@ -3,9 +3,10 @@
 ghost use Rattle.std.specs.Prelude.{◌≡◌, ◌<◌, ◌≤◌, ◌+◌, [], ◌∷◌, ◌++◌, length, true, false, Some, None, replicate, OnOk, OnErr, IfOk, IfSome, IfNone, IsSome, OnSome, ◌↔◌, List, slice_get};
 ghost use Rattle.lat_machines.specs.server.Queue.{QueueEvent, Asks, Cancels, Grants, next_request};
 ghost use Rattle.lat_machines.specs.server.Records.{ask_answer, kept_for, record_at};
-ghost use Rattle.lat_queue.specs.Histories.{Stands, key_in, address_in, some_kept, some_first, some_request, some_key, request_key, some_record, is_any_waiting, finish_history};
-ghost use Rattle.lat_queue.specs.KeptValues.{kept_in};
+ghost use Rattle.lat_queue.specs.Histories.{Stands, key_shown, some_kept, some_first, some_request, some_key, request_key, some_record, is_any_waiting, finish_history};
+ghost use Rattle.lat_queue.specs.KeptValues.{kept_shown};
 ghost use Rattle.std.specs.Map.{lookup};
+ghost use Rattle.lat_machines.specs.values.Addresses.{address};
 ghost use Rattle.lat_queue.specs.KeyHash.{one_key};
 ghost use Rattle.indexmap.specs.IndexMap.{insert_entry};
 ghost use Rattle.lat_queue.specs.Tables.{waiters, OnLine, InLine, MayStand, HasPlace, info, info_of, new_info, new_standing, added, shown, first_of, waiting_of, cancelled, given, finished};
@@ -117,12 +118,12 @@ impl Queue {
     pub fn ask(&mut self, key: &Key, from: Addr, service: &Name) -> Result<Kept, Memory>
         ensures answer { (h : List QueueEvent) → Stands self.old h →
             IfOk result (λ a.
-            kept_in a ≡ ask_answer self.old.offered (key_in key.now) service.now h) }
+            kept_shown a ≡ ask_answer self.old.offered (key_shown key.now) service.now h) }
         ensures stands { (h : List QueueEvent) →
             Stands self.old h →
             IfOk result (λ a.
             Stands self.new (h
-            ++ Asks (key_in key.now) (address_in from) service.now (kept_in a) ∷ [])) }
+            ++ Asks (key_shown key.now) (address from.0) service.now (kept_shown a) ∷ [])) }
         ensures place { IfOk result HasPlace }
         ensures offered { self.new.offered ≡ self.old.offered }
         ensures err { OnErr result (self.new ≡ self.old) }
@@ -140,9 +141,9 @@ impl Queue {
     /// None where there is none.
     pub fn cancel(&mut self, key: &Key) -> Option<Kept>
         ensures answer { (h : List QueueEvent) → Stands self.old h →
-            some_kept result ≡ kept_for (key_in key.now) (h ++ Cancels (key_in key.now) ∷ []) }
+            some_kept result ≡ kept_for (key_shown key.now) (h ++ Cancels (key_shown key.now) ∷ []) }
         ensures stands { (h : List QueueEvent) → Stands self.old h →
-            Stands self.new (h ++ Cancels (key_in key.now) ∷ []) }
+            Stands self.new (h ++ Cancels (key_shown key.now) ∷ []) }
         ensures place { IfSome result HasPlace }
         ensures offered { self.new.offered ≡ self.old.offered }
     {
@@ -172,7 +173,7 @@ impl Queue {
         ensures answer { (h : List QueueEvent) → Stands self.old h →
             some_key result ≡ request_key (next_request service.now h) }
         ensures stands { (h : List QueueEvent) → Stands self.old h →
-            IfSome result (λ k. Stands self.new (h ++ Grants (key_in k) service.now ∷ [])) }
+            IfSome result (λ k. Stands self.new (h ++ Grants (key_shown k) service.now ∷ [])) }
         ensures offered { self.new.offered ≡ self.old.offered }
         ensures none { IfNone result (self.new ≡ self.old) }
     {
@@ -185,7 +186,7 @@ impl Queue {
     /// changes and no event is counted.
     pub fn finish(&mut self, key: &Key)
         ensures stands { (h : List QueueEvent) → Stands self.old h →
-            Stands self.new (finish_history (key_in key.now) h) }
+            Stands self.new (finish_history (key_shown key.now) h) }
         ensures offered { self.new.offered ≡ self.old.offered }
     {
         self.end(key);

@@ -16,7 +16,7 @@ use Rattle.lat_replay.specs.declared.roster.row.Row.{Row}
 use Rattle.lat_replay.specs.roster.Rows.{ShowsRow}
 use Rattle.lat_replay.specs.roster.Roster.{ShowsRows}
 use Rattle.lat_wire.specs.report.ReportText.{frames_text, row_text, rows_text, request_text, grant_text, event_text, report_text}
-use Rattle.lat_wire.specs.report.Rows.{record_in}
+use Rattle.lat_wire.specs.report.Rows.{record_shown}
 use Rattle.lat_wire.specs.Kept.{Kept, setups_of}
 use Rattle.lat_wire.specs.Notes.{note_shown, noted_info}
 use Rattle.lat_wire.specs.Stands.{Stands}
@@ -32,18 +32,18 @@ row_of : machine.Record → RecordRow
 row_of z = record { key = z.key; service = z.service; kept = z.kept }
 
 -- one request more
-pub requests_more : (q : List QueueEvent) (n : ℕ) (r : Record) → record_at n q ≡ Some (queues.record_in r) → flat_map request_text (take (suc n) (request_rows q)) ≡ flat_map request_text (take n (request_rows q)) ++ request_text (record_in r)
+pub requests_more : (q : List QueueEvent) (n : ℕ) (r : Record) → record_at n q ≡ Some (queues.record_shown r) → flat_map request_text (take (suc n) (request_rows q)) ≡ flat_map request_text (take n (request_rows q)) ++ request_text (record_shown r)
 unfolding row_of
 requests_more q n r e = go (slice_get (records q) n) refl e
   where
-    go : (o : Option Request) → slice_get (records q) n ≡ o → ◌≡◌ {A = Option machine.Record} (elim o [ None ↦ None | Some x ↦ Some (machine.shown q x) ]) (Some (queues.record_in r)) → flat_map request_text (take (suc n) (request_rows q)) ≡ flat_map request_text (take n (request_rows q)) ++ request_text (record_in r)
+    go : (o : Option Request) → slice_get (records q) n ≡ o → ◌≡◌ {A = Option machine.Record} (elim o [ None ↦ None | Some x ↦ Some (machine.shown q x) ]) (Some (queues.record_shown r)) → flat_map request_text (take (suc n) (request_rows q)) ≡ flat_map request_text (take n (request_rows q)) ++ request_text (record_shown r)
     go None t e = let z : ⊥ = cc in absurd z
     go (Some x) t e =
-        let s : machine.shown q x ≡ queues.record_in r = cc in
+        let s : machine.shown q x ≡ queues.record_shown r = cc in
         flat_more request_text (request_rows q) n (request_row q x) (slice_get-map (request_row q) (records q) n ∙ ap (option_map (request_row q)) t)
         ∙ ap (λ z. flat_map request_text (take n (request_rows q)) ++ request_text (row_of z)) s
 
-pub requests_next : (q : List QueueEvent) (n m : ℕ) (r : Record) → m ≡ suc n → record_at n q ≡ Some (queues.record_in r) → flat_map request_text (take m (request_rows q)) ≡ flat_map request_text (take n (request_rows q)) ++ request_text (record_in r)
+pub requests_next : (q : List QueueEvent) (n m : ℕ) (r : Record) → m ≡ suc n → record_at n q ≡ Some (queues.record_shown r) → flat_map request_text (take m (request_rows q)) ≡ flat_map request_text (take n (request_rows q)) ++ request_text (record_shown r)
 requests_next q n m r i e = ap (λ z. flat_map request_text (take z (request_rows q))) i ∙ requests_more q n r e
 
 pub requests_all : (q : List QueueEvent) (n : ℕ) → record_at n q ≡ None → flat_map request_text (take n (request_rows q)) ≡ flat_map request_text (request_rows q)

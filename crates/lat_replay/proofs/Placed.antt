@@ -8,7 +8,7 @@ use Rattle.lat_machines.specs.server.Queue.{QueueEvent, Request, records, LegalQ
 use Rattle.lat_machines.specs.server.Records as machine
 use Rattle.lat_machines.specs.server.Records.{grants_of, grant_of, record_at}
 use Rattle.lat_base.specs.declared.memory.Memory.{Memory}
-use Rattle.lat_queue.specs.Histories.{key_in, record_in}
+use Rattle.lat_queue.specs.Histories.{key_shown, record_shown}
 use Rattle.lat_queue.specs.declared.key.Key.{Key}
 use Rattle.lat_queue.specs.declared.record.Record.{Record}
 use Rattle.lat_replay.specs.Places.{Holds, SameKeys, IsPut, Places}
@@ -74,16 +74,16 @@ put_in xs ys i key s l = record {
 record Shown (q : List QueueEvent) (n : ℕ) (request : Record) : Type 0 where
   record_is : Request
   there : slice_get (records q) n ≡ Some record_is
-  key : record_is.key ≡ key_in request.key
+  key : record_is.key ≡ key_shown request.key
   grant : grant_of record_is.key q ≡ request.grant
 
-shown_at : (q : List QueueEvent) (n : ℕ) (request : Record) → record_at n q ≡ Some (record_in request) → Shown q n request
+shown_at : (q : List QueueEvent) (n : ℕ) (request : Record) → record_at n q ≡ Some (record_shown request) → Shown q n request
 shown_at q n request e = go (slice_get (records q) n) refl e
   where
-    go : (o : Option Request) → slice_get (records q) n ≡ o → ◌≡◌ {A = Option machine.Record} (elim o [ None ↦ None | Some r ↦ Some (machine.shown q r) ]) (Some (record_in request)) → Shown q n request
+    go : (o : Option Request) → slice_get (records q) n ≡ o → ◌≡◌ {A = Option machine.Record} (elim o [ None ↦ None | Some r ↦ Some (machine.shown q r) ]) (Some (record_shown request)) → Shown q n request
     go None t e = let z : ⊥ = cc in absurd z
     go (Some r) t e =
-        let s : machine.shown q r ≡ record_in request = cc in
+        let s : machine.shown q r ≡ record_shown request = cc in
         record { record_is = r; there = t; key = ap (λ (z : machine.Record). z.key) s; grant = ap (λ (z : machine.Record). z.grant) s }
 
 -- it is the new one, or one of those before
@@ -94,7 +94,7 @@ last_or j n l = go (nat_eq j n) refl
     go true q = inl (eqb-true j n q)
     go false q = let d : j ≢ n = eqb-false j n q in let b : j < n = omega (arith, l, d) in inr b
 
-pub placed_more : (q : List QueueEvent) (n i : ℕ) (request : Record) (xs ys : List (Option Key)) → LegalQueue q → record_at n q ≡ Some (record_in request) → request.grant ≡ Some (suc i) → IsPut i request.key xs ys → Places q n xs → Places q (n + 1) ys
+pub placed_more : (q : List QueueEvent) (n i : ℕ) (request : Record) (xs ys : List (Option Key)) → LegalQueue q → record_at n q ≡ Some (record_shown request) → request.grant ≡ Some (suc i) → IsPut i request.key xs ys → Places q n xs → Places q (n + 1) ys
 placed_more q n i request xs ys l e g p old = record {
   grants = λ j k h. back j k (p.back j k h);
   placed = λ j m r lt t is. at j m r t is (last_or j n lt);
@@ -103,11 +103,11 @@ placed_more q n i request xs ys l e g p old = record {
     s : Shown q n request
     s = shown_at q n request e
 
-    own : slice_get (grants_of q) i ≡ Some (key_in request.key)
+    own : slice_get (grants_of q) i ≡ Some (key_shown request.key)
     own = grant_is q l s.record_is (at_in (records q) n s.record_is s.there) i (s.grant ∙ g) ∙ ap Some s.key
 
-    back : (j : ℕ) (k : Key) → ((j ≡ i) × (k ≡ request.key)) ⊎ Holds xs j k → slice_get (grants_of q) j ≡ Some (key_in k)
-    back j k (inl a) = ap (slice_get (grants_of q)) a.0 ∙ (own ∙ ap (λ z. Some (key_in z)) (sym a.1))
+    back : (j : ℕ) (k : Key) → ((j ≡ i) × (k ≡ request.key)) ⊎ Holds xs j k → slice_get (grants_of q) j ≡ Some (key_shown k)
+    back j k (inl a) = ap (slice_get (grants_of q)) a.0 ∙ (own ∙ ap (λ z. Some (key_shown z)) (sym a.1))
     back j k (inr a) = old.grants j k a
 
     at : (j m : ℕ) (r : Request) → slice_get (records q) j ≡ Some r → grant_of r.key q ≡ Some (suc m) → (j ≡ n) ⊎ (j < n) → (k : Key) × Holds ys m k
@@ -121,7 +121,7 @@ placed_more q n i request xs ys l e g p old = record {
         (request.key, subst (λ z. Holds ys z request.key) (sym m_is) p.here)
 
 -- one without a grant
-pub placed_none : (q : List QueueEvent) (n : ℕ) (request : Record) (xs : List (Option Key)) → record_at n q ≡ Some (record_in request) → ((i : ℕ) → request.grant ≡ Some (suc i) → ⊥) → Places q n xs → Places q (n + 1) xs
+pub placed_none : (q : List QueueEvent) (n : ℕ) (request : Record) (xs : List (Option Key)) → record_at n q ≡ Some (record_shown request) → ((i : ℕ) → request.grant ≡ Some (suc i) → ⊥) → Places q n xs → Places q (n + 1) xs
 placed_none q n request xs e none old = record {
   grants = old.grants;
   placed = λ j m r lt t is. at j m r t is (last_or j n lt);
@@ -146,7 +146,7 @@ placed_no_more q = record {
 -- behind the last record the places hold all grants, in order
 
 pub record Filled (gs : List keys.Key) (places : List (Option Key)) : Type 0 where
-  pub grants : (i : ℕ) (k : Key) → Holds places i k → slice_get gs i ≡ Some (key_in k)
+  pub grants : (i : ℕ) (k : Key) → Holds places i k → slice_get gs i ≡ Some (key_shown k)
   pub filled : (i : ℕ) (g : keys.Key) → slice_get gs i ≡ Some g → (k : Key) × Holds places i k
 
 pub all_placed : (q : List QueueEvent) (n : ℕ) (places : List (Option Key)) → LegalQueue q → record_at n q ≡ None → Places q n places → Filled (grants_of q) places
@@ -171,19 +171,19 @@ all_placed q n places l e p = record {
     before (x ∷ xs) (suc n) zero r a b = omega arith
     before (x ∷ xs) (suc n) (suc j) r a b = let l : j < n = before xs n j r a b in omega (arith, l)
 
-pub texts_placed : (text : keys.Key → List ℕ) (slot : Option Key → List ℕ) → (slot None ≡ []) → ((k : Key) → slot (Some k) ≡ text (key_in k)) → (gs : List keys.Key) (places : List (Option Key)) → Filled gs places → flat_map slot places ≡ flat_map text gs
+pub texts_placed : (text : keys.Key → List ℕ) (slot : Option Key → List ℕ) → (slot None ≡ []) → ((k : Key) → slot (Some k) ≡ text (key_shown k)) → (gs : List keys.Key) (places : List (Option Key)) → Filled gs places → flat_map slot places ≡ flat_map text gs
 texts_placed text slot none some [] [] f = refl
 texts_placed text slot none some (g ∷ gs) [] f = let a : (k : Key) × Holds [] 0 k = f.filled 0 g refl in let h : Holds [] 0 a.0 = a.1 in let z : ⊥ = cc in absurd z
 texts_placed text slot none some [] (None ∷ ps) f = ap₂ (λ a b. a ++ b) none (texts_placed text slot none some [] ps (record { grants = λ i k h. f.grants (suc i) k h; filled = λ i g h. let z : ⊥ = cc in absurd z }))
-texts_placed text slot none some [] (Some k ∷ ps) f = let e : slice_get [] 0 ≡ Some (key_in k) = f.grants 0 k refl in let z : ⊥ = cc in absurd z
+texts_placed text slot none some [] (Some k ∷ ps) f = let e : slice_get [] 0 ≡ Some (key_shown k) = f.grants 0 k refl in let z : ⊥ = cc in absurd z
 texts_placed text slot none some (g ∷ gs) (None ∷ ps) f = let a : (k : Key) × Holds (None ∷ ps) 0 k = f.filled 0 g refl in let h : Holds (None ∷ ps) 0 a.0 = a.1 in let z : ⊥ = cc in absurd z
 texts_placed text slot none some (g ∷ gs) (Some k ∷ ps) f =
-    let e : Some g ≡ Some (key_in k) = f.grants 0 k refl in
-    let same : g ≡ key_in k = cc in
+    let e : Some g ≡ Some (key_shown k) = f.grants 0 k refl in
+    let same : g ≡ key_shown k = cc in
     ap₂ (λ a b. a ++ b) (some k ∙ ap text (sym same)) (texts_placed text slot none some gs ps (record { grants = λ i j h. f.grants (suc i) j h; filled = λ i j h. f.filled (suc i) j h }))
 
 -- as `put` says it
-pub put_more : (o : Result (Unit {0}) Memory) (number : ℕ) (request : Record) (xs ys : List (Option Key)) → request.grant ≡ Some number → 0 < number → OnOk o (IsPut (number - 1) request.key xs ys) → OnOk o ((q : List QueueEvent) (n : ℕ) → LegalQueue q → record_at n q ≡ Some (record_in request) → Places q n xs → Places q (n + 1) ys)
+pub put_more : (o : Result (Unit {0}) Memory) (number : ℕ) (request : Record) (xs ys : List (Option Key)) → request.grant ≡ Some number → 0 < number → OnOk o (IsPut (number - 1) request.key xs ys) → OnOk o ((q : List QueueEvent) (n : ℕ) → LegalQueue q → record_at n q ≡ Some (record_shown request) → Places q n xs → Places q (n + 1) ys)
 put_more (Ok u) number request xs ys g p put = λ q n l e old. placed_more q n (number - 1) request xs ys l e (g ∙ ap Some back) put old
   where
     back : number ≡ suc (number - 1)

@@ -2,7 +2,7 @@
 use Rattle.std.specs.Prelude.{◌≡◌, ℕ, suc, ◌<◌, ◌⊎◌, List, Option, Some, slice_get}
 use Rattle.lat_machines.specs.server.Queue.{QueueEvent, Request, records}
 use Rattle.lat_machines.specs.server.Records.{grants_of, grant_of}
-use Rattle.lat_queue.specs.Histories.{key_in}
+use Rattle.lat_queue.specs.Histories.{key_shown}
 use Rattle.lat_queue.specs.declared.key.Key.{Key}
 
 abbrev pub Holds : List (Option Key) → ℕ → Key → Type 0
@@ -21,5 +21,5 @@ pub record IsPut (i : ℕ) (key : Key) (old new : List (Option Key)) : Type 0 wh
 
 -- What is held is the grant of the place, and the grants of the first n records have their places
 pub record Places (q : List QueueEvent) (n : ℕ) (places : List (Option Key)) : Type 0 where
-  pub grants : (i : ℕ) (k : Key) → Holds places i k → slice_get (grants_of q) i ≡ Some (key_in k)
+  pub grants : (i : ℕ) (k : Key) → Holds places i k → slice_get (grants_of q) i ≡ Some (key_shown k)
   pub placed : (j i : ℕ) (r : Request) → j < n → slice_get (records q) j ≡ Some r → grant_of r.key q ≡ Some (suc i) → (k : Key) × Holds places i k

@@ -3,7 +3,7 @@ use Rattle.std.specs.Prelude.{ℕ, List, [], map, Option, Some, None}
 use Rattle.lat_machines.specs.server.Queue.{QueueEvent, Request, records}
 use Rattle.lat_machines.specs.server.Records.{kept_now}
 use Rattle.lat_machines.specs.world.Reports.{RecordRow}
-use Rattle.lat_queue.specs.Histories.{key_in}
+use Rattle.lat_queue.specs.Histories.{key_shown}
 use Rattle.lat_queue.specs.declared.key.Key.{Key}
 use Rattle.lat_wire.specs.report.ReportText.{grant_text}
 
@@ -17,4 +17,4 @@ request_rows q = map (request_row q) (records q)
 -- the text of a place for a grant
 abbrev pub place_text : Option Key → List ℕ
 place_text None = []
-place_text (Some k) = grant_text (key_in k)
+place_text (Some k) = grant_text (key_shown k)

@@ -6,7 +6,7 @@ ghost use Rattle.lat_machines.specs.server.Queue.{QueueEvent, LegalQueue};
 ghost use Rattle.lat_machines.specs.server.Records as machine;
 ghost use Rattle.lat_machines.specs.server.Records.{grants_of};
 ghost use Rattle.lat_machines.specs.server.Server.{Server};
-ghost use Rattle.lat_queue.specs.Histories.{record_in};
+ghost use Rattle.lat_queue.specs.Histories.{record_shown};
 ghost use Rattle.lat_server.specs.Stands.{Stands};
 ghost use Rattle.lat_wire.specs.report.ReportText.{grant_text};
 ghost use Rattle.lat_replay.specs.Places.{SameKeys, IsPut, Places};
@@ -44,7 +44,7 @@ fn put(places: &mut Vec<Option<Key>>, number: usize, key: Key) -> Result<(), Mem
 fn place(places: &mut Vec<Option<Key>>, request: &Record) -> Result<(), Memory>
     ensures { OnOk result ((q : List QueueEvent) (n : ℕ) →
         LegalQueue q →
-        machine.record_at n q ≡ Some (record_in request.now) →
+        machine.record_at n q ≡ Some (record_shown request.now) →
         Places q n places.old.items →
         Places q (n + 1) places.new.items) }
 {

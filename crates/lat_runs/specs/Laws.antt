@@ -26,7 +26,7 @@ use Rattle.lat_switch.specs.Stands as switched
 use Rattle.lat_switch.specs.Switch.{Switch}
 use Rattle.lat_tariff.specs.declared.tariff.Rule.{Rule}
 use Rattle.lat_tariff.specs.Kept as tariff
-use Rattle.lat_runs.specs.Runs.{told, events_of, answers_of, IsRated, AreAllowed, AreOwnEach}
+use Rattle.lat_runs.specs.Runs.{events_told, events_of, answers_of, IsRated, AreAllowed, AreOwnEach}
 
 -- where the run of a history's events leads
 abbrev pub server_behind : server.Machine → List Past → server.Machine
@@ -91,14 +91,14 @@ TariffsRun {R = R} H may = (m : tariff.Machine H R) (history : List Past) → Is
 abbrev pub inner_behind : Switch → List Past → server.Machine
 inner_behind s history = record {
   config = s.inner.config;
-  state = server_run s.inner.config (map event_shown (inner_events s (told history))) s.inner.state;
+  state = server_run s.inner.config (map event_shown (inner_events s (events_told history))) s.inner.state;
 }
 
 pub record IsSwitchRun (s : Switch) (history : List Past) : Type 0 where
   pub state : (run_of switch.next s history).inner ≡ inner_behind s history
   pub frames : (sent : List OutFrame) → FramesOf switch.next switch.Frames s history sent →
       map frame_view sent ≡
-      map expected (server_frames s.inner.config (map event_shown (inner_events s (told history))) s.inner.state)
+      map expected (server_frames s.inner.config (map event_shown (inner_events s (events_told history))) s.inner.state)
 
 abbrev pub SwitchesRun : Type 0
 SwitchesRun = (s : Switch) (history : List Past) → IsSwitchRun s history

@@ -13,8 +13,8 @@ use Rattle.lat_tariff.specs.Kept.{asked}
 use Rattle.lat_tariff.specs.Tariffs.{AreOwn}
 
 -- its events, as they were told
-abbrev pub told : List Past → List base.Event
-told history = map (λ (p : Past). p.event) history
+abbrev pub events_told : List Past → List base.Event
+events_told history = map (λ (p : Past). p.event) history
 
 -- its events
 abbrev pub events_of : List Past → List Event

@@ -7,7 +7,7 @@ use Rattle.lat_script.specs.Runs.{IsAnswer, IsPrinted, Prints, Wrote, WrotePart}
 
 -- a call that gave a text printed it of its script
 pub printed_ok : {F A E : Type 0} (g : Shared F (A × (Bor (List ℕ) × Unit {0})) (Result (String A) E)) (f : F) (alloc : A) (shown : Bor (List ℕ)) (input : List ℕ) (r : Result (String A) E) → g.post f (alloc, (shown, tt)) r → shown.now ≡ input → IfOk r (λ text. IsPrinted (Prints g f alloc) input (string_bytes text))
-printed_ok g f alloc shown input (Ok made) says shows = inl (record { shown = shown; shows = shows; made = made; says = record { met = says }; told = refl })
+printed_ok g f alloc shown input (Ok made) says shows = inl (record { shown = shown; shows = shows; made = made; says = record { met = says }; printed = refl })
 printed_ok g f alloc shown input (Err e) says shows = tt
 
 -- what holds of all that was read holds of what the source had, where it tells it

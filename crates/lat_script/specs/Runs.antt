@@ -20,7 +20,7 @@ pub record Prints {F A E : Type 0} (g : Shared F (A × (Bor (List ℕ) × Unit {
   pub shows : shown.now ≡ script
   pub made : String A
   pub says : FnReturns g f (alloc, (shown, tt)) (Ok made)
-  pub told : string_bytes made ≡ text
+  pub printed : string_bytes made ≡ text
 
 -- the text is what is printed of the input as a script, or says that the input is no text
 abbrev pub IsPrinted : (List ℕ → List ℕ → Type 0) → List ℕ → List ℕ → Type 0

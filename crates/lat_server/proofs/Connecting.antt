@@ -16,7 +16,7 @@ use Rattle.lat_machines.specs.cores.Lines.{line_exists, has_session}
 use Rattle.lat_machines.specs.server.Server.{ServerConfig, Server, ServerStep, server_side, tells, does, has_room, opens, connects_to, solicits_for, connect_event}
 use Rattle.lat_payload.specs.Frames.{GoesOutAs, Emits}
 use Rattle.lat_payload.proofs.Frames.{adds_none, adds_one}
-use Rattle.lat_queue.specs.Histories.{key_in}
+use Rattle.lat_queue.specs.Histories.{key_shown}
 use Rattle.lat_lines.specs.Kept as lines
 use Rattle.lat_lines.specs.Stands as stands
 use Rattle.lat_lines.specs.Opens.{opening}
@@ -40,7 +40,7 @@ idle k s a out rest st = record {
   waiting = st.queue;
   solicits = st.solicits;
   concluded = st.concluded;
-  freed = ap (map key_in) rest.freed ∙ sym (none_between s.core s.core.seats);
+  freed = ap (map key_shown) rest.freed ∙ sym (none_between s.core s.core.seats);
   frames = adds_none out;
 }
 
@@ -104,7 +104,7 @@ did_connect k s line service b l r before after rest st e o f n = subst (λ t. H
         waiting = st.queue;
         solicits = st.solicits;
         concluded = st.concluded;
-        freed = ap (map key_in) f ∙ sym (opening_frees_none k.lines.lines s.core (opens (config_of k) line b.from b.node service None None s.core).core None (opening_of (config_of k) line b.from b.node service None None s.core) st.lines.seated.each);
+        freed = ap (map key_shown) f ∙ sym (opening_frees_none k.lines.lines s.core (opens (config_of k) line b.from b.node service None None s.core).core None (opening_of (config_of k) line b.from b.node service None None s.core) st.lines.seated.each);
         frames = o.1;
       };
       answered = refl;
@@ -125,7 +125,7 @@ did_solicit k s service asker f before after rest st a e n = record {
     waiting = st.queue;
     solicits = ap (λ z. (z + 1) % 65536) st.solicits;
     concluded = st.concluded;
-    freed = ap (map key_in) rest.freed ∙ sym (none_between s.core s.core.seats);
+    freed = ap (map key_shown) rest.freed ∙ sym (none_between s.core s.core.seats);
     frames = subst (Emits (solicits_for (config_of k) s service).frames before) (sym n)
         (adds_one (plain everyone 0 (OfNotice (SolicitNotice (record { id = (s.solicits + 1) % 65536; asker = k.lines.circuits.name; service = service })))) f before
         (subst (λ x. GoesOutAs f (plain everyone 0 (OfNotice (SolicitNotice (record { id = (x + 1) % 65536; asker = k.lines.circuits.name; service = service }))))) st.solicits

@@ -18,7 +18,7 @@ use Rattle.lat_payload.proofs.Frames.{adds_one, adds_then}
 use Rattle.lat_queue.specs.declared.key.Key as own
 use Rattle.lat_queue.specs.Tables.{Table}
 use Rattle.lat_queue.specs.Histories as queue
-use Rattle.lat_queue.specs.Histories.{key_in, some_key, some_request, request_key}
+use Rattle.lat_queue.specs.Histories.{key_shown, some_key, some_request, request_key}
 use Rattle.lat_lines.specs.Kept as lines
 use Rattle.lat_lines.specs.Stands as stands
 use Rattle.lat_lines.specs.Opens.{opening}
@@ -47,13 +47,13 @@ on_ok (Ok y) ids P e p = p
 on_ok (Err f) ids P e p = let z : ⊥ = cc in absurd z
 
 -- the queue after its grant
-queue_granted : (t : Table) (q : List QueueEvent) (service : Name) (k : Key) (g : Option own.Key) → some_key g ≡ Some k → IfSome g (λ j. queue.Stands t (q ++ Grants (key_in j) service ∷ [])) → queue.Stands t (q ++ Grants k service ∷ [])
+queue_granted : (t : Table) (q : List QueueEvent) (service : Name) (k : Key) (g : Option own.Key) → some_key g ≡ Some k → IfSome g (λ j. queue.Stands t (q ++ Grants (key_shown j) service ∷ [])) → queue.Stands t (q ++ Grants k service ∷ [])
 queue_granted t q service k None e s = let z : ⊥ = cc in absurd z
-queue_granted t q service k (Some j) e s = let i : key_in j ≡ k = cc in subst (λ x. queue.Stands t (q ++ Grants x service ∷ [])) i s
+queue_granted t q service k (Some j) e s = let i : key_shown j ≡ k = cc in subst (λ x. queue.Stands t (q ++ Grants x service ∷ [])) i s
 
 pub has_granted : (k : Kept) (p : Passing) (start before middle after : List OutFrame) (line : ℕ) (service : Name) (r : Request) (m : Key) (x : ℕ) (l : lines.Kept) (t : Table) (g : Option own.Key) (f : OutFrame) (o : Result (ℕ × ℕ) OpenFault)
     → HasPassed p k start before → next_request service p.state.queue ≡ Some r → r.key ≡ m → r.from ≡ x → can_open p.state.core r.from ≡ true
-    → some_key g ≡ request_key (next_request service p.state.queue) → IfSome g (λ j. queue.Stands t (p.state.queue ++ Grants (key_in j) service ∷ []))
+    → some_key g ≡ request_key (next_request service p.state.queue) → IfSome g (λ j. queue.Stands t (p.state.queue ++ Grants (key_shown j) service ∷ []))
     → GoesOutAs f (grant_frame (record r { key = m; from = x })) → middle ≡ before ++ f ∷ [] → o ≡ opening p.state.core x
     → OnOk o (stands.Stands l (opens (config_of k) line x m.node service (Some m) (Some m.request) p.state.core).core × Emits (opens (config_of k) line x m.node service (Some m) (Some m.request) p.state.core).frames middle after)
     → HasPassed (granting (config_of k) line service p r) (record k { lines = l; queue = t }) start after

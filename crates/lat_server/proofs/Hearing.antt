@@ -24,7 +24,7 @@ use Rattle.lat_dir.specs.declared.directory.DirFault.TheVariants as faults
 use Rattle.lat_dir.specs.Stands as dir
 use Rattle.lat_dir.specs.Stands.{UnlessMemory}
 use Rattle.lat_queue.specs.Tables.{Table, HasPlace}
-use Rattle.lat_queue.specs.Histories.{key_in, some_kept}
+use Rattle.lat_queue.specs.Histories.{key_shown, some_kept}
 use Rattle.lat_queue.proofs.RecordLemmas.{map_twice}
 use Rattle.lat_circuit.specs.Frames.{timing_shown}
 use Rattle.lat_lines.specs.circuits.Hears.{HeardCore, heard_core}
@@ -67,7 +67,7 @@ at now s = with_core s (at_moment now s.core)
 -- nothing but the moment moves on
 pub did_pass : (k : Kept) (s : Server) (now : ℕ) (l : lines.Kept) (a : base.Answer) (out : List OutFrame) → AtRest k → Stands k s → stands.Stands l (at_moment now s.core) → l.freed ≡ k.lines.freed → HasDone s (tells (at now s) (answer_shown a)) (record k { lines = l }) a out out
 did_pass k s now l a out rest st m f = record {
-  state = record { core = m; directory = st.directory; waiting = st.queue; solicits = st.solicits; concluded = st.concluded; freed = ap (map key_in) (f ∙ rest.freed) ∙ sym (none_moved now s.core s.core.seats); frames = adds_none out };
+  state = record { core = m; directory = st.directory; waiting = st.queue; solicits = st.solicits; concluded = st.concluded; freed = ap (map key_shown) (f ∙ rest.freed) ∙ sym (none_moved now s.core s.core.seats); frames = adds_none out };
   answered = refl;
 }
 
@@ -122,7 +122,7 @@ pub did_announce : (k : Kept) (s : Server) (now from : ℕ) (m : Announcement) (
     → answer_shown a ≡ announced_answer (if refuses k.directory.groups (max s.core.moment now) m s.heard then Err faults.Full else Ok (meets k.directory.groups m))
     → HasDone s (hears_announcement (config_of k) (at now s) from m) (record k { lines = l; directory = d }) a out out
 did_announce k s now from m l d a out rest st c f h e = record {
-  state = record { core = c; directory = h; waiting = st.queue; solicits = st.solicits; concluded = st.concluded; freed = ap (map key_in) (f ∙ rest.freed) ∙ sym (none_moved now s.core s.core.seats); frames = adds_none out };
+  state = record { core = c; directory = h; waiting = st.queue; solicits = st.solicits; concluded = st.concluded; freed = ap (map key_shown) (f ∙ rest.freed) ∙ sym (none_moved now s.core s.core.seats); frames = adds_none out };
   answered = e ∙ announced_is (refuses k.directory.groups (max s.core.moment now) m s.heard) (meets k.directory.groups m);
 }
 
@@ -179,7 +179,7 @@ pub did_command : (k : Kept) (s : Server) (now from : ℕ) (m : Command) (a : Ac
     → HasDone s (hears_command (config_of k) (at now s) from m a) (record k { lines = l; queue = t }) (kept_answer o) before after
 did_command k s now from m a l t o f before after rest st same n e p c g =
     let x : NotedCommand = noted k.queue.offered from m a s.queue in
-    let told : outcome_shown (kept_outcome o) ≡ outcome_of x.kept = outcome_is o ∙ ap outcome_of n.told in
+    let told : outcome_shown (kept_outcome o) ≡ outcome_of x.kept = outcome_is o ∙ ap outcome_of n.same in
     subst (λ z. HasDone s z (record k { lines = l; queue = t }) (kept_answer o) before after) (sym (command_is (config_of k) (at now s) from m a ∙ ap (λ ns. noting (at now s) from m (noted ns from m a s.queue)) same))
     (record {
       state = record {
@@ -188,10 +188,10 @@ did_command k s now from m a l t o f before after rest st same n e p c g =
         waiting = n.state;
         solicits = st.solicits;
         concluded = noted_concluded s.core k.queue.offered from m a s.queue st.concluded;
-        freed = ap (map key_in) (g ∙ rest.freed) ∙ sym (none_moved now s.core s.core.seats);
+        freed = ap (map key_shown) (g ∙ rest.freed) ∙ sym (none_moved now s.core s.core.seats);
         frames = subst (Emits (status_frame from m (outcome_of x.kept) ∷ []) before) (sym p) (adds_one (status_frame from m (outcome_of x.kept)) f before (subst (λ y. GoesOutAs f (status_frame from m y)) told e));
       };
-      answered = answer_is o ∙ ap answer_of n.told;
+      answered = answer_is o ∙ ap answer_of n.same;
     })
 
 -- the same side before and after

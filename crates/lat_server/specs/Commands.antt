@@ -30,7 +30,7 @@ noted offered from m Cancel q =
 
 pub record HasNoted (n : NotedCommand) (new : Table) (kept : Option base_kept.Kept) : Type 0 where
   pub state : Stands new n.events
-  pub told : some_kept kept ≡ n.kept
+  pub same : some_kept kept ≡ n.kept
 
 abbrev pub kept_answer : Option base_kept.Kept → base.Answer
 kept_answer None = answers.NotKept

@@ -12,7 +12,7 @@ use Rattle.lat_machines.specs.values.Addresses.{address}
 use Rattle.lat_payload.specs.Frames.{Emits}
 use Rattle.lat_dir.specs.Stands as dir
 use Rattle.lat_queue.specs.Histories as queue
-use Rattle.lat_queue.specs.Histories.{key_in}
+use Rattle.lat_queue.specs.Histories.{key_shown}
 use Rattle.lat_lines.specs.AnswerValues.{answer_shown}
 use Rattle.lat_lines.specs.Stands as lines
 use Rattle.lat_lines.specs.Stands.{freed_between}
@@ -28,7 +28,7 @@ pub record Underway (s : Server) (t : ServerStep) (new : Kept) (before after : L
   pub waiting : queue.Stands new.queue t.state.queue
   pub solicits : new.solicits ≡ t.state.solicits
   pub concluded : Concluded s.core t.state.queue
-  pub freed : map key_in new.lines.freed ≡ freed_between s.core t.state.core
+  pub freed : map key_shown new.lines.freed ≡ freed_between s.core t.state.core
   pub frames : Emits t.frames before after
 
 -- it did so, and answered so

@@ -11,7 +11,7 @@ use Rattle.lat_dir.specs.Stands as dir
 use Rattle.lat_queue.specs.Histories as queue
 use Rattle.lat_circuit.specs.Frames.{frame_view}
 use Rattle.lat_payload.specs.Frames.{expected, IsReadable}
-use Rattle.lat_stream.specs.Kept.{state_shown}
+use Rattle.lat_stream.specs.Kept.{state_of}
 use Rattle.lat_lines.specs.AnswerValues.{answer_of}
 use Rattle.lat_lines.specs.Events.{event_shown}
 use Rattle.lat_lines.specs.Stands as lines
@@ -57,7 +57,7 @@ pub record Frames (m : Machine) (e : Event) (frames : List OutFrame) : Type 0 wh
   pub readable : Each IsReadable (stepped m e).frames
 
 abbrev pub line_of : Machine → ℕ → SessionState
-line_of m line = state_shown (line_state (server_side m.config) m.state.core line)
+line_of m line = state_of (line_state (server_side m.config) m.state.core line)
 
 abbrev pub moment_of : Machine → ℕ
 moment_of m = m.state.core.moment

@@ -7,7 +7,7 @@ ghost use Rattle.lat_machines.specs.server.Server.{hears_command};
 ghost use Rattle.lat_machines.specs.server.Queue.{QueueEvent};
 ghost use Rattle.lat_payload.specs.Notices.{action_shown, command_shown};
 ghost use Rattle.lat_queue.specs.Histories as queue;
-ghost use Rattle.lat_queue.specs.Histories.{key_in};
+ghost use Rattle.lat_queue.specs.Histories.{key_shown};
 ghost use Rattle.lat_queue.specs.Tables.{HasPlace};
 ghost use Rattle.lat_server.specs.Commands.{noted, HasNoted, kept_answer, kept_outcome};
 ghost use Rattle.lat_lines.specs.Answers.{IsPlain};
@@ -56,7 +56,7 @@ impl ServerCore {
 
 // The key of a command's request.
 fn key_of(command: &Command) -> Key
-    ensures { key_in result ≡ machine.key_of (command_shown command.now) }
+    ensures { key_shown result ≡ machine.key_of (command_shown command.now) }
 {
     Key {
         node: command.node,

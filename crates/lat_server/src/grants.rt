@@ -9,7 +9,7 @@ ghost use Rattle.lat_machines.specs.server.Queue.{QueueEvent, Request, next_requ
 ghost use Rattle.lat_machines.specs.server.Server.{Passing, can_open, fitting, grants_by, granting, grant_line};
 ghost use Rattle.lat_machines.specs.values.Addresses.{address};
 ghost use Rattle.lat_queue.specs.Histories as queue;
-ghost use Rattle.lat_queue.specs.Histories.{key_in, address_in, is_any_waiting};
+ghost use Rattle.lat_queue.specs.Histories.{key_shown, is_any_waiting};
 ghost use Rattle.lat_lines.specs.Kept.{IsLine};
 ghost use Rattle.lat_lines.specs.Stands as lines;
 ghost use Rattle.lat_server.specs.declared.config.Offer.{Offer};
@@ -27,7 +27,7 @@ use lat_queue::{Key, Queue};
 fn finish_keys(requests: &mut Queue, keys: &[Key])
     ensures stands { (q : List QueueEvent) →
         queue.Stands requests.old q →
-        queue.Stands requests.new (finish_each (map key_in keys.now) q) }
+        queue.Stands requests.new (finish_each (map key_shown keys.now) q) }
     ensures offered { requests.new.offered ≡ requests.old.offered }
 {
     for key in keys {
@@ -40,7 +40,7 @@ impl ServerCore {
     pub(crate) fn finish(&mut self)
         ensures stands { (q : List QueueEvent) →
             queue.Stands self.old.queue q →
-            queue.Stands self.new.queue (finish_each (map key_in self.old.lines.freed) q) }
+            queue.Stands self.new.queue (finish_each (map key_shown self.old.lines.freed) q) }
         ensures others { self.new ≡ with_queue self.new.queue self.old }
     {
         let Self { lines, queue, .. } = self;
@@ -165,8 +165,8 @@ impl ServerCore {
             HasPassed p self.old start out.old →
             has_session p.state.core line ≡ false →
             next_request service.now p.state.queue ≡ Some r →
-            r.key ≡ key_in key →
-            r.from ≡ address_in from →
+            r.key ≡ key_shown key →
+            r.from ≡ address from.0 →
             can_open p.state.core r.from ≡ true →
             HasPassed (granting (config_of self.old) line service.now p r) self.new start out.new }
         ensures rest { AtRest self.new }

@@ -10,7 +10,7 @@ use Rattle.lat_model.specs.sessions.Calls.{answer, reject}
 use Rattle.lat_model.specs.sessions.EndOk.{Shape, SessionOk}
 use Rattle.lat_model.proofs.sessions.Words.{upd_same, upd_other}
 use Rattle.lat_model.proofs.sessions.Starts.{free_goes}
-use Rattle.lat_stream.specs.Kept.{state_shown, start_left}
+use Rattle.lat_stream.specs.Kept.{state_of, start_left}
 use Rattle.lat_session.specs.Stands.{Stands}
 use Rattle.lat_session.specs.States.{is_asked}
 use Rattle.lat_session.specs.Table.{Table, state_in, state_at, ask_is_open, ask_of, waits_as, open_asks}
@@ -50,7 +50,7 @@ accepted_if : (a : Bool) (s : Session) → answered s ≡ false → starts s.cam
 accepted_if true s n st q = absurd (true≢false (sym st ∙ sym (ap (λ z. z && starts s.came) q) ∙ n))
 accepted_if false s n st q = refl
 
-pub is_asked_here : (t : Table) (e : Sessions) (id : ℕ) → Stands t e → is_asked (state_shown (state e.master (named e id))) ≡ true → IsAsked e id
+pub is_asked_here : (t : Table) (e : Sessions) (id : ℕ) → Stands t e → is_asked (state_of (state e.master (named e id))) ≡ true → IsAsked e id
 is_asked_here t e id st h =
     let s : Session = named e id in
     let w : WhileAsked e.master s = while_asked e.master s h in

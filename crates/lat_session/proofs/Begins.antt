@@ -13,7 +13,7 @@ use Rattle.lat_model.proofs.circuits.Pairs.{void_ok}
 use Rattle.lat_model.proofs.sessions.Words.{upd_same, upd_other}
 use Rattle.lat_model.proofs.sessions.Made.{least_some}
 use Rattle.lat_model.proofs.sessions.Alone.{least_free_low}
-use Rattle.lat_stream.specs.Kept.{Kept, kept_of}
+use Rattle.lat_stream.specs.Kept.{Kept, stream_of}
 use Rattle.lat_session.specs.Table.{Table, table_of, ask_is_open, ask_of, open_asks}
 use Rattle.lat_session.specs.Stands.{Stands}
 use Rattle.lat_session.specs.declared.ask.Ask.{Ask}
@@ -22,11 +22,11 @@ use Rattle.lat_session.proofs.Stays.{call_stands}
 
 -- the table without a session
 abbrev pub empty_table : Bool → ℕ → ℕ → ℕ → Table
-empty_table m agreed ceiling n = record { master = m; agreed = agreed; ceiling = ceiling; served = 0; sessions = replicate n (kept_of true ceiling blank); asks = [] }
+empty_table m agreed ceiling n = record { master = m; agreed = agreed; ceiling = ceiling; served = 0; sessions = replicate n (stream_of true ceiling blank); asks = [] }
 
 pub empty_stands : (m : Bool) (agreed ceiling n : ℕ) → agreed ≤ n → n ≤ 64 → Stands (empty_table m agreed ceiling n) (no_sessions m agreed ceiling)
 empty_stands m agreed ceiling n l h = record {
-  is = ap (λ a. record (empty_table m agreed ceiling n) { agreed = a }) least ∙ ap (λ xs. record (empty_table m (min agreed 64) ceiling n) { sessions = xs }) (sym (map_all (kept_of true ceiling blank) 0 n)) ∙ ap (λ k. table_of k (no_sessions m agreed ceiling)) (sym size);
+  is = ap (λ a. record (empty_table m agreed ceiling n) { agreed = a }) least ∙ ap (λ xs. record (empty_table m (min agreed 64) ceiling n) { sessions = xs }) (sym (map_all (stream_of true ceiling blank) 0 n)) ∙ ap (λ k. table_of k (no_sessions m agreed ceiling)) (sym size);
   good = void_ok m (min agreed 64) ceiling (omega arith);
   small = λ k. tt;
   opens = λ k. refl;
@@ -42,10 +42,10 @@ empty_stands m agreed ceiling n l h = record {
     least : agreed ≡ min agreed 64
     least = omega (arith, l, h)
 
-    size : length (replicate n (kept_of true ceiling blank)) ≡ n
-    size = length-replicate n (kept_of true ceiling blank)
+    size : length (replicate n (stream_of true ceiling blank)) ≡ n
+    size = length-replicate n (stream_of true ceiling blank)
 
-pub begins : (m : Bool) (agreed ceiling n : ℕ) (sessions : List Kept) (asks : List Ask) → agreed ≤ n → n ≤ 64 → sessions ≡ replicate n (kept_of true ceiling blank) → asks ≡ [] → Stands (record { master = m; agreed = agreed; ceiling = ceiling; served = 0; sessions = sessions; asks = asks }) (no_sessions m agreed ceiling)
+pub begins : (m : Bool) (agreed ceiling n : ℕ) (sessions : List Kept) (asks : List Ask) → agreed ≤ n → n ≤ 64 → sessions ≡ replicate n (stream_of true ceiling blank) → asks ≡ [] → Stands (record { master = m; agreed = agreed; ceiling = ceiling; served = 0; sessions = sessions; asks = asks }) (no_sessions m agreed ceiling)
 begins m agreed ceiling n sessions asks l h p q = rw (p, q) (empty_stands m agreed ceiling n l h)
 
 -- connecting
@@ -55,12 +55,12 @@ no_asks f m = ap (map (λ k. ask_of (f.session k))) (keep_none (ask_is_open f) (
 
 pub connect_stands : (t u : Table) (e : Sessions) (i : ℕ) (k : Kept) (service : List ℕ) (request : Option ℕ)
     → Stands t e → e.master ≡ true → held e < e.agreed → i + 1 ≡ least_free e → i < length t.sessions
-    → k ≡ kept_of true e.ceiling (new_call e service request)
+    → k ≡ stream_of true e.ceiling (new_call e service request)
     → u ≡ record t { sessions = slice_set t.sessions i k } → Stands u (call e (Connect service request))
 connect_stands t u e i k service request st m h p l new is =
     call_stands t u e (Connect service request) st (ap (λ (z : Table). length z.sessions) is ∙ length-set t.sessions i k)
     (is ∙ ap (λ z. record t { sessions = slice_set t.sessions i z }) kept
-    ∙ ap (λ (z : Table). record z { sessions = slice_set z.sessions i (kept_of e.master e.ceiling s) }) st.is
+    ∙ ap (λ (z : Table). record z { sessions = slice_set z.sessions i (stream_of e.master e.ceiling s) }) st.is
     ∙ ap (λ z. record (table_of n e) { sessions = z }) sessions
     ∙ ap (λ z. record (table_of n f) { asks = z }) (no_asks e m ∙ sym (no_asks f m))
     ∙ ap (table_of n) (sym connects))
@@ -77,24 +77,24 @@ connect_stands t u e i k service request st m h p l new is =
     connects : call e (Connect service request) ≡ f
     connects = ap (λ b. cond b f e) (ap (λ z. z && nat_lt (held e) e.agreed) m ∙ lt-ltb (held e) e.agreed h)
 
-    kept : k ≡ kept_of e.master e.ceiling s
-    kept = new ∙ ap (λ z. kept_of z e.ceiling s) (sym m)
+    kept : k ≡ stream_of e.master e.ceiling s
+    kept = new ∙ ap (λ z. stream_of z e.ceiling s) (sym m)
 
     next : suc 0 + i ≡ least_free e
     next = omega (arith, p)
 
-    old : (j : ℕ) → 0 < j → (j ≡ suc 0 + i → ⊥) → kept_of e.master e.ceiling (named f j) ≡ kept_of e.master e.ceiling (named e j)
+    old : (j : ℕ) → 0 < j → (j ≡ suc 0 + i → ⊥) → stream_of e.master e.ceiling (named f j) ≡ stream_of e.master e.ceiling (named e j)
     old j b ne =
-        ap (λ z. kept_of e.master e.ceiling (updated e.session (suc e.made) s z)) (upd_other e.at_id (least_free e) (suc e.made) j (λ q. ne (q ∙ sym next)))
-        ∙ ap (kept_of e.master e.ceiling) (upd_other e.session (suc e.made) s (e.at_id j) (λ q. absurd (omega (arith, q, st.good.at_made j))))
+        ap (λ z. stream_of e.master e.ceiling (updated e.session (suc e.made) s z)) (upd_other e.at_id (least_free e) (suc e.made) j (λ q. ne (q ∙ sym next)))
+        ∙ ap (stream_of e.master e.ceiling) (upd_other e.session (suc e.made) s (e.at_id j) (λ q. absurd (omega (arith, q, st.good.at_made j))))
 
     at_new : named f (suc 0 + i) ≡ s
     at_new = ap (named f) next ∙ ap (updated e.session (suc e.made) s) (upd_same e.at_id (least_free e) (suc e.made)) ∙ upd_same e.session (suc e.made) s
 
-    sessions : slice_set (table_of n e).sessions i (kept_of e.master e.ceiling s) ≡ (table_of n f).sessions
+    sessions : slice_set (table_of n e).sessions i (stream_of e.master e.ceiling s) ≡ (table_of n f).sessions
     sessions =
-        sym (map_set (λ j. kept_of e.master e.ceiling (named f j)) (λ j. kept_of e.master e.ceiling (named e j)) 0 n i old l
-        ∙ ap (λ z. slice_set (table_of n e).sessions i (kept_of e.master e.ceiling z)) at_new)
+        sym (map_set (λ j. stream_of e.master e.ceiling (named f j)) (λ j. stream_of e.master e.ceiling (named e j)) 0 n i old l
+        ∙ ap (λ z. slice_set (table_of n e).sessions i (stream_of e.master e.ceiling z)) at_new)
 
 -- the place that is found for it, where the agreed number isn't held
 

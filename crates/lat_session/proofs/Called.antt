@@ -4,7 +4,7 @@ use Rattle.std.proofs.lemmas.Bool.{false≢true}
 use Rattle.lat_model.specs.sessions.Session.{Session, blank, waits, rejecting}
 use Rattle.lat_model.specs.sessions.Sessions.{Sessions, named}
 use Rattle.lat_model.specs.sessions.Calls.{call, touch}
-use Rattle.lat_stream.specs.Kept.{Kept, kept_of}
+use Rattle.lat_stream.specs.Kept.{Kept, stream_of}
 use Rattle.lat_stream.specs.declared.calls.SessionFault.{SessionFault}
 use Rattle.lat_stream.specs.declared.calls.SessionFault.TheVariants as faults
 use Rattle.lat_session.specs.Table.{Table, ask_of}
@@ -70,8 +70,8 @@ none_stands t e id c is st =
     (nothing_stands t e (touch e (e.at_id id) (after (named e id) c)) (is_taken (named e id) c) (ap (λ z. is_taken z c) is ∙ blank_refuses c) st)
 
 pub called_stands : (t u : Table) (e : Sessions) (c : SessionCall) (i id : ℕ) (k l : Kept) → Stands t e → i + 1 ≡ id → i < length t.sessions
-    → k ≡ kept_of e.master e.ceiling (named e id)
-    → l ≡ (if is_taken (named e id) c then kept_of e.master e.ceiling (after (named e id) c) else k)
+    → k ≡ stream_of e.master e.ceiling (named e id)
+    → l ≡ (if is_taken (named e id) c then stream_of e.master e.ceiling (after (named e id) c) else k)
     → u ≡ record t { sessions = slice_set t.sessions i l } → Stands u (call e (call_of id c))
 called_stands t u e c i id k l st p q was is u_is =
     touched_stands t u e (call_of id c) i id l (is_taken s c) (after s c) st p q (call_is e id c)
@@ -83,4 +83,4 @@ called_stands t u e c i id k l st p q was is u_is =
     s = named e id
 
     choice : Bool → Kept
-    choice b = if b then kept_of e.master e.ceiling (after s c) else k
+    choice b = if b then stream_of e.master e.ceiling (after s c) else k

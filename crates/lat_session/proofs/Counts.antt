@@ -11,17 +11,17 @@ use Rattle.lat_model.specs.sessions.Session.{Session, Free, Calling, Asked, Live
 use Rattle.lat_model.specs.sessions.Sessions.{Sessions, named, held, least_free}
 use Rattle.lat_model.proofs.sessions.Alone.{least_free_low}
 use Rattle.lat_model.proofs.sessions.Made.{least_some}
-use Rattle.lat_stream.specs.Kept.{Kept, kept_of, state_shown}
+use Rattle.lat_stream.specs.Kept.{Kept, stream_of, state_of}
 use Rattle.lat_session.specs.Stands.{Stands}
 use Rattle.lat_session.specs.States.{is_free, is_asked, held_in, least_asked, asked_at, asked_of}
 use Rattle.lat_session.specs.Table.{Table}
 use Rattle.lat_session.proofs.Runs.{keep_same}
 use Rattle.lat_session.proofs.Least.{position_least, least_cut, least_low, keep_low, count_keep}
 
-pub free_shown : (m : Bool) (s : Session) → is_free (state_shown (state m s)) ≡ free s
+pub free_shown : (m : Bool) (s : Session) → is_free (state_of (state m s)) ≡ free s
 free_shown m s = go (free s) (gone s) (answered s) (s.closed || has_stop s.came) m
   where
-    go : (a b c d m : Bool) → is_free (state_shown (cond a Free (cond b Left (cond c (cond d Closing Live) (cond m Calling Asked))))) ≡ a
+    go : (a b c d m : Bool) → is_free (state_of (cond a Free (cond b Left (cond c (cond d Closing Live) (cond m Calling Asked))))) ≡ a
     go true b c d m = refl
     go false true c d m = refl
     go false false true true m = refl
@@ -35,12 +35,12 @@ pub record WhileAsked (m : Bool) (s : Session) : Type 0 where
   pub not_gone : gone s ≡ false
   pub not_answered : answered s ≡ false
 
-pub while_asked : (m : Bool) (s : Session) → is_asked (state_shown (state m s)) ≡ true → WhileAsked m s
+pub while_asked : (m : Bool) (s : Session) → is_asked (state_of (state m s)) ≡ true → WhileAsked m s
 while_asked m s h =
     let p : (m ≡ false) × (free s ≡ false) × (gone s ≡ false) × (answered s ≡ false) = go (free s) (gone s) (answered s) (s.closed || has_stop s.came) m h in
     record { slave = p.0; not_free = p.1; not_gone = p.2; not_answered = p.3 }
   where
-    go : (a b c d m : Bool) → is_asked (state_shown (cond a Free (cond b Left (cond c (cond d Closing Live) (cond m Calling Asked))))) ≡ true → (m ≡ false) × (a ≡ false) × (b ≡ false) × (c ≡ false)
+    go : (a b c d m : Bool) → is_asked (state_of (cond a Free (cond b Left (cond c (cond d Closing Live) (cond m Calling Asked))))) ≡ true → (m ≡ false) × (a ≡ false) × (b ≡ false) × (c ≡ false)
     go true b c d m h = absurd (false≢true h)
     go false true c d m h = absurd (false≢true h)
     go false false true true m h = absurd (false≢true h)
@@ -53,13 +53,13 @@ pub past_blank : (t : Table) (e : Sessions) (i : ℕ) → Stands t e → length 
 past_blank t e i st l = ap e.session (st.within i (inr l)) ∙ st.good.none
 
 -- what is counted or sought among the kept sessions, among those of the state
-pub here : (t : Table) (e : Sessions) → Stands t e → t.sessions ≡ map (λ id. kept_of e.master e.ceiling (named e id)) (upwards 0 (length t.sessions))
+pub here : (t : Table) (e : Sessions) → Stands t e → t.sessions ≡ map (λ id. stream_of e.master e.ceiling (named e id)) (upwards 0 (length t.sessions))
 here t e st = ap (λ (z : Table). z.sessions) st.is
 
 pub held_is : (t : Table) (e : Sessions) → Stands t e → count_by (λ (k : Kept). not (is_free k.state)) t.sessions ≡ held e
 held_is t e st =
     let n = length t.sessions in
-    let f : ℕ → Kept = λ id. kept_of e.master e.ceiling (named e id) in
+    let f : ℕ → Kept = λ id. stream_of e.master e.ceiling (named e id) in
     let q : ℕ → Bool = λ i. not (free (named e i)) in
     ap (count_by (λ (k : Kept). not (is_free k.state))) (here t e st)
     ∙ count_keep (λ (k : Kept). not (is_free k.state)) f (upwards 0 n)
@@ -89,7 +89,7 @@ least_same p q a (suc n) h = rw (h (suc a), least_same p q (suc a) n h) refl
 pub free_place : (t : Table) (e : Sessions) → Stands t e → held e < e.agreed → position (λ (k : Kept). is_free k.state) t.sessions ≡ Some (least_free e - 1)
 free_place t e st h =
     let n = length t.sessions in
-    let f : ℕ → Kept = λ id. kept_of e.master e.ceiling (named e id) in
+    let f : ℕ → Kept = λ id. stream_of e.master e.ceiling (named e id) in
     let some : least_free e ≡ 0 → ⊥ = least_some e h st.good.agreed in
     let cut : least (λ i. is_free (f i).state) (upwards 0 n) ≡ least_free e =
     least_same (λ i. is_free (f i).state) (λ i. free (named e i)) 0 n (λ i. free_shown e.master (named e i))
@@ -103,11 +103,11 @@ free_place t e st h =
 asked_place : (t : Table) (e : Sessions) → Stands t e → position (λ (k : Kept). is_asked k.state) t.sessions ≡ cond (nat_eq (least_asked e) 0) None (Some (least_asked e - 1))
 asked_place t e st =
     let n = length t.sessions in
-    let f : ℕ → Kept = λ id. kept_of e.master e.ceiling (named e id) in
-    let q : ℕ → Bool = λ i. is_asked (state_shown (state e.master (named e i))) in
+    let f : ℕ → Kept = λ id. stream_of e.master e.ceiling (named e id) in
+    let q : ℕ → Bool = λ i. is_asked (state_of (state e.master (named e i))) in
     ap (position (λ (k : Kept). is_asked k.state)) (here t e st)
     ∙ position_least (λ (k : Kept). is_asked k.state) f n
-    ∙ ap (λ l. cond (nat_eq l 0) None (Some (l - 1))) (sym (least_low q n 64 st.low (λ i l. ap (λ s. is_asked (state_shown (state e.master s))) (past_blank t e i st l))))
+    ∙ ap (λ l. cond (nat_eq l 0) None (Some (l - 1))) (sym (least_low q n 64 st.low (λ i l. ap (λ s. is_asked (state_of (state e.master s))) (past_blank t e i st l))))
 
 pub asked_none : (t : Table) (e : Sessions) → position (λ (k : Kept). is_asked k.state) t.sessions ≡ None → Stands t e → None ≡ asked_of e
 asked_none t e h st = go (nat_eq (least_asked e) 0) (sym h ∙ asked_place t e st)
@@ -127,7 +127,7 @@ least_passes p a (suc n) h = go (p (suc a)) refl h (least_passes p (suc a) n)
 -- the asked session that is found
 pub record FoundAsked (e : Sessions) (at : ℕ) : Type 0 where
   pub id : least_asked e ≡ at + 1
-  pub asked : is_asked (state_shown (state e.master (named e (at + 1)))) ≡ true
+  pub asked : is_asked (state_of (state e.master (named e (at + 1)))) ≡ true
   pub is : Some (asked_at e (at + 1)) ≡ asked_of e
 
 pub asked_some : (t : Table) (e : Sessions) (at : ℕ) → position (λ (k : Kept). is_asked k.state) t.sessions ≡ Some at → Stands t e → FoundAsked e at
@@ -137,7 +137,7 @@ asked_some t e at h st = go (nat_eq l 0) refl (sym h ∙ asked_place t e st)
     l = least_asked e
 
     q : ℕ → Bool
-    q i = is_asked (state_shown (state e.master (named e i)))
+    q i = is_asked (state_of (state e.master (named e i)))
 
     go : (b : Bool) → nat_eq l 0 ≡ b → Some at ≡ cond b None (Some (l - 1)) → FoundAsked e at
     go true z k = absurd (none-some at (sym k))

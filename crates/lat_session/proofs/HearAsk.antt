@@ -8,7 +8,7 @@ use Rattle.lat_model.specs.sessions.Sessions.{Sessions, least_free}
 use Rattle.lat_model.specs.sessions.Hearing.{names, is_full, asked_session, ask_in}
 use Rattle.lat_model.specs.sessions.EndOk.{EndOk}
 use Rattle.lat_model.proofs.sessions.Words.{upd_same, upd_other, upd_all}
-use Rattle.lat_stream.specs.Kept.{kept_of}
+use Rattle.lat_stream.specs.Kept.{stream_of}
 use Rattle.lat_session.specs.declared.ask.Ask.{Ask}
 use Rattle.lat_session.specs.declared.ask.Ask.TheVariants.{Waits, Rejected}
 use Rattle.lat_session.specs.Table.{Table, table_of, ask_is_open, ask_of, open_asks}
@@ -136,19 +136,19 @@ full_table n e from c size service request ok m full =
     at = ap (λ b. cond b e.at_id (updated e.at_id (least_free e) (suc e.made))) full
 
     kept : (i : ℕ) → kept_at f i ≡ kept_at e i
-    kept i = ap (λ (a : ℕ → ℕ). kept_of e.master e.ceiling (f.session (a i))) at ∙ ap (kept_of e.master e.ceiling) (upd_other e.session (suc e.made) new (e.at_id i) (λ z. absurd (omega (arith, z, ok.at_made i))))
+    kept i = ap (λ (a : ℕ → ℕ). stream_of e.master e.ceiling (f.session (a i))) at ∙ ap (stream_of e.master e.ceiling) (upd_other e.session (suc e.made) new (e.at_id i) (λ z. absurd (omega (arith, z, ok.at_made i))))
 
 -- what it keeps where an id is free
 pub free_table : (n : ℕ) (e : Sessions) (from c size : ℕ) (service : List ℕ) (request : Option ℕ) → EndOk e → e.master ≡ false → is_full e ≡ false → 1 ≤ least_free e → least_free e ≤ n →
     table_of n (ask_in e (asks_for from c size service request) service request) ≡
     record (table_of n e) {
-      sessions = set (table_of n e).sessions (least_free e - 1) (kept_of e.master e.ceiling (asked_session e (asks_for from c size service request) service request));
+      sessions = set (table_of n e).sessions (least_free e - 1) (stream_of e.master e.ceiling (asked_session e (asks_for from c size service request) service request));
       asks = open_asks e ++ Waits (least_free e) ∷ [];
     }
 free_table n e from c size service request ok m free lo hi =
     ap (λ z. record (table_of n f) { sessions = z })
     (map_set (kept_at e) (kept_at f) 0 n (least_free e - 1) (least_free e) (omega (arith, lo, hi)) (omega (arith, lo)) (λ i h. sym (kept i h)) ∙ ap (set (map (kept_at e) (upwards 0 n)) (least_free e - 1)) here)
-    ∙ ap (λ z. record (table_of n e) { sessions = set (table_of n e).sessions (least_free e - 1) (kept_of e.master e.ceiling new); asks = z })
+    ∙ ap (λ z. record (table_of n e) { sessions = set (table_of n e).sessions (least_free e - 1) (stream_of e.master e.ceiling new); asks = z })
     (asks_more e from c size service request m ∙ ap (λ z. open_asks e ++ z ∷ []) (ap (λ b. cond (b && true) (Rejected from 7) (Waits (cond b 0 (least_free e)))) free))
   where
     x : Slot
@@ -165,12 +165,12 @@ free_table n e from c size service request ok m free lo hi =
 
     kept : (i : ℕ) → i ≢ least_free e → kept_at f i ≡ kept_at e i
     kept i h =
-        ap (λ (a : ℕ → ℕ). kept_of e.master e.ceiling (f.session (a i))) at
-        ∙ ap (λ k. kept_of e.master e.ceiling (f.session k)) (upd_other e.at_id (least_free e) (suc e.made) i h)
-        ∙ ap (kept_of e.master e.ceiling) (upd_other e.session (suc e.made) new (e.at_id i) (λ z. absurd (omega (arith, z, ok.at_made i))))
+        ap (λ (a : ℕ → ℕ). stream_of e.master e.ceiling (f.session (a i))) at
+        ∙ ap (λ k. stream_of e.master e.ceiling (f.session k)) (upd_other e.at_id (least_free e) (suc e.made) i h)
+        ∙ ap (stream_of e.master e.ceiling) (upd_other e.session (suc e.made) new (e.at_id i) (λ z. absurd (omega (arith, z, ok.at_made i))))
 
-    here : kept_at f (least_free e) ≡ kept_of e.master e.ceiling new
+    here : kept_at f (least_free e) ≡ stream_of e.master e.ceiling new
     here =
-        ap (λ (a : ℕ → ℕ). kept_of e.master e.ceiling (f.session (a (least_free e)))) at
-        ∙ ap (λ k. kept_of e.master e.ceiling (f.session k)) (upd_same e.at_id (least_free e) (suc e.made))
-        ∙ ap (kept_of e.master e.ceiling) (upd_same e.session (suc e.made) new)
+        ap (λ (a : ℕ → ℕ). stream_of e.master e.ceiling (f.session (a (least_free e)))) at
+        ∙ ap (λ k. stream_of e.master e.ceiling (f.session k)) (upd_same e.at_id (least_free e) (suc e.made))
+        ∙ ap (stream_of e.master e.ceiling) (upd_same e.session (suc e.made) new)

@@ -10,7 +10,7 @@ use Rattle.lat_model.specs.sessions.Hearing.{names, is_full, asked_session, ask_
 use Rattle.lat_model.proofs.sessions.Made.{least_some}
 use Rattle.lat_model.proofs.sessions.Alone.{least_free_low}
 use Rattle.lat_stream.specs.Begins.{asked}
-use Rattle.lat_stream.specs.Kept.{Kept, kept_of}
+use Rattle.lat_stream.specs.Kept.{Kept, stream_of}
 use Rattle.lat_stream.specs.declared.opening.Opening.{Opening}
 use Rattle.lat_session.specs.declared.ask.Ask.{Ask}
 use Rattle.lat_session.specs.declared.ask.Ask.TheVariants.{Waits, Rejected}
@@ -96,7 +96,7 @@ asked_is e o from c size h = go (is_full e) h
     go false q = refl
 
 pub placed_ask : (t : Table) (e : Sessions) (o : Opening) (from c size at : ℕ) (old new : Kept) → Stands t e → e.master ≡ false → Some at ≡ cond (is_full e) None (Some (least_free e - 1)) → old.credits.ceiling ≡ e.ceiling →
-    ((id generation : ℕ) → id ≢ 0 → new ≡ kept_of false old.credits.ceiling (asked id generation from c size o)) →
+    ((id generation : ℕ) → id ≢ 0 → new ≡ stream_of false old.credits.ceiling (asked id generation from c size o)) →
     record t { sessions = set t.sessions at new; asks = t.asks ++ Waits (at + 1) ∷ [] } ≡ table_of (length t.sessions) (ask_in e (asks_for from c size o.service o.request) o.service o.request)
 placed_ask t e o from c size at old new st m place ceiling kept =
     let n : ℕ = length t.sessions in
@@ -105,16 +105,16 @@ placed_ask t e o from c size at old new st m place ceiling kept =
     let some : least_free e ≢ 0 = least_some e less st.good.agreed in
     let lo : 1 ≤ least_free e = pos (least_free e) some in
     let hi : least_free e ≤ n = omega (arith, least_free_low e less st.good.agreed, st.agreed) in
-    let is : new ≡ kept_of e.master e.ceiling (asked_session e (asks_for from c size o.service o.request) o.service o.request) =
+    let is : new ≡ stream_of e.master e.ceiling (asked_session e (asks_for from c size o.service o.request) o.service o.request) =
     kept (least_free e) (suc e.generations) some
-    ∙ ap (λ b. kept_of b old.credits.ceiling (asked (least_free e) (suc e.generations) from c size o)) (sym m)
-    ∙ ap (λ z. kept_of e.master z (asked (least_free e) (suc e.generations) from c size o)) ceiling
-    ∙ ap (kept_of e.master e.ceiling) (asked_is e o from c size p.0) in
+    ∙ ap (λ b. stream_of b old.credits.ceiling (asked (least_free e) (suc e.generations) from c size o)) (sym m)
+    ∙ ap (λ z. stream_of e.master z (asked (least_free e) (suc e.generations) from c size o)) ceiling
+    ∙ ap (stream_of e.master e.ceiling) (asked_is e o from c size p.0) in
     let next : at + 1 ≡ least_free e = omega (arith, p.1, lo) in
     ap (λ (z : Table). record z { sessions = set z.sessions at new; asks = z.asks ++ Waits (at + 1) ∷ [] }) st.is
     ∙ ap (λ z. record (table_of n e) { sessions = set (table_of n e).sessions z new; asks = open_asks e ++ Waits (at + 1) ∷ [] }) p.1
     ∙ ap (λ z. record (table_of n e) { sessions = set (table_of n e).sessions (least_free e - 1) z; asks = open_asks e ++ Waits (at + 1) ∷ [] }) is
-    ∙ ap (λ z. record (table_of n e) { sessions = set (table_of n e).sessions (least_free e - 1) (kept_of e.master e.ceiling (asked_session e (asks_for from c size o.service o.request) o.service o.request)); asks = open_asks e ++ Waits z ∷ [] }) next
+    ∙ ap (λ z. record (table_of n e) { sessions = set (table_of n e).sessions (least_free e - 1) (stream_of e.master e.ceiling (asked_session e (asks_for from c size o.service o.request) o.service o.request)); asks = open_asks e ++ Waits z ∷ [] }) next
     ∙ sym (free_table n e from c size o.service o.request st.good m p.0 lo hi)
   where
     pos : (k : ℕ) → k ≢ 0 → 1 ≤ k

@@ -13,7 +13,7 @@ use Rattle.lat_model.proofs.sessions.Alone.{hear_alone}
 use Rattle.lat_model.proofs.sessions.Smalls.{hear_small}
 use Rattle.lat_model.proofs.sessions.Peers.{hear_apart}
 use Rattle.lat_model.proofs.sessions.Low.{hear_within}
-use Rattle.lat_stream.specs.Kept.{Kept, kept_of}
+use Rattle.lat_stream.specs.Kept.{Kept, stream_of}
 use Rattle.lat_session.specs.Table.{Table, table_of, ask_is_open, open_asks}
 use Rattle.lat_session.specs.Stands.{Stands, AllOpen, AllBegun, AllSources}
 use Rattle.lat_session.specs.Hears.{Hears}
@@ -98,7 +98,7 @@ changed_heard e k x = record {
 -- a session of an id hears a slot
 pub at_stands : (t u : Table) (e : Sessions) (i id : ℕ) (k : Kept) (x : Slot) → Stands t e → Fair e.master x → hear_slot e x ≡ Some (hear_at e (e.at_id id) x) → i + 1 ≡ id → i < length t.sessions → e.at_id id ≢ 0 →
     Goes e.master (named e id) x → (ask_is_open e (e.at_id id) ≡ false) × ((not e.master && (waits (heard (named e id) x) || rejecting (heard (named e id) x))) ≡ false) →
-    k ≡ kept_of e.master e.ceiling (heard (named e id) x) →
+    k ≡ stream_of e.master e.ceiling (heard (named e id) x) →
     u ≡ record t { sessions = set t.sessions i k } → Stands u (hear_at e (e.at_id id) x)
 at_stands t u e i id k x st w h next less some g closed kept is =
     let n : ℕ = length t.sessions in
@@ -108,15 +108,15 @@ at_stands t u e i id k x st w h next less some g closed kept is =
     let at : id - 1 ≡ i = omega (arith, next) in
     let after : ask_is_open f j ≡ false = ap (λ (z : Session). not e.master && (waits z || rejecting z)) c.same ∙ closed.1 in
     let asks : open_asks f ≡ open_asks e = changed_asks e f j (heard (named e id) x) c (closed.0 ∙ sym after) (λ q. absurd (true≢false (sym q ∙ closed.0))) in
-    let kept_all : map (kept_at f) (upwards 0 n) ≡ set (map (kept_at e) (upwards 0 n)) i (kept_of e.master e.ceiling (heard (named e id) x)) =
-    changed_sessions n id e f (heard (named e id) x) st.good some (omega (arith, next)) (omega (arith, next, less)) c ∙ ap (λ z. set (map (kept_at e) (upwards 0 n)) z (kept_of e.master e.ceiling (heard (named e id) x))) at in
-    let new : record (table_of n e) { sessions = set (table_of n e).sessions i (kept_of e.master e.ceiling (heard (named e id) x)) } ≡ table_of n f =
+    let kept_all : map (kept_at f) (upwards 0 n) ≡ set (map (kept_at e) (upwards 0 n)) i (stream_of e.master e.ceiling (heard (named e id) x)) =
+    changed_sessions n id e f (heard (named e id) x) st.good some (omega (arith, next)) (omega (arith, next, less)) c ∙ ap (λ z. set (map (kept_at e) (upwards 0 n)) z (stream_of e.master e.ceiling (heard (named e id) x))) at in
+    let new : record (table_of n e) { sessions = set (table_of n e).sessions i (stream_of e.master e.ceiling (heard (named e id) x)) } ≡ table_of n f =
     ap (λ z. record (table_of n e) { sessions = z }) (sym kept_all) ∙ ap (λ z. record (table_of n f) { asks = z }) (sym asks) in
     hear_stands t u e f x st w h (λ y. upd_all (λ z. (is_empty z.came || (starts z.came || turned z.came)) ≡ true) e.session j (heard (named e id) x) g.opens st.opens y)
     (λ y. upd_all (λ z. z.rejects ≡ false → cond e.master z.accepted (starts z.came) ≡ true) e.session j (heard (named e id) x) g.begun st.begun y)
     (λ y. upd_all (λ z. starts z.came ≡ true → peer z ≢ 0) e.session j (heard (named e id) x) g.sources st.sources y)
     refl refl refl (ap (λ (z : Table). length z.sessions) is ∙ length-set t.sessions i k)
-    (is ∙ ap (λ z. record t { sessions = set t.sessions i z }) kept ∙ ap (λ (z : Table). record z { sessions = set z.sessions i (kept_of e.master e.ceiling (heard (named e id) x)) }) st.is ∙ new)
+    (is ∙ ap (λ z. record t { sessions = set t.sessions i z }) kept ∙ ap (λ (z : Table). record z { sessions = set z.sessions i (stream_of e.master e.ceiling (heard (named e id) x)) }) st.is ∙ new)
 
 pub heard_to : {A E : Type 0} (u : Table) (result : Result A E) (o : Option Sessions) (f : Sessions) → o ≡ Some f → is_ok result ≡ true → Stands u f → Hears u result o
 heard_to u result o f q r st = record { answer = r ∙ sym (ap is_some q); state = λ g h. subst (Stands u) (same (sym q ∙ h)) st }
@@ -147,7 +147,7 @@ behind_nowhere u e id x result b d r =
 
 pub behind_hears : {A E : Type 0} (t u : Table) (e : Sessions) (i id : ℕ) (k : Kept) (x : Slot) (result : Result A E) → Stands t e → Fair e.master x → hear_slot e x ≡ hear_behind e x → destination x ≡ id → i + 1 ≡ id → i < length t.sessions →
     is_ok result ≡ behind_fits (named e id) x →
-    (is_ok result ≡ true → k ≡ kept_of e.master e.ceiling (heard (named e id) x)) →
+    (is_ok result ≡ true → k ≡ stream_of e.master e.ceiling (heard (named e id) x)) →
     u ≡ record t { sessions = set t.sessions i k } → Hears u result (hear_behind e x)
 behind_hears {A} {E} t u e i id k x result st w hears d next less answer kept is = go (behind_fits s x) refl
   where

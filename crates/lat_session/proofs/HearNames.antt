@@ -8,7 +8,7 @@ use Rattle.lat_model.specs.sessions.Session.{Session, Free, Calling, Asked, Live
 use Rattle.lat_model.specs.sessions.Sessions.{Sessions, named}
 use Rattle.lat_model.specs.sessions.Hearing.{names, names_running}
 use Rattle.lat_model.proofs.sessions.Starts.{free_goes}
-use Rattle.lat_stream.specs.Kept.{state_shown}
+use Rattle.lat_stream.specs.Kept.{state_of}
 use Rattle.lat_session.specs.declared.ask.Ask.TheVariants.{Waits, Rejected}
 use Rattle.lat_session.specs.Table.{Table, ask_is_open, ask_of, open_asks}
 use Rattle.lat_session.specs.Stands.{Stands}
@@ -73,13 +73,13 @@ keep_all a (suc m) = ap (λ z. suc a ∷ z) (keep_all (suc a) m)
 
 -- states
 
-there_shown : (m : Bool) (s : Session) → is_there (state_shown (state m s)) ≡ not (gone s)
+there_shown : (m : Bool) (s : Session) → is_there (state_of (state m s)) ≡ not (gone s)
 there_shown m s = go (free s) (gone s) (answered s) (s.closed || has_stop s.came) m (goes s)
   where
     goes : (s : Session) → gone s ≡ false → free s ≡ false
     goes s g = free_goes s g
 
-    go : (f g a c m : Bool) → (g ≡ false → f ≡ false) → is_there (state_shown (cond f Free (cond g Left (cond a (cond c Closing Live) (cond m Calling Asked))))) ≡ not g
+    go : (f g a c m : Bool) → (g ≡ false → f ≡ false) → is_there (state_of (cond f Free (cond g Left (cond a (cond c Closing Live) (cond m Calling Asked))))) ≡ not g
     go true true a c m h = refl
     go true false a c m h = absurd (true≢false (h refl))
     go false true a c m h = refl

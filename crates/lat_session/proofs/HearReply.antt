@@ -8,16 +8,16 @@ use Rattle.lat_model.specs.sessions.Slots.{Slot, Start, Reject, has_stop, items,
 use Rattle.lat_model.specs.sessions.Session.{Session, Free, Calling, Asked, Live, Closing, Left, state, answered, rejected, stopped, gone, waits, rejecting}
 use Rattle.lat_model.specs.sessions.Sessions.{Sessions, named}
 use Rattle.lat_model.specs.sessions.Hearing.{heard, hear_at, hear_slot, names_running}
-use Rattle.lat_stream.specs.Kept.{Kept, kept_of, state_shown}
+use Rattle.lat_stream.specs.Kept.{Kept, stream_of, state_of}
 use Rattle.lat_session.specs.Table.{Table, state_at}
 use Rattle.lat_session.specs.Stands.{Stands}
 use Rattle.lat_session.specs.Hears.{Hears, is_calling}
 use Rattle.lat_session.proofs.HearAt.{Fair, Goes, goes, at_stands, heard_to, heard_bad}
 
-pub calling_shown : (m : Bool) (s : Session) → is_calling (state_shown (state m s)) ≡ (m && waits s)
+pub calling_shown : (m : Bool) (s : Session) → is_calling (state_of (state m s)) ≡ (m && waits s)
 calling_shown m s = go (rejected s) (stopped s) (s.closed || nat_le (length (items s.came)) s.taken) (answered s) (s.closed || has_stop s.came) m
   where
-    go : (r p d a c m : Bool) → is_calling (state_shown (cond (r || (p && d)) Free (cond (r || p) Left (cond a (cond c Closing Live) (cond m Calling Asked))))) ≡ (m && (not a && not (r || p)))
+    go : (r p d a c m : Bool) → is_calling (state_of (cond (r || (p && d)) Free (cond (r || p) Left (cond a (cond c Closing Live) (cond m Calling Asked))))) ≡ (m && (not a && not (r || p)))
     go true p d true c true = refl
     go true p d true c false = refl
     go true p d false c true = refl
@@ -57,7 +57,7 @@ reject_refused u e to from reason result b r = heard_bad u result _ (ap (λ b. c
 waits_hears : {A E : Type 0} (t u : Table) (e : Sessions) (i id : ℕ) (k : Kept) (x : Slot) (result : Result A E) → Stands t e → Fair e.master x → hear_slot e x ≡ Some (hear_at e (e.at_id id) x) → (is_start x || is_reject x) ≡ true → i + 1 ≡ id → i < length t.sessions →
     (e.master && waits (named e id)) ≡ true →
     is_ok result ≡ true →
-    k ≡ kept_of e.master e.ceiling (heard (named e id) x) →
+    k ≡ stream_of e.master e.ceiling (heard (named e id) x) →
     u ≡ record t { sessions = set t.sessions i k } → Hears u result (hear_slot e x)
 waits_hears t u e i id k x result st w h first next less b r kept is =
     let s : Session = named e id in
@@ -70,7 +70,7 @@ waits_hears t u e i id k x result st w h first next less b r kept is =
 
 pub start_hears : {A E : Type 0} (t u : Table) (e : Sessions) (i to from c size : ℕ) (service : List ℕ) (request : Option ℕ) (k : Kept) (result : Result A E) → Stands t e → from ≢ 0 → from < 256 → i + 1 ≡ to → i < length t.sessions →
     (e.master && waits (named e to)) ≡ true → any_running e from ≡ false → is_ok result ≡ true →
-    k ≡ kept_of e.master e.ceiling (heard (named e to) (Start to from c size service request)) →
+    k ≡ stream_of e.master e.ceiling (heard (named e to) (Start to from c size service request)) →
     u ≡ record t { sessions = set t.sessions i k } → Hears u result (hear_slot e (Start to from c size service request))
 start_hears t u e i to from c size service request k result st some byte next less b none r kept is =
     let x : Slot = Start to from c size service request in
@@ -80,7 +80,7 @@ start_hears t u e i to from c size service request k result st some byte next le
 
 pub reject_hears : {A E : Type 0} (t u : Table) (e : Sessions) (i to from reason : ℕ) (k : Kept) (result : Result A E) → Stands t e → i + 1 ≡ to → i < length t.sessions →
     (e.master && waits (named e to)) ≡ true → is_ok result ≡ true →
-    k ≡ kept_of e.master e.ceiling (heard (named e to) (Reject to from reason)) →
+    k ≡ stream_of e.master e.ceiling (heard (named e to) (Reject to from reason)) →
     u ≡ record t { sessions = set t.sessions i k } → Hears u result (hear_slot e (Reject to from reason))
 reject_hears t u e i to from reason k result st next less b r kept is =
     let x : Slot = Reject to from reason in

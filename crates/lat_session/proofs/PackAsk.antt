@@ -14,7 +14,7 @@ use Rattle.lat_model.specs.sessions.Packing.{Packing, turn, form}
 use Rattle.lat_model.specs.sessions.EndOk.{EndOk}
 use Rattle.lat_model.proofs.sessions.Forms.{formed_as}
 use Rattle.lat_slots.specs.Layout.{slot_text}
-use Rattle.lat_stream.specs.Kept.{kept_of}
+use Rattle.lat_stream.specs.Kept.{stream_of}
 use Rattle.lat_stream.specs.Wire.{formed_as as wire_slot}
 use Rattle.lat_session.specs.declared.ask.Ask.{Ask}
 use Rattle.lat_session.specs.declared.ask.Ask.TheVariants.{Waits, Rejected}
@@ -109,7 +109,7 @@ unfit_reject before t w v payload p at from reason d pk l q g less is =
     leb-false-from m n h = grind (arith, nat_tests, h)
 
 -- a sent reject leaves the session kept as it was
-kept_rejected : (m : Bool) (c n from reason : ℕ) (s : Session) → s.rejects ≡ true → s.out ≡ [] → kept_of m c (formed_as s n (Reject from 0 reason)) ≡ kept_of m c s
+kept_rejected : (m : Bool) (c n from reason : ℕ) (s : Session) → s.rejects ≡ true → s.out ≡ [] → stream_of m c (formed_as s n (Reject from 0 reason)) ≡ stream_of m c s
 kept_rejected m c n from reason s r o = rw (r, o) refl
 
 closed_rejected : (s : Session) (n : ℕ) (x : Slot) → s.rejects ≡ true → (waits (formed_as s n x) || rejecting (formed_as s n x)) ≡ false
@@ -162,10 +162,10 @@ sent_reject before t u w v payload after p at from reason d pk l q g room is les
     ∙ map_keep (ask_is_open (form e k x)) (ask_is_open (form e k x)) (λ j. ask_of ((form e k x).session j)) (λ j. ask_of (e.session j)) 0 e.made (λ j h. refl) (λ j h. same_asks j)
     ∙ ap (λ m. map (λ j. ask_of (e.session j)) (keep (ask_is_open (form e k x)) (upwards 0 m))) (sym c.made)
     ∙ ap (map (λ j. ask_of (e.session j))) serials ∙ map_remove (λ j. ask_of (e.session j)) (open_serials e) at in
-    let kept : (i : ℕ) → kept_at (form e k x) i ≡ kept_at e i = λ i. ap (λ m. kept_of m (form e k x).ceiling (named (form e k x) i)) c.master ∙ ap (λ y. kept_of e.master y (named (form e k x) i)) c.ceiling ∙ ap (λ y. kept_of e.master e.ceiling ((form e k x).session (y i))) c.at_id
-    ∙ ⊎_elim {C = kept_of e.master e.ceiling ((form e k x).session (e.at_id i)) ≡ kept_of e.master e.ceiling (e.session (e.at_id i))}
-    (λ z. ap (λ j. kept_of e.master e.ceiling ((form e k x).session j)) z ∙ ap (kept_of e.master e.ceiling) c.same ∙ kept_rejected e.master e.ceiling f.generation from reason s b.0 (empty_is s.out b.1) ∙ ap (λ j. kept_of e.master e.ceiling (e.session j)) (sym z))
-    (λ z. ap (kept_of e.master e.ceiling) (c.other (e.at_id i) z)) (cases_eq (e.at_id i) k) in
+    let kept : (i : ℕ) → kept_at (form e k x) i ≡ kept_at e i = λ i. ap (λ m. stream_of m (form e k x).ceiling (named (form e k x) i)) c.master ∙ ap (λ y. stream_of e.master y (named (form e k x) i)) c.ceiling ∙ ap (λ y. stream_of e.master e.ceiling ((form e k x).session (y i))) c.at_id
+    ∙ ⊎_elim {C = stream_of e.master e.ceiling ((form e k x).session (e.at_id i)) ≡ stream_of e.master e.ceiling (e.session (e.at_id i))}
+    (λ z. ap (λ j. stream_of e.master e.ceiling ((form e k x).session j)) z ∙ ap (stream_of e.master e.ceiling) c.same ∙ kept_rejected e.master e.ceiling f.generation from reason s b.0 (empty_is s.out b.1) ∙ ap (λ j. stream_of e.master e.ceiling (e.session j)) (sym z))
+    (λ z. ap (stream_of e.master e.ceiling) (c.other (e.at_id i) z)) (cases_eq (e.at_id i) k) in
     let served : (form e k x).served ≡ e.served = f.served ∙ ap (λ z. cond z e.served s.id) b.0 in
     let new : table_of n (form e k x) ≡ record (table_of n e) { asks = remove (table_of n e).asks at } = same_table (table_of n (form e k x)) (record (table_of n e) { asks = remove (table_of n e).asks at }) c.master c.agreed c.ceiling served (map_same (kept_at (form e k x)) (kept_at e) 0 n (λ i h. kept i)) asks in
     let size : length u.sessions ≡ n = ap (λ (z : Table). length z.sessions) is in (

@@ -7,7 +7,7 @@ use Rattle.lat_model.specs.sessions.Sessions.{Sessions}
 use Rattle.lat_model.specs.sessions.Packing.{form, formed, first_form, next_form, served_after}
 use Rattle.lat_model.proofs.sessions.Words.{upd_same, upd_other}
 use Rattle.lat_model.proofs.sessions.Forms.{formed_as}
-use Rattle.lat_stream.specs.Kept.{kept_of}
+use Rattle.lat_stream.specs.Kept.{stream_of}
 use Rattle.lat_session.proofs.PackTable.{Changed}
 
 -- the session after it formed the slot, whatever its generation
@@ -43,5 +43,5 @@ forms e k x = go (nat_eq (e.session k).generation 0) refl
     }
 
 -- a generation isn't kept
-pub kept_formed : (master : Bool) (ceiling : ℕ) (s : Session) (n : ℕ) (x : Slot) → kept_of master ceiling (formed_as s n x) ≡ kept_of master ceiling (formed s x)
+pub kept_formed : (master : Bool) (ceiling : ℕ) (s : Session) (n : ℕ) (x : Slot) → stream_of master ceiling (formed_as s n x) ≡ stream_of master ceiling (formed s x)
 kept_formed master ceiling s n x = refl

@@ -15,7 +15,7 @@ use Rattle.lat_model.specs.sessions.Offers as offers
 use Rattle.lat_model.specs.sessions.Packing.{Packing, TaggedSlot, turn_by, turn, form, formed, formed as after_slot, tagged}
 use Rattle.lat_model.proofs.sessions.Forms.{formed_as}
 use Rattle.lat_slots.specs.Layout.{slot_text}
-use Rattle.lat_stream.specs.Kept.{Kept, kept_of, state_shown}
+use Rattle.lat_stream.specs.Kept.{Kept, stream_of, state_of}
 use Rattle.lat_stream.specs.Sound.{Sound}
 use Rattle.lat_stream.specs.Wire.{IsFormed, formed_as as wire_slot}
 use Rattle.lat_stream.specs.declared.forming.Formed.{Formed}
@@ -30,10 +30,10 @@ use Rattle.lat_session.proofs.PackTurn.{free_offers_nothing, unfree_unrefused, f
 
 -- states
 
-pub free_shown : (m : Bool) (s : Session) → state_shown (state m s) ≡ kept_states.Free → free s ≡ true
+pub free_shown : (m : Bool) (s : Session) → state_of (state m s) ≡ kept_states.Free → free s ≡ true
 free_shown m s = go (free s) (gone s) (answered s) _ m
   where
-    go : (f g a c m : Bool) → state_shown (cond f Free (cond g Left (cond a (cond c Closing Live) (cond m Calling Asked)))) ≡ kept_states.Free → f ≡ true
+    go : (f g a c m : Bool) → state_of (cond f Free (cond g Left (cond a (cond c Closing Live) (cond m Calling Asked)))) ≡ kept_states.Free → f ≡ true
     go true g a c m e = refl
     go false true a c m e = cc
     go false false true true m e = cc
@@ -41,11 +41,11 @@ free_shown m s = go (free s) (gone s) (answered s) _ m
     go false false false c true e = cc
     go false false false c false e = cc
 
-pub unfree_shown : (m : Bool) (s : Session) → (state_shown (state m s) ≡ kept_states.Free → ⊥) → free s ≡ false
+pub unfree_shown : (m : Bool) (s : Session) → (state_of (state m s) ≡ kept_states.Free → ⊥) → free s ≡ false
 unfree_shown m s n = go (free s) refl
   where
     go : (f : Bool) → free s ≡ f → f ≡ false
-    go true e = absurd (n (ap (λ f. state_shown (cond f Free (cond (gone s) Left (cond (answered s) (cond (s.closed || sessions.has_stop s.came) Closing Live) (cond m Calling Asked))))) e))
+    go true e = absurd (n (ap (λ f. state_of (cond f Free (cond (gone s) Left (cond (answered s) (cond (s.closed || sessions.has_stop s.came) Closing Live) (cond m Calling Asked))))) e))
     go false e = refl
 
 -- a turn that does nothing
@@ -68,7 +68,7 @@ pub record Sits (t : Table) (p : Packing) (id : ℕ) (d : Kept) : Type 0 where
   pub used : p.after.at_id id ≢ 0
   pub unfree : free (named p.after id) ≡ false
   pub sound : Sound t.master p.after.ceiling (named p.after id)
-  pub kept : get_or t.sessions (id - 1) d ≡ kept_of t.master p.after.ceiling (named p.after id)
+  pub kept : get_or t.sessions (id - 1) d ≡ stream_of t.master p.after.ceiling (named p.after id)
   pub named_so : (named p.after id).id ≡ id
   pub source : sessions.starts (named p.after id).came ≡ true → peer (named p.after id) ≢ 0
   pub rejecting : reject_due (named p.after id) ≡ false
@@ -85,7 +85,7 @@ sits before t w payload p id d pk lo hi nf =
       used = used;
       unfree = unfree;
       sound = subst (λ b. Sound b p.after.ceiling (named p.after id)) (sym m) (record { shape = st.good.each k; accounts = st.good.accounts k; small = st.small k; opens = st.opens k; begun = st.begun k });
-      kept = here ∙ ap (λ b. kept_of b p.after.ceiling (named p.after id)) (sym m);
+      kept = here ∙ ap (λ b. stream_of b p.after.ceiling (named p.after id)) (sym m);
       named_so = st.good.found id used;
       source = st.sources k;
       rejecting = ap (λ b. (b && is_empty (named p.after id).out) && not (is_empty (named p.after id).came)) (unfree_unrefused (named p.after id) unfree);
@@ -141,7 +141,7 @@ pub id_formed : (before : List ℕ) (t u : Table) (w v : Progress) (payload afte
     id ≤ length t.sessions →
     (not w.ended && nat_lt w.formed 255) ≡ true →
     offer p.after.master p.after.ceiling p.room (named p.after id) ≡ offers.Offers x →
-    u ≡ record t { served = id; sessions = set t.sessions (id - 1) (kept_of t.master p.after.ceiling (formed (named p.after id) x)) } →
+    u ≡ record t { served = id; sessions = set t.sessions (id - 1) (stream_of t.master p.after.ceiling (formed (named p.after id) x)) } →
     v.room ≡ w.room - sessions.slot_len x →
     v.formed ≡ w.formed + 1 →
     v.ended ≡ w.ended →
@@ -158,13 +158,13 @@ id_formed before t u w v payload after p id d x pk s lo hi g o is room count end
     let served : (form e k x).served ≡ id = f.served ∙ ap (λ b. cond b e.served (named e id).id) (unfree_unrefused (named e id) s.unfree) ∙ s.named_so in
     let c : (ask_is_open e k ≡ false) × (ask_is_open (form e k x) k ≡ false) = form_asks e k p.room x st.good s.unfree o in
     let asks : (table_of n (form e k x)).asks ≡ (table_of n e).asks = changed_asks e (form e k x) k (formed_as (named e id) f.generation x) f.changed (c.0 ∙ sym c.1) (λ h. absurd (true≢false (sym h ∙ c.0))) in
-    let kept : (table_of n (form e k x)).sessions ≡ set (table_of n e).sessions (id - 1) (kept_of e.master e.ceiling (formed (named e id) x)) = changed_sessions n id e (form e k x) (formed_as (named e id) f.generation x) st.good s.used lo hi f.changed in
+    let kept : (table_of n (form e k x)).sessions ≡ set (table_of n e).sessions (id - 1) (stream_of e.master e.ceiling (formed (named e id) x)) = changed_sessions n id e (form e k x) (formed_as (named e id) f.generation x) st.good s.used lo hi f.changed in
     let m : t.master ≡ e.master = ap (λ (z : Table). z.master) st.is in
-    let old : record t { served = id; sessions = set t.sessions (id - 1) (kept_of t.master e.ceiling (formed (named e id) x)) } ≡ record (table_of n e) { served = id; sessions = set (table_of n e).sessions (id - 1) (kept_of e.master e.ceiling (formed (named e id) x)) } =
-    ap (λ b. record t { served = id; sessions = set t.sessions (id - 1) (kept_of b e.ceiling (formed (named e id) x)) }) m
-    ∙ ap (λ (z : Table). record z { served = id; sessions = set z.sessions (id - 1) (kept_of e.master e.ceiling (formed (named e id) x)) }) st.is in
-    let new : table_of n (form e k x) ≡ record (table_of n e) { served = id; sessions = set (table_of n e).sessions (id - 1) (kept_of e.master e.ceiling (formed (named e id) x)) } =
-    same_table (table_of n (form e k x)) (record (table_of n e) { served = id; sessions = set (table_of n e).sessions (id - 1) (kept_of e.master e.ceiling (formed (named e id) x)) }) f.changed.master f.changed.agreed f.changed.ceiling served kept asks in
+    let old : record t { served = id; sessions = set t.sessions (id - 1) (stream_of t.master e.ceiling (formed (named e id) x)) } ≡ record (table_of n e) { served = id; sessions = set (table_of n e).sessions (id - 1) (stream_of e.master e.ceiling (formed (named e id) x)) } =
+    ap (λ b. record t { served = id; sessions = set t.sessions (id - 1) (stream_of b e.ceiling (formed (named e id) x)) }) m
+    ∙ ap (λ (z : Table). record z { served = id; sessions = set z.sessions (id - 1) (stream_of e.master e.ceiling (formed (named e id) x)) }) st.is in
+    let new : table_of n (form e k x) ≡ record (table_of n e) { served = id; sessions = set (table_of n e).sessions (id - 1) (stream_of e.master e.ceiling (formed (named e id) x)) } =
+    same_table (table_of n (form e k x)) (record (table_of n e) { served = id; sessions = set (table_of n e).sessions (id - 1) (stream_of e.master e.ceiling (formed (named e id) x)) }) f.changed.master f.changed.agreed f.changed.ceiling served kept asks in
     formed_turn before t u w v payload after p k x pk g o l
     (is ∙ old ∙ sym new ∙ ap (λ z. table_of z (form e k x)) (sym l))
     (omega (arith, served, l, hi))
@@ -186,7 +186,7 @@ unfit_packed before t w v payload p k pk g q is =
 pub idle_packed : (before : List ℕ) (t : Table) (w : Progress) (payload : List ℕ) (p : Packing) (id : ℕ) (d : Kept) → Packed before t w payload p → NoRejects p → 1 ≤ id → id ≤ length t.sessions → is_held (get_or t.sessions (id - 1) d).state ≡ false → Packed before t w payload (turn p (p.after.at_id id))
 idle_packed before t w payload p id d pk n lo hi h =
     let here : get_or t.sessions (id - 1) d ≡ kept_at p.after id = ap (λ (z : Table). get_or z.sessions (id - 1) d) pk.stands.is ∙ kept_here (length t.sessions) id p.after d lo hi in
-    let f : free (named p.after id) ≡ true = free_shown p.after.master (named p.after id) (only_free (state_shown (state p.after.master (named p.after id))) (sym (ap (λ (z : Kept). is_held z.state) here) ∙ h)) in
+    let f : free (named p.after id) ≡ true = free_shown p.after.master (named p.after id) (only_free (state_of (state p.after.master (named p.after id))) (sym (ap (λ (z : Kept). is_held z.state) here) ∙ h)) in
     subst (λ z. Packed before t w payload z) (sym (turn_free p (p.after.at_id id) n f)) pk
   where
     only_free : (s : base_state.SessionState) → is_held s ≡ false → s ≡ kept_states.Free
@@ -239,7 +239,7 @@ id_packed before t u w v payload after p id d new formed pk s lo hi g does len f
         let vw : v ≡ record w { ended = true } = counts ∙ ap (λ f. counted f (length after - length payload) w) h.0 ∙ ap (λ n. record w { room = n; ended = true }) (none h.2) in
         rw (ut, h.2) (unfit_packed before t w v payload p (p.after.at_id id) pk g (same_offer ∙ q) vw)
     go (offers.Offers x) q h len =
-        let ut : u ≡ record t { served = id; sessions = set t.sessions (id - 1) (kept_of t.master p.after.ceiling (after_slot (named p.after id) x)) } = is ∙ ap (λ f. record t { served = served_next f id t.served; sessions = set t.sessions (id - 1) new }) h.0 ∙ ap (λ z. record t { served = id; sessions = set t.sessions (id - 1) z }) h.1 in
+        let ut : u ≡ record t { served = id; sessions = set t.sessions (id - 1) (stream_of t.master p.after.ceiling (after_slot (named p.after id) x)) } = is ∙ ap (λ f. record t { served = served_next f id t.served; sessions = set t.sessions (id - 1) new }) h.0 ∙ ap (λ z. record t { served = id; sessions = set t.sessions (id - 1) z }) h.1 in
         let vw : v ≡ record w { room = w.room - (length after - length payload); formed = w.formed + 1 } = counts ∙ ap (λ f. counted f (length after - length payload) w) h.0 in
         let room : v.room ≡ w.room - sessions.slot_len x = ap (λ (z : Progress). z.room) vw ∙ omega (arith, len x refl) in
         id_formed before t u w v payload after p id d x pk s lo hi g (same_offer ∙ q) ut room (ap (λ (z : Progress). z.formed) vw) (ap (λ (z : Progress). z.ended) vw) h.2 (fair x q)

@@ -5,7 +5,7 @@ use Rattle.lat_model.specs.Lists.{upwards, keep}
 use Rattle.lat_model.specs.sessions.Session.{Session}
 use Rattle.lat_model.specs.sessions.Sessions.{Sessions, named}
 use Rattle.lat_model.specs.sessions.EndOk.{EndOk}
-use Rattle.lat_stream.specs.Kept.{Kept, kept_of}
+use Rattle.lat_stream.specs.Kept.{Kept, stream_of}
 use Rattle.lat_session.specs.Table.{ask_is_open, ask_of, open_asks}
 
 -- lists over numbers from a + 1 on
@@ -54,20 +54,20 @@ pub record Changed (e f : Sessions) (k : ℕ) (s : Session) : Type 0 where
   pub other : (j : ℕ) → j ≢ k → f.session j ≡ e.session j
 
 abbrev pub kept_at : Sessions → ℕ → Kept
-kept_at e id = kept_of e.master e.ceiling (named e id)
+kept_at e id = stream_of e.master e.ceiling (named e id)
 
 -- no other id leads to the session of an id
 pub other_id : (e : Sessions) (id i : ℕ) → EndOk e → e.at_id id ≢ 0 → i ≢ id → e.at_id i ≢ e.at_id id
 other_id e id i ok nz ne q = ne (sym (ok.found i (λ z. nz (sym q ∙ z))) ∙ ap (λ z. (e.session z).id) q ∙ ok.found id nz)
 
-pub changed_sessions : (n id : ℕ) (e f : Sessions) (s : Session) → EndOk e → e.at_id id ≢ 0 → 1 ≤ id → id ≤ n → Changed e f (e.at_id id) s → map (kept_at f) (upwards 0 n) ≡ set (map (kept_at e) (upwards 0 n)) (id - 1) (kept_of e.master e.ceiling s)
+pub changed_sessions : (n id : ℕ) (e f : Sessions) (s : Session) → EndOk e → e.at_id id ≢ 0 → 1 ≤ id → id ≤ n → Changed e f (e.at_id id) s → map (kept_at f) (upwards 0 n) ≡ set (map (kept_at e) (upwards 0 n)) (id - 1) (stream_of e.master e.ceiling s)
 changed_sessions n id e f s ok nz lo hi c =
     map_set (kept_at e) (kept_at f) 0 n (id - 1) id (omega (arith, lo, hi)) (omega (arith, lo)) others ∙ ap (set (map (kept_at e) (upwards 0 n)) (id - 1)) here
   where
     others : (i : ℕ) → i ≢ id → kept_at e i ≡ kept_at f i
     others i h = rw (c.master, c.ceiling, c.at_id, c.other (e.at_id i) (other_id e id i ok nz h)) refl
 
-    here : kept_at f id ≡ kept_of e.master e.ceiling s
+    here : kept_at f id ≡ stream_of e.master e.ceiling s
     here = rw (c.master, c.ceiling, c.at_id, c.same) refl
 
 -- what the table keeps of an id

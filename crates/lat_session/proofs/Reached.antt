@@ -11,7 +11,7 @@ use Rattle.lat_base.specs.declared.state.SessionState.{SessionState}
 use Rattle.lat_base.specs.declared.state.SessionState.TheVariants.{Free, Calling, Asked, Live, Closing, Left}
 use Rattle.lat_model.specs.sessions.Session.{blank, free}
 use Rattle.lat_model.specs.sessions.Sessions.{Sessions, named}
-use Rattle.lat_stream.specs.Kept.{Kept, kept_of}
+use Rattle.lat_stream.specs.Kept.{Kept, stream_of}
 use Rattle.lat_session.specs.Hears.{is_there, has_peer}
 use Rattle.lat_session.specs.Places.{IsReached}
 use Rattle.lat_session.specs.Stands.{Stands}
@@ -21,7 +21,7 @@ use Rattle.lat_session.proofs.Counts.{free_shown, past_blank}
 use Rattle.lat_session.proofs.Touch.{kept_here}
 
 -- new places are free
-pub all_blank : (n ceiling : ℕ) → AllFree (replicate n (kept_of true ceiling blank))
+pub all_blank : (n ceiling : ℕ) → AllFree (replicate n (stream_of true ceiling blank))
 all_blank zero ceiling = tt
 all_blank (suc n) ceiling = (refl, all_blank n ceiling)
 
@@ -157,6 +157,6 @@ free_past t e front (suc i) st h l =
     ⊎_elim {C = free (named e (suc i)) ≡ true}
     (λ w. let p : i + 1 ≡ suc i = omega arith in
     sym (free_shown e.master (named e (suc i)))
-    ∙ free_got t.sessions (length front) i (kept_of e.master e.ceiling (named e (suc i))) h.rest (omega (arith, l)) (kept_here t e i (suc i) st p w))
+    ∙ free_got t.sessions (length front) i (stream_of e.master e.ceiling (named e (suc i))) h.rest (omega (arith, l)) (kept_here t e i (suc i) st p w))
     (λ w. ap free (past_blank t e (suc i) st (omega (arith, w))))
     (cases_lt i (length t.sessions))

@@ -11,7 +11,7 @@ use Rattle.lat_model.proofs.sessions.Locals.{called}
 use Rattle.lat_model.proofs.sessions.Smalls.{call_small}
 use Rattle.lat_model.proofs.sessions.Peers.{call_apart}
 use Rattle.lat_model.proofs.sessions.Low.{call_within}
-use Rattle.lat_stream.specs.Kept.{Kept, kept_of}
+use Rattle.lat_stream.specs.Kept.{Kept, stream_of}
 use Rattle.lat_stream.specs.Sound.{Sound}
 use Rattle.lat_session.specs.Table.{Table, table_of, session_at, ask_of, open_asks}
 use Rattle.lat_session.specs.declared.ask.Ask.{Ask}
@@ -105,7 +105,7 @@ pub changed_stands : (t u : Table) (e : Sessions) (c : Call) (i id : ℕ) (k : K
     → call e c ≡ cond b (touch e (e.at_id id) s) e
     → (b ≡ true → e.at_id id ≡ 0 → ⊥)
     → (b ≡ true → asks ≡ open_asks (touch e (e.at_id id) s)) → (b ≡ false → asks ≡ t.asks)
-    → (b ≡ true → k ≡ kept_of e.master e.ceiling s) → (b ≡ false → k ≡ kept_of e.master e.ceiling (named e id))
+    → (b ≡ true → k ≡ stream_of e.master e.ceiling s) → (b ≡ false → k ≡ stream_of e.master e.ceiling (named e id))
     → u ≡ record t { sessions = slice_set t.sessions i k; asks = asks } → Stands u (call e c)
 changed_stands t u e c i id k b s asks st p l q some as_new as_old new old is =
     call_stands t u e c st (ap (λ (z : Table). length z.sessions) is ∙ length-set t.sessions i k) (is ∙ go b q some as_new as_old new old)
@@ -116,21 +116,21 @@ changed_stands t u e c i id k b s asks st p l q some as_new as_old new old is =
     next : suc i ≡ id
     next = omega (arith, p)
 
-    here : slice_get t.sessions i ≡ Some (kept_of e.master e.ceiling (named e id))
+    here : slice_get t.sessions i ≡ Some (stream_of e.master e.ceiling (named e id))
     here = ap (session_at t) next ∙ kept_here t e i id st p l
 
-    go : (b : Bool) → call e c ≡ cond b (touch e (e.at_id id) s) e → (b ≡ true → e.at_id id ≡ 0 → ⊥) → (b ≡ true → asks ≡ open_asks (touch e (e.at_id id) s)) → (b ≡ false → asks ≡ t.asks) → (b ≡ true → k ≡ kept_of e.master e.ceiling s) → (b ≡ false → k ≡ kept_of e.master e.ceiling (named e id)) → record t { sessions = slice_set t.sessions i k; asks = asks } ≡ table_of n (call e c)
+    go : (b : Bool) → call e c ≡ cond b (touch e (e.at_id id) s) e → (b ≡ true → e.at_id id ≡ 0 → ⊥) → (b ≡ true → asks ≡ open_asks (touch e (e.at_id id) s)) → (b ≡ false → asks ≡ t.asks) → (b ≡ true → k ≡ stream_of e.master e.ceiling s) → (b ≡ false → k ≡ stream_of e.master e.ceiling (named e id)) → record t { sessions = slice_set t.sessions i k; asks = asks } ≡ table_of n (call e c)
     go true q some as_new as_old new old =
         let f : Sessions = touch e (e.at_id id) s in
-        let ss : slice_set (table_of n e).sessions i (kept_of e.master e.ceiling s) ≡ (table_of n f).sessions =
+        let ss : slice_set (table_of n e).sessions i (stream_of e.master e.ceiling s) ≡ (table_of n f).sessions =
         sym (sessions_touched n i e s st.good l (λ z. some refl (sym (ap e.at_id next) ∙ z))) ∙ ap (λ j. (table_of n (touch e (e.at_id j) s)).sessions) next in
         ap (λ z. record t { sessions = slice_set t.sessions i z; asks = asks }) (new refl)
-        ∙ ap (λ (z : Table). record z { sessions = slice_set z.sessions i (kept_of e.master e.ceiling s); asks = asks }) st.is
+        ∙ ap (λ (z : Table). record z { sessions = slice_set z.sessions i (stream_of e.master e.ceiling s); asks = asks }) st.is
         ∙ ap (λ z. record (table_of n e) { sessions = z; asks = asks }) ss
         ∙ ap (λ z. record (table_of n f) { asks = z }) (as_new refl)
         ∙ ap (table_of n) (sym q)
     go false q some as_new as_old new old =
-        ap (λ z. record t { sessions = z; asks = asks }) (ap (slice_set t.sessions i) (old refl) ∙ set_same t.sessions i (kept_of e.master e.ceiling (named e id)) here)
+        ap (λ z. record t { sessions = z; asks = asks }) (ap (slice_set t.sessions i) (old refl) ∙ set_same t.sessions i (stream_of e.master e.ceiling (named e id)) here)
         ∙ ap (λ z. record t { asks = z }) (as_old refl)
         ∙ st.is ∙ ap (table_of n) (sym q)
 
@@ -140,7 +140,7 @@ pub touched_stands : (t u : Table) (e : Sessions) (c : Call) (i id : ℕ) (k : K
     → call e c ≡ cond b (touch e (e.at_id id) s) e
     → (b ≡ true → e.at_id id ≡ 0 → ⊥)
     → (waits s || rejecting s) ≡ (waits (named e id) || rejecting (named e id)) → ask_of s ≡ ask_of (named e id)
-    → (b ≡ true → k ≡ kept_of e.master e.ceiling s) → (b ≡ false → k ≡ kept_of e.master e.ceiling (named e id))
+    → (b ≡ true → k ≡ stream_of e.master e.ceiling s) → (b ≡ false → k ≡ stream_of e.master e.ceiling (named e id))
     → u ≡ record t { sessions = slice_set t.sessions i k } → Stands u (call e c)
 touched_stands t u e c i id k b s st p l q some o a new old is =
     changed_stands t u e c i id k b s t.asks st p l q some

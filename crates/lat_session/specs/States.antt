@@ -5,7 +5,7 @@ use Rattle.lat_base.specs.declared.state.SessionState.TheVariants.{Free, Asked}
 use Rattle.lat_model.specs.Lists.{upwards, least}
 use Rattle.lat_model.specs.sessions.Session.{state}
 use Rattle.lat_model.specs.sessions.Sessions.{Sessions, named}
-use Rattle.lat_stream.specs.Kept.{Kept, state_shown}
+use Rattle.lat_stream.specs.Kept.{Kept, state_of}
 use Rattle.lat_session.specs.declared.getters.Asked as asking
 
 abbrev pub is_free : SessionState → Bool
@@ -27,7 +27,7 @@ is_asked s = false
 
 -- the least id that is asked for; 0 where there is none
 abbrev pub least_asked : Sessions → ℕ
-least_asked e = least (λ id. is_asked (state_shown (state e.master (named e id)))) (upwards 0 64)
+least_asked e = least (λ id. is_asked (state_of (state e.master (named e id)))) (upwards 0 64)
 
 -- what it is asked for
 abbrev pub asked_at : Sessions → ℕ → asking.Asked

@@ -5,7 +5,7 @@ use Rattle.lat_base.specs.declared.state.SessionState.TheVariants.{Free}
 use Rattle.lat_model.specs.Lists.{upwards, keep}
 use Rattle.lat_model.specs.sessions.Session.{Session, peer, waits, rejecting}
 use Rattle.lat_model.specs.sessions.Sessions.{Sessions, named}
-use Rattle.lat_stream.specs.Kept.{Kept, kept_of}
+use Rattle.lat_stream.specs.Kept.{Kept, stream_of}
 use Rattle.lat_stream.specs.Steps.{can_take}
 use Rattle.lat_session.specs.declared.ask.Ask.{Ask}
 use Rattle.lat_session.specs.declared.ask.Ask.TheVariants.{Waits, Rejected}
@@ -74,6 +74,6 @@ table_of n e = record {
   agreed = e.agreed;
   ceiling = e.ceiling;
   served = e.served;
-  sessions = map (λ id. kept_of e.master e.ceiling (named e id)) (upwards 0 n);
+  sessions = map (λ id. stream_of e.master e.ceiling (named e id)) (upwards 0 n);
   asks = open_asks e;
 }

@@ -5,7 +5,7 @@ ghost use Rattle.lat_base.specs.declared.state.SessionState.TheVariants as state
 ghost use Rattle.lat_model.specs.sessions.Calls.{call as called, take_count, took, Connect, Take, Answer, RejectAsk};
 ghost use Rattle.lat_model.specs.sessions.Session.{Session, take_open};
 ghost use Rattle.lat_model.specs.sessions.Sessions.{Sessions as States, named, held, least_free};
-ghost use Rattle.lat_stream.specs.Kept.{item_of, kept_of};
+ghost use Rattle.lat_stream.specs.Kept.{item_of, stream_of};
 ghost use Rattle.lat_stream.specs.Sound.{Sound};
 ghost use Rattle.lat_session.specs.Calls.{call_of, answer_of, bytes_in, is_taken, after, without_bytes};
 ghost use Rattle.lat_session.specs.Stands.{Stands};
@@ -112,11 +112,11 @@ impl Sessions {
 // Does the call on one session.
 fn call_on(session: &mut Stream, call: &SessionCall) -> Result<usize, SessionFault>
     ensures answer { (master : Bool) (ceiling : ℕ) (s : Session) →
-        Sound master ceiling s → session.old ≡ kept_of master ceiling s →
+        Sound master ceiling s → session.old ≡ stream_of master ceiling s →
         result ≡ answer_of s call.now }
     ensures state { (master : Bool) (ceiling : ℕ) (s : Session) →
-        Sound master ceiling s → session.old ≡ kept_of master ceiling s →
-        session.new ≡ (if is_taken s call.now then kept_of master ceiling (after s call.now)
+        Sound master ceiling s → session.old ≡ stream_of master ceiling s →
+        session.new ≡ (if is_taken s call.now then stream_of master ceiling (after s call.now)
         else session.old) }
     ensures most { IfOk result (λ n. n ≤ bytes_in call.now) }
 {

@@ -10,7 +10,7 @@ ghost use Rattle.lat_model.specs.sessions.Hearing.{is_full};
 ghost use Rattle.lat_model.specs.sessions.Session.{state, peer, take_open, waits};
 ghost use Rattle.lat_model.specs.sessions.Sessions.{Sessions as States, named, held, least_free};
 ghost use Rattle.lat_model.specs.sessions.Slots.{items, credits, costs};
-ghost use Rattle.lat_stream.specs.Kept.{Kept, state_shown, saturated, end_of};
+ghost use Rattle.lat_stream.specs.Kept.{Kept, state_of, saturated, end_of};
 ghost use Rattle.lat_session.specs.Stands.{Stands};
 ghost use Rattle.lat_session.specs.States.{is_free, is_asked, held_in, asked_at, asked_of};
 ghost use Rattle.lat_session.specs.Table.{session_at, state_at, waiting_at, has_room};
@@ -46,7 +46,7 @@ impl Sessions {
     pub fn state(&self, id: u8) -> SessionState
         ensures value { result ≡ state_at self.now id }
         ensures model { (e : States) → Stands self.now e →
-            result ≡ state_shown (state e.master (named e id)) }
+            result ≡ state_of (state e.master (named e id)) }
     {
         self.session(id).map_or(SessionState::Free, Stream::state)
     }
@@ -130,7 +130,7 @@ impl Sessions {
         ensures model { (e : States) →
             Stands self.now e →
             result ≡ length (filter (λ id.
-            is_asked (state_shown (state e.master (named e id)))) (upwards 0 64)) }
+            is_asked (state_of (state e.master (named e id)))) (upwards 0 64)) }
         ensures slave { (e : States) →
             Stands self.now e →
             e.master ≡ false →
@@ -145,7 +145,7 @@ impl Sessions {
         ensures id { IfSome result (λ a. a.id ≡ id) }
         ensures model { (e : States) →
             Stands self.now e →
-            result ≡ cond (is_asked (state_shown (state e.master (named e id))))
+            result ≡ cond (is_asked (state_of (state e.master (named e id))))
             (Some (asked_at e id)) None }
         ensures slave { (e : States) → Stands self.now e → e.master ≡ false →
             is_some result ≡ waits (named e id) }

@@ -3,7 +3,7 @@
 ghost use Rattle.std.specs.Prelude.{◌≡◌, ◌<◌, ◌≤◌, true, replicate, length, slice_index_or, IfOk};
 ghost use Rattle.std.specs.Borrow.{sem};
 ghost use Rattle.lat_model.specs.sessions.Session.{blank};
-ghost use Rattle.lat_stream.specs.Kept.{kept_of};
+ghost use Rattle.lat_stream.specs.Kept.{stream_of};
 ghost use Rattle.lat_session.specs.Places.{IsReached, LendsPlace};
 
 use lat_base::Memory;
@@ -42,7 +42,7 @@ impl Places {
     /// So many places, in which there was no session yet. `ceiling` is 1 to 15.
     pub fn make(alloc: Global, count: u8, ceiling: u8) -> Result<Places, Memory>
         requires { (1 ≤ ceiling) × (ceiling ≤ 15) }
-        ensures { IfOk result (λ places. places ≡ replicate count (kept_of true ceiling blank)) }
+        ensures { IfOk result (λ places. places ≡ replicate count (stream_of true ceiling blank)) }
     {
         Ok(Places {
             all: streams(alloc, count, ceiling)?,
@@ -53,7 +53,7 @@ impl Places {
     /// The places as `make` makes them, in the memory that they have. `ceiling` is 1 to 15.
     pub fn reset(&mut self, ceiling: u8)
         requires { (1 ≤ ceiling) × (ceiling ≤ 15) }
-        ensures { self.new ≡ replicate (length self.old) (kept_of true ceiling blank) }
+        ensures { self.new ≡ replicate (length self.old) (stream_of true ceiling blank) }
     {
         reset_all(&mut self.all, ceiling);
         self.reached = 0;
@@ -106,7 +106,7 @@ impl Index<usize> for Places {
 
 fn streams(alloc: Global, count: u8, ceiling: u8) -> Result<Vec<Stream>, Memory>
     requires { (1 ≤ ceiling) × (ceiling ≤ 15) }
-    ensures { IfOk result (λ v. v.items ≡ replicate count (kept_of true ceiling blank)) }
+    ensures { IfOk result (λ v. v.items ≡ replicate count (stream_of true ceiling blank)) }
 {
     let mut all = Vec::with_capacity(alloc, count as usize)?;
     for _ in 0..count {
@@ -117,7 +117,7 @@ fn streams(alloc: Global, count: u8, ceiling: u8) -> Result<Vec<Stream>, Memory>
 
 fn reset_all(sessions: &mut [Stream], ceiling: u8)
     requires { (1 ≤ ceiling) × (ceiling ≤ 15) }
-    ensures { sessions.new ≡ replicate (length sessions.old) (kept_of true ceiling blank) }
+    ensures { sessions.new ≡ replicate (length sessions.old) (stream_of true ceiling blank) }
 {
     for session in sessions.iter_mut() {
         session.reset(ceiling);

@@ -1,2 +1,2 @@
-pub mod LinesShown
+pub mod LinesPrinted
 pub mod Onto

@@ -1,8 +1,8 @@
 pub mod choice
-pub mod ParamsShown
-pub mod SlotShown
-pub mod MessageShown
-pub mod NoticeShown
-pub mod BadShown
-pub mod PayloadShown
+pub mod ParamsPrinted
+pub mod SlotPrinted
+pub mod MessagePrinted
+pub mod NoticePrinted
+pub mod BadPrinted
+pub mod PayloadPrinted
 pub mod ShowOf

@@ -2,8 +2,8 @@
 
 ghost use Rattle.std.specs.Prelude.{◌≡◌, ◌++◌, OnOk, string_bytes};
 ghost use Rattle.std.specs.List.{flat_map};
-ghost use Rattle.lat_show.specs.SlotShown.{slot_shown};
-ghost use Rattle.lat_show.specs.MessageShown.{circuit_shown, numbers_shown, run_shown, wide_run_shown, reason_shown, message_shown};
+ghost use Rattle.lat_show.specs.SlotPrinted.{slot_printed};
+ghost use Rattle.lat_show.specs.MessagePrinted.{circuit_printed, numbers_printed, run_printed, wide_run_printed, reason_printed, message_printed};
 
 use crate::slot::slot_onto;
 use crate::start::start_onto;
@@ -15,7 +15,7 @@ use std::alloc::{AllocError, Global};
 
 /// Adds the first word of a message's line, and what every message has behind it: who sent it, whether it asks for a
 /// reply, and the circuit's ids.
-#[tactic(auto, unfolding(crate::specs::MessageShown::circuit_shown))]
+#[tactic(auto, unfolding(crate::specs::MessagePrinted::circuit_printed))]
 pub fn circuit_onto(
     text: &mut String,
     word: &str,
@@ -25,41 +25,41 @@ pub fn circuit_onto(
     from: u16,
 ) -> Result<(), AllocError>
     ensures { OnOk result (string_bytes text.new
-        ≡ string_bytes text.old ++ circuit_shown word.now master ask to from) }
+        ≡ string_bytes text.old ++ circuit_printed word.now master ask to from) }
 {
     let (master, ask) = (flag_text(master), flag_text(ask));
     write!(text, "{word} master {master} ask {ask} to {to} from {from}")
 }
 
-#[tactic(auto, unfolding(crate::specs::MessageShown::numbers_shown))]
+#[tactic(auto, unfolding(crate::specs::MessagePrinted::numbers_printed))]
 fn numbers_onto(text: &mut String, seq: u16, ack: u16, slots: usize) -> Result<(), AllocError>
     ensures { OnOk result (string_bytes text.new
-        ≡ string_bytes text.old ++ numbers_shown seq ack slots) }
+        ≡ string_bytes text.old ++ numbers_printed seq ack slots) }
 {
     write!(text, " seq {seq} ack {ack} slots {slots}")
 }
 
-#[tactic(auto, unfolding(crate::specs::MessageShown::run_shown))]
+#[tactic(auto, unfolding(crate::specs::MessagePrinted::run_printed))]
 fn run_onto(text: &mut String, head: &Head, slots: usize) -> Result<(), AllocError>
     ensures { OnOk result (string_bytes text.new
-        ≡ string_bytes text.old ++ run_shown head.now slots) }
+        ≡ string_bytes text.old ++ run_printed head.now slots) }
 {
     circuit_onto(text, "run", head.master, head.ask, head.to, head.from)?;
     numbers_onto(text, head.seq as u16, head.ack as u16, slots)?;
     text.push_str("\n")
 }
 
-#[tactic(auto, unfolding(crate::specs::MessageShown::wide_run_shown))]
+#[tactic(auto, unfolding(crate::specs::MessagePrinted::wide_run_printed))]
 fn wide_run_onto(text: &mut String, head: &WideHead, slots: usize) -> Result<(), AllocError>
     ensures { OnOk result (string_bytes text.new
-        ≡ string_bytes text.old ++ wide_run_shown head.now slots) }
+        ≡ string_bytes text.old ++ wide_run_printed head.now slots) }
 {
     circuit_onto(text, "wide-run", head.master, head.ask, head.to, head.from)?;
     numbers_onto(text, head.seq, head.ack, slots)?;
     text.push_str("\n")
 }
 
-#[tactic(auto, unfolding(crate::specs::MessageShown::reason_shown))]
+#[tactic(auto, unfolding(crate::specs::MessagePrinted::reason_printed))]
 fn reason_onto(
     alloc: Global,
     text: &mut String,
@@ -67,7 +67,7 @@ fn reason_onto(
     bytes: &Bytes,
 ) -> Result<(), AllocError>
     ensures { OnOk result (string_bytes text.new
-        ≡ string_bytes text.old ++ reason_shown reason bytes.now) }
+        ≡ string_bytes text.old ++ reason_printed reason bytes.now) }
 {
     write!(text, " reason {reason} text ")?;
     hex_onto(alloc, text, bytes.as_slice())
@@ -75,7 +75,7 @@ fn reason_onto(
 
 fn slots_onto(alloc: Global, text: &mut String, slots: &[Slot]) -> Result<(), AllocError>
     ensures { OnOk result (string_bytes text.new
-        ≡ string_bytes text.old ++ flat_map slot_shown slots.now) }
+        ≡ string_bytes text.old ++ flat_map slot_printed slots.now) }
 {
     for slot in slots {
         slot_onto(alloc, text, slot)?;
@@ -87,7 +87,7 @@ fn slots_onto(alloc: Global, text: &mut String, slots: &[Slot]) -> Result<(), Al
 /// texts, has the lines.
 pub fn message_onto(alloc: Global, text: &mut String, message: &Message) -> Result<(), AllocError>
     ensures { OnOk result (string_bytes text.new
-        ≡ string_bytes text.old ++ message_shown message.now) }
+        ≡ string_bytes text.old ++ message_printed message.now) }
 {
     match message {
         Message::Run { head, slots } => {

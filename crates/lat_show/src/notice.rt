@@ -2,7 +2,7 @@
 
 ghost use Rattle.std.specs.Prelude.{◌≡◌, ◌++◌, OnOk, string_bytes};
 ghost use Rattle.std.specs.List.{flat_map};
-ghost use Rattle.lat_show.specs.NoticeShown.{service_shown, request_shown, offer_shown, announcer_shown, groups_shown, node_shown, description_shown, rated_shown, question_shown, announcement_shown, command_shown, outcome_shown, status_shown, solicit_shown, response_shown, notice_shown};
+ghost use Rattle.lat_show.specs.NoticePrinted.{service_printed, request_printed, offer_printed, announcer_printed, groups_printed, node_printed, description_printed, rated_printed, question_printed, announcement_printed, command_printed, outcome_printed, status_printed, solicit_printed, response_printed, notice_printed};
 
 use lat_base::{Bytes, Name};
 use lat_notices::{Announcement, Command, Notice, Response, Service, Solicit, Status};
@@ -11,13 +11,13 @@ use std::alloc::{AllocError, Global};
 
 fn description_onto(alloc: Global, text: &mut String, description: &[u8]) -> Result<(), AllocError>
     ensures { OnOk result (string_bytes text.new
-        ≡ string_bytes text.old ++ description_shown description.now) }
+        ≡ string_bytes text.old ++ description_printed description.now) }
 {
     text.push_str(" description ")?;
     hex_onto(alloc, text, description)
 }
 
-#[tactic(auto, unfolding(crate::specs::NoticeShown::rated_shown))]
+#[tactic(auto, unfolding(crate::specs::NoticePrinted::rated_printed))]
 fn rated_onto(
     alloc: Global,
     text: &mut String,
@@ -25,16 +25,16 @@ fn rated_onto(
     description: &Bytes,
 ) -> Result<(), AllocError>
     ensures { OnOk result (string_bytes text.new
-        ≡ string_bytes text.old ++ rated_shown rating description.now) }
+        ≡ string_bytes text.old ++ rated_printed rating description.now) }
 {
     write!(text, " rating {rating}")?;
     description_onto(alloc, text, description.as_slice())
 }
 
-#[tactic(auto, unfolding(crate::specs::NoticeShown::service_shown))]
+#[tactic(auto, unfolding(crate::specs::NoticePrinted::service_printed))]
 fn service_onto(alloc: Global, text: &mut String, service: &Service) -> Result<(), AllocError>
     ensures { OnOk result (string_bytes text.new
-        ≡ string_bytes text.old ++ service_shown service.now) }
+        ≡ string_bytes text.old ++ service_printed service.now) }
 {
     text.push_str("service ")?;
     name_onto(alloc, text, &service.name)?;
@@ -44,7 +44,7 @@ fn service_onto(alloc: Global, text: &mut String, service: &Service) -> Result<(
 
 fn services_onto(alloc: Global, text: &mut String, services: &[Service]) -> Result<(), AllocError>
     ensures { OnOk result (string_bytes text.new
-        ≡ string_bytes text.old ++ flat_map service_shown services.now) }
+        ≡ string_bytes text.old ++ flat_map service_printed services.now) }
 {
     for service in services {
         service_onto(alloc, text, service)?;
@@ -53,7 +53,7 @@ fn services_onto(alloc: Global, text: &mut String, services: &[Service]) -> Resu
 }
 
 // Adds the first word of the line of a command or a status, and the request that it is about.
-#[tactic(auto, unfolding(crate::specs::NoticeShown::request_shown))]
+#[tactic(auto, unfolding(crate::specs::NoticePrinted::request_printed))]
 fn request_onto(
     text: &mut String,
     word: &str,
@@ -61,7 +61,7 @@ fn request_onto(
     request: u16,
 ) -> Result<(), AllocError>
     ensures { OnOk result (string_bytes text.new
-        ≡ string_bytes text.old ++ request_shown word.now incarnation request) }
+        ≡ string_bytes text.old ++ request_printed word.now incarnation request) }
 {
     write!(
         text,
@@ -69,7 +69,7 @@ fn request_onto(
     )
 }
 
-#[tactic(auto, unfolding(crate::specs::NoticeShown::offer_shown))]
+#[tactic(auto, unfolding(crate::specs::NoticePrinted::offer_printed))]
 fn offer_onto(
     alloc: Global,
     text: &mut String,
@@ -77,7 +77,7 @@ fn offer_onto(
     service: &Name,
 ) -> Result<(), AllocError>
     ensures { OnOk result (string_bytes text.new
-        ≡ string_bytes text.old ++ offer_shown node.now service.now) }
+        ≡ string_bytes text.old ++ offer_printed node.now service.now) }
 {
     text.push_str(" node ")?;
     name_onto(alloc, text, node)?;
@@ -85,10 +85,10 @@ fn offer_onto(
     name_onto(alloc, text, service)
 }
 
-#[tactic(auto, unfolding(crate::specs::NoticeShown::announcer_shown))]
+#[tactic(auto, unfolding(crate::specs::NoticePrinted::announcer_printed))]
 fn announcer_onto(text: &mut String, announcement: &Announcement) -> Result<(), AllocError>
     ensures { OnOk result (string_bytes text.new
-        ≡ string_bytes text.old ++ announcer_shown announcement.now) }
+        ≡ string_bytes text.old ++ announcer_printed announcement.now) }
 {
     let (timer, incarnation) = (announcement.timer, announcement.incarnation);
     write!(
@@ -97,16 +97,16 @@ fn announcer_onto(text: &mut String, announcement: &Announcement) -> Result<(), 
     )
 }
 
-#[tactic(auto, unfolding(crate::specs::NoticeShown::groups_shown))]
+#[tactic(auto, unfolding(crate::specs::NoticePrinted::groups_printed))]
 fn groups_onto(alloc: Global, text: &mut String, groups: &Bytes) -> Result<(), AllocError>
     ensures { OnOk result (string_bytes text.new
-        ≡ string_bytes text.old ++ groups_shown groups.now) }
+        ≡ string_bytes text.old ++ groups_printed groups.now) }
 {
     text.push_str(" groups ")?;
     hex_onto(alloc, text, groups.as_slice())
 }
 
-#[tactic(auto, unfolding(crate::specs::NoticeShown::node_shown))]
+#[tactic(auto, unfolding(crate::specs::NoticePrinted::node_printed))]
 fn node_onto(
     alloc: Global,
     text: &mut String,
@@ -114,21 +114,21 @@ fn node_onto(
     description: &Bytes,
 ) -> Result<(), AllocError>
     ensures { OnOk result (string_bytes text.new
-        ≡ string_bytes text.old ++ node_shown node.now description.now) }
+        ≡ string_bytes text.old ++ node_printed node.now description.now) }
 {
     text.push_str(" node ")?;
     name_onto(alloc, text, node)?;
     description_onto(alloc, text, description.as_slice())
 }
 
-#[tactic(auto, unfolding(crate::specs::NoticeShown::announcement_shown))]
+#[tactic(auto, unfolding(crate::specs::NoticePrinted::announcement_printed))]
 fn announcement_onto(
     alloc: Global,
     text: &mut String,
     announcement: &Announcement,
 ) -> Result<(), AllocError>
     ensures { OnOk result (string_bytes text.new
-        ≡ string_bytes text.old ++ announcement_shown announcement.now) }
+        ≡ string_bytes text.old ++ announcement_printed announcement.now) }
 {
     let services = announcement.services.as_slice();
     let count = services.len();
@@ -139,10 +139,10 @@ fn announcement_onto(
     services_onto(alloc, text, services)
 }
 
-#[tactic(auto, unfolding(crate::specs::NoticeShown::command_shown))]
+#[tactic(auto, unfolding(crate::specs::NoticePrinted::command_printed))]
 fn command_onto(alloc: Global, text: &mut String, command: &Command) -> Result<(), AllocError>
     ensures { OnOk result (string_bytes text.new
-        ≡ string_bytes text.old ++ command_shown command.now) }
+        ≡ string_bytes text.old ++ command_printed command.now) }
 {
     let action = command.action.number();
     request_onto(text, "command", command.incarnation, command.request)?;
@@ -151,18 +151,18 @@ fn command_onto(alloc: Global, text: &mut String, command: &Command) -> Result<(
     text.push_str("\n")
 }
 
-#[tactic(auto, unfolding(crate::specs::NoticeShown::outcome_shown))]
+#[tactic(auto, unfolding(crate::specs::NoticePrinted::outcome_printed))]
 fn outcome_onto(text: &mut String, outcome: u8, place: u16) -> Result<(), AllocError>
     ensures { OnOk result (string_bytes text.new
-        ≡ string_bytes text.old ++ outcome_shown outcome place) }
+        ≡ string_bytes text.old ++ outcome_printed outcome place) }
 {
     write!(text, " outcome {outcome} place {place}")
 }
 
-#[tactic(auto, unfolding(crate::specs::NoticeShown::status_shown))]
+#[tactic(auto, unfolding(crate::specs::NoticePrinted::status_printed))]
 fn status_onto(alloc: Global, text: &mut String, status: &Status) -> Result<(), AllocError>
     ensures { OnOk result (string_bytes text.new
-        ≡ string_bytes text.old ++ status_shown status.now) }
+        ≡ string_bytes text.old ++ status_printed status.now) }
 {
     request_onto(text, "status", status.incarnation, status.request)?;
     outcome_onto(text, status.outcome.number(), status.outcome.place())?;
@@ -172,28 +172,28 @@ fn status_onto(alloc: Global, text: &mut String, status: &Status) -> Result<(), 
 }
 
 // Adds the first word of the line of a solicit or a response, and the question that it is about.
-#[tactic(auto, unfolding(crate::specs::NoticeShown::question_shown))]
+#[tactic(auto, unfolding(crate::specs::NoticePrinted::question_printed))]
 fn question_onto(text: &mut String, word: &str, id: u16) -> Result<(), AllocError>
     ensures { OnOk result (string_bytes text.new
-        ≡ string_bytes text.old ++ question_shown word.now id) }
+        ≡ string_bytes text.old ++ question_printed word.now id) }
 {
     write!(text, "{word} version 5 id {id}")
 }
 
-#[tactic(auto, unfolding(crate::specs::NoticeShown::solicit_shown))]
+#[tactic(auto, unfolding(crate::specs::NoticePrinted::solicit_printed))]
 fn solicit_onto(alloc: Global, text: &mut String, solicit: &Solicit) -> Result<(), AllocError>
     ensures { OnOk result (string_bytes text.new
-        ≡ string_bytes text.old ++ solicit_shown solicit.now) }
+        ≡ string_bytes text.old ++ solicit_printed solicit.now) }
 {
     question_onto(text, "solicit", solicit.id)?;
     offer_onto(alloc, text, &solicit.asker, &solicit.service)?;
     text.push_str("\n")
 }
 
-#[tactic(auto, unfolding(crate::specs::NoticeShown::response_shown))]
+#[tactic(auto, unfolding(crate::specs::NoticePrinted::response_printed))]
 fn response_onto(alloc: Global, text: &mut String, response: &Response) -> Result<(), AllocError>
     ensures { OnOk result (string_bytes text.new
-        ≡ string_bytes text.old ++ response_shown response.now) }
+        ≡ string_bytes text.old ++ response_printed response.now) }
 {
     let (rating, timer) = (response.rating, response.timer);
     question_onto(text, "response", response.id)?;
@@ -205,7 +205,7 @@ fn response_onto(alloc: Global, text: &mut String, response: &Response) -> Resul
 /// `docs/FORMATS.md`, part Printed texts, has the lines.
 pub fn notice_onto(alloc: Global, text: &mut String, notice: &Notice) -> Result<(), AllocError>
     ensures { OnOk result (string_bytes text.new
-        ≡ string_bytes text.old ++ notice_shown notice.now) }
+        ≡ string_bytes text.old ++ notice_printed notice.now) }
 {
     match notice {
         Notice::Announcement(announcement) => announcement_onto(alloc, text, announcement),

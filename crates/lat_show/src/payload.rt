@@ -1,8 +1,8 @@
 //! Payloads in print.
 
 ghost use Rattle.std.specs.Prelude.{◌≡◌, ◌++◌, OnOk, string_bytes};
-ghost use Rattle.lat_show.specs.BadShown.{bad_shown};
-ghost use Rattle.lat_show.specs.PayloadShown.{value_shown, payload_shown};
+ghost use Rattle.lat_show.specs.BadPrinted.{bad_printed};
+ghost use Rattle.lat_show.specs.PayloadPrinted.{value_printed, payload_printed};
 
 use crate::message::message_onto;
 use crate::notice::notice_onto;
@@ -12,14 +12,14 @@ use lat_value::{Value, read_value};
 use std::alloc::{AllocError, Global};
 
 fn bad_onto(text: &mut String, bad: Bad) -> Result<(), AllocError>
-    ensures { OnOk result (string_bytes text.new ≡ string_bytes text.old ++ bad_shown bad) }
+    ensures { OnOk result (string_bytes text.new ≡ string_bytes text.old ++ bad_printed bad) }
 {
     let (field, place) = (bad.field.word(), bad.at);
     write!(text, "bad {field} {place}\n")
 }
 
 fn value_onto(alloc: Global, text: &mut String, value: &Value) -> Result<(), AllocError>
-    ensures { OnOk result (string_bytes text.new ≡ string_bytes text.old ++ value_shown value.now) }
+    ensures { OnOk result (string_bytes text.new ≡ string_bytes text.old ++ value_printed value.now) }
 {
     match value {
         Value::Circuit(message) => message_onto(alloc, text, message),
@@ -29,10 +29,10 @@ fn value_onto(alloc: Global, text: &mut String, value: &Value) -> Result<(), All
 
 /// Adds what is printed of a payload, of any length, to a text: the lines of the message or the notice that it is, or
 /// the line that names its first bad field, as `read_value` of `lat_value` reads it. Takes memory for what is read.
-#[tactic(auto, unfolding(crate::specs::PayloadShown::payload_shown))]
+#[tactic(auto, unfolding(crate::specs::PayloadPrinted::payload_printed))]
 pub fn payload_onto(alloc: Global, text: &mut String, payload: &[u8]) -> Result<(), Memory>
     ensures { OnOk result (string_bytes text.new
-        ≡ string_bytes text.old ++ payload_shown payload.now) }
+        ≡ string_bytes text.old ++ payload_printed payload.now) }
 {
     match read_value(alloc, payload) {
         Ok(value) => Ok(value_onto(alloc, text, &value)?),

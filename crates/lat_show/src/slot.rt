@@ -1,7 +1,7 @@
 //! Slots in print.
 
 ghost use Rattle.std.specs.Prelude.{◌≡◌, ◌++◌, OnOk, string_bytes};
-ghost use Rattle.lat_show.specs.SlotShown.{ends_shown, sizes_shown, asked_shown, setting_shown, slot_shown};
+ghost use Rattle.lat_show.specs.SlotPrinted.{ends_printed, sizes_printed, asked_printed, setting_printed, slot_printed};
 
 use crate::params::params_onto;
 use lat_base::{Bytes, Name};
@@ -11,23 +11,23 @@ use lat_text::{byte_onto, hex_onto, name_onto};
 use std::alloc::{AllocError, Global};
 
 // Adds the first word of a slot's line, and the ids that every slot has.
-#[tactic(auto, unfolding(crate::specs::SlotShown::ends_shown))]
+#[tactic(auto, unfolding(crate::specs::SlotPrinted::ends_printed))]
 fn ends_onto(text: &mut String, word: &str, to: u8, from: u8) -> Result<(), AllocError>
     ensures { OnOk result (string_bytes text.new
-        ≡ string_bytes text.old ++ ends_shown word.now to from) }
+        ≡ string_bytes text.old ++ ends_printed word.now to from) }
 {
     write!(text, "{word} to {to} from {from}")
 }
 
-#[tactic(auto, unfolding(crate::specs::SlotShown::sizes_shown))]
+#[tactic(auto, unfolding(crate::specs::SlotPrinted::sizes_printed))]
 fn sizes_onto(text: &mut String, credits: u8, attention: u8, size: u8) -> Result<(), AllocError>
     ensures { OnOk result (string_bytes text.new
-        ≡ string_bytes text.old ++ sizes_shown credits attention size) }
+        ≡ string_bytes text.old ++ sizes_printed credits attention size) }
 {
     write!(text, " credits {credits} attention {attention} size {size}")
 }
 
-#[tactic(auto, unfolding(crate::specs::SlotShown::asked_shown))]
+#[tactic(auto, unfolding(crate::specs::SlotPrinted::asked_printed))]
 fn asked_onto(
     alloc: Global,
     text: &mut String,
@@ -36,7 +36,7 @@ fn asked_onto(
     params: &Params,
 ) -> Result<(), AllocError>
     ensures { OnOk result (string_bytes text.new
-        ≡ string_bytes text.old ++ asked_shown service.now subject.now params.now) }
+        ≡ string_bytes text.old ++ asked_printed service.now subject.now params.now) }
 {
     text.push_str(" service ")?;
     name_onto(alloc, text, service)?;
@@ -46,10 +46,10 @@ fn asked_onto(
     params_onto(alloc, text, params)
 }
 
-#[tactic(auto, unfolding(crate::specs::SlotShown::setting_shown))]
+#[tactic(auto, unfolding(crate::specs::SlotPrinted::setting_printed))]
 fn setting_onto(alloc: Global, text: &mut String, flag: u8, chars: &[u8]) -> Result<(), AllocError>
     ensures { OnOk result (string_bytes text.new
-        ≡ string_bytes text.old ++ setting_shown flag chars.now) }
+        ≡ string_bytes text.old ++ setting_printed flag chars.now) }
 {
     text.push_str(" flag ")?;
     byte_onto(alloc, text, flag)?;
@@ -59,7 +59,7 @@ fn setting_onto(alloc: Global, text: &mut String, flag: u8, chars: &[u8]) -> Res
 
 /// Adds the line of a slot to a text. `docs/FORMATS.md`, part Printed texts, has the lines.
 pub fn slot_onto(alloc: Global, text: &mut String, slot: &Slot) -> Result<(), AllocError>
-    ensures { OnOk result (string_bytes text.new ≡ string_bytes text.old ++ slot_shown slot.now) }
+    ensures { OnOk result (string_bytes text.new ≡ string_bytes text.old ++ slot_printed slot.now) }
 {
     match slot {
         Slot::Start {

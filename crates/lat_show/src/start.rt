@@ -1,7 +1,7 @@
 //! The message that starts a circuit in print.
 
 ghost use Rattle.std.specs.Prelude.{◌≡◌, ◌++◌, OnOk, string_bytes};
-ghost use Rattle.lat_show.specs.MessageShown.{terms_shown, product_shown, names_shown, location_shown, info_shown, start_shown};
+ghost use Rattle.lat_show.specs.MessagePrinted.{terms_printed, product_printed, names_printed, location_printed, info_printed, start_printed};
 
 use crate::message::circuit_onto;
 use crate::params::params_onto;
@@ -11,9 +11,9 @@ use lat_frames::StartInfo;
 use lat_text::{hex_onto, name_onto};
 use std::alloc::{AllocError, Global};
 
-#[tactic(auto, unfolding(crate::specs::MessageShown::terms_shown))]
+#[tactic(auto, unfolding(crate::specs::MessagePrinted::terms_printed))]
 fn terms_onto(text: &mut String, info: &StartInfo) -> Result<(), AllocError>
-    ensures { OnOk result (string_bytes text.new ≡ string_bytes text.old ++ terms_shown info.now) }
+    ensures { OnOk result (string_bytes text.new ≡ string_bytes text.old ++ terms_printed info.now) }
 {
     let (size, eco, sessions, extra) = (info.size, info.eco, info.sessions, info.extra);
     let (timer, keepalive) = (info.timer, info.keepalive);
@@ -23,19 +23,19 @@ fn terms_onto(text: &mut String, info: &StartInfo) -> Result<(), AllocError>
     )
 }
 
-#[tactic(auto, unfolding(crate::specs::MessageShown::product_shown))]
+#[tactic(auto, unfolding(crate::specs::MessagePrinted::product_printed))]
 fn product_onto(text: &mut String, info: &StartInfo) -> Result<(), AllocError>
     ensures { OnOk result (string_bytes text.new
-        ≡ string_bytes text.old ++ product_shown info.now) }
+        ≡ string_bytes text.old ++ product_printed info.now) }
 {
     let (facility, product, version) = (info.facility, info.product, info.product_version);
     write!(text, " facility {facility} product {product} {version}")
 }
 
-#[tactic(auto, unfolding(crate::specs::MessageShown::names_shown))]
+#[tactic(auto, unfolding(crate::specs::MessagePrinted::names_printed))]
 fn names_onto(alloc: Global, text: &mut String, slave: &Name, name: &Name) -> Result<(), AllocError>
     ensures { OnOk result (string_bytes text.new
-        ≡ string_bytes text.old ++ names_shown slave.now name.now) }
+        ≡ string_bytes text.old ++ names_printed slave.now name.now) }
 {
     text.push_str(" slave ")?;
     name_onto(alloc, text, slave)?;
@@ -43,7 +43,7 @@ fn names_onto(alloc: Global, text: &mut String, slave: &Name, name: &Name) -> Re
     name_onto(alloc, text, name)
 }
 
-#[tactic(auto, unfolding(crate::specs::MessageShown::location_shown))]
+#[tactic(auto, unfolding(crate::specs::MessagePrinted::location_printed))]
 fn location_onto(
     alloc: Global,
     text: &mut String,
@@ -51,7 +51,7 @@ fn location_onto(
     params: &Params,
 ) -> Result<(), AllocError>
     ensures { OnOk result (string_bytes text.new
-        ≡ string_bytes text.old ++ location_shown location.now params.now) }
+        ≡ string_bytes text.old ++ location_printed location.now params.now) }
 {
     text.push_str(" location ")?;
     hex_onto(alloc, text, location.as_slice())?;
@@ -59,9 +59,9 @@ fn location_onto(
     params_onto(alloc, text, params)
 }
 
-#[tactic(auto, unfolding(crate::specs::MessageShown::info_shown))]
+#[tactic(auto, unfolding(crate::specs::MessagePrinted::info_printed))]
 fn info_onto(alloc: Global, text: &mut String, info: &StartInfo) -> Result<(), AllocError>
-    ensures { OnOk result (string_bytes text.new ≡ string_bytes text.old ++ info_shown info.now) }
+    ensures { OnOk result (string_bytes text.new ≡ string_bytes text.old ++ info_printed info.now) }
 {
     terms_onto(text, info)?;
     product_onto(text, info)?;
@@ -70,7 +70,7 @@ fn info_onto(alloc: Global, text: &mut String, info: &StartInfo) -> Result<(), A
 }
 
 /// Adds the line of a START message to a text.
-#[tactic(auto, unfolding(crate::specs::MessageShown::start_shown))]
+#[tactic(auto, unfolding(crate::specs::MessagePrinted::start_printed))]
 pub fn start_onto(
     alloc: Global,
     text: &mut String,
@@ -81,7 +81,7 @@ pub fn start_onto(
     info: &StartInfo,
 ) -> Result<(), AllocError>
     ensures { OnOk result (string_bytes text.new
-        ≡ string_bytes text.old ++ start_shown master ask to from info.now) }
+        ≡ string_bytes text.old ++ start_printed master ask to from info.now) }
 {
     circuit_onto(text, "circuit-start", master, ask, to, from)?;
     info_onto(alloc, text, info)?;

@@ -6,7 +6,7 @@ use Rattle.lat_model.specs.sessions.Slots.{Slot, items, items_of, credits, credi
 use Rattle.lat_model.specs.sessions.Session.{Session, Free, Calling, Asked, Live, Closing, Left, peer, answered, rejected, held_slots}
 use Rattle.lat_model.specs.sessions.Packing.{formed}
 use Rattle.lat_model.proofs.sessions.Words.{items-append, credits-append, costs-append, has_stop-append}
-use Rattle.lat_stream.specs.Kept.{Kept, kept_of, item_of, state_shown, saturated, left_in, reject_reason}
+use Rattle.lat_stream.specs.Kept.{Kept, stream_of, item_of, state_of, saturated, left_in, reject_reason}
 
 -- over: both stops were formed and heard
 abbrev pub over_by : Session → (stop : Bool) → Bool
@@ -18,7 +18,7 @@ free_by s stop = rejected s || ((stop && has_stop s.came) && (s.closed || nat_le
 -- what is kept of the session, with other words for what it formed
 abbrev pub kept_with : Bool → ℕ → Session → (attention : Option ℕ) (none stop : Bool) (outstanding unused given used count : ℕ) → Kept
 kept_with master ceiling s attention none stop outstanding unused given used count = record {
-  state = state_shown (cond (free_by s stop) Free (cond (over_by s stop) Left (cond (answered s) (cond (s.closed || has_stop s.came) Closing Live) (cond master Calling Asked))));
+  state = state_of (cond (free_by s stop) Free (cond (over_by s stop) Left (cond (answered s) (cond (s.closed || has_stop s.came) Closing Live) (cond master Calling Asked))));
   closed = s.closed;
   stop_formed = stop;
   stop_heard = has_stop s.came;
@@ -41,7 +41,7 @@ abbrev pub kept_now : Bool → ℕ → Session → (attention : Option ℕ) (non
 kept_now master ceiling s attention none stop given used count =
     kept_with master ceiling s attention none stop (given - costs s.came) (credits s.came - used) (saturated given) (saturated used) count
 
-pub now_is : (m : Bool) (c : ℕ) (s : Session) → kept_of m c s ≡ kept_now m c s s.attention (is_empty s.out) (has_stop s.out) (credits s.out) (costs s.out) (length (items s.out))
+pub now_is : (m : Bool) (c : ℕ) (s : Session) → stream_of m c s ≡ kept_now m c s s.attention (is_empty s.out) (has_stop s.out) (credits s.out) (costs s.out) (length (items s.out))
 now_is m c s = refl
 
 some_out : (xs : List Slot) (x : Slot) → is_empty (xs ++ x ∷ []) ≡ false
@@ -53,7 +53,7 @@ or_false true = refl
 or_false false = refl
 
 -- after a slot
-pub then_is : (m : Bool) (c : ℕ) (s : Session) (x : Slot) → kept_of m c (formed s x) ≡
+pub then_is : (m : Bool) (c : ℕ) (s : Session) (x : Slot) → stream_of m c (formed s x) ≡
     kept_now m c s (cond (is_attention x) None s.attention) false (has_stop s.out || is_stop x) (credits s.out + credits_of x) (costs s.out + cost_of x) (length (items s.out) + length (items_of x))
 then_is m c s x =
     let a : Option ℕ = cond (is_attention x) None s.attention in

@@ -12,7 +12,7 @@ use Rattle.lat_model.specs.sessions.Session.{Session, Free, Calling, Asked, Live
 use Rattle.lat_model.specs.sessions.Session as session
 use Rattle.lat_model.specs.sessions.Offers.{start_of}
 use Rattle.lat_model.specs.sessions.Packing.{formed}
-use Rattle.lat_stream.specs.Kept.{Kept, kept_of, item_of, state_shown, saturated, reject_reason}
+use Rattle.lat_stream.specs.Kept.{Kept, stream_of, item_of, state_of, saturated, reject_reason}
 use Rattle.lat_stream.specs.Turns.{gave, framed, stopped}
 use Rattle.lat_stream.proofs.Forms.{kept_with, kept_now, then_is, or_false, told_more}
 
@@ -31,12 +31,12 @@ with_same m c s a none t t' o o' u u' g g' w w' n n' et eo eu eg ew en =
 abbrev pub open_kept : Bool → ℕ → Session → Kept
 open_kept m c s = kept_now m c s s.attention false false (credits s.out) (costs s.out) (length (items s.out))
 
-pub open_is : (m : Bool) (c : ℕ) (s : Session) → is_empty s.out ≡ false → has_stop s.out ≡ false → kept_of m c s ≡ open_kept m c s
+pub open_is : (m : Bool) (c : ℕ) (s : Session) → is_empty s.out ≡ false → has_stop s.out ≡ false → stream_of m c s ≡ open_kept m c s
 open_is m c s e h =
     ap (λ z. kept_now m c s s.attention z (has_stop s.out) (credits s.out) (costs s.out) (length (items s.out))) e
     ∙ ap (λ z. kept_now m c s s.attention false z (credits s.out) (costs s.out) (length (items s.out))) h
 
-pub open_then : (m : Bool) (c : ℕ) (s : Session) (x : Slot) → has_stop s.out ≡ false → kept_of m c (formed s x) ≡
+pub open_then : (m : Bool) (c : ℕ) (s : Session) (x : Slot) → has_stop s.out ≡ false → stream_of m c (formed s x) ≡
     kept_now m c s (cond (is_attention x) None s.attention) false (is_stop x) (credits s.out + credits_of x) (costs s.out + cost_of x) (length (items s.out) + length (items_of x))
 open_then m c s x h =
     then_is m c s x
@@ -62,14 +62,14 @@ plain m c s a t =
     ∙ ap (λ z. kept_now m c s a false t (credits s.out) z (length (items s.out) + 0)) w
     ∙ ap (λ z. kept_now m c s a false t (credits s.out) (costs s.out) z) n
 
-pub start_after : (m : Bool) (c : ℕ) (s : Session) → costs s.came ≤ credits s.out → kept_of m c (formed s (start_of m c s)) ≡ record (gave (kept_of m c s)) { start = None }
+pub start_after : (m : Bool) (c : ℕ) (s : Session) → costs s.came ≤ credits s.out → stream_of m c (formed s (start_of m c s)) ≡ record (gave (stream_of m c s)) { start = None }
 start_after true c s h = then_is true c s (start_of true c s) ∙ gives_more true c s s.attention (has_stop s.out || false) (has_stop s.out) (session.due c s) h (or_false (has_stop s.out))
 start_after false c s h = then_is false c s (start_of false c s) ∙ gives_more false c s s.attention (has_stop s.out || false) (has_stop s.out) (session.due c s) h (or_false (has_stop s.out))
 
-pub attention_after : (m : Bool) (c : ℕ) (s : Session) (flag : ℕ) → has_stop s.out ≡ false → kept_of m c (formed s (Attention (peer s) s.id flag)) ≡ record (open_kept m c s) { attention = None }
+pub attention_after : (m : Bool) (c : ℕ) (s : Session) (flag : ℕ) → has_stop s.out ≡ false → stream_of m c (formed s (Attention (peer s) s.id flag)) ≡ record (open_kept m c s) { attention = None }
 attention_after m c s flag h = open_then m c s (Attention (peer s) s.id flag) h ∙ plain m c s None false
 
-pub credits_after : (m : Bool) (c : ℕ) (s : Session) → costs s.came ≤ credits s.out → has_stop s.out ≡ false → kept_of m c (formed s (DataA (peer s) s.id (session.due c s) [])) ≡ gave (open_kept m c s)
+pub credits_after : (m : Bool) (c : ℕ) (s : Session) → costs s.came ≤ credits s.out → has_stop s.out ≡ false → stream_of m c (formed s (DataA (peer s) s.id (session.due c s) [])) ≡ gave (open_kept m c s)
 credits_after m c s i h = open_then m c s (DataA (peer s) s.id (session.due c s) []) h ∙ gives_more m c s s.attention false false (session.due c s) i refl
 
 -- the items of a slot stood first
@@ -103,14 +103,14 @@ frames_more m c s n h =
     refl (omega (arith, h)) (omega arith) (told_more (credits s.out) d) (told_more (costs s.out) 1) refl
     ∙ ap (λ z. record k { unframed = z }) (left_unframed (rejected s) (has_stop s.came) (length (items s.out)) n s.put)
 
-pub setting_after : (m : Bool) (c : ℕ) (s : Session) (t : List ℕ) → costs s.came ≤ credits s.out → has_stop s.out ≡ false → kept_of m c (formed s (DataB (peer s) s.id (session.due c s) t)) ≡ framed 1 (gave (open_kept m c s))
+pub setting_after : (m : Bool) (c : ℕ) (s : Session) (t : List ℕ) → costs s.came ≤ credits s.out → has_stop s.out ≡ false → stream_of m c (formed s (DataB (peer s) s.id (session.due c s) t)) ≡ framed 1 (gave (open_kept m c s))
 setting_after m c s t i h = open_then m c s (DataB (peer s) s.id (session.due c s) t) h ∙ frames_more m c s 1 i
 
 map_len : {A B : Type 0} (f : A → B) (xs : List A) → length (map f xs) ≡ length xs
 map_len f [] = refl
 map_len f (x ∷ xs) = ap suc (map_len f xs)
 
-pub bytes_after : (m : Bool) (c : ℕ) (s : Session) (b : ℕ) (bs : List ℕ) → costs s.came ≤ credits s.out → has_stop s.out ≡ false → kept_of m c (formed s (DataA (peer s) s.id (session.due c s) (b ∷ bs))) ≡ framed (length (b ∷ bs)) (gave (open_kept m c s))
+pub bytes_after : (m : Bool) (c : ℕ) (s : Session) (b : ℕ) (bs : List ℕ) → costs s.came ≤ credits s.out → has_stop s.out ≡ false → stream_of m c (formed s (DataA (peer s) s.id (session.due c s) (b ∷ bs))) ≡ framed (length (b ∷ bs)) (gave (open_kept m c s))
 bytes_after m c s b bs i h =
     let x : Slot = DataA (peer s) s.id (session.due c s) (b ∷ bs) in
     open_then m c s x h ∙ frames_more m c s (length (items_of x)) i
@@ -130,7 +130,7 @@ heard_gone f true n xs = refl
 heard_gone f false n xs = all_taken f n xs
 
 abbrev state_by : Bool → (r sc cl nl an stop : Bool) → base_state.SessionState
-state_by m r sc cl nl an stop = state_shown (cond (r || ((stop && sc) && (cl || nl))) Free (cond (r || (stop && sc)) Left (cond an (cond (cl || sc) Closing Live) (cond m Calling Asked))))
+state_by m r sc cl nl an stop = state_of (cond (r || ((stop && sc) && (cl || nl))) Free (cond (r || (stop && sc)) Left (cond an (cond (cl || sc) Closing Live) (cond m Calling Asked))))
 
 -- r: rejected; sc: a stop was heard; cl: closed; nl: all was taken; an: answered
 state_after : (m r sc cl nl an : Bool) → r ≡ false → an ≡ true → state_by m r sc cl nl an true ≡ cond sc (cond (cl || nl) kept_states.Free kept_states.Left) (state_by m r sc cl nl an false)
@@ -163,7 +163,7 @@ stopped_is k = go k.stop_heard (is_empty k.heard)
     go true false = refl
     go false e = refl
 
-pub stop_after : (m : Bool) (c : ℕ) (s : Session) → s.id ≢ 0 → rejected s ≡ false → answered s ≡ true → has_stop s.out ≡ false → kept_of m c (formed s (Stop (peer s) s.id 1)) ≡ stopped (open_kept m c s)
+pub stop_after : (m : Bool) (c : ℕ) (s : Session) → s.id ≢ 0 → rejected s ≡ false → answered s ≡ true → has_stop s.out ≡ false → stream_of m c (formed s (Stop (peer s) s.id 1)) ≡ stopped (open_kept m c s)
 stop_after m c s n r a h =
     let k : Kept = open_kept m c s in
     let sc : Bool = has_stop s.came in

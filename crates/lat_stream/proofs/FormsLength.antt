@@ -8,7 +8,7 @@ use Rattle.lat_stream.specs.declared.forming.Formed.{Formed}
 use Rattle.lat_stream.specs.declared.forming.Turn.{Turn}
 use Rattle.lat_stream.specs.declared.forming.Turn.TheVariants as turns
 use Rattle.lat_stream.specs.FormsOffer.{FormsOffer, reject_due}
-use Rattle.lat_stream.specs.Kept.{Kept, kept_of}
+use Rattle.lat_stream.specs.Kept.{Kept, stream_of}
 use Rattle.lat_stream.specs.Sound.{Sound}
 use Rattle.lat_stream.specs.Turns.{turn_of, offer_at, next_bytes, bytes_offer, start_slot, due}
 use Rattle.lat_stream.specs.Wire.{formed_as}
@@ -60,10 +60,10 @@ turn_whole m id room k turns.Credits x h e = go (nat_lt 0 (due k)) e
     go false q = none_whole x q
 
 -- the bytes that a formed slot adds
-pub slot_adds : (m : Bool) (c room id : ℕ) (s : Session) (x : Slot) (old new : Kept) (before after : List ℕ) (result : Formed) → Sound m c s → old ≡ kept_of m c s → s.id ≡ id → reject_due s ≡ false → ((u : List ℕ) → turn_of old ≡ turns.Setting u → length u ≡ 5) →
+pub slot_adds : (m : Bool) (c room id : ℕ) (s : Session) (x : Slot) (old new : Kept) (before after : List ℕ) (result : Formed) → Sound m c s → old ≡ stream_of m c s → s.id ≡ id → reject_due s ≡ false → ((u : List ℕ) → turn_of old ≡ turns.Setting u → length u ≡ 5) →
     FormsOffer m c s (offer m c room s) old new before after result → offer m c room s ≡ Offers x → length after ≡ length before + slot_len x
 slot_adds m c room id s x old new before after result ok e i rj h d o =
-    let a : Agrees m c room s (kept_of m c s) (offer m c room s) (turn_of (kept_of m c s)) = turn_agrees m c room s ok rj in
-    let w : Whole x = turn_whole m s.id room (kept_of m c s) (turn_of (kept_of m c s)) x (λ u q. h u (ap turn_of e ∙ q)) (sym a.offered ∙ o) in
+    let a : Agrees m c room s (stream_of m c s) (offer m c room s) (turn_of (stream_of m c s)) = turn_agrees m c room s ok rj in
+    let w : Whole x = turn_whole m s.id room (stream_of m c s) (turn_of (stream_of m c s)) x (λ u q. h u (ap turn_of e ∙ q)) (sym a.offered ∙ o) in
     let formed : FormsOffer m c s (Offers x) old new before after result = subst (λ z. FormsOffer m c s z old new before after result) o d in
     ap length formed.2 ∙ length-append before (slot_text (formed_as x)) ∙ ap (λ n. length before + n) (text_has x w)

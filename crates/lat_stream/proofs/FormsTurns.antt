@@ -12,7 +12,7 @@ use Rattle.lat_stream.specs.declared.opening.Opening.{Opening}
 use Rattle.lat_stream.specs.declared.forming.Formed.{Formed}
 use Rattle.lat_stream.specs.declared.forming.Turn.{Turn}
 use Rattle.lat_stream.specs.declared.forming.Turn.TheVariants as turns
-use Rattle.lat_stream.specs.Kept.{Kept, kept_of, item_of, state_shown}
+use Rattle.lat_stream.specs.Kept.{Kept, stream_of, item_of, state_of}
 use Rattle.lat_stream.specs.Sound.{Sound}
 use Rattle.lat_stream.specs.FormsOffer.{FormsOffer, reject_due}
 use Rattle.lat_stream.specs.Turns.{Meets, data_turn, live_turn, turn_in, turn_of, leading, next_bytes, bytes_offer, offer_at, kept_after, framed, gave}
@@ -21,7 +21,7 @@ use Rattle.lat_stream.proofs.FormsAfter.{open_kept, open_is, start_after, attent
 -- the turn does what is offered, and keeps what is kept of the session afterwards
 pub record Agrees (m : Bool) (c room : ℕ) (s : Session) (k : Kept) (o : Offer) (t : Turn) : Type 0 where
   pub offered : o ≡ offer_at m s.id room k t
-  pub after : (x : Slot) → o ≡ Offers x → kept_of m c (formed s x) ≡ kept_after room k t
+  pub after : (x : Slot) → o ≡ Offers x → stream_of m c (formed s x) ≡ kept_after room k t
 
 fit_is : (room : ℕ) (y x : Slot) → fit room y ≡ Offers x → y ≡ x
 fit_is room y x = go (nat_le (slot_len y) room)
@@ -30,8 +30,8 @@ fit_is room y x = go (nat_le (slot_len y) room)
     go true e = cc
     go false e = cc
 
-fit_agrees : (m : Bool) (c room : ℕ) (s : Session) (k : Kept) (y : Slot) (t : Turn) → fit room y ≡ offer_at m s.id room k t → kept_of m c (formed s y) ≡ kept_after room k t → Agrees m c room s k (fit room y) t
-fit_agrees m c room s k y t e a = record { offered = e; after = λ x q. ap (λ z. kept_of m c (formed s z)) (sym (fit_is room y x q)) ∙ a }
+fit_agrees : (m : Bool) (c room : ℕ) (s : Session) (k : Kept) (y : Slot) (t : Turn) → fit room y ≡ offer_at m s.id room k t → stream_of m c (formed s y) ≡ kept_after room k t → Agrees m c room s k (fit room y) t
+fit_agrees m c room s k y t e a = record { offered = e; after = λ x q. ap (λ z. stream_of m c (formed s z)) (sym (fit_is room y x q)) ∙ a }
 
 nothing_agrees : (m : Bool) (c room : ℕ) (s : Session) (k : Kept) → Agrees m c room s k Nothing turns.Nothing
 nothing_agrees m c room s k = record { offered = refl; after = λ x q. absurd (wrong x q) }
@@ -55,14 +55,14 @@ credits_agree m c room s w = record { offered = same (session.due c s); after = 
     same zero = refl
     same (suc d) = ap (λ b. cond b (fit room (DataA (peer s) s.id (suc d) [])) Nothing) (sym (lt-ltb 0 (suc d) (omega arith)))
 
-    after : (d : ℕ) (x : Slot) → session.due c s ≡ d → offers.credit_offer room d s ≡ Offers x → kept_of m c (formed s x) ≡ gave (open_kept m c s)
+    after : (d : ℕ) (x : Slot) → session.due c s ≡ d → offers.credit_offer room d s ≡ Offers x → stream_of m c (formed s x) ≡ gave (open_kept m c s)
     after zero x e q = absurd (wrong q)
       where
         wrong : Nothing ≡ Offers x → ⊥
         wrong r = cc
     after (suc d) x e q =
-        ap (λ z. kept_of m c (formed s z)) (sym (fit_is room (DataA (peer s) s.id (suc d) []) x q))
-        ∙ ap (λ n. kept_of m c (formed s (DataA (peer s) s.id n []))) (sym e)
+        ap (λ z. stream_of m c (formed s z)) (sym (fit_is room (DataA (peer s) s.id (suc d) []) x q))
+        ∙ ap (λ n. stream_of m c (formed s (DataA (peer s) s.id n []))) (sym e)
         ∙ credits_after m c s w.spent w.stop
 
 -- the bytes that stand next
@@ -81,12 +81,12 @@ bytes_agree m c room s w bs e = record {
     same [] = refl
     same (b ∷ bs) = refl
 
-    after : (bs : List ℕ) (x : Slot) → offers.bytes_offer (session.due c s) s bs ≡ Offers x → kept_of m c (formed s x) ≡ framed (length bs) (gave (open_kept m c s))
+    after : (bs : List ℕ) (x : Slot) → offers.bytes_offer (session.due c s) s bs ≡ Offers x → stream_of m c (formed s x) ≡ framed (length bs) (gave (open_kept m c s))
     after [] x q = absurd (wrong q)
       where
         wrong : Unfit ≡ Offers x → ⊥
         wrong r = cc
-    after (b ∷ bs) x q = ap (λ z. kept_of m c (formed s z)) (sym (is q)) ∙ bytes_after m c s b bs w.spent w.stop
+    after (b ∷ bs) x q = ap (λ z. stream_of m c (formed s z)) (sym (is q)) ∙ bytes_after m c s b bs w.spent w.stop
       where
         is : Offers (DataA (peer s) s.id (session.due c s) (b ∷ bs)) ≡ Offers x → DataA (peer s) s.id (session.due c s) (b ∷ bs) ≡ x
         is r = cc
@@ -158,7 +158,7 @@ live_agrees m c room s w None = go (stop_due s) (k.stop_heard || (k.closed && is
 -- the words that the turn is told by
 abbrev turn_by : (m r tu so sc cl nl an e : Bool) → Opening → Turn → Turn
 turn_by m r tu so sc cl nl an e o live =
-    turn_in (state_shown (cond ((r || tu) || ((so && sc) && (cl || nl))) Free (cond ((r || tu) || (so && sc)) Left (cond an (cond (cl || sc) Closing Live) (cond m Calling Asked)))))
+    turn_in (state_of (cond ((r || tu) || ((so && sc) && (cl || nl))) Free (cond ((r || tu) || (so && sc)) Left (cond an (cond (cl || sc) Closing Live) (cond m Calling Asked)))))
     (cond (e && not ((r || tu) || (so && sc))) (Some o) None)
     (cond so turns.Nothing live)
 
@@ -219,7 +219,7 @@ master_is true ac st e f g = refl
 master_is false true st e f g = absurd (both_ways st f e)
 master_is false false st e f g = absurd (false≢true g)
 
-start_same : (m : Bool) (c room : ℕ) (s : Session) → fit room (start_of m c s) ≡ offer_at m s.id room (kept_of m c s) (turns.Start (record { service = s.service; request = s.request }))
+start_same : (m : Bool) (c room : ℕ) (s : Session) → fit room (start_of m c s) ≡ offer_at m s.id room (stream_of m c s) (turns.Start (record { service = s.service; request = s.request }))
 start_same true c room s = refl
 start_same false c room s = refl
 
@@ -233,11 +233,11 @@ no_reject room s r h = go s.rejects (is_empty s.out) (is_empty s.came) r h
     go false e n q h = absurd (false≢true q)
 
 -- at any turn
-pub turn_agrees : (m : Bool) (c room : ℕ) (s : Session) → Sound m c s → reject_due s ≡ false → Agrees m c room s (kept_of m c s) (offer m c room s) (turn_of (kept_of m c s))
+pub turn_agrees : (m : Bool) (c room : ℕ) (s : Session) → Sound m c s → reject_due s ≡ false → Agrees m c room s (stream_of m c s) (offer m c room s) (turn_of (stream_of m c s))
 turn_agrees m c room s ok rj = go s.rejects (is_empty s.out) s.accepted (starts s.came) (turned s.came) (has_stop s.out) refl refl refl refl refl refl
   where
     k : Kept
-    k = kept_of m c s
+    k = stream_of m c s
 
     sc : Bool
     sc = has_stop s.came
@@ -283,16 +283,16 @@ turn_agrees m c room s ok rj = go s.rejects (is_empty s.out) s.accepted (starts 
     go false false false st false so er ee ea es et eo = silent _ (called_turn m so sc s.closed nl o (live_turn k s.attention))
 
 does_by : (m : Bool) (c : ℕ) (s : Session) (o : Offer) (next old new : Kept) (before after : List ℕ) (result : Formed) →
-    ((x : Slot) → o ≡ Offers x → kept_of m c (formed s x) ≡ next) → Meets o next old new before after result → FormsOffer m c s o old new before after result
+    ((x : Slot) → o ≡ Offers x → stream_of m c (formed s x) ≡ next) → Meets o next old new before after result → FormsOffer m c s o old new before after result
 does_by m c s Nothing next old new before after result f h = (h.answer, h.kept, h.text ∙ append-nil before)
 does_by m c s Unfit next old new before after result f h = (h.answer, h.kept, h.text ∙ append-nil before)
 does_by m c s (Offers x) next old new before after result f h = (h.answer, h.kept ∙ sym (f x refl), h.text)
 
 -- what the turn of a kept session does is what the session does with its offer
-pub turn_does : (m : Bool) (c room id : ℕ) (s : Session) (old new : Kept) (before after : List ℕ) (result : Formed) → Sound m c s → old ≡ kept_of m c s → s.id ≡ id → reject_due s ≡ false →
+pub turn_does : (m : Bool) (c room id : ℕ) (s : Session) (old new : Kept) (before after : List ℕ) (result : Formed) → Sound m c s → old ≡ stream_of m c s → s.id ≡ id → reject_due s ≡ false →
     Meets (offer_at m id room old (turn_of old)) (kept_after room old (turn_of old)) old new before after result → FormsOffer m c s (offer m c room s) old new before after result
 turn_does m c room id s old new before after result ok e i rj h =
-    let k : Kept = kept_of m c s in
+    let k : Kept = stream_of m c s in
     let a : Agrees m c room s k (offer m c room s) (turn_of k) = turn_agrees m c room s ok rj in
     let h' : Meets (offer_at m s.id room k (turn_of k)) (kept_after room k (turn_of k)) k new before after result =
     subst (λ z. Meets (offer_at m s.id room z (turn_of z)) (kept_after room z (turn_of z)) z new before after result) e

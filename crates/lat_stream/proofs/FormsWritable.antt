@@ -14,7 +14,7 @@ use Rattle.lat_stream.specs.declared.opening.Opening.{Opening}
 use Rattle.lat_stream.specs.declared.forming.Turn.{Turn}
 use Rattle.lat_stream.specs.declared.forming.Turn.TheVariants as turns
 use Rattle.lat_stream.specs.FormsOffer.{reject_due}
-use Rattle.lat_stream.specs.Kept.{Kept, kept_of, start_left, state_shown}
+use Rattle.lat_stream.specs.Kept.{Kept, stream_of, start_left, state_of}
 use Rattle.lat_stream.specs.Sound.{Sound}
 use Rattle.lat_stream.specs.Steps.{runs_in}
 use Rattle.lat_stream.specs.Turns.{turn_in, turn_of, later_turn, offer_at, leading, next_bytes, bytes_offer, start_slot, due}
@@ -149,18 +149,18 @@ some zero h = absurd (h refl)
 some (suc n) h = omega arith
 
 -- the slot that a session offers
-pub slot_formed : (m : Bool) (c room : ℕ) (s : Session) (x : Slot) (old : Kept) → Sound m c s → (starts s.came ≡ true → peer s ≢ 0) → old ≡ kept_of m c s → reject_due s ≡ false
+pub slot_formed : (m : Bool) (c room : ℕ) (s : Session) (x : Slot) (old : Kept) → Sound m c s → (starts s.came ≡ true → peer s ≢ 0) → old ≡ stream_of m c s → reject_due s ≡ false
     → old.credits.ceiling ≤ 15 → ((u : List ℕ) → turn_of old ≡ turns.Setting u → length u ≡ 5) → ((o : Opening) → turn_of old ≡ turns.Start o → IsName o.service)
     → offer m c room s ≡ Offers x → IsFormed x
 slot_formed m c room s x old ok known e rj most setting service o =
-    let k : Kept = kept_of m c s in
+    let k : Kept = stream_of m c s in
     let a : Agrees m c room s k (offer m c room s) (turn_of k) = turn_agrees m c room s ok rj in
     let most' : k.credits.ceiling ≤ 15 = subst (λ (z : Kept). z.credits.ceiling ≤ 15) e most in
     turn_formed m s.id room k (turn_of k) x
     (record {
       id_some = some s.id (ok.shape.id_some (unrejected s.rejects refl));
       few = omega (arith, most');
-      peer_some = λ b. some (peer s) (known (begun (sym (runs_in_is m s) ∙ behind_runs (state_shown (state m s)) (start_left s) (later_turn k) b)));
+      peer_some = λ b. some (peer s) (known (begun (sym (runs_in_is m s) ∙ behind_runs (state_of (state m s)) (start_left s) (later_turn k) b)));
       setting = λ u q. setting u (ap turn_of e ∙ q);
       service = λ u q. service u (ap turn_of e ∙ q);
     })

@@ -16,7 +16,7 @@ use Rattle.lat_model.proofs.sessions.Bounds.{heard_fit}
 use Rattle.lat_model.proofs.sessions.Hears.{starter_more, heard_accounts}
 use Rattle.lat_model.proofs.sessions.Words.{items-append}
 use Rattle.lat_stream.specs.declared.opening.Opening.{Opening}
-use Rattle.lat_stream.specs.Kept.{Kept, kept_of, item_of, state_shown, left_in}
+use Rattle.lat_stream.specs.Kept.{Kept, stream_of, item_of, state_of, left_in}
 use Rattle.lat_stream.specs.Sound.{Sound}
 use Rattle.lat_stream.specs.Steps.{granted, held_more, kept_more, can_pay}
 use Rattle.lat_stream.proofs.Same.{same}
@@ -39,17 +39,17 @@ heard_items s x h =
     ∙ map-append item_of (drop s.taken (items s.came)) (items_of x ++ [])
 
 pub heard_is : (m : Bool) (c : ℕ) (s : Session) (x : Slot) → s.taken ≤ length (items s.came) → Runs s → has_stop s.came ≡ false → is_stop x ≡ false →
-    record (kept_of m c s) {
+    record (stream_of m c s) {
       mark = mark_after s.mark x;
       credits = credits_more c s x;
       heard = cond s.closed [] (map item_of (drop s.taken (items s.came)) ++ map item_of (items_of x ++ []));
       held = cond s.closed [] (left_in s.taken s.came ++ left_in 0 (x ∷ []));
-    } ≡ kept_of m c (heard s x)
+    } ≡ stream_of m c (heard s x)
 heard_is m c s x t r h i =
     let q : Runs (heard s x) = runs_more s x r h i in
     let stop : has_stop (s.came ++ x ∷ []) ≡ has_stop s.came = no_stop_more s.came x h i ∙ sym h in
     same _ _ (record {
-      state = ap state_shown (state_runs m s r ∙ ap (λ b. cond (s.closed || b) Closing Live) (sym stop) ∙ sym (state_runs m (heard s x) q));
+      state = ap state_of (state_runs m s r ∙ ap (λ b. cond (s.closed || b) Closing Live) (sym stop) ∙ sym (state_runs m (heard s x) q));
       is_closed = refl;
       stop_formed = refl;
       stop_heard = sym stop;
@@ -76,7 +76,7 @@ counters_same c o h u p i v e f g = ap (λ z. counters c z h u) e ∙ ap (λ z. 
 -- credits alone, or an attention
 
 pub free_of : (m : Bool) (c : ℕ) (s : Session) (x : Slot) → Accounts c s → Runs s → has_stop s.came ≡ false → is_stop x ≡ false → cost_of x ≡ 0 → items_of x ≡ [] →
-    record (granted (credits_of x) (kept_of m c s)) { mark = mark_after s.mark x } ≡ kept_of m c (heard s x)
+    record (granted (credits_of x) (stream_of m c s)) { mark = mark_after s.mark x } ≡ stream_of m c (heard s x)
 free_of m c s x ac r h i cost none =
     same _ _ (record {
       state = refl;
@@ -104,7 +104,7 @@ free_of m c s x ac r h i cost none =
 -- items come, for a credit
 
 pub paid_for : (m : Bool) (c : ℕ) (s : Session) (x : Slot) → Accounts c s → Runs s → has_stop s.came ≡ false → is_stop x ≡ false → cost_of x ≡ 1 → 0 < length (items_of x) → mark_after s.mark x ≡ s.mark →
-    kept_more (map item_of (items_of x)) (held_more (length (items_of x)) (granted (credits_of x) (kept_of m c s))) ≡ kept_of m c (heard s x)
+    kept_more (map item_of (items_of x)) (held_more (length (items_of x)) (granted (credits_of x) (stream_of m c s))) ≡ stream_of m c (heard s x)
 paid_for m c s x ac r h i cost some mark =
     same _ _ (record {
       state = refl;
@@ -142,7 +142,7 @@ paid_for m c s x ac r h i cost some mark =
 
 -- there is room for them
 
-pub room_for : (m : Bool) (c : ℕ) (s : Session) (x : Slot) → c ≤ 15 → Accounts c s → Small s.came → length (items_of x) ≤ 255 → costs s.came + cost_of x ≤ credits s.out → length (kept_of m c s).heard + length (items_of x) ≤ 3825
+pub room_for : (m : Bool) (c : ℕ) (s : Session) (x : Slot) → c ≤ 15 → Accounts c s → Small s.came → length (items_of x) ≤ 255 → costs s.came + cost_of x ≤ credits s.out → length (stream_of m c s).heard + length (items_of x) ≤ 3825
 room_for m c s x most ac small few fit = go s.closed refl
   where
     more : Small (s.came ++ x ∷ [])
@@ -157,38 +157,38 @@ room_for m c s x most ac small few fit = go s.closed refl
         let left : length (map item_of (drop s.taken (items s.came))) ≡ length (items s.came) - s.taken = length-map (drop s.taken (items s.came)) item_of ∙ length-drop s.taken (items s.came) in
         omega (arith, ac.taken)
 
-pub attention_is : (m : Bool) (c : ℕ) (s : Session) (to from flag : ℕ) → Accounts c s → Runs s → has_stop s.came ≡ false → record (kept_of m c s) { mark = Some flag } ≡ kept_of m c (heard s (Attention to from flag))
+pub attention_is : (m : Bool) (c : ℕ) (s : Session) (to from flag : ℕ) → Accounts c s → Runs s → has_stop s.came ≡ false → record (stream_of m c s) { mark = Some flag } ≡ stream_of m c (heard s (Attention to from flag))
 attention_is m c s to from flag ac r h =
     let e : credits s.came - costs s.out ≡ credits s.came - costs s.out + 0 = omega arith in
-    ap (λ (u : ℕ). record (kept_of m c s) { mark = Some flag; credits = record (kept_of m c s).credits { unused = u } }) e
+    ap (λ (u : ℕ). record (stream_of m c s) { mark = Some flag; credits = record (stream_of m c s).credits { unused = u } }) e
     ∙ free_of m c s (Attention to from flag) ac r h refl refl refl
 
 pub bytes_are : (m : Bool) (c : ℕ) (s : Session) (to from n : ℕ) (bs : List ℕ) → 0 < length bs → Accounts c s → Runs s → has_stop s.came ≡ false →
-    kept_more (map kept_items.Byte bs) (held_more (length bs) (granted n (kept_of m c s))) ≡ kept_of m c (heard s (DataA to from n bs))
+    kept_more (map kept_items.Byte bs) (held_more (length bs) (granted n (stream_of m c s))) ≡ stream_of m c (heard s (DataA to from n bs))
 bytes_are m c s to from n [] some ac r h = absurd (omega (arith, some))
 bytes_are m c s to from n (b ∷ bs) some ac r h =
-    ap (λ z. kept_more z (held_more (length (b ∷ bs)) (granted n (kept_of m c s)))) (sym (bytes_shown (b ∷ bs)))
-    ∙ ap (λ z. kept_more (map item_of (map Byte (b ∷ bs))) (held_more z (granted n (kept_of m c s)))) (sym (length-map (b ∷ bs) Byte))
+    ap (λ z. kept_more z (held_more (length (b ∷ bs)) (granted n (stream_of m c s)))) (sym (bytes_shown (b ∷ bs)))
+    ∙ ap (λ z. kept_more (map item_of (map Byte (b ∷ bs))) (held_more z (granted n (stream_of m c s)))) (sym (length-map (b ∷ bs) Byte))
     ∙ paid_for m c s (DataA to from n (b ∷ bs)) ac r h refl refl (omega arith) refl
 
 pub no_bytes_are : (m : Bool) (c : ℕ) (s : Session) (to from n : ℕ) (bs : List ℕ) → length bs ≡ 0 → Accounts c s → Runs s → has_stop s.came ≡ false →
-    granted n (kept_of m c s) ≡ kept_of m c (heard s (DataA to from n bs))
+    granted n (stream_of m c s) ≡ stream_of m c (heard s (DataA to from n bs))
 no_bytes_are m c s to from n [] none ac r h = free_of m c s (DataA to from n []) ac r h refl refl refl
 no_bytes_are m c s to from n (b ∷ bs) none ac r h = absurd (omega (arith, none))
 
 pub setting_is : (m : Bool) (c : ℕ) (s : Session) (to from n : ℕ) (t : List ℕ) → Accounts c s → Runs s → has_stop s.came ≡ false →
-    kept_more (kept_items.Set t ∷ []) (held_more 1 (granted n (kept_of m c s))) ≡ kept_of m c (heard s (DataB to from n t))
+    kept_more (kept_items.Set t ∷ []) (held_more 1 (granted n (stream_of m c s))) ≡ stream_of m c (heard s (DataB to from n t))
 setting_is m c s to from n t ac r h = paid_for m c s (DataB to from n t) ac r h refl refl (omega arith) refl
 
 -- a slot that may be paid has a credit
 
-pub has_credit : (m : Bool) (c : ℕ) (s : Session) (k : Kept) (n : ℕ) → k ≡ kept_of m c s → can_pay n k ≡ true → costs s.came + 1 ≤ credits s.out
+pub has_credit : (m : Bool) (c : ℕ) (s : Session) (k : Kept) (n : ℕ) → k ≡ stream_of m c s → can_pay n k ≡ true → costs s.came + 1 ≤ credits s.out
 has_credit m c s k n e h =
     let p : (nat_lt 0 k.credits.outstanding ≡ true) × _ = and_parts (nat_lt 0 k.credits.outstanding) (nat_le (k.credits.unused + n) 255) h in
     let q : 0 < credits s.out - costs s.came = subst (λ (z : Kept). 0 < z.credits.outstanding) e (ltb-true 0 k.credits.outstanding p.0) in
     omega (arith, q)
 
-pub room_for_bytes : (m : Bool) (c : ℕ) (s : Session) (to from n : ℕ) (bs : List ℕ) → c ≤ 15 → 0 < length bs → length bs ≤ 255 → Sound m c s → costs s.came + 1 ≤ credits s.out → length (kept_of m c s).heard + length bs ≤ 3825
+pub room_for_bytes : (m : Bool) (c : ℕ) (s : Session) (to from n : ℕ) (bs : List ℕ) → c ≤ 15 → 0 < length bs → length bs ≤ 255 → Sound m c s → costs s.came + 1 ≤ credits s.out → length (stream_of m c s).heard + length bs ≤ 3825
 room_for_bytes m c s to from n [] most some few h fit = absurd (omega (arith, some))
 room_for_bytes m c s to from n (b ∷ bs) most some few h fit =
     let same_length : length (map Byte (b ∷ bs)) ≡ length (b ∷ bs) = length-map (b ∷ bs) Byte in

@@ -9,7 +9,7 @@ use Rattle.lat_model.proofs.sessions.Hears.{starts_more}
 use Rattle.lat_model.proofs.sessions.Meets.{not_nil}
 use Rattle.lat_model.proofs.sessions.Words.{has_stop-append}
 use Rattle.lat_base.specs.declared.state.SessionEnd.{SessionEnd}
-use Rattle.lat_stream.specs.Kept.{Kept, kept_of, end_of, reject_reason, state_shown}
+use Rattle.lat_stream.specs.Kept.{Kept, stream_of, end_of, reject_reason, state_of}
 use Rattle.lat_stream.specs.Steps.{can_hear, runs_in}
 
 -- what is known of a session that may hear a slot
@@ -93,16 +93,16 @@ runs_more s x r h i =
 
 -- what the state says
 
-pub runs_in_is : (m : Bool) (s : Session) → runs_in (state_shown (state m s)) ≡ runs s
+pub runs_in_is : (m : Bool) (s : Session) → runs_in (state_of (state m s)) ≡ runs s
 runs_in_is m s = go (rejected s) (stopped s) _ (answered s) _
   where
-    go : (r t d a e : Bool) → runs_in (state_shown (cond (r || (t && d)) Free (cond (r || t) Left (cond a (cond e Closing Live) (cond m Calling Asked))))) ≡ (a && not (r || t))
+    go : (r t d a e : Bool) → runs_in (state_of (cond (r || (t && d)) Free (cond (r || t) Left (cond a (cond e Closing Live) (cond m Calling Asked))))) ≡ (a && not (r || t))
     go r t d a e = grind arith
 
 -- data, attentions and stops come to a session that runs
-pub hears_here : (m : Bool) (c : ℕ) (s : Session) (k : Kept) (b : Bool) → k ≡ kept_of m c s → (can_hear k && b) ≡ true → Runs s × (has_stop s.came ≡ false)
+pub hears_here : (m : Bool) (c : ℕ) (s : Session) (k : Kept) (b : Bool) → k ≡ stream_of m c s → (can_hear k && b) ≡ true → Runs s × (has_stop s.came ≡ false)
 hears_here m c s k b e h =
     let p : (can_hear k ≡ true) × (b ≡ true) = and_parts (can_hear k) b h in
-    let q : can_hear (kept_of m c s) ≡ true = subst (λ (z : Kept). can_hear z ≡ true) e p.0 in
-    let r : (runs_in (state_shown (state m s)) ≡ true) × (not (has_stop s.came) ≡ true) = and_parts (runs_in (state_shown (state m s))) (not (has_stop s.came)) q in
+    let q : can_hear (stream_of m c s) ≡ true = subst (λ (z : Kept). can_hear z ≡ true) e p.0 in
+    let r : (runs_in (state_of (state m s)) ≡ true) × (not (has_stop s.came) ≡ true) = and_parts (runs_in (state_of (state m s))) (not (has_stop s.came)) q in
     (runs_is s (sym (runs_in_is m s) ∙ r.0), not-true (has_stop s.came) r.1)

@@ -12,7 +12,7 @@ use Rattle.lat_model.specs.sessions.Hearing.{heard}
 use Rattle.lat_model.proofs.sessions.Hears.{starter_more, starts_more}
 use Rattle.lat_model.proofs.sessions.Words.{items-append, has_stop-append}
 use Rattle.lat_stream.specs.declared.opening.Opening.{Opening}
-use Rattle.lat_stream.specs.Kept.{kept_of, item_of, state_shown, left_in, end_of, reject_reason}
+use Rattle.lat_stream.specs.Kept.{stream_of, item_of, state_of, left_in, end_of, reject_reason}
 use Rattle.lat_stream.specs.Sound.{Sound}
 use Rattle.lat_stream.specs.Steps.{is_left, stop_in}
 use Rattle.lat_stream.proofs.Same.{same}
@@ -23,7 +23,7 @@ use Rattle.lat_stream.proofs.Running.{Runs, rejected_more, end_runs, size_more}
 
 state_over : (r o h l d a m : Bool) → r ≡ false → h ≡ true → a ≡ true →
     cond (is_left (cond o kept_states.Left kept_states.Closing) && (l || d)) kept_states.Free (cond o kept_states.Left kept_states.Closing)
-    ≡ state_shown (cond (r || ((o && h) && (l || d))) Free (cond (r || (o && h)) Left (cond a (cond (l || h) Closing Live) (cond m Calling Asked))))
+    ≡ state_of (cond (r || ((o && h) && (l || d))) Free (cond (r || (o && h)) Left (cond a (cond (l || h) Closing Live) (cond m Calling Asked))))
 state_over r o h l d a m e f g = grind arith
 
 end_over : (r o h l d : Bool) (reason : ℕ) → r ≡ false → h ≡ true →
@@ -35,7 +35,7 @@ start_over : (xs : List Slot) (g r h : Bool) → g ≡ false → r ≡ false →
 start_over [] g r h e f = ap (λ b. true && not b) e ∙ ap (λ b. true && not (b || false)) (sym f)
 start_over (x ∷ xs) g r h e f = refl
 
-pub stop_is : (m : Bool) (c : ℕ) (s : Session) (to from reason : ℕ) → Sound m c s → Runs s → has_stop s.came ≡ false → stop_in (kept_of m c s) ≡ kept_of m c (heard s (Stop to from reason))
+pub stop_is : (m : Bool) (c : ℕ) (s : Session) (to from reason : ℕ) → Sound m c s → Runs s → has_stop s.came ≡ false → stop_in (stream_of m c s) ≡ stream_of m c (heard s (Stop to from reason))
 stop_is m c s to from reason h r none =
     let x : Slot = Stop to from reason in
     let t : Session = heard s x in
@@ -43,12 +43,12 @@ stop_is m c s to from reason h r none =
     let stop : has_stop (s.came ++ x ∷ []) ≡ true = has_stop-append s.came (x ∷ []) ∙ ap (λ b. b || true) none in
     let ans : answered t ≡ true = ap (λ b. s.accepted && b) (starts_more s.came (x ∷ []) r.some) ∙ r.is_answered in
     let all : items (s.came ++ x ∷ []) ≡ items s.came = items-append s.came (x ∷ []) ∙ append-nil (items s.came) in
-    let done : is_empty (kept_of m c s).heard ≡ (s.closed || nat_le (length (items t.came)) s.taken) =
+    let done : is_empty (stream_of m c s).heard ≡ (s.closed || nat_le (length (items t.came)) s.taken) =
     nothing s.closed ∙ ap (λ z. s.closed || nat_le (length z) s.taken) (sym all) in
     let id : nat_eq s.id 0 ≡ false = ne_eqb s.id 0 (h.shape.id_some (or_parts s.rejects (turned s.came) r.is_rejected).0) in
     let o : Bool = has_stop s.out in
     let d : Bool = nat_le (length (items t.came)) s.taken in
-    ended_if_done_is (record (kept_of m c s) { state = cond o kept_states.Left kept_states.Closing; stop_heard = true; unframed = [] }) ∙ same _ _ (record {
+    ended_if_done_is (record (stream_of m c s) { state = cond o kept_states.Left kept_states.Closing; stop_heard = true; unframed = [] }) ∙ same _ _ (record {
       state =
           ap (λ b. cond (is_left (cond o kept_states.Left kept_states.Closing) && b) kept_states.Free (cond o kept_states.Left kept_states.Closing)) done
           ∙ state_over (rejected t) o (has_stop t.came) s.closed d (answered t) m rej stop ans;
@@ -77,7 +77,7 @@ stop_is m c s to from reason h r none =
     nothing true = refl
     nothing false = none_left s.taken (items s.came)
 
-    counted : (kept_of m c s).credits ≡ credits_more c s (Stop to from reason)
+    counted : (stream_of m c s).credits ≡ credits_more c s (Stop to from reason)
     counted = counters_same c _ _ _ _ _ _ (omega arith) (same_held s.closed) (omega arith)
       where
         same_held : (b : Bool) → held_slots s ≡ held_slots s + cond b 0 0

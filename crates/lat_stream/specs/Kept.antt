@@ -38,13 +38,13 @@ abbrev pub item_shown : base_item.Item → Item
 item_shown (kept_items.Byte b) = Byte b
 item_shown (kept_items.Set t) = Setting t
 
-abbrev pub state_shown : SessionState → base_state.SessionState
-state_shown Free = kept_states.Free
-state_shown Calling = kept_states.Calling
-state_shown Asked = kept_states.Asked
-state_shown Live = kept_states.Live
-state_shown Closing = kept_states.Closing
-state_shown Left = kept_states.Left
+abbrev pub state_of : SessionState → base_state.SessionState
+state_of Free = kept_states.Free
+state_of Calling = kept_states.Calling
+state_of Asked = kept_states.Asked
+state_of Live = kept_states.Live
+state_of Closing = kept_states.Closing
+state_of Left = kept_states.Left
 
 -- a total as it is told: it stops at the greatest number of 64 bits
 abbrev pub saturated : ℕ → ℕ
@@ -87,9 +87,9 @@ credits_kept ceiling s = record {
 }
 
 -- what an end with this side and ceiling keeps of the session
-abbrev pub kept_of : Bool → ℕ → Session → Kept
-kept_of master ceiling s = record {
-  state = state_shown (state master s);
+abbrev pub stream_of : Bool → ℕ → Session → Kept
+stream_of master ceiling s = record {
+  state = state_of (state master s);
   closed = s.closed;
   stop_formed = has_stop s.out;
   stop_heard = has_stop s.came;

@@ -8,7 +8,7 @@ ghost use Rattle.lat_model.specs.sessions.Slots.{Byte, Setting, items};
 ghost use Rattle.lat_model.specs.sessions.Session.{Session, put_open, take_open, unframed};
 ghost use Rattle.lat_model.specs.sessions.Calls.{put_items, put_count, take_count};
 ghost use Rattle.lat_stream.specs.declared.calls.SessionFault.TheVariants.{Full, Closed};
-ghost use Rattle.lat_stream.specs.Kept.{kept_of, item_of};
+ghost use Rattle.lat_stream.specs.Kept.{stream_of, item_of};
 ghost use Rattle.lat_stream.specs.Sound.{Sound};
 ghost use Rattle.lat_stream.specs.Steps.{can_take, state_running, rejected_for, took, closed};
 
@@ -30,8 +30,8 @@ impl Stream {
     pub fn answer(&mut self)
         requires { self.old.state ≡ kept_states.Asked }
         ensures { (ceiling : ℕ) (s : Session) → Sound false ceiling s →
-            self.old ≡ kept_of false ceiling s →
-            self.new ≡ kept_of false ceiling (record s { accepted = true }) }
+            self.old ≡ stream_of false ceiling s →
+            self.new ≡ stream_of false ceiling (record s { accepted = true }) }
     {
         self.run();
     }
@@ -51,8 +51,8 @@ impl Stream {
     pub fn reject(&mut self, reason: u8)
         requires { self.old.state ≡ kept_states.Asked }
         ensures { (ceiling : ℕ) (s : Session) → Sound false ceiling s →
-            self.old ≡ kept_of false ceiling s →
-            self.new ≡ kept_of false ceiling (record s { rejects = true; reason = reason }) }
+            self.old ≡ stream_of false ceiling s →
+            self.new ≡ stream_of false ceiling (record s { rejects = true; reason = reason }) }
     {
         self.end_rejected(reason);
     }
@@ -71,12 +71,12 @@ impl Stream {
     /// Calling nor Live, and where close was called.
     pub fn put(&mut self, bytes: &[u8]) -> Result<usize, SessionFault>
         ensures answer { (master : Bool) (ceiling : ℕ) (s : Session) →
-            Sound master ceiling s → self.old ≡ kept_of master ceiling s →
+            Sound master ceiling s → self.old ≡ stream_of master ceiling s →
             result ≡ (if put_open s then Ok (put_count s (length bytes.now)) else Err Closed) }
         ensures state { (master : Bool) (ceiling : ℕ) (s : Session) →
-            Sound master ceiling s → self.old ≡ kept_of master ceiling s →
+            Sound master ceiling s → self.old ≡ stream_of master ceiling s →
             self.new ≡ (if put_open s
-            then kept_of master ceiling (put_items s
+            then stream_of master ceiling (put_items s
             (map Byte (take (put_count s (length bytes.now)) bytes.now)))
             else self.old) }
         ensures most { IfOk result (λ n. n ≤ length bytes.now) }
@@ -100,13 +100,13 @@ impl Stream {
     /// Takes a setting. Refused `Closed` where `put` is, else `Full` where 4,096 items wait to be framed.
     pub fn set(&mut self, setting: [u8; 5]) -> Result<(), SessionFault>
         ensures answer { (master : Bool) (ceiling : ℕ) (s : Session) →
-            Sound master ceiling s → self.old ≡ kept_of master ceiling s →
+            Sound master ceiling s → self.old ≡ stream_of master ceiling s →
             result ≡ (if put_open s
             then (if nat_lt (length (unframed s)) 4096 then Ok tt else Err Full)
             else Err Closed) }
         ensures state { (master : Bool) (ceiling : ℕ) (s : Session) →
-            Sound master ceiling s → self.old ≡ kept_of master ceiling s →
-            OnOk result (self.new ≡ kept_of master ceiling (put_items s (Setting setting ∷ []))) }
+            Sound master ceiling s → self.old ≡ stream_of master ceiling s →
+            OnOk result (self.new ≡ stream_of master ceiling (put_items s (Setting setting ∷ []))) }
         ensures err { OnErr result (self.new ≡ self.old) }
     {
         if !self.takes_items() {
@@ -138,11 +138,11 @@ impl Stream {
     /// Asks for an attention with this flag, in place of one that still waits. Refused `Closed` where `put` is.
     pub fn attend(&mut self, flag: u8) -> Result<(), SessionFault>
         ensures answer { (master : Bool) (ceiling : ℕ) (s : Session) →
-            Sound master ceiling s → self.old ≡ kept_of master ceiling s →
+            Sound master ceiling s → self.old ≡ stream_of master ceiling s →
             result ≡ (if put_open s then Ok tt else Err Closed) }
         ensures state { (master : Bool) (ceiling : ℕ) (s : Session) →
-            self.old ≡ kept_of master ceiling s →
-            OnOk result (self.new ≡ kept_of master ceiling (record s { attention = Some flag })) }
+            self.old ≡ stream_of master ceiling s →
+            OnOk result (self.new ≡ stream_of master ceiling (record s { attention = Some flag })) }
         ensures err { OnErr result (self.new ≡ self.old) }
     {
         if !self.takes_items() {
@@ -156,15 +156,15 @@ impl Stream {
     /// they were. Refused `Closed` in the states Free and Asked, and where close was called.
     pub fn take(&mut self, out: &mut [Item]) -> Result<usize, SessionFault>
         ensures answer { (master : Bool) (ceiling : ℕ) (s : Session) →
-            Sound master ceiling s → self.old ≡ kept_of master ceiling s →
+            Sound master ceiling s → self.old ≡ stream_of master ceiling s →
             result ≡ (if take_open s then Ok (take_count s (length out.old)) else Err Closed) }
         ensures state { (master : Bool) (ceiling : ℕ) (s : Session) →
-            Sound master ceiling s → self.old ≡ kept_of master ceiling s →
+            Sound master ceiling s → self.old ≡ stream_of master ceiling s →
             self.new ≡ (if take_open s
-            then kept_of master ceiling (record s { taken = s.taken + take_count s (length out.old) })
+            then stream_of master ceiling (record s { taken = s.taken + take_count s (length out.old) })
             else self.old) }
         ensures items { (master : Bool) (ceiling : ℕ) (s : Session) →
-            Sound master ceiling s → self.old ≡ kept_of master ceiling s →
+            Sound master ceiling s → self.old ≡ stream_of master ceiling s →
             out.new ≡ (if take_open s
             then map item_of (take (take_count s (length out.old)) (drop s.taken (items s.came)))
             ++ drop (take_count s (length out.old)) out.old
@@ -194,11 +194,11 @@ impl Stream {
     /// Closes it: heard items are dropped, and those that were put still go out. Refused `Closed` where `take` is.
     pub fn close(&mut self) -> Result<(), SessionFault>
         ensures answer { (master : Bool) (ceiling : ℕ) (s : Session) →
-            Sound master ceiling s → self.old ≡ kept_of master ceiling s →
+            Sound master ceiling s → self.old ≡ stream_of master ceiling s →
             result ≡ (if take_open s then Ok tt else Err Closed) }
         ensures state { (master : Bool) (ceiling : ℕ) (s : Session) →
-            Sound master ceiling s → self.old ≡ kept_of master ceiling s →
-            OnOk result (self.new ≡ kept_of master ceiling (record s { closed = true })) }
+            Sound master ceiling s → self.old ≡ stream_of master ceiling s →
+            OnOk result (self.new ≡ stream_of master ceiling (record s { closed = true })) }
         ensures err { OnErr result (self.new ≡ self.old) }
     {
         if !self.gives_items() {

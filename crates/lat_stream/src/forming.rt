@@ -11,7 +11,7 @@ ghost use Rattle.lat_model.specs.sessions.Session.{Session, peer};
 ghost use Rattle.lat_stream.specs.declared.forming.Turn.TheVariants as turns;
 ghost use Rattle.lat_stream.specs.declared.opening.Opening.{Opening};
 ghost use Rattle.lat_stream.specs.FormsOffer.{FormsOffer, reject_due};
-ghost use Rattle.lat_stream.specs.Kept.{kept_of};
+ghost use Rattle.lat_stream.specs.Kept.{stream_of};
 ghost use Rattle.lat_stream.specs.Sound.{Sound};
 ghost use Rattle.lat_stream.specs.Wire.{IsFormed};
 ghost use Rattle.lat_stream.specs.Turns.{Meets, turn_of, later_turn, data_turn, offer_at, start_slot, bytes_offer, credits_offer, kept_after};
@@ -58,17 +58,17 @@ impl Stream {
     pub fn form(&mut self, master: bool, id: u8, room: u16, out: &mut Payload) -> Formed
         requires { length out.old + room ≤ 1500 }
         ensures does { (ceiling : ℕ) (s : Session) → Sound master ceiling s →
-            self.old ≡ kept_of master ceiling s →
+            self.old ≡ stream_of master ceiling s →
             s.id ≡ id → reject_due s ≡ false →
             FormsOffer master ceiling s (offers.offer master ceiling room s) self.old self.new out.old out.new result }
         ensures len { (ceiling : ℕ) (s : Session) (x : sessions.Slot) →
-            Sound master ceiling s → self.old ≡ kept_of master ceiling s →
+            Sound master ceiling s → self.old ≡ stream_of master ceiling s →
             s.id ≡ id → reject_due s ≡ false →
             offers.offer master ceiling room s ≡ offers.Offers x →
             length out.new ≡ length out.old + sessions.slot_len x }
         ensures formed { (ceiling : ℕ) (s : Session) (x : sessions.Slot) →
             Sound master ceiling s → (sessions.starts s.came ≡ true → peer s ≢ 0) →
-            self.old ≡ kept_of master ceiling s →
+            self.old ≡ stream_of master ceiling s →
             reject_due s ≡ false → offers.offer master ceiling room s ≡ offers.Offers x →
             IsFormed x }
         ensures room { (length out.old ≤ length out.new)

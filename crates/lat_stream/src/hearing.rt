@@ -7,7 +7,7 @@ ghost use Rattle.lat_base.specs.declared.state.SessionState.TheVariants as kept_
 ghost use Rattle.lat_model.specs.sessions.Slots as slots;
 ghost use Rattle.lat_model.specs.sessions.Session.{Session};
 ghost use Rattle.lat_model.specs.sessions.Hearing.{heard, behind_fits};
-ghost use Rattle.lat_stream.specs.Kept.{kept_of};
+ghost use Rattle.lat_stream.specs.Kept.{stream_of};
 ghost use Rattle.lat_stream.specs.Sound.{Sound};
 ghost use Rattle.lat_stream.specs.Steps.{can_hear, can_pay, ended_if_done, held_more, kept_more, granted, silent};
 ghost use Rattle.lat_model.specs.Lists.{is_empty};
@@ -40,13 +40,13 @@ impl Stream {
     pub fn hear_start(&mut self, from: u8, credits: u8, size: u8) -> Result<(), BadSlot>
         requires { (self.old.state ≡ kept_states.Calling) × (credits ≤ 15) }
         ensures answer { (ceiling : ℕ) (s : Session) → Sound true ceiling s →
-            self.old ≡ kept_of true ceiling s →
+            self.old ≡ stream_of true ceiling s →
             is_ok result ≡ true }
         ensures state { (ceiling : ℕ) (s : Session) (to : ℕ) (service : List ℕ)
             (request : Option ℕ) →
-            Sound true ceiling s → self.old ≡ kept_of true ceiling s →
+            Sound true ceiling s → self.old ≡ stream_of true ceiling s →
             OnOk result (self.new
-            ≡ kept_of true ceiling (heard s
+            ≡ stream_of true ceiling (heard s
             (slots.Start to from credits size service request))) }
         ensures err { OnErr result (self.new ≡ self.old) }
     {
@@ -69,8 +69,8 @@ impl Stream {
     pub fn hear_reject(&mut self, reason: u8)
         requires { self.old.state ≡ kept_states.Calling }
         ensures { (ceiling : ℕ) (s : Session) (to from : ℕ) → Sound true ceiling s →
-            self.old ≡ kept_of true ceiling s →
-            self.new ≡ kept_of true ceiling (heard s (slots.Reject to from reason)) }
+            self.old ≡ stream_of true ceiling s →
+            self.new ≡ stream_of true ceiling (heard s (slots.Reject to from reason)) }
     {
         self.end_rejected(reason);
     }
@@ -79,12 +79,12 @@ impl Stream {
     pub fn hear_bytes(&mut self, from: u8, credits: u8, bytes: &[u8]) -> Result<(), BadSlot>
         requires { length bytes.now ≤ 255 }
         ensures answer { (master : Bool) (ceiling : ℕ) (s : Session) (to : ℕ) →
-            Sound master ceiling s → self.old ≡ kept_of master ceiling s →
+            Sound master ceiling s → self.old ≡ stream_of master ceiling s →
             is_ok result ≡ behind_fits s (slots.DataA to from credits bytes.now) }
         ensures state { (master : Bool) (ceiling : ℕ) (s : Session) (to : ℕ) →
-            Sound master ceiling s → self.old ≡ kept_of master ceiling s →
+            Sound master ceiling s → self.old ≡ stream_of master ceiling s →
             OnOk result (self.new
-            ≡ kept_of master ceiling (heard s (slots.DataA to from credits bytes.now))) }
+            ≡ stream_of master ceiling (heard s (slots.DataA to from credits bytes.now))) }
         ensures err { OnErr result (self.new ≡ self.old) }
     {
         if !self.hears_from(from) {
@@ -101,12 +101,12 @@ impl Stream {
     /// A data slot with a setting. Refused exactly where it is bad, and nothing has changed then.
     pub fn hear_setting(&mut self, from: u8, credits: u8, setting: [u8; 5]) -> Result<(), BadSlot>
         ensures answer { (master : Bool) (ceiling : ℕ) (s : Session) (to : ℕ) →
-            Sound master ceiling s → self.old ≡ kept_of master ceiling s →
+            Sound master ceiling s → self.old ≡ stream_of master ceiling s →
             is_ok result ≡ behind_fits s (slots.DataB to from credits setting) }
         ensures state { (master : Bool) (ceiling : ℕ) (s : Session) (to : ℕ) →
-            Sound master ceiling s → self.old ≡ kept_of master ceiling s →
+            Sound master ceiling s → self.old ≡ stream_of master ceiling s →
             OnOk result (self.new
-            ≡ kept_of master ceiling (heard s (slots.DataB to from credits setting))) }
+            ≡ stream_of master ceiling (heard s (slots.DataB to from credits setting))) }
         ensures err { OnErr result (self.new ≡ self.old) }
     {
         if !self.hears_from(from) {
@@ -120,12 +120,12 @@ impl Stream {
     /// An attention, whose flag is the mark now. Refused exactly where it is bad, and nothing has changed then.
     pub fn hear_attention(&mut self, from: u8, flag: u8) -> Result<(), BadSlot>
         ensures answer { (master : Bool) (ceiling : ℕ) (s : Session) (to : ℕ) →
-            Sound master ceiling s → self.old ≡ kept_of master ceiling s →
+            Sound master ceiling s → self.old ≡ stream_of master ceiling s →
             is_ok result ≡ behind_fits s (slots.Attention to from flag) }
         ensures state { (master : Bool) (ceiling : ℕ) (s : Session) (to : ℕ) →
-            Sound master ceiling s → self.old ≡ kept_of master ceiling s →
+            Sound master ceiling s → self.old ≡ stream_of master ceiling s →
             OnOk result (self.new
-            ≡ kept_of master ceiling (heard s (slots.Attention to from flag))) }
+            ≡ stream_of master ceiling (heard s (slots.Attention to from flag))) }
         ensures err { OnErr result (self.new ≡ self.old) }
     {
         if !self.hears_from(from) {
@@ -139,11 +139,11 @@ impl Stream {
     /// are dropped; where the own stop was formed the session is over.
     pub fn hear_stop(&mut self, from: u8) -> Result<(), BadSlot>
         ensures answer { (master : Bool) (ceiling : ℕ) (s : Session) (to reason : ℕ) →
-            Sound master ceiling s → self.old ≡ kept_of master ceiling s →
+            Sound master ceiling s → self.old ≡ stream_of master ceiling s →
             is_ok result ≡ behind_fits s (slots.Stop to from reason) }
         ensures state { (master : Bool) (ceiling : ℕ) (s : Session) (to reason : ℕ) →
-            Sound master ceiling s → self.old ≡ kept_of master ceiling s →
-            OnOk result (self.new ≡ kept_of master ceiling (heard s (slots.Stop to from reason))) }
+            Sound master ceiling s → self.old ≡ stream_of master ceiling s →
+            OnOk result (self.new ≡ stream_of master ceiling (heard s (slots.Stop to from reason))) }
         ensures err { OnErr result (self.new ≡ self.old) }
     {
         if !self.hears_stop_from(from) {

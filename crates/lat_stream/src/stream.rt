@@ -6,7 +6,7 @@ ghost use Rattle.lat_base.specs.declared.state.SessionState.TheVariants as state
 ghost use Rattle.lat_model.specs.sessions.Session.{Session, blank, state, peer, take_open};
 ghost use Rattle.lat_model.specs.sessions.Slots.{items, credits, costs};
 ghost use Rattle.lat_stream.specs.Begins.{called, asked};
-ghost use Rattle.lat_stream.specs.Kept.{kept_of, state_shown, saturated, end_of, start_left};
+ghost use Rattle.lat_stream.specs.Kept.{stream_of, state_of, saturated, end_of, start_left};
 ghost use Rattle.lat_stream.specs.Sound.{Sound};
 ghost use Rattle.lat_stream.specs.Steps.{can_put, can_take, can_hear};
 
@@ -27,7 +27,7 @@ pub const HEARD_ITEMS: usize = 3825;
 pub const HELD_SLOTS: usize = 15;
 
 /// One session, as one end keeps it. It stands for a session of the model, which forgets nothing: contracts say for every
-/// session that it stands for (`kept_of`) what it stands for afterwards. All memory is taken when it is made.
+/// session that it stands for (`stream_of`) what it stands for afterwards. All memory is taken when it is made.
 /// See "Sessions" in docs/PROTOCOL.md.
 pub struct Stream {
     pub(crate) state: SessionState,
@@ -111,7 +111,7 @@ impl Stream {
     /// A place for sessions, in which there was none yet. `ceiling` is 1 to 15.
     pub fn make(alloc: Global, ceiling: u8) -> Result<Stream, Memory>
         requires { (1 ≤ ceiling) × (ceiling ≤ 15) }
-        ensures { IfOk result (λ k. (master : Bool) → k ≡ kept_of master ceiling blank) }
+        ensures { IfOk result (λ k. (master : Bool) → k ≡ stream_of master ceiling blank) }
     {
         Ok(Stream {
             state: SessionState::Free,
@@ -137,7 +137,7 @@ impl Stream {
     /// The place as `make` makes it, in the memory that it has. `ceiling` is 1 to 15.
     pub fn reset(&mut self, ceiling: u8)
         requires { (1 ≤ ceiling) × (ceiling ≤ 15) }
-        ensures { (master : Bool) → self.new ≡ kept_of master ceiling blank }
+        ensures { (master : Bool) → self.new ≡ stream_of master ceiling blank }
     {
         self.state = SessionState::Free;
         self.closed = false;
@@ -161,7 +161,7 @@ impl Stream {
     /// The session of a master that connects to a service, in place of the last one. It may answer a request.
     pub fn call(&mut self, service: &Name, request: Option<u16>)
         ensures { (id : ℕ) → id ≢ 0 →
-            self.new ≡ kept_of true self.old.credits.ceiling (called id service.now request) }
+            self.new ≡ stream_of true self.old.credits.ceiling (called id service.now request) }
     {
         self.forget();
         self.wait(
@@ -178,7 +178,7 @@ impl Stream {
     pub fn ask(&mut self, from: u8, credits: u8, size: u8, opening: Opening)
         requires { credits ≤ 15 }
         ensures { (id generation : ℕ) → id ≢ 0 →
-            self.new ≡ kept_of false self.old.credits.ceiling (asked id generation from credits size opening) }
+            self.new ≡ stream_of false self.old.credits.ceiling (asked id generation from credits size opening) }
     {
         self.forget();
         self.wait(SessionState::Asked, opening);
@@ -189,7 +189,7 @@ impl Stream {
     }
 
     fn forget(&mut self)
-        ensures { (master : Bool) → self.new ≡ kept_of master self.old.credits.ceiling blank }
+        ensures { (master : Bool) → self.new ≡ stream_of master self.old.credits.ceiling blank }
     {
         self.reset(self.ceiling);
     }
@@ -213,8 +213,8 @@ impl Stream {
     pub fn state(&self) -> SessionState
         ensures value { result ≡ self.now.state }
         ensures model { (master : Bool) (ceiling : ℕ) (s : Session) →
-            self.now ≡ kept_of master ceiling s →
-            result ≡ state_shown (state master s) }
+            self.now ≡ stream_of master ceiling s →
+            result ≡ state_of (state master s) }
     {
         self.state
     }
@@ -223,7 +223,7 @@ impl Stream {
     pub fn mark(&self) -> Option<u8>
         ensures value { result ≡ self.now.mark }
         ensures model { (master : Bool) (ceiling : ℕ) (s : Session) →
-            self.now ≡ kept_of master ceiling s →
+            self.now ≡ stream_of master ceiling s →
             result ≡ s.mark }
     {
         self.mark
@@ -233,7 +233,7 @@ impl Stream {
     pub fn peer(&self) -> u8
         ensures value { result ≡ self.now.peer }
         ensures model { (master : Bool) (ceiling : ℕ) (s : Session) →
-            self.now ≡ kept_of master ceiling s →
+            self.now ≡ stream_of master ceiling s →
             result ≡ peer s }
     {
         self.peer
@@ -243,7 +243,7 @@ impl Stream {
     pub fn totals(&self) -> (u64, u64)
         ensures value { result ≡ (self.now.given, self.now.used) }
         ensures model { (master : Bool) (ceiling : ℕ) (s : Session) →
-            self.now ≡ kept_of master ceiling s →
+            self.now ≡ stream_of master ceiling s →
             result ≡ (saturated (credits s.out), saturated (costs s.out)) }
     {
         (self.given, self.used)
@@ -253,7 +253,7 @@ impl Stream {
     pub fn end(&self) -> Option<SessionEnd>
         ensures value { result ≡ self.now.end }
         ensures model { (master : Bool) (ceiling : ℕ) (s : Session) →
-            self.now ≡ kept_of master ceiling s →
+            self.now ≡ stream_of master ceiling s →
             result ≡ end_of s }
     {
         self.end
@@ -264,7 +264,7 @@ impl Stream {
         ensures value { result ≡ self.now.start }
         ensures asked { self.now.state ≡ states.Asked → is_some result ≡ true }
         ensures model { (master : Bool) (ceiling : ℕ) (s : Session) →
-            self.now ≡ kept_of master ceiling s →
+            self.now ≡ stream_of master ceiling s →
             result ≡ start_left s }
     {
         self.start
@@ -274,7 +274,7 @@ impl Stream {
     pub fn waiting(&self) -> u16
         ensures value { result ≡ cond (can_take self.now) (length self.now.heard) 0 }
         ensures model { (master : Bool) (ceiling : ℕ) (s : Session) →
-            Sound master ceiling s → self.now ≡ kept_of master ceiling s →
+            Sound master ceiling s → self.now ≡ stream_of master ceiling s →
             result ≡ cond (take_open s) (length (items s.came) - s.taken) 0 }
     {
         self.count_waiting()

@@ -11,7 +11,7 @@ use Rattle.lat_machines.specs.cores.Hearing.{names}
 use Rattle.lat_machines.specs.cores.Lines.{end_of, session_of, seat_at, has_session, line_state}
 use Rattle.lat_seq.specs.declared.span.Span.{Span}
 use Rattle.lat_seq.specs.Spans.{half}
-use Rattle.lat_stream.specs.Kept.{state_shown}
+use Rattle.lat_stream.specs.Kept.{state_of}
 use Rattle.lat_lines.specs.circuits.Info.{some_span}
 use Rattle.lat_wire.specs.declared.ledger.heading.Heading.{Heading}
 use Rattle.lat_wire.specs.Ends.{half_at, half_named, is_held}
@@ -37,7 +37,7 @@ half_is c from h named s r e n t =
 
 -- whether a line has a session, by the state that the core tells of it
 
-shown_held : (live over left answered closed master : Bool) → is_held (state_shown (cond (not (not live || over)) (cond over Free (cond left Left (cond answered (cond closed Closing Live) (cond master Calling Asked)))) Free)) ≡ not (not live || over)
+shown_held : (live over left answered closed master : Bool) → is_held (state_of (cond (not (not live || over)) (cond over Free (cond left Left (cond answered (cond closed Closing Live) (cond master Calling Asked)))) Free)) ≡ not (not live || over)
 shown_held false over left answered closed master = refl
 shown_held true true left answered closed master = refl
 shown_held true false true answered closed master = refl
@@ -46,7 +46,7 @@ shown_held true false false true false master = refl
 shown_held true false false false closed true = refl
 shown_held true false false false closed false = refl
 
-pub held_is : (k : Side) (c : Core) (line : ℕ) (state : base.SessionState) (r : Bool) → r ≡ is_held state → state ≡ state_shown (line_state k c line) → r ≡ has_session c line
+pub held_is : (k : Side) (c : Core) (line : ℕ) (state : base.SessionState) (r : Bool) → r ≡ is_held state → state ≡ state_of (line_state k c line) → r ≡ has_session c line
 held_is k c line state r e h =
     e ∙ (ap is_held h ∙ shown_held (lives (end_of c (seat_at c line))) (free s) (gone s) (answered s) (s.closed || has_stop s.came) k.server)
   where

@@ -11,7 +11,7 @@ use Rattle.lat_model.specs.sessions.Hearing.{heard, hear_at, asked_session, ask_
 use Rattle.lat_model.specs.sessions.Calls.{Call, Connect, Put, Set, Attend, Take, Close, Answer, RejectAsk, call, connect, new_call, answer, reject}
 use Rattle.lat_model.specs.Lists.{updated, is_empty, IsPrefixOf}
 use Rattle.lat_model.proofs.sessions.Words.{upd_other, costs-append, credits-append}
-use Rattle.lat_laws.proofs.rounds.counting.Kept.{Kept}
+use Rattle.lat_laws.proofs.rounds.counting.Kept.{KeptByActs}
 use Rattle.lat_laws.proofs.rounds.counting.Steps.{pack_by, hear_by}
 use Rattle.lat_laws.specs.habits.Credits.{IsCredited}
 
@@ -193,7 +193,7 @@ grows_asked : (e : Sessions) (x : Slot) (service : List ℕ) (request : Option �
 grows_asked e x service request = added e (ask_in e x service request) (asked_session e x service request) refl refl refl
 
 -- what an end does, of all its circuits up to the first
-pub grows_kept : (side : Bool) → Kept 0 side (λ x e f. x ≤ 0 → Grows e f)
+pub grows_kept : (side : Bool) → KeptByActs 0 side (λ x e f. x ≤ 0 → Grows e f)
 grows_kept side = record {
   same = λ x e l. grows_same e;
   after = λ x a b c p q l. grows_then a b c (p l) (q l);

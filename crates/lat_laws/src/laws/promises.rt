@@ -22,7 +22,8 @@ pub fn node_sessions_have_their_rows()
         NodeSessionsHaveRows u (run u moves (open_machines u)) }
 {}
 
-/// In each such row no more credits were used up than the other end had given, both ways.
+/// In each such row no more credits were used up than the other end had given: back in every row, and from the server to the
+/// node in every row of a session with the node. Of what a stranger gave the report tells nothing.
 pub fn rows_keep_to_their_credits()
     ensures { (u : Setups) (moves : List Move) → Fit u →
         RowsWithinCredit u (run u moves (open_machines u)) }

@@ -159,7 +159,7 @@ asks_dead (Some q) id h = ap (λ b. b && is_asked (state_at q.sessions id)) h
 -- none is where the circuit doesn't live
 pub none_asks : (k : Kept) (x id : ℕ) → lives_in (held_circuit k x) ≡ false → NoneAsks k x id
 none_asks k x id none = record {
-  told = asks_dead (held_circuit k x) id none;
+  unasked = asks_dead (held_circuit k x) id none;
   core = λ c st. ap (λ b. b && waits_at (c.circuits.circuit_at x).end id) (living_told k c x (held_circuit k x) refl st ∙ none);
 }
 
@@ -171,7 +171,7 @@ and_false false = refl
 pub none_asks_here : (k : Kept) (x id at : ℕ) (q : circuit.Kept) → IsLiving k x at q → is_asked (state_at q.sessions id) ≡ false
     → ((e : End) → circuit_stands.Stands q e → e.half.sessions.master ≡ false → waits (named e.half.sessions id) ≡ false) → NoneAsks k x id
 none_asks_here k x id at q l none waits_not = record {
-  told = ap (λ o. asks_in o id) l.found ∙ ap (λ b. is_none q.ended && b) none ∙ and_false (is_none q.ended);
+  unasked = ap (λ o. asks_in o id) l.found ∙ ap (λ b. is_none q.ended && b) none ∙ and_false (is_none q.ended);
   core = λ c st. ap (λ b. lives (c.circuits.circuit_at x).end && b) (not_waits (c.circuits.circuit_at x).end (end_at k c x at q l st)) ∙ and_false (lives (c.circuits.circuit_at x).end);
 }
   where

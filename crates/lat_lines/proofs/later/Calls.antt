@@ -38,7 +38,7 @@ cond_later : (b : Bool) (e x : Sessions) → EndOk e → (b ≡ true → Later e
 cond_later true e x ok h = h refl
 cond_later false e x ok h = later_refl e ok
 
--- a session that waits is settled, at a slave: no accepted one is touched
+-- a session that waits is answered, at a slave: no accepted one is touched
 settled_later : (e : Sessions) (j : ℕ) (s : Session) → EndOk e → AllBegun e → e.master ≡ false → waits (e.session j) ≡ true → Later e (touch e j s)
 settled_later e j s ok b m w = record {
   master = refl;

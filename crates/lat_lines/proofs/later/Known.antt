@@ -6,7 +6,7 @@ use Rattle.lat_model.specs.sessions.Session.{Session, Free, Calling, Live, Closi
 use Rattle.lat_model.specs.sessions.Sessions.{Sessions, named}
 use Rattle.lat_model.specs.sessions.EndOk.{EndOk}
 use Rattle.lat_model.specs.ends.End.{End}
-use Rattle.lat_stream.specs.Kept.{state_shown}
+use Rattle.lat_stream.specs.Kept.{state_of}
 use Rattle.lat_session.specs.Stands.{AllBegun}
 use Rattle.lat_session.specs.States.{is_asked}
 use Rattle.lat_session.proofs.AskedIds.{asked_waits}
@@ -68,25 +68,25 @@ settled_found s t k l a f w = ⊎_elim {C = t.at_id (s.session k).id ≡ k} (λ 
 
 -- the same by what is told of the id, also at a master, where nothing is asked for
 
-told_settled : (s : Sessions) (k : ℕ) → AllBegun s → IsAccepted s k → is_asked (state_shown (state s.master (s.session k))) ≡ false
+told_settled : (s : Sessions) (k : ℕ) → AllBegun s → IsAccepted s k → is_asked (state_of (state s.master (s.session k))) ≡ false
 told_settled s k b a = go s.master refl
   where
-    at : (f g c d : Bool) → is_asked (state_shown (cond f Free (cond g Left (cond c (cond d Closing Live) Calling)))) ≡ false
+    at : (f g c d : Bool) → is_asked (state_of (cond f Free (cond g Left (cond c (cond d Closing Live) Calling)))) ≡ false
     at true g c d = refl
     at false true c d = refl
     at false false true true = refl
     at false false true false = refl
     at false false false d = refl
 
-    go : (m : Bool) → s.master ≡ m → is_asked (state_shown (state m (s.session k))) ≡ false
+    go : (m : Bool) → s.master ≡ m → is_asked (state_of (state m (s.session k))) ≡ false
     go true q = at (free (s.session k)) (gone (s.session k)) (answered (s.session k)) ((s.session k).closed || has_stop (s.session k).came)
     go false q = asked_waits false (s.session k) refl ∙ accepted_settled s k b q a
 
-pub told_replaced : (s t : Sessions) (k : ℕ) → Later s t → AllBegun t → IsAccepted s k → free (s.session k) ≡ false → is_asked (state_shown (state t.master (named t (s.session k).id))) ≡ true → Replaced s t k
+pub told_replaced : (s t : Sessions) (k : ℕ) → Later s t → AllBegun t → IsAccepted s k → free (s.session k) ≡ false → is_asked (state_of (state t.master (named t (s.session k).id))) ≡ true → Replaced s t k
 told_replaced s t k l b a f w = ⊎_elim {C = Replaced s t k} (λ e. absurd (both_ways (told (named t (s.session k).id)) (ap (λ z. told (t.session z)) e ∙ told_settled t k b (l.each k a).still) w)) (λ r. r) ((l.each k a).found f)
   where
     told : Session → Bool
-    told z = is_asked (state_shown (state t.master z))
+    told z = is_asked (state_of (state t.master z))
 
-pub told_found : (s t : Sessions) (k : ℕ) → Later s t → IsAccepted s k → free (s.session k) ≡ false → is_asked (state_shown (state t.master (named t (s.session k).id))) ≡ false → t.at_id (s.session k).id ≡ k
-told_found s t k l a f w = ⊎_elim {C = t.at_id (s.session k).id ≡ k} (λ e. e) (λ r. absurd (both_ways (is_asked (state_shown (state t.master (named t (s.session k).id)))) w (asked_waits t.master (named t (s.session k).id) (l.master ∙ r.slave) ∙ r.waits))) ((l.each k a).found f)
+pub told_found : (s t : Sessions) (k : ℕ) → Later s t → IsAccepted s k → free (s.session k) ≡ false → is_asked (state_of (state t.master (named t (s.session k).id))) ≡ false → t.at_id (s.session k).id ≡ k
+told_found s t k l a f w = ⊎_elim {C = t.at_id (s.session k).id ≡ k} (λ e. e) (λ r. absurd (both_ways (is_asked (state_of (state t.master (named t (s.session k).id)))) w (asked_waits t.master (named t (s.session k).id) (l.master ∙ r.slave) ∙ r.waits))) ((l.each k a).found f)

@@ -8,7 +8,7 @@ use Rattle.lat_model.specs.sessions.Sessions.{named}
 use Rattle.lat_model.specs.ends.End.{End, lives}
 use Rattle.lat_machines.specs.cores.Books.{SessionEnd, EndedClosed, EndedRejected, EndedCircuit, reject_reason, end_reason}
 use Rattle.lat_stream.specs.Kept as stream
-use Rattle.lat_stream.specs.Kept.{state_shown, end_of}
+use Rattle.lat_stream.specs.Kept.{state_of, end_of}
 use Rattle.lat_session.specs.States.{is_asked}
 use Rattle.lat_session.proofs.Counts.{free_shown, WhileAsked, while_asked}
 use Rattle.lat_circuit.specs.Info.{session_end, circuit_end}
@@ -84,7 +84,7 @@ ended_closed e s h r = ap (λ b. cond b (Some (EndedRejected (reject_reason s)))
 
 -- at a slave a session that waits is asked for
 
-asked_by : (frees goes answers stops : Bool) → (not answers && not goes) ≡ true → (frees ≡ true → goes ≡ true) → is_asked (state_shown (cond frees Free (cond goes Left (cond answers (cond stops Closing Live) (cond false Calling Asked))))) ≡ true
+asked_by : (frees goes answers stops : Bool) → (not answers && not goes) ≡ true → (frees ≡ true → goes ≡ true) → is_asked (state_of (cond frees Free (cond goes Left (cond answers (cond stops Closing Live) (cond false Calling Asked))))) ≡ true
 asked_by frees true answers stops w g = absurd (false≢true (sym (and_right_false (not answers)) ∙ w))
   where
     and_right_false : (b : Bool) → (b && false) ≡ false
@@ -102,14 +102,14 @@ free_gone s h = by (rejected s) (stopped s) (s.closed || _) h
     by false true u h = refl
     by false false u h = h
 
-pub waits_asked : (m : Bool) (s : Session) → m ≡ false → waits s ≡ true → is_asked (state_shown (state m s)) ≡ true
+pub waits_asked : (m : Bool) (s : Session) → m ≡ false → waits s ≡ true → is_asked (state_of (state m s)) ≡ true
 waits_asked true s slave w = absurd (true≢false slave)
 waits_asked false s slave w = asked_by (free s) (gone s) (answered s) (s.closed || has_stop s.came) w (free_gone s)
 
 -- a session that was answered isn't asked for
-pub answered_told : (m : Bool) (s : Session) → (m ≡ false → answered s ≡ true) → is_asked (state_shown (state m s)) ≡ false
-answered_told m s a = by (is_asked (state_shown (state m s))) refl
+pub answered_told : (m : Bool) (s : Session) → (m ≡ false → answered s ≡ true) → is_asked (state_of (state m s)) ≡ false
+answered_told m s a = by (is_asked (state_of (state m s))) refl
   where
-    by : (b : Bool) → is_asked (state_shown (state m s)) ≡ b → b ≡ false
+    by : (b : Bool) → is_asked (state_of (state m s)) ≡ b → b ≡ false
     by true h = let w : WhileAsked m s = while_asked m s h in absurd (both_ways (answered s) w.not_answered (a w.slave))
     by false h = refl

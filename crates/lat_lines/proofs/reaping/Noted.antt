@@ -8,7 +8,7 @@ use Rattle.lat_machines.specs.values.Keys as keys
 use Rattle.lat_machines.specs.cores.Cores.{Seat, Core}
 use Rattle.lat_machines.specs.cores.Lines.{over, saturated_count}
 use Rattle.lat_queue.specs.declared.key.Key.{Key}
-use Rattle.lat_queue.specs.Histories.{key_in, some_key}
+use Rattle.lat_queue.specs.Histories.{key_shown, some_key}
 use Rattle.lat_lines.specs.circuits.Kept as circuits
 use Rattle.lat_lines.specs.declared.seat.Seat as own
 use Rattle.lat_lines.specs.Stands.{Present, IsSeat, end_shown, seat_shown, seat_info, freed_key, freed_from}
@@ -86,19 +86,19 @@ abbrev freed_of : List Present → List keys.Key → List keys.Key
 freed_of [] ks = ks
 freed_of (p ∷ ps) ks = freed_of ps (cond (ends p) (keys_after p.key ks) ks)
 
-key_shown : (o : Option Key) (ks : List Key) → map key_in (key_after o ks) ≡ keys_after (some_key o) (map key_in ks)
-key_shown None ks = refl
-key_shown (Some k) ks = map-append key_in ks (k ∷ [])
+key_added : (o : Option Key) (ks : List Key) → map key_shown (key_after o ks) ≡ keys_after (some_key o) (map key_shown ks)
+key_added None ks = refl
+key_added (Some k) ks = map-append key_shown ks (k ∷ [])
 
-freed_shown : (ss : List own.Seat) (ks : List Key) → map key_in (freed_after ss ks) ≡ freed_of (map seat_shown ss) (map key_in ks)
+freed_shown : (ss : List own.Seat) (ks : List Key) → map key_shown (freed_after ss ks) ≡ freed_of (map seat_shown ss) (map key_shown ks)
 freed_shown [] ks = refl
 freed_shown (s ∷ ss) ks =
     freed_shown ss (cond (is_over s) (key_after s.key ks) ks)
     ∙ ap (freed_of (map seat_shown ss)) (by (is_over s))
-    ∙ ap (λ t. freed_of (map seat_shown ss) (cond t (keys_after (some_key s.key) (map key_in ks)) (map key_in ks))) (sym (same_over s))
+    ∙ ap (λ t. freed_of (map seat_shown ss) (cond t (keys_after (some_key s.key) (map key_shown ks)) (map key_shown ks))) (sym (same_over s))
   where
-    by : (t : Bool) → map key_in (cond t (key_after s.key ks) ks) ≡ cond t (keys_after (some_key s.key) (map key_in ks)) (map key_in ks)
-    by true = key_shown s.key ks
+    by : (t : Bool) → map key_shown (cond t (key_after s.key ks) ks) ≡ cond t (keys_after (some_key s.key) (map key_shown ks)) (map key_shown ks)
+    by true = key_added s.key ks
     by false = refl
 
 key_more : (o : Option keys.Key) (ks ls : List keys.Key) → keys_after o ks ++ ls ≡ ks ++ freed_key o ls
@@ -118,5 +118,5 @@ freed_later c d n (s ∷ ss) ks = by (over c s) (over d s) (told_over d (suc n) 
     by false true e ih = ap (λ z. freed_of rest (cond z (keys_after s.key ks) ks)) e ∙ ih (keys_after s.key ks) ∙ key_more s.key ks (freed_from c d ss)
     by false false e ih = ap (λ z. freed_of rest (cond z (keys_after s.key ks) ks)) e ∙ ih ks
 
-pub freed_told : (c d : Core) (ss : List own.Seat) (ts : List Seat) → map seat_shown ss ≡ later c d 0 ts → map key_in (freed_after ss []) ≡ freed_from c d ts
+pub freed_told : (c d : Core) (ss : List own.Seat) (ts : List Seat) → map seat_shown ss ≡ later c d 0 ts → map key_shown (freed_after ss []) ≡ freed_from c d ts
 freed_told c d ss ts is = freed_shown ss [] ∙ ap (λ ps. freed_of ps []) is ∙ freed_later c d 0 ts []

@@ -11,7 +11,7 @@ use Rattle.lat_model.specs.ends.Timers.{note_empty}
 use Rattle.lat_model.specs.circuits.World.{CircuitEntry}
 use Rattle.lat_machines.specs.cores.Acts.{steps_at, idle}
 use Rattle.lat_machines.specs.cores.Cores.{Core, Side}
-use Rattle.lat_stream.specs.Kept.{state_shown}
+use Rattle.lat_stream.specs.Kept.{state_of}
 use Rattle.lat_circuit.specs.Info.{session_state}
 use Rattle.lat_session.specs.declared.call.SessionCall.{SessionCall}
 use Rattle.lat_session.specs.declared.call.SessionCall.TheVariants as calls
@@ -137,7 +137,7 @@ not_free e id f = by (free u) refl
 
     free_state : free u ≡ true → is_free (session_state e id) ≡ true
     free_state h =
-        ap (λ b. is_free (cond (lives e) (state_shown (cond b Free (cond (gone u) Left (cond (answered u) (cond (u.closed || has_stop u.came) Closing Live) (cond m Calling Asked))))) states.Free)) h
+        ap (λ b. is_free (cond (lives e) (state_of (cond b Free (cond (gone u) Left (cond (answered u) (cond (u.closed || has_stop u.came) Closing Live) (cond m Calling Asked))))) states.Free)) h
         ∙ either (lives e)
 
     by : (b : Bool) → free u ≡ b → free u ≡ false

@@ -6,7 +6,7 @@ use Rattle.lat_model.specs.Lists.{Each}
 use Rattle.lat_model.specs.ends.End.{lives}
 use Rattle.lat_machines.specs.cores.Cores.{no_seat, Core}
 use Rattle.lat_machines.specs.cores.Lines.{over, session_of, saturated_count}
-use Rattle.lat_queue.specs.Histories.{key_in}
+use Rattle.lat_queue.specs.Histories.{key_shown}
 use Rattle.lat_stream.specs.Kept.{saturated}
 use Rattle.lat_lines.specs.circuits.Kept as circuits
 use Rattle.lat_lines.specs.circuits.Stands as stands
@@ -26,7 +26,7 @@ none_over : (c : Core) → lives (c.circuits.circuit_at 0).end ≡ false → ove
 none_over c h = ap (λ b. not b || free (session_of c no_seat)) h
 
 pub rested_seated : (k : Kept) (q : circuits.Kept) (c d : Core) → Seated k c → stands.Stands q d → CoreLater c d → CoreCalm c d → lives (c.circuits.circuit_at 0).end ≡ false
-    → Seated (record k { circuits = q; freed = [] }) d × (map key_in [] ≡ freed_between c d)
+    → Seated (record k { circuits = q; freed = [] }) d × (map key_shown [] ≡ freed_between c d)
 rested_seated k q c d s h later calm zero = (seated, sym (freed_steady c d c.seats steady))
   where
     steady : AllSteady c d c.seats

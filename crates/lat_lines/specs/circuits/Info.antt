@@ -8,7 +8,7 @@ use Rattle.lat_model.specs.ends.End.{End, lives}
 use Rattle.lat_machines.specs.values.Addresses.{address}
 use Rattle.lat_machines.specs.cores.Cores.{Core}
 use Rattle.lat_seq.specs.declared.span.Span.{Span}
-use Rattle.lat_stream.specs.Kept.{saturated, state_shown}
+use Rattle.lat_stream.specs.Kept.{saturated, state_of}
 use Rattle.lat_stream.specs.declared.calls.SessionFault.{SessionFault}
 use Rattle.lat_stream.specs.declared.calls.SessionFault.TheVariants.{Closed}
 use Rattle.lat_session.specs.declared.call.SessionCall.{SessionCall}
@@ -50,7 +50,7 @@ telling t = record {
 }
 
 abbrev pub asks : Sessions → ℕ → Bool
-asks s id = is_asked (state_shown (state s.master (named s id)))
+asks s id = is_asked (state_of (state s.master (named s id)))
 
 -- of the present or last session of an id
 abbrev pub telling_of : Core → ℕ → ℕ → Telling

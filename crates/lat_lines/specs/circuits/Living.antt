@@ -42,5 +42,5 @@ waits_at e id = not e.half.sessions.master && waits (named e.half.sessions id)
 
 -- no living circuit of this id has such a session
 pub record NoneAsks (k : Kept) (x id : ℕ) : Type 0 where
-  pub told : is_asked_at k x id ≡ false
+  pub unasked : is_asked_at k x id ≡ false
   pub core : (c : Core) → Stands k c → (lives (c.circuits.circuit_at x).end && waits_at (c.circuits.circuit_at x).end id) ≡ false

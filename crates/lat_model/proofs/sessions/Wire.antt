@@ -15,12 +15,12 @@ abbrev pub place : Sessions → ℕ → Session → ℕ → Sessions
 place e k s v = record e { session = updated e.session k s; served = v }
 
 -- what a change of one session must keep for its end
-pub record Kept (old : Session) (new : Session) : Type 0 where
+pub record KeepsId (old : Session) (new : Session) : Type 0 where
   pub id : new.id ≡ old.id
   pub generation : new.generation ≡ old.generation
   pub free : free new ≡ false → free old ≡ false
 
-pub end_placed : (e : Sessions) (k : ℕ) (s : Session) (v : ℕ) → EndOk e → (k ≡ 0 → ⊥) → k ≤ e.made → Kept (e.session k) s → SessionOk e.master s → Accounts e.ceiling s → EndOk (place e k s v)
+pub end_placed : (e : Sessions) (k : ℕ) (s : Session) (v : ℕ) → EndOk e → (k ≡ 0 → ⊥) → k ≤ e.made → KeepsId (e.session k) s → SessionOk e.master s → Accounts e.ceiling s → EndOk (place e k s v)
 end_placed e k s v ok nz made kept so ac = record {
   agreed = ok.agreed;
   each = upd_all (λ z. SessionOk e.master z) e.session k s so ok.each;

@@ -14,7 +14,7 @@ use Rattle.lat_laws.specs.tales.Rows.{RowAfter}
 use Rattle.lat_replay.specs.declared.roster.figures.Figures.{Figures}
 use Rattle.lat_machines.specs.cores.Cores.{Seat}
 use Rattle.lat_laws.specs.tales.Keeping.{change, no_rows, new_row, connects, accepts}
-use Rattle.lat_replay.specs.declared.roster.names.Key.{Key}
+use Rattle.lat_replay.specs.declared.roster.names.RowKey.{RowKey}
 use Rattle.lat_replay.specs.declared.roster.row.Row.{Row}
 use Rattle.lat_replay.specs.roster.Rows.{ShowsFigures, ShowsRow, IsSeat, HasReserved, some_line}
 use Rattle.lat_replay.specs.roster.Roster.{Kept, ShowsRows, HasRows, Holds, last_row}
@@ -67,7 +67,7 @@ zeros n xs i e = ap (λ z. get_or z i 0) e ∙ zero_at n i
 
 -- each line has the place 0
 
-pub holds_none : (n : ℕ) (k : Kept) → n ≡ 256 → k.server_lines ≡ replicate n 0 → k.node_lines ≡ replicate n 0 → ((key : Key) → place_of k.names key ≡ 0) → Holds k
+pub holds_none : (n : ℕ) (k : Kept) → n ≡ 256 → k.server_lines ≡ replicate n 0 → k.node_lines ≡ replicate n 0 → ((key : RowKey) → place_of k.names key ≡ 0) → Holds k
 holds_none n k all server node names = record {
   server_len = ap length server ∙ (length-replicate n 0 ∙ all);
   node_len = ap length node ∙ (length-replicate n 0 ∙ all);
@@ -76,7 +76,7 @@ holds_none n k all server node names = record {
   name_places = λ key. let e = names key in omega (arith, e);
 }
 
-pub shows_none : (n : ℕ) (k : Kept) → k.rows ≡ [] → k.server_lines ≡ replicate n 0 → k.node_lines ≡ replicate n 0 → ((key : Key) → place_of k.names key ≡ 0) → HasRows k no_rows
+pub shows_none : (n : ℕ) (k : Kept) → k.rows ≡ [] → k.server_lines ≡ replicate n 0 → k.node_lines ≡ replicate n 0 → ((key : RowKey) → place_of k.names key ≡ 0) → HasRows k no_rows
 shows_none n k rows server node names = record {
   rows = subst (λ z. ShowsRows z []) (sym rows) refl;
   server_lines = λ line l. zeros n k.server_lines line server;
@@ -149,7 +149,7 @@ accepted k v r f b line place left h n l e g changed server node names = record 
   names = λ c i. ap (λ z. place_of z (key_of c i)) names ∙ (h.names c i ∙ sym (last_changed c i 0 0 place (λ y. record y { node_line = line }) (change (r.node_lines line) (λ y. record y { node = f }) r.rows) (λ y. (refl, refl)) ∙ last_changed c i 0 0 (r.node_lines line) (λ y. record y { node = f }) r.rows (λ y. (refl, refl))));
 }
 
-pub connected : (k v : Kept) (r : rows.RowsAfter) (f : rows.Figures) (b : Figures) (s : Seat) (row : Row) (list : List Row) (line circuit id left : ℕ) → HasRows k r → IsSeat s line circuit id → length k.server_lines ≡ 256 → line < 256 → left ≡ get_or k.server_lines line 0 → (get_or k.server_lines line 0 ≢ 0 → ShowsFigures b f) → (ShowsRows k.rows r.rows → (left ≢ 0 → ShowsFigures b f) → ShowsRows list (change left (λ y. record y { server = f }) r.rows)) → ShowsRow row (new_row s) → v.rows ≡ list ++ row ∷ [] → v.server_lines ≡ slice_set k.server_lines line (length v.rows) → v.node_lines ≡ k.node_lines → ((q : Key) → place_of v.names q ≡ cond (same_key (key_of circuit id) q) (length v.rows) (place_of k.names q)) → HasRows v (connects s f r)
+pub connected : (k v : Kept) (r : rows.RowsAfter) (f : rows.Figures) (b : Figures) (s : Seat) (row : Row) (list : List Row) (line circuit id left : ℕ) → HasRows k r → IsSeat s line circuit id → length k.server_lines ≡ 256 → line < 256 → left ≡ get_or k.server_lines line 0 → (get_or k.server_lines line 0 ≢ 0 → ShowsFigures b f) → (ShowsRows k.rows r.rows → (left ≢ 0 → ShowsFigures b f) → ShowsRows list (change left (λ y. record y { server = f }) r.rows)) → ShowsRow row (new_row s) → v.rows ≡ list ++ row ∷ [] → v.server_lines ≡ slice_set k.server_lines line (length v.rows) → v.node_lines ≡ k.node_lines → ((q : RowKey) → place_of v.names q ≡ cond (same_key (key_of circuit id) q) (length v.rows) (place_of k.names q)) → HasRows v (connects s f r)
 connected k v r f b s row list line circuit id left h is n l e g leaves new at server node names = record {
   rows = subst (λ z. ShowsRows z (changed ++ new_row s ∷ [])) (sym at) (shows_more list changed row (new_row s) shown new);
   server_lines = λ j o. ap (λ z. get_or z j 0) server ∙ (lines_set k.server_lines line (length v.rows) j (omega (arith, n, l)) ∙ (ap₂ (λ y z. cond (nat_eq j line) y z) count (h.server_lines j o) ∙ ap (λ z. cond (nat_eq j z) (suc (length r.rows)) (r.server_lines j)) (sym is.line)));

@@ -2,7 +2,7 @@
 use Rattle.std.specs.Prelude.{◌≡◌, ℕ, suc, ◌<◌, ◌≤◌, ◌&&◌, Bool, cond, List, [], ◌∷◌, length, slice_index, slice_get, Some, nat_eq}
 use Rattle.lat_laws.specs.tales.Rows as rows
 use Rattle.lat_laws.specs.tales.Keeping.{change}
-use Rattle.lat_replay.specs.declared.roster.names.Key.{Key}
+use Rattle.lat_replay.specs.declared.roster.names.RowKey.{RowKey}
 use Rattle.lat_replay.specs.declared.roster.row.Row.{Row}
 use Rattle.lat_replay.specs.roster.Names.{Names, key_of, place_of}
 use Rattle.lat_replay.specs.roster.Rows.{ShowsRow, HasReserved}
@@ -42,7 +42,7 @@ pub record Holds (k : Kept) : Type 0 where
   pub node_len : length k.node_lines ≡ 256
   pub server_places : (line : ℕ) → slice_index k.server_lines line ≤ length k.rows
   pub node_places : (line : ℕ) → slice_index k.node_lines line ≤ length k.rows
-  pub name_places : (key : Key) → place_of k.names key ≤ length k.rows
+  pub name_places : (key : RowKey) → place_of k.names key ≤ length k.rows
 
 -- the row at this place, if it is one, has room for so many items more
 abbrev pub ReservedAt : List Row → ℕ → Bool → ℕ → ℕ → Type 0

@@ -34,5 +34,5 @@ bytes_of_address (a ∷ b ∷ c ∷ d ∷ e ∷ []) long small = absurd (omega (
 bytes_of_address (a ∷ b ∷ c ∷ d ∷ e ∷ f ∷ g ∷ more) long small = absurd (omega (arith, long))
 
 -- so it prints as that number's bytes
-pub station_shown : (station : Addr) → length station.0 ≡ 6 → ((i : ℕ) → get_or station.0 i 0 < 256) → address_text station ≡ encode_lower (low_bytes 6 (address station.0))
-station_shown station long small = ap encode_lower (sym (bytes_of_address station.0 long small))
+pub station_printed : (station : Addr) → length station.0 ≡ 6 → ((i : ℕ) → get_or station.0 i 0 < 256) → address_text station ≡ encode_lower (low_bytes 6 (address station.0))
+station_printed station long small = ap encode_lower (sym (bytes_of_address station.0 long small))

@@ -16,7 +16,7 @@ use Rattle.lat_machines.specs.cores.Lines.{session_of, end_of, seat_at, has_sess
 use Rattle.lat_machines.specs.cores.LineCalls as calls
 use Rattle.lat_machines.specs.cores.LineCalls.{Said, says}
 use Rattle.lat_machines.specs.server.Server.{server_side}
-use Rattle.lat_stream.specs.Kept.{state_shown}
+use Rattle.lat_stream.specs.Kept.{state_of}
 use Rattle.lat_server.specs.Stands as server
 use Rattle.lat_server.specs.Stands.{Machine}
 use Rattle.lat_lines.specs.AnswerValues.{answer_of}
@@ -48,8 +48,8 @@ not_free gone answered closing = cond gone model.Left (cond answered (cond closi
 -- a line that is held has a session
 holds_has : (m : Machine) (y : ℕ) → holds m.state.core y ≡ true → has_session m y ≡ true
 holds_has m y h =
-    ap (λ b. is_session (state_shown (cond b (state true s) model.Free))) h
-    ∙ ap (λ b. is_session (state_shown (cond b model.Free (not_free (gone s) (answered s) (s.closed || has_stop s.came))))) not_over
+    ap (λ b. is_session (state_of (cond b (state true s) model.Free))) h
+    ∙ ap (λ b. is_session (state_of (cond b model.Free (not_free (gone s) (answered s) (s.closed || has_stop s.came))))) not_over
     ∙ going (gone s) (answered s) (s.closed || has_stop s.came)
   where
     s : Session
@@ -58,7 +58,7 @@ holds_has m y h =
     not_over : free (session_of m.state.core (seat_at m.state.core y)) ≡ false
     not_over = either (not (lives (end_of m.state.core (seat_at m.state.core y)))) (free s) h
 
-    going : (a b c : Bool) → is_session (state_shown (not_free a b c)) ≡ true
+    going : (a b c : Bool) → is_session (state_of (not_free a b c)) ≡ true
     going true b c = refl
     going false true true = refl
     going false true false = refl

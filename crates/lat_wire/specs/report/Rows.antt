@@ -5,8 +5,8 @@ use Rattle.lat_model.specs.sessions.Slots.{Item}
 use Rattle.lat_machines.specs.world.Reports.{Direction, Row, RecordRow}
 use Rattle.lat_stream.specs.Kept.{item_shown}
 use Rattle.lat_lines.specs.Stands.{end_shown}
-use Rattle.lat_queue.specs.Histories.{key_in}
-use Rattle.lat_queue.specs.KeptValues.{kept_in}
+use Rattle.lat_queue.specs.Histories.{key_shown}
+use Rattle.lat_queue.specs.KeptValues.{kept_shown}
 use Rattle.lat_queue.specs.declared.record.Record.{Record}
 use Rattle.lat_wire.specs.declared.report.rows.Flow.{Flow}
 use Rattle.lat_wire.specs.declared.report.rows.SessionRow.{SessionRow}
@@ -26,5 +26,5 @@ row_in r = record {
   down = direction_in r.down;
 }
 
-abbrev pub record_in : Record → RecordRow
-record_in r = record { key = key_in r.key; service = r.service; kept = kept_in r.kept }
+abbrev pub record_shown : Record → RecordRow
+record_shown r = record { key = key_shown r.key; service = r.service; kept = kept_shown r.kept }

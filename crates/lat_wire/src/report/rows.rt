@@ -2,8 +2,8 @@
 
 ghost use Rattle.std.specs.Prelude.{◌≡◌, ◌++◌, OnOk, codes, option_map, string_bytes};
 ghost use Rattle.std.specs.List.{flat_map};
-ghost use Rattle.lat_queue.specs.Histories.{key_in};
-ghost use Rattle.lat_queue.specs.KeptValues.{kept_in};
+ghost use Rattle.lat_queue.specs.Histories.{key_shown};
+ghost use Rattle.lat_queue.specs.KeptValues.{kept_shown};
 ghost use Rattle.lat_wire.specs.report.ReportText.{
   frames_text,
   item_text,
@@ -19,7 +19,7 @@ ghost use Rattle.lat_wire.specs.report.ReportText.{
   request_text,
   grant_text,
 };
-ghost use Rattle.lat_wire.specs.report.Rows.{items_in, direction_in, row_in, record_in};
+ghost use Rattle.lat_wire.specs.report.Rows.{items_in, direction_in, row_in, record_shown};
 ghost use Rattle.lat_stream.specs.Kept.{item_shown};
 ghost use Rattle.lat_lines.specs.Stands.{end_shown};
 
@@ -183,7 +183,7 @@ pub fn session_onto(
 #[tactic(auto, unfolding(crate::specs::report::ReportText::key_text))]
 fn key_onto(alloc: Global, text: &mut String, key: &Key) -> Result<(), AllocError>
     ensures { OnOk result (string_bytes text.new
-        ≡ string_bytes text.old ++ key_text (key_in key.now)) }
+        ≡ string_bytes text.old ++ key_text (key_shown key.now)) }
 {
     let (incarnation, request) = (key.incarnation, key.request);
     name_onto(alloc, text, &key.node)?;
@@ -192,7 +192,7 @@ fn key_onto(alloc: Global, text: &mut String, key: &Key) -> Result<(), AllocErro
 
 #[tactic(auto, unfolding(crate::specs::report::ReportText::kept_word))]
 fn kept_word(kept: Kept) -> &'static str
-    ensures { result.now ≡ kept_word (kept_in kept) }
+    ensures { result.now ≡ kept_word (kept_shown kept) }
 {
     match kept {
         Kept::Waiting(_) => "waiting",
@@ -208,7 +208,7 @@ fn kept_word(kept: Kept) -> &'static str
 /// Adds the line of a request. After want of memory a part of it may stand in the text.
 pub fn request_onto(alloc: Global, text: &mut String, request: &Record) -> Result<(), AllocError>
     ensures { OnOk result (string_bytes text.new
-        ≡ string_bytes text.old ++ request_text (record_in request.now)) }
+        ≡ string_bytes text.old ++ request_text (record_shown request.now)) }
 {
     text.push_str("request ")?;
     key_onto(alloc, text, &request.key)?;
@@ -222,7 +222,7 @@ pub fn request_onto(alloc: Global, text: &mut String, request: &Record) -> Resul
 /// Adds the line of a grant. After want of memory a part of it may stand in the text.
 pub fn grant_onto(alloc: Global, text: &mut String, key: &Key) -> Result<(), AllocError>
     ensures { OnOk result (string_bytes text.new
-        ≡ string_bytes text.old ++ grant_text (key_in key.now)) }
+        ≡ string_bytes text.old ++ grant_text (key_shown key.now)) }
 {
     text.push_str("grant ")?;
     key_onto(alloc, text, key)?;

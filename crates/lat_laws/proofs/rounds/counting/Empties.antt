@@ -9,7 +9,7 @@ use Rattle.lat_model.specs.Lists.{updated}
 use Rattle.lat_model.proofs.sessions.Words.{upd_all}
 use Rattle.lat_machines.specs.cores.Cores.{Core}
 use Rattle.lat_laws.specs.rounds.Counting.{sessions_in}
-use Rattle.lat_laws.proofs.rounds.counting.Kept.{Kept}
+use Rattle.lat_laws.proofs.rounds.counting.Kept.{KeptByActs}
 use Rattle.lat_laws.proofs.rounds.counting.Tables.{Holds}
 use Rattle.lat_laws.proofs.rounds.counting.Steps.{pack_by, hear_by}
 use Rattle.lat_laws.proofs.rounds.counting.Stays.{InRounds}
@@ -27,7 +27,7 @@ empties_cond false e f g p q = q
 at_place : (e : Sessions) (k : ℕ) (s : Session) → (Empty e → s.put ≡ []) → Empty e → (j : ℕ) → (updated e.session k s j).put ≡ []
 at_place e k s h u = upd_all (λ (z : Session). z.put ≡ []) e.session k s (h u) u
 
-pub empties_kept : (side : Bool) → Kept 0 side (λ x. Empties)
+pub empties_kept : (side : Bool) → KeptByActs 0 side (λ x. Empties)
 empties_kept side = record {
   same = λ x e u. u;
   after = λ x a b c p q u. q (p u);

@@ -9,7 +9,7 @@ use Rattle.lat_model.specs.sessions.Hearing.{heard, asked_session}
 use Rattle.lat_model.specs.sessions.Calls.{Call, Connect, Put, Set, Attend, Take, Close, Answer, RejectAsk, call, touch, put_items, put_count, take_count, reject}
 use Rattle.lat_model.specs.Lists.{updated}
 use Rattle.lat_laws.specs.rounds.Counting.{Unseen}
-use Rattle.lat_laws.proofs.rounds.counting.Kept.{Kept}
+use Rattle.lat_laws.proofs.rounds.counting.Kept.{KeptByActs}
 use Rattle.lat_laws.proofs.rounds.counting.Steps.{pack_by, hear_by}
 
 -- at a server
@@ -28,7 +28,7 @@ makes_cond : (b : Bool) (e f g : Sessions) → Makes e f → Makes e g → Makes
 makes_cond true e f g p q = p
 makes_cond false e f g p q = q
 
-pub makes_kept : Kept 0 true (λ x. Makes)
+pub makes_kept : KeptByActs 0 true (λ x. Makes)
 makes_kept = record {
   same = λ x. makes_same;
   after = λ x. makes_then;
@@ -81,7 +81,7 @@ hides_at e k s h j u = go (nat_eq j k) refl
 same_unseen : (s t : Session) → t.accepted ≡ s.accepted → t.put ≡ s.put → t.taken ≡ s.taken → t.closed ≡ s.closed → Unseen s → Unseen t
 same_unseen s t a p n c u = record { accepted = a ∙ u.accepted; put = p ∙ u.put; taken = n ∙ u.taken; closed = c ∙ u.closed }
 
-pub hides_kept : Kept 0 false (λ x. Hides)
+pub hides_kept : KeptByActs 0 false (λ x. Hides)
 hides_kept = record {
   same = λ x. hides_same;
   after = λ x. hides_then;

@@ -13,7 +13,7 @@ use Rattle.lat_model.proofs.sessions.Forms.{formed_free}
 use Rattle.lat_model.proofs.sessions.Words.{upd_other}
 use Rattle.lat_laws.specs.rounds.Measure.{total, lasting, calm, weight, weights}
 use Rattle.lat_laws.proofs.rounds.measure.Keeping.{touch_same}
-use Rattle.lat_laws.proofs.rounds.counting.Kept.{Kept}
+use Rattle.lat_laws.proofs.rounds.counting.Kept.{KeptByActs}
 use Rattle.lat_laws.proofs.rounds.counting.Steps.{pack_by, hear_by}
 
 -- nothing was done to this session, and nothing heard
@@ -227,7 +227,7 @@ goes_asked : (e : Sessions) (x : Slot) (service : List ℕ) (request : Option �
 goes_asked e x service request m p = record { past = past_new e (asked_session e x service request) p; each = one_new e (asked_session e x service request) p refl refl; rises = asked_rises e x service request }
 
 -- of all circuits up to the n-th
-pub goes_kept : (n : ℕ) (side : Bool) → Kept n side (λ x e f. x ≤ n → Goes e f)
+pub goes_kept : (n : ℕ) (side : Bool) → KeptByActs n side (λ x e f. x ≤ n → Goes e f)
 goes_kept n side = record {
   same = λ x e l. goes_same e;
   after = λ x a b c p q l. goes_then a b c (p l) (q l);

@@ -16,13 +16,13 @@ use Rattle.lat_machines.specs.values.Answers.{Ended, Again, Running}
 use Rattle.lat_machines.specs.cores.Acts.{Acted, idle, steps_at, call_at, local_at, time_at, move_at}
 use Rattle.lat_machines.specs.cores.Hearing.{HeardAct, foreign, names, fits_kind, numbers_at, run_frame, run_at, hear_run, hear_stop_at, hear_reply_at, Repeats, Makes, Refuses, start_fact, start_at}
 use Rattle.lat_machines.specs.cores.Cores.{Core}
-use Rattle.lat_laws.proofs.rounds.counting.Kept.{Kept, to_time, to_run, to_again, to_stop, to_reply}
+use Rattle.lat_laws.proofs.rounds.counting.Kept.{KeptByActs, to_time, to_run, to_again, to_stop, to_reply}
 
 pub record Turned (R : ℕ → Sessions → Sessions → Type 0) (t : Table) (v : Table) : Type 0 where
   pub drawn : t.drawn ≤ v.drawn
   pub at : (x : ℕ) → R x (t.circuit_at x).end.half.sessions (v.circuit_at x).end.half.sessions
 
-module _ (n : ℕ) (side : Bool) (R : ℕ → Sessions → Sessions → Type 0) (c : Kept n side R) where
+module _ (n : ℕ) (side : Bool) (R : ℕ → Sessions → Sessions → Type 0) (c : KeptByActs n side R) where
   pub turned_same : (t : Table) → Turned R t t
   turned_same t = record { drawn = omega arith; at = λ x. c.same x (t.circuit_at x).end.half.sessions }
 
@@ -93,7 +93,7 @@ module _ (n : ℕ) (side : Bool) (R : ℕ → Sessions → Sessions → Type 0) 
 
 -- What holds of a core, whatever its circuits do and whatever calls are made but those that make sessions or accept them
 pub record Holds (n : ℕ) (side : Bool) (R : ℕ → Sessions → Sessions → Type 0) (Allows : Call → Type 0) (P : Core → Type 0) : Type 0 where
-  pub kept : Kept n side R
+  pub kept : KeptByActs n side R
   pub calls : (x : ℕ) (e : Sessions) (k : Call) → Allows k → R x e (call e k)
   pub drawn : (c : Core) → P c → n ≤ c.circuits.drawn
   pub turns : (c d : Core) → P c → d.seats ≡ c.seats → Turned R c.circuits d.circuits → P d

@@ -14,7 +14,7 @@ use Rattle.lat_model.specs.ends.Starting.{void_sessions}
 use Rattle.lat_model.proofs.sessions.Words.{upd_other, items-append}
 use Rattle.lat_model.proofs.sessions.Starts.{free_goes, free_cases, turned_not_starts}
 use Rattle.lat_model.proofs.sessions.Alone.{some_is, none_is}
-use Rattle.lat_laws.proofs.rounds.counting.Kept.{Kept}
+use Rattle.lat_laws.proofs.rounds.counting.Kept.{KeptByActs}
 use Rattle.lat_laws.proofs.rounds.counting.Steps.{pack_by}
 use Rattle.lat_laws.proofs.rounds.ready.Laters.{open_goes, takes_goes, waits_goes}
 
@@ -345,7 +345,7 @@ hears_go (x ∷ xs) e = go (hear_slot e x) refl (λ f. hears_go xs f)
     go (Some f) q ih = goes_then e f (hear_all xs f).after (slot_goes e f x q) (ih f)
 
 -- of all circuits up to the n-th
-pub goes_kept : (n : ℕ) (side : Bool) → Kept n side (λ x e f. x ≤ n → Goes e f)
+pub goes_kept : (n : ℕ) (side : Bool) → KeptByActs n side (λ x e f. x ≤ n → Goes e f)
 goes_kept n side = record {
   same = λ x e l. goes_same e;
   after = λ x a b c p q l. goes_then a b c (p l) (q l);

@@ -18,7 +18,7 @@ use Rattle.lat_machines.specs.values.Events.{Numbers}
 use Rattle.lat_machines.specs.values.Answers.{Again, Running, Ended}
 use Rattle.lat_machines.specs.cores.Acts.{Acted, idle, steps_at, local_at, time_at, move_at}
 use Rattle.lat_machines.specs.cores.Hearing.{HeardAct, foreign, names, fits_kind, numbers_at, run_frame, run_at, hear_run, hear_stop_at, hear_reply_at}
-use Rattle.lat_laws.proofs.rounds.counting.Kept.{Kept, to_time, to_run, to_stop, to_reply}
+use Rattle.lat_laws.proofs.rounds.counting.Kept.{KeptByActs, to_time, to_run, to_stop, to_reply}
 use Rattle.lat_laws.proofs.rounds.counting.Steps.{pack_by, hear_by}
 use Rattle.lat_laws.proofs.tales.steps.Tables.{sess}
 
@@ -48,7 +48,7 @@ ids_form e k room x o m = go (nat_eq (e.session k).generation 0)
 abbrev Keeping : ℕ → Sessions → Sessions → Type 0
 Keeping x e f = x ≤ 0 → KeepsIds e f
 
-ids_kept : Kept 0 true Keeping
+ids_kept : KeptByActs 0 true Keeping
 ids_kept = record {
   same = λ x e l. ids_same e;
   after = λ x a b c p q l. ids_then a b c (p l) (q l);

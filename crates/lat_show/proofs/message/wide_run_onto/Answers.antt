@@ -3,5 +3,5 @@ use Rattle.std.proofs.lemmas.Grind.{common_steps}
 use Rattle.lat_show.proofs.message.wide_run_onto.Goals as goal
 
 pub returns : goal.returns
-unfolding Rattle.lat_show.specs.MessageShown.wide_run_shown
+unfolding Rattle.lat_show.specs.MessagePrinted.wide_run_printed
 returns c = grind (arith, common_steps)

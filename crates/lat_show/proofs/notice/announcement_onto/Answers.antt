@@ -3,5 +3,5 @@ use Rattle.std.proofs.lemmas.Grind.{common_steps}
 use Rattle.lat_show.proofs.notice.announcement_onto.Goals as goal
 
 pub returns : goal.returns
-unfolding Rattle.lat_show.specs.NoticeShown.announcement_shown
+unfolding Rattle.lat_show.specs.NoticePrinted.announcement_printed
 returns c = grind (arith, common_steps)

@@ -1,8 +1,8 @@
 use Rattle.std.proofs.Common.{arith}
 use Rattle.std.proofs.lemmas.Grind.{common_steps}
-use Rattle.lat_show.specs.NoticeShown.{status_shown}
+use Rattle.lat_show.specs.NoticePrinted.{status_printed}
 use Rattle.lat_show.proofs.notice.status_onto.Goals as goal
 
 pub returns : goal.returns
-unfolding status_shown
+unfolding status_printed
 returns c = grind (arith, common_steps)

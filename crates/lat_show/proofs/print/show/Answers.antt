@@ -1,8 +1,8 @@
 use Rattle.std.proofs.Common.{◌≡◌, sym, length, string_bytes, rules, true, false}
 use Rattle.std.specs.Prelude.{None, Some, ◌==◌}
 use Rattle.lat_text.specs.Lines.{Line, lines_of, no_line}
-use Rattle.lat_show.specs.ShowOf.{payload_of, lines_shown}
-use Rattle.lat_show.proofs.LinesShown.{line_added, line_is_wrong, cut_is_wrong, end_is_right}
+use Rattle.lat_show.specs.ShowOf.{payload_of, lines_printed}
+use Rattle.lat_show.proofs.LinesPrinted.{line_added, line_is_wrong, cut_is_wrong, end_is_right}
 use Rattle.lat_show.proofs.print.show.Goals as goal
 
 pub loop-line-preserved : goal.loop-line-preserved
@@ -11,7 +11,7 @@ loop-line-preserved c =
     let is : lines_of l.rest.now ≡ Line c.in-Some.line.now (lines_of c.in-Some.behind.now) = search rules in
     let found : payload_of c.in-Some.line.now ≡ Some c.in-Some-2.payload.items = sym (rw c.in-Some-2.is at c.in_ok-payload.ensures) in
     record {
-      shown = line_added (lines_shown 1 (lines_of c.args.input.now)) (string_bytes l.text) (string_bytes c.payload_onto.new.text) l.number c.in-Some.line.now c.in-Some-2.payload.items
+      shown = line_added (lines_printed 1 (lines_of c.args.input.now)) (string_bytes l.text) (string_bytes c.payload_onto.new.text) l.number c.in-Some.line.now c.in-Some-2.payload.items
           c.deref.result.now (lines_of l.rest.now) (lines_of c.in-Some.behind.now) l.invariant.shown is found c.deref.ensures.value c.in_ok-payload_onto.ensures;
       numbers = search (rules, l.invariant.numbers);
     }

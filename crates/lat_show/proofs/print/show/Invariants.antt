@@ -1,12 +1,12 @@
 use Rattle.std.proofs.Common.{◌≡◌, ◌+◌, ◌≤◌, length, string_bytes}
 use Rattle.lat_text.specs.Lines.{lines_of}
-use Rattle.lat_show.specs.ShowOf.{shown_before, lines_shown}
+use Rattle.lat_show.specs.ShowOf.{shown_before, lines_printed}
 use Rattle.lat_show.proofs.print.show.Given as goal
 
 abbrev pub invariant-loop-line : goal.invariant-loop-line
 invariant-loop-line l =
     record {
-      shown : lines_shown 1 (lines_of l.input) ≡ shown_before (string_bytes l.text) (lines_shown l.number (lines_of l.rest));
+      shown : lines_printed 1 (lines_of l.input) ≡ shown_before (string_bytes l.text) (lines_printed l.number (lines_of l.rest));
       numbers : l.number + length l.rest ≤ length l.input + 1;
     }
 

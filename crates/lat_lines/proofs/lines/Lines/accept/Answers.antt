@@ -2,7 +2,7 @@ use Rattle.std.proofs.Common.{◌≡◌, true, false, map, sym, ap, subst, ◌�
 use Rattle.lat_model.specs.sessions.Calls.{Answer}
 use Rattle.lat_model.specs.ends.End.{lives}
 use Rattle.lat_machines.specs.cores.Cores.{Core}
-use Rattle.lat_queue.specs.Histories.{key_in}
+use Rattle.lat_queue.specs.Histories.{key_shown}
 use Rattle.lat_lines.specs.circuits.Stands.{calling}
 use Rattle.lat_lines.specs.Kept.{Kept, side_of}
 use Rattle.lat_lines.specs.Stands.{Stands, freed_between}
@@ -41,8 +41,8 @@ returns-clause-freed c = λ d st.
     let call = Answer c.args.id in
     let later = calling_later (side_of k) x call d (ok_of k d st2) in
     let did = rested k c.answer.new.self c.rest.new.self d (calling (side_of k) x call d) st2 (c.answer.ensures.state d st2.circuits) later (answer_calm (side_of k) x c.args.id d) c.rest.ensures in
-    subst (λ (z : Kept). map key_in c.seat.new.self.freed ≡ freed_between d (accepted_core (side_of z) c.args.line x c.args.id d)) c.self.view_is
-    (ap (map key_in) c.seat.ensures.freed ∙ did.freed ∙ accepted_frees (side_of k) c.args.line x c.args.id d)
+    subst (λ (z : Kept). map key_shown c.seat.new.self.freed ≡ freed_between d (accepted_core (side_of z) c.args.line x c.args.id d)) c.self.view_is
+    (ap (map key_shown) c.seat.ensures.freed ∙ did.freed ∙ accepted_frees (side_of k) c.args.line x c.args.id d)
 
 pub returns-clause-same : goal.returns-clause-same
 returns-clause-same c =

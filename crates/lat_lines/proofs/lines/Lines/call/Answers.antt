@@ -17,7 +17,7 @@ use Rattle.lat_lines.specs.AnswerValues.{answer_shown}
 use Rattle.lat_lines.specs.Calls.{call_on, event_of, call_answer}
 use Rattle.lat_lines.specs.Shown.{shown}
 use Rattle.lat_lines.proofs.Calling.{call_agrees, agrees_at}
-use Rattle.lat_lines.proofs.CallSteps.{settled_calling, says_called, refused, is_seat}
+use Rattle.lat_lines.proofs.CallSteps.{reaped_calling, says_called, refused, is_seat}
 use Rattle.lat_lines.proofs.resting.Calls.{call_calm}
 use Rattle.lat_lines.proofs.Unchanged.{lines_same, clear_same, moment_same}
 use Rattle.lat_lines.proofs.lines.Lines.call.Goals as goal
@@ -55,7 +55,7 @@ returns-in-Ok-clause-says c =
     let is = is_seat k c.args.line s (ap (λ z. seat_or z c.args.line) c.self.view_is ∙ sym c.seat_on.ensures ∙ c.in-Ok.is) in
     subst (λ (z : Kept). SimulatesCall (λ d. on_line z.lines d c.args.line (λ t. call_on (side_of z) d t a)) z c.reap_unless.new.self c.answer_of_call.result) c.self.view_is
     (says_called k c.reap_unless.new.self c.args.line s (λ d t. call_on (side_of k) d t a) (call_of s.session.session a) c.answer_of_call.result is
-    (λ d st. settled_calling k c.reap_unless.new.self c.call_session-answer.new.self s.session.circuit (call_of s.session.session a) _ d st c.call_session-answer.ensures.same.ids (c.call_session-answer.ensures.state d st.circuits)
+    (λ d st. reaped_calling k c.reap_unless.new.self c.call_session-answer.new.self s.session.circuit (call_of s.session.session a) _ d st c.call_session-answer.ensures.same.ids (c.call_session-answer.ensures.state d st.circuits)
     c.reap_unless.ensures.state c.reap_unless.ensures.circuits (λ t. call_calm (side_of k) s.session.circuit s.session.session a d
     (sym (ap is_free (c.state.ensures.model (calling (side_of k) s.session.circuit (call_of s.session.session a) d) (c.call_session-answer.ensures.state d st.circuits))) ∙ sym c.is_free-is_over.ensures ∙ not-true _ t)))
     (λ d t st h p q.

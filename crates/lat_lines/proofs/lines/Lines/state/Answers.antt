@@ -1,6 +1,6 @@
 use Rattle.std.proofs.Common.{◌≡◌, find, sym, ap, subst, ◌∙◌}
 use Rattle.lat_machines.specs.cores.Lines.{line_state}
-use Rattle.lat_stream.specs.Kept.{state_shown}
+use Rattle.lat_stream.specs.Kept.{state_of}
 use Rattle.lat_lines.specs.Kept.{Kept, side_of}
 use Rattle.lat_lines.specs.Stands.{Stands}
 use Rattle.lat_lines.specs.Shown.{shown}
@@ -13,7 +13,7 @@ returns-in-Some c = λ d st.
     let k = shown c.self.inside in
     let st2 : Stands k d = subst (λ z. Stands z d) (sym c.self.view_is) st in
     let f : HasSeat d c.args.line c.in-Some.seat = subst (Found d c.args.line) c.in-Some.is (found k d c.args.line st2 c.seat_of.result (c.seat_of.ensures ∙ ap (find (is_seat_of c.args.line)) c.as_slice.ensures.value)) in
-    subst (λ (z : Kept). c.state.result ≡ state_shown (line_state (side_of z) d c.args.line)) c.self.view_is
+    subst (λ (z : Kept). c.state.result ≡ state_of (line_state (side_of z) d c.args.line)) c.self.view_is
     (c.state.ensures.model d st2.circuits ∙ state_told k d c.args.line c.in-Some.seat st2 f (c.state.ensures.side d st2.circuits))
 
 pub returns-in-None : goal.returns-in-None

@@ -12,7 +12,7 @@ use Rattle.lat_lines.specs.Shown.{shown}
 use Rattle.lat_lines.proofs.Standing.{refilled}
 use Rattle.lat_lines.proofs.Telling.{takes_at}
 use Rattle.lat_lines.proofs.Calling.{taking, giving, take_agrees, agrees_at}
-use Rattle.lat_lines.proofs.CallSteps.{settled_calling, says_called, refused, is_seat}
+use Rattle.lat_lines.proofs.CallSteps.{reaped_calling, says_called, refused, is_seat}
 use Rattle.lat_lines.proofs.resting.Calls.{take_calm}
 use Rattle.lat_lines.proofs.Unchanged.{lines_same, clear_same, moment_same}
 use Rattle.lat_lines.proofs.lines.Lines.take.Goals as goal
@@ -28,7 +28,7 @@ returns-in_ok-items-in-Ok-clause-says c =
     let whole = refilled c.in_ok-items-in-Ok.items.len out c.in_ok-items-in-Ok.items.items (c.take-answer.ensures.places ∙ c.as_mut_slice.ensures.len) (sym c.in_ok-items-in-Ok.items.ok.0) in
     subst (λ (z : Kept). SimulatesCall (λ d. on_line z.lines d c.args.line (λ t. take_on (side_of z) d t c.args.n)) z c.reap_unless.new.self c.answer_of_take.result) c.self.view_is
     (says_called k c.reap_unless.new.self c.args.line s (λ d t. take_on (side_of k) d t c.args.n) (Take s.session.session (length given)) c.answer_of_take.result is
-    (λ d st. settled_calling k c.reap_unless.new.self c.take-answer.new.self s.session.circuit (Take s.session.session (length given)) _ d st c.take-answer.ensures.same.ids (c.take-answer.ensures.state d st.circuits)
+    (λ d st. reaped_calling k c.reap_unless.new.self c.take-answer.new.self s.session.circuit (Take s.session.session (length given)) _ d st c.take-answer.ensures.same.ids (c.take-answer.ensures.state d st.circuits)
     c.reap_unless.ensures.state c.reap_unless.ensures.circuits (λ t. take_calm (side_of k) s.session.circuit s.session.session (length given) d
     (sym (ap is_free (c.state.ensures.model (calling (side_of k) s.session.circuit (Take s.session.session (length given)) d) (c.take-answer.ensures.state d st.circuits))) ∙ sym c.is_free-is_over.ensures ∙ not-true _ t)))
     (λ d t st h p q.

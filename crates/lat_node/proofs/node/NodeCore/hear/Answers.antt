@@ -12,4 +12,4 @@ returns-in-Ok-clause-steps g c =
 
 pub returns-in-Err-clause-steps : goal.returns-in-Err-clause-steps
 returns-in-Err-clause-steps g c =
-    c.misread.ensures.steps (reading_of c.args.payload.now) (address c.args.from.0) c.args.out.now (answers_as_read c.args.payload.now (Err c.in-Err.fault) c.in-Err.ensures.reading)
+    c.pass_over.ensures.steps (reading_of c.args.payload.now) (address c.args.from.0) c.args.out.now (answers_as_read c.args.payload.now (Err c.in-Err.fault) c.in-Err.ensures.reading)

@@ -3,7 +3,7 @@ use Rattle.std.proofs.lemmas.Bool.{true≢false}
 use Rattle.lat_model.specs.sessions.Session.{Session, waits}
 use Rattle.lat_model.specs.sessions.Sessions.{named}
 use Rattle.lat_model.specs.sessions.Calls as calls
-use Rattle.lat_stream.specs.Kept.{kept_of}
+use Rattle.lat_stream.specs.Kept.{stream_of}
 use Rattle.lat_stream.specs.Sound.{Sound}
 use Rattle.lat_session.specs.Table.{Table, state_in, waits_as, reason_of}
 use Rattle.lat_session.proofs.Reasons.{left_reasons}
@@ -23,12 +23,12 @@ returns-clause-state c = λ e st.
     let was = kept_is c.args.self.now c.self.inside.sessions e c.in-Some.at c.args.id c.reach-session.result.now (ap (λ (t : Table). t.sessions) c.self.view_is) c.in-Some.ensures.0 c.in-Some.ensures.1 c.reach-session.ensures.value st in
     let asked : IsAsked e c.args.id = asked_told c.args.self.now e c.in-Some.at c.args.id st c.in-Some.ensures.0 c.in-Some.ensures.1 c.requires in
     let sound : Sound false e.ceiling s = subst (λ m. Sound m e.ceiling s) asked.slave (sound_at c.args.self.now e (e.at_id c.args.id) st) in
-    let made = c.answer.ensures e.ceiling s sound (was ∙ ap (λ m. kept_of m e.ceiling s) asked.slave) in
+    let made = c.answer.ensures e.ceiling s sound (was ∙ ap (λ m. stream_of m e.ceiling s) asked.slave) in
     let asks_now = ap (λ (t : Table). t.asks) c.self.view_is ∙ ap (λ (t : Table). t.asks) st.is in
     let asks = c.let_go.ensures.items ∙ ap (filter (λ a. not (waits_as c.args.id a))) asks_now ∙ answered_asks c.args.self.now e c.args.id st asked in
     changed_stands c.args.self.now _ e (calls.Answer c.args.id) c.in-Some.at c.args.id c.answer.new.self (not e.master && waits s) next c.let_go.new.asks.items st c.in-Some.ensures.0 c.in-Some.ensures.1 refl
     (λ h. asked.used) (λ h. asks) (λ h. absurd (true≢false (sym (takes_asked e c.args.id asked) ∙ h)))
-    (λ h. made ∙ ap (λ m. kept_of m e.ceiling next) (sym asked.slave)) (λ h. absurd (true≢false (sym (takes_asked e c.args.id asked) ∙ h)))
+    (λ h. made ∙ ap (λ m. stream_of m e.ceiling next) (sym asked.slave)) (λ h. absurd (true≢false (sym (takes_asked e c.args.id asked) ∙ h)))
     (ap (λ (t : Table). record t { sessions = slice_set t.sessions c.in-Some.at c.answer.new.self; asks = c.let_go.new.asks.items }) c.self.view_is)
 
 pub invariant_of-self : goal.invariant_of-self

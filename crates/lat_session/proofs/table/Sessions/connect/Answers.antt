@@ -3,7 +3,7 @@ use Rattle.std.proofs.lemmas.Result.{err_from_is_err_and}
 use Rattle.lat_model.specs.sessions.Calls.{new_call}
 use Rattle.lat_model.specs.sessions.Sessions.{held, least_free}
 use Rattle.lat_model.proofs.sessions.Made.{least_some}
-use Rattle.lat_stream.specs.Kept.{Kept, kept_of}
+use Rattle.lat_stream.specs.Kept.{Kept, stream_of}
 use Rattle.lat_stream.specs.declared.calls.SessionFault.TheVariants.{Full}
 use Rattle.lat_session.specs.Table.{Table}
 use Rattle.lat_session.proofs.Begins.{free_at, none_free, connect_stands}
@@ -37,5 +37,5 @@ returns-clause-state c = λ e st.
     let was = kept_is c.args.self.now c.self.inside.sessions e c.in_ok-at.at (least_free e) c.reach-session.result.now (ap (λ (t : Table). t.sessions) c.self.view_is) at.1 at.2 c.reach-session.ensures.value st in
     let made = c.call.ensures (least_free e) (least_some e at.0 st.good.agreed) in
     connect_stands c.args.self.now _ e c.in_ok-at.at c.call.new.self c.args.service.now c.args.request st master at.0 at.1 at.2
-    (made ∙ ap (λ (k : Kept). kept_of true k.credits.ceiling (new_call e c.args.service.now c.args.request)) was)
+    (made ∙ ap (λ (k : Kept). stream_of true k.credits.ceiling (new_call e c.args.service.now c.args.request)) was)
     (ap (λ (t : Table). record t { sessions = slice_set t.sessions c.in_ok-at.at c.call.new.self }) c.self.view_is)

@@ -5,7 +5,7 @@ use Rattle.lat_model.specs.sessions.Hearing.{heard}
 use Rattle.lat_model.specs.sessions.Session.{Session, waits}
 use Rattle.lat_model.specs.sessions.Sessions.{named}
 use Rattle.lat_model.specs.sessions.Slots as sessions
-use Rattle.lat_stream.specs.Kept.{kept_of}
+use Rattle.lat_stream.specs.Kept.{stream_of}
 use Rattle.lat_stream.specs.Sound.{Sound}
 use Rattle.lat_session.specs.Hears.{is_calling}
 use Rattle.lat_session.specs.Table.{Table, state_in}
@@ -34,7 +34,7 @@ returns-clause-hears c = λ e from st.
     let b : (e.master && waits s) ≡ true = sym (c.calling_place.ensures.model e st) ∙ ap is_some c.in_ok-at.ensures.ok_part in
     let m : e.master ≡ true = (and_parts e.master (waits s) b).0 in
     let sound : Sound true e.ceiling s = subst (λ z. Sound z e.ceiling s) m (sound_at c.args.self.now e (e.at_id c.args.to) st) in
-    let made = c.hear_reject.ensures e.ceiling s c.args.to from sound (was ∙ ap (λ z. kept_of z e.ceiling s) m) in
+    let made = c.hear_reject.ensures e.ceiling s c.args.to from sound (was ∙ ap (λ z. stream_of z e.ceiling s) m) in
     reject_hears c.args.self.now _ e c.in_ok-at.at c.args.to from c.args.reason c.hear_reject.new.self _ st at.0 at.1 b refl
-    (made ∙ ap (λ z. kept_of z e.ceiling (heard s (sessions.Reject c.args.to from c.args.reason))) (sym m))
+    (made ∙ ap (λ z. stream_of z e.ceiling (heard s (sessions.Reject c.args.to from c.args.reason))) (sym m))
     (ap (λ (t : Table). record t { sessions = slice_set t.sessions c.in_ok-at.at c.hear_reject.new.self }) c.self.view_is)

@@ -5,7 +5,7 @@ use Rattle.lat_model.specs.sessions.Hearing.{heard}
 use Rattle.lat_model.specs.sessions.Session.{Session, waits}
 use Rattle.lat_model.specs.sessions.Sessions.{named}
 use Rattle.lat_model.specs.sessions.Slots as sessions
-use Rattle.lat_stream.specs.Kept.{kept_of}
+use Rattle.lat_stream.specs.Kept.{stream_of}
 use Rattle.lat_stream.specs.Sound.{Sound}
 use Rattle.lat_session.specs.Hears.{is_calling}
 use Rattle.lat_session.specs.Table.{Table, state_in}
@@ -36,11 +36,11 @@ returns-clause-hears c = λ e service request st.
     let parts = and_parts (e.master && waits s) (not (any_running e c.args.from)) all in
     let m : e.master ≡ true = (and_parts e.master (waits s) parts.0).0 in
     let sound : Sound true e.ceiling s = subst (λ z. Sound z e.ceiling s) m (sound_at c.args.self.now e (e.at_id c.args.to) st) in
-    let old = was ∙ ap (λ z. kept_of z e.ceiling s) m in
+    let old = was ∙ ap (λ z. stream_of z e.ceiling s) m in
     let ok = c.hear_start.ensures.answer e.ceiling s sound old in
     let made = on_ok c.hear_start.result _ (c.hear_start.ensures.state e.ceiling s c.args.to service request sound old) ok in
     let some : c.args.from ≢ 0 = λ z. absurd (omega (arith, c.requires.1, z)) in
     start_hears c.args.self.now _ e c.in_ok-at.at c.args.to c.args.from c.args.credits c.args.size service request c.hear_start.new.self c.hear_start.result st some c.ranges.from.fits at.0 at.1 parts.0
     (not-true (any_running e c.args.from) parts.1) ok
-    (made ∙ ap (λ z. kept_of z e.ceiling (heard s (sessions.Start c.args.to c.args.from c.args.credits c.args.size service request))) (sym m))
+    (made ∙ ap (λ z. stream_of z e.ceiling (heard s (sessions.Start c.args.to c.args.from c.args.credits c.args.size service request))) (sym m))
     (ap (λ (t : Table). record t { sessions = slice_set t.sessions c.in_ok-at.at c.hear_start.new.self }) c.self.view_is)

@@ -6,7 +6,7 @@ use Rattle.lat_stream.specs.Kept.{item_of}
 use Rattle.lat_model.specs.sessions.Session.{Session, take_open}
 use Rattle.lat_model.specs.sessions.Sessions.{named}
 use Rattle.lat_model.specs.sessions.Calls as calls
-use Rattle.lat_stream.specs.Kept.{kept_of}
+use Rattle.lat_stream.specs.Kept.{stream_of}
 use Rattle.lat_stream.specs.declared.calls.SessionFault.TheVariants.{Closed}
 use Rattle.lat_session.specs.Table.{Table, waiting_in}
 use Rattle.lat_session.proofs.Touch.{kept_is, read_here, nothing_here, used, placed_at, placed_nowhere}
@@ -38,7 +38,7 @@ returns-clause-state c = λ e st.
     let is = c.take.ensures.state e.master e.ceiling s (sound_at c.args.self.now e (e.at_id c.args.id) st) was in
     touched_stands c.args.self.now _ e (calls.Take c.args.id (length c.args.out.now)) c.in_ok-at.at c.args.id c.take.new.self (take_open s) next st at.0 at.1 refl
     (λ h. used e c.args.id (λ (z : Session). take_open z ≡ true) false≢true st.good h) refl refl
-    (λ h. is ∙ ap (λ b. if b then kept_of e.master e.ceiling next else c.reach-session.result.now) h) (λ h. is ∙ ap (λ b. if b then kept_of e.master e.ceiling next else c.reach-session.result.now) h ∙ was)
+    (λ h. is ∙ ap (λ b. if b then stream_of e.master e.ceiling next else c.reach-session.result.now) h) (λ h. is ∙ ap (λ b. if b then stream_of e.master e.ceiling next else c.reach-session.result.now) h ∙ was)
     (ap (λ (t : Table). record t { sessions = slice_set t.sessions c.in_ok-at.at c.take.new.self }) c.self.view_is)
 
 pub returns-in_err-at-clause-answer : goal.returns-in_err-at-clause-answer

@@ -1,7 +1,7 @@
 use Rattle.std.proofs.Common.{◌≡◌, ℕ, ◌≤◌, ◌+◌, false, Some, ap, ◌∙◌, arith, le-leb}
 use Rattle.std.proofs.lemmas.Bool.{false≢true}
 use Rattle.lat_base.specs.declared.state.SessionState.TheVariants as kept_states
-use Rattle.lat_stream.specs.Kept.{Kept, kept_of}
+use Rattle.lat_stream.specs.Kept.{Kept, stream_of}
 use Rattle.lat_stream.specs.Steps.{granted}
 use Rattle.lat_model.specs.sessions.Session.{blank}
 use Rattle.lat_stream.proofs.Begun.{asked_is}
@@ -16,7 +16,7 @@ unreachable-requires c =
 
 pub returns : goal.returns
 returns c = λ id generation n.
-    let k : Kept = record (kept_of false c.args.self.now.credits.ceiling blank) { state = kept_states.Asked; peer = c.args.from; size = c.args.size; start = Some c.args.opening } in
+    let k : Kept = record (stream_of false c.args.self.now.credits.ceiling blank) { state = kept_states.Asked; peer = c.args.from; size = c.args.size; start = Some c.args.opening } in
     let e : c.know.new.self ≡ k =
     c.know.ensures
     ∙ ap (λ (k : Kept). record k { peer = c.args.from; size = c.args.size }) c.wait.ensures

@@ -3,7 +3,7 @@ use Rattle.std.proofs.lemmas.Grind.{elements}
 use Rattle.lat_model.specs.sessions.Slots.{items}
 use Rattle.lat_model.specs.sessions.Session.{take_open}
 use Rattle.lat_model.specs.sessions.Calls.{take_count}
-use Rattle.lat_stream.specs.Kept.{Kept, kept_of, item_of}
+use Rattle.lat_stream.specs.Kept.{Kept, stream_of, item_of}
 use Rattle.lat_stream.specs.Steps.{can_take, took}
 use Rattle.lat_stream.proofs.Taken.{can_take_is, took_is, given_is, gives}
 use Rattle.lat_stream.proofs.stream.Stream.take.Goals as goal
@@ -17,7 +17,7 @@ returns-clause-state c = λ m ceiling s h e.
     c.give.ensures.value
     ∙ ap₂ (λ (n : ℕ) (k : Kept). took n k) n e
     ∙ took_is m ceiling s (take_count s (length c.args.out.now)) h o
-    ∙ ap (λ b. cond b (kept_of m ceiling (record s { taken = s.taken + take_count s (length c.args.out.now) })) k) (sym o)
+    ∙ ap (λ b. cond b (stream_of m ceiling (record s { taken = s.taken + take_count s (length c.args.out.now) })) k) (sym o)
 
 pub returns-clause-items : goal.returns-clause-items
 returns-clause-items c = λ m ceiling s h e.

@@ -5,5 +5,5 @@ use Rattle.lat_base.specs.FieldWords.{field_word}
 use Rattle.lat_text.specs.Line.{line}
 
 -- the line that names the first bad field and its place
-abbrev pub bad_shown : Bad → List ℕ
-bad_shown bad = line (codes "bad " ∷ field_word bad.field ∷ codes " " ∷ decimal bad.at ∷ [])
+abbrev pub bad_printed : Bad → List ℕ
+bad_printed bad = line (codes "bad " ∷ field_word bad.field ∷ codes " " ∷ decimal bad.at ∷ [])

@@ -1,4 +1,4 @@
-use Rattle.lat_rows.proofs.make.room_used_again.Goals as goal
+use Rattle.lat_ends.proofs.make.room_used_again.Goals as goal
 
 pub call-requires-clause-timing : goal.call-requires-clause-timing
 call-requires-clause-timing c = c.requires.timing

@@ -7,7 +7,7 @@ use Rattle.lat_model.specs.Lists.{Each}
 use Rattle.lat_machines.specs.cores.Cores.{Core}
 use Rattle.lat_machines.specs.cores.Lines.{over, saturated_count}
 use Rattle.lat_queue.specs.declared.key.Key.{Key}
-use Rattle.lat_queue.specs.Histories.{key_in}
+use Rattle.lat_queue.specs.Histories.{key_shown}
 use Rattle.lat_stream.specs.Kept.{saturated}
 use Rattle.lat_lines.specs.circuits.Kept as circuits
 use Rattle.lat_lines.specs.circuits.Stands as stands
@@ -25,21 +25,21 @@ abbrev pub open_seats : List own.Seat → List own.Seat
 open_seats ss = filter (λ (s : own.Seat). is_none s.session.end) ss
 
 -- what is kept once the sessions were looked at
-abbrev pub settled_kept : Kept → List own.Seat → Kept
-settled_kept k ss = record k {
+abbrev pub reaped_kept : Kept → List own.Seat → Kept
+reaped_kept k ss = record k {
   seats = open_seats ss;
   last = last_after ss k.last;
   finished = finished_after ss k.finished;
   freed = freed_after ss [];
 }
 
-pub settled_same : (k : Kept) (ss seats : List own.Seat) (last : List (Option base.LineSession)) (finished : ℕ) (freed : List Key) → seats ≡ open_seats ss → last ≡ last_after ss k.last → finished ≡ finished_after ss k.finished → freed ≡ freed_after ss []
-    → settled_kept k ss ≡ record k { seats = seats; last = last; finished = finished; freed = freed }
-settled_same k ss seats last finished freed a b c d =
-    ap (λ z. record (settled_kept k ss) { seats = z }) (sym a)
-    ∙ ap (λ z. record (settled_kept k ss) { seats = seats; last = z }) (sym b)
-    ∙ ap (λ z. record (settled_kept k ss) { seats = seats; last = last; finished = z }) (sym c)
-    ∙ ap (λ z. record (settled_kept k ss) { seats = seats; last = last; finished = finished; freed = z }) (sym d)
+pub reaped_same : (k : Kept) (ss seats : List own.Seat) (last : List (Option base.LineSession)) (finished : ℕ) (freed : List Key) → seats ≡ open_seats ss → last ≡ last_after ss k.last → finished ≡ finished_after ss k.finished → freed ≡ freed_after ss []
+    → reaped_kept k ss ≡ record k { seats = seats; last = last; finished = finished; freed = freed }
+reaped_same k ss seats last finished freed a b c d =
+    ap (λ z. record (reaped_kept k ss) { seats = z }) (sym a)
+    ∙ ap (λ z. record (reaped_kept k ss) { seats = seats; last = z }) (sym b)
+    ∙ ap (λ z. record (reaped_kept k ss) { seats = seats; last = last; finished = z }) (sym c)
+    ∙ ap (λ z. record (reaped_kept k ss) { seats = seats; last = last; finished = finished; freed = z }) (sym d)
 
 -- the lines of the sessions that were looked at
 
@@ -87,8 +87,8 @@ all_open (s ∷ ss) = by s.session.end refl (all_open ss)
     by None e h = (e, h)
     by (Some x) e h = h
 
-pub holds_settled : (k : Kept) (ss : List own.Seat) → Holds k → AllZip (Looks k.circuits) k.seats ss → Holds (settled_kept k ss)
-holds_settled k ss h z = record {
+pub holds_reaped : (k : Kept) (ss : List own.Seat) → Holds k → AllZip (Looks k.circuits) k.seats ss → Holds (reaped_kept k ss)
+holds_reaped k ss h z = record {
   lines = h.lines;
   each = each_open (λ (s : own.Seat). IsLine k.lines s.line) ss (lines_looked k.circuits k.lines k.seats ss z h.each);
   apart = apart_open ss (subst Apart (sym (same_lines k.circuits k.seats ss z)) h.apart);
@@ -102,9 +102,9 @@ held_shown : (k : circuits.Kept) (ss : List own.Seat) → Each (λ (s : own.Seat
 held_shown k [] e = tt
 held_shown k (s ∷ ss) e = (e.0, held_shown k ss e.1)
 
-pub settled : (k : Kept) (ss : List own.Seat) (c d : Core) → Holds k → Seated k c → Covers k → stands.Stands k.circuits d → CoreLater c d → AllZip (Looks k.circuits) k.seats ss
-    → Seated (settled_kept k ss) d × (map key_in (freed_after ss []) ≡ freed_between c d)
-settled k ss c d holds seated covers st went z = (
+pub reaped : (k : Kept) (ss : List own.Seat) (c d : Core) → Holds k → Seated k c → Covers k → stands.Stands k.circuits d → CoreLater c d → AllZip (Looks k.circuits) k.seats ss
+    → Seated (reaped_kept k ss) d × (map key_shown (freed_after ss []) ≡ freed_between c d)
+reaped k ss c d holds seated covers st went z = (
   record {
     seats = filter_shown ss ∙ ap (filter unended) shown ∙ later_unended k.circuits k.lines c d 0 c.seats b seated.each ∙ ap (present d 0) (sym went.seats);
     last = λ line l. last_told k.circuits k.lines c d line ss k.last b seated.each seated.latest latest went.seats holds.last (lines_looked k.circuits k.lines k.seats ss z holds.each) l shown (seated.last line l);

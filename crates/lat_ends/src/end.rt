@@ -1,14 +1,14 @@
 //! One end of a circuit, and its calls in words.
 
-ghost use Rattle.std.specs.Prelude.{◌≡◌};
+ghost use Rattle.std.specs.Prelude.{◌≡◌, ◌≤◌};
 
 use crate::print::{count_onto, done_onto, due_onto, ended_onto, life_onto, maybe_onto};
 use lat_base::{Item, Memory, Name, OutBox, SessionState};
 use lat_circuit::Circuit;
 use lat_frames::{Message, message_ok};
 use lat_script::{
-    ScriptFault, byte, bytes, filling, heard_onto, name, no_command, number_onto, setting, short,
-    state_onto, took_onto, totals_onto, word,
+    ScriptFault, byte, byte_within, bytes, filling, heard_onto, name, no_command, number_onto,
+    setting, short, state_onto, took_onto, totals_onto, word,
 };
 use std::alloc::{AllocError, Global};
 
@@ -83,8 +83,10 @@ impl End {
         id: u8,
         reason: u8,
         text: &mut String,
-    ) -> Result<(), AllocError> {
-        if reason > 15 || !self.circuit.lives() || self.circuit.state(id) != SessionState::Asked {
+    ) -> Result<(), AllocError>
+        requires { reason ≤ 15 }
+    {
+        if !self.circuit.lives() || self.circuit.state(id) != SessionState::Asked {
             return text.push_str(NOT_NOW);
         }
         self.circuit.reject(id, reason);
@@ -173,7 +175,7 @@ impl End {
         match word(line, 0) {
             "connect" => self.connect(alloc, &name(line, 1)?, text)?,
             "answer" => self.answer(alloc, byte(line, 1)?, text)?,
-            "reject" => self.reject(alloc, byte(line, 1)?, byte(line, 2)?, text)?,
+            "reject" => self.reject(alloc, byte(line, 1)?, byte_within(0, 15, line, 2)?, text)?,
             "asked" => self.asked(text)?,
             _ => return Err(no_command(0)),
         }

@@ -1,6 +1,6 @@
 use Rattle.std.proofs.Common.{sym, ap, ◌∙◌}
 use Rattle.lat_circuit.specs.Kept.{Facts}
-use Rattle.lat_rows.proofs.make.answered.Goals as goal
+use Rattle.lat_ends.proofs.make.answered.Goals as goal
 
 pub answer-requires-clause-timing : goal.answer-requires-clause-timing
 answer-requires-clause-timing c = c.requires.timing

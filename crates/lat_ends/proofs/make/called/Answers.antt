@@ -1,6 +1,6 @@
 use Rattle.std.proofs.Common.{sym, ap, ◌∙◌}
 use Rattle.lat_circuit.specs.Kept.{Facts}
-use Rattle.lat_rows.proofs.make.called.Goals as goal
+use Rattle.lat_ends.proofs.make.called.Goals as goal
 
 pub call-requires-clause-timing : goal.call-requires-clause-timing
 call-requires-clause-timing c = c.requires.timing

@@ -1,5 +1,5 @@
-use Rattle.lat_pair.proofs.Offers.{either_offers}
-use Rattle.lat_pair.proofs.setup.offer_more.Goals as goal
+use Rattle.lat_cores.proofs.Offers.{either_offers}
+use Rattle.lat_cores.proofs.setup.offer_more.Goals as goal
 
 pub returns : goal.returns
 returns c =

@@ -27,7 +27,7 @@ pub struct Setup {
 impl Model for Setup {
     ghost use Rattle.lat_node.specs.Config as nodes;
     ghost use Rattle.lat_server.specs.Config as servers;
-    ghost use Rattle.lat_pair.specs.Setups.{Setups};
+    ghost use Rattle.lat_cores.specs.Setups.{Setups};
 
     ghost Value = { Setups };
 
