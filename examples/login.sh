@@ -8,6 +8,8 @@
 # tmux capture-pane -p -t lat
 set -eu
 latd=${1:-$(dirname "$0")/../crates/latd/out/latd}
+[ -x "$latd" ] || { echo "build latd first: (cd crates/latd && rt run)"; exit 1; }
+command -v socat > /dev/null || { echo "this needs socat"; exit 1; }
 "$latd" --role node --name VAX1 --address aa0004000204 --port 27003 --lines 1 --line-port 27203 --service VAX --sessions 1 27002 > /dev/null &
 node=$!
 "$latd" --role server --name TS1 --address aa0004000104 --port 27002 --lines 1 --line-port 27103 --service VAX --sessions 1 27003 > /dev/null &

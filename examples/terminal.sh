@@ -7,6 +7,7 @@
 # It needs a built `latd` ((cd crates/latd && rt run) builds it), OpenBSD's `nc` and `mktemp`, and ends by itself within seconds.
 set -eu
 latd=${1:-$(dirname "$0")/../crates/latd/out/latd}
+[ -x "$latd" ] || { echo "build latd first: (cd crates/latd && rt run)"; exit 1; }
 command -v nc > /dev/null || { echo "this needs nc (OpenBSD's, which has -N)"; exit 1; }
 folder=$(mktemp -d)
 node= server=

@@ -66,6 +66,8 @@ def turns(first, second):
 
 
 def main():
+    if len(sys.argv) != 2 or sys.argv[1].startswith("-"):
+        raise SystemExit(__doc__)
     latd = sys.argv[1]
     base = free_ports(30)
     ports = {"VAX1": base, "VAX2": base + 1}
