@@ -6,13 +6,13 @@
 //! are printed as they are; of a command the line itself is printed behind `> `, and then what it answers. The ends are `m`,
 //! the master, and `s`, the slave. Moments are milliseconds.
 //!
-//! Numbers are in decimal, without a sign or a needless 0. TIMER is 1 to 100, KEEPALIVE 1 to 255, SESSIONS 1 to 64 and CEILING 1 to
-//! 15; EXTRA, ids of sessions, reasons, flags, SIZE and the N of `room` are 255 at most; the N of `fill` and `take` and TAKE are
-//! 65,535 at most, and the ID of `call` is 1 to 65,535; moments, frames and the N of `rounds` are below 2^64. E is `m` or `s`, NAME
-//! a name, and the HEX of `set` ten hex digits. Of a line with another word there, with an odd number of hex digits, or whose first
-//! word is no command below, nothing is done, and a line follows it that says which of its words it is and what that isn't: `line
-//! 7 word 3 isn't a number up to 255`, `line 7 word 2 isn't m or s`, `line 7 word 1 isn't a command`. Lines of the script and words
-//! of the line are counted from 1. A command in front of the first `ends` is answered `no ends`.
+//! Numbers are in decimal, without a sign or a needless 0. TIMER is 1 to 100, KEEPALIVE 1 to 255, SESSIONS 1 to 64 and CEILING 1
+//! to 15; EXTRA, ids of sessions, flags, SIZE and the N of `room` are 255 at most, and the R of `reject` 15; the N of `fill` and
+//! `take` and TAKE are 65,535 at most, and the ID of `call` is 1 to 65,535; moments, frames and the N of `rounds` are below 2^64.
+//! E is `m` or `s`, NAME a name, and the HEX of `set` ten hex digits. Of a line with another word there, with an odd number of
+//! hex digits, or whose first word is no command below, nothing is done, and a line follows it that says which of its words it is
+//! and what that isn't: `line 7 word 3 isn't a number up to 255`, `line 7 word 2 isn't m or s`, `line 7 word 1 isn't a command`.
+//! Lines of the script and words of the line are counted from 1. A command in front of the first `ends` is answered `no ends`.
 //!
 //! | Command | Does |
 //! |---|---|

@@ -7,8 +7,8 @@ use std::marker::Model;
 use std::sync::ledger::{Book, Ledger, Share};
 
 /// What a seat did: how many events it applied, how many bytes were put by them, and whether it was refused for want of room.
-/// It holds a share of each of the cell's three ledgers, so that no count can be made up. Seat 0 is the wire, 1 to 64 are the
-/// lines, 65 is the clock.
+/// It holds a share of each of the cell's three ledgers, so that no count can be made up. Seat 0 (`WIRE`) is the wire, 1 to 64
+/// are the lines, 65 (`CLOCK`) is the clock.
 #[derive(Drop)]
 pub struct LineShare<E: Ledger, B: Ledger, F: Ledger> {
     seat: u8,

@@ -40,7 +40,7 @@ abbrev pub some_key : Option Key → Option keys.Key
 some_key None = None
 some_key (Some k) = Some (key_shown k)
 
--- what is known of a first ask: the key, the address that it came from, and the key's service
+-- what is known of the first that waits: its key, and the address that its first command came from
 abbrev pub some_first : Option (Key × Addr) → Option (keys.Key × ℕ)
 some_first None = None
 some_first (Some p) = Some (key_shown p.0, address p.1.0)

@@ -26,8 +26,8 @@ const RECORDS: usize = 65536;
 
 /// The requests of a server: one record for each key, in the order of first commands, and for each service the line
 /// of those that wait. Contracts see a table; `Stands` says for which lists of events (asks with their answers, cancels,
-/// grants, ends) it stands, and what is asked of it follows from such a list alone. Each call but a first `ask` costs
-/// look-ups and the length of one line, `is_any_waiting` a look at each line, and takes no memory.
+/// grants, ends) it stands, and what is asked of it follows from such a list alone. Each call but a first `ask` takes
+/// no memory, and costs look-ups and the length of one line; `is_any_waiting` costs a look at each line.
 pub struct Queue {
     offered: Services16,
     entries: IndexMap<Key, Entry>,

@@ -1,4 +1,4 @@
-//! What is shown of a request.
+//! What is told of a request.
 
 use crate::key::Key;
 use lat_base::{Kept, Name};

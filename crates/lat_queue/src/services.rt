@@ -7,8 +7,8 @@ use lat_base::{Memory, Name};
 use std::alloc::Global;
 use std::marker::Model;
 
-/// A list of at most 32 names of services. The 16 is the most bytes that a name has. Contracts see the list of the names,
-/// in order.
+/// A list of at most 32 names of services. The 16 in its name is the most bytes that a service's name has. Contracts see the
+/// list of the names, in order.
 pub struct Services16 {
     names: Vec<Name>,
 }

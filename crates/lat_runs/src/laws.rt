@@ -50,7 +50,7 @@ pub fn queues_are_legal()
 
 /// The histories of a server and of a node, in any order in which each frame that one heard from the other's address is a young
 /// one that the other had made: both states are those of one world, and this world is safe. So each law of two ends holds of two
-/// cells, of a node's (`node`) and of that of a node with a tariff (`tariff`).
+/// cells, where the second is a node's (`node`) and where it is that of a node with a tariff (`tariff`).
 pub fn cells_are_a_world<H: RatingRule, P: SteadyRule>()
     ensures node { CellsAreAWorld H }
     ensures tariff { TariffCellsAreAWorld H P }

@@ -123,7 +123,7 @@ impl<H: RatingRule, R: SteadyRule> TariffCore<H, R> {
     }
 }
 
-// The Solicit that a payload is. One whose first byte has another type is not read further.
+// The Solicit that a payload is, if it is one. A payload whose first byte has another type isn't read further.
 fn solicit_in(alloc: Global, payload: &[u8]) -> Result<Option<Solicit>, Memory>
     ensures { IfOk result (Solicits (reading_of payload.now)) }
 {
