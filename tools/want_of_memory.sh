@@ -131,10 +131,11 @@ block() {
 # a cell that is told a hundred events
 echo "cell 100" > "$work/cell"
 each_allocation lat_roles "" "$work/cell"
-# the printed form of a message, a choice, a schedule played whole, one with a lost frame, its capture, and generated schedules
+# the printed form of a message, a pcap file, a choice, a schedule played whole, one with a lost frame, its capture, and generated schedules
 each_allocation lat show "$top/examples/run.hex"
 block "START, with the least" "$work/starts"
 each_allocation lat show "$work/starts"
+each_allocation lat pcap "$top/examples/two-frames.pcap"
 each_allocation lat choose "$top/examples/choices.txt"
 block "Which node is chosen" "$work/nodes"
 each_allocation lat choose "$work/nodes"

@@ -118,6 +118,7 @@ pub fn answer_onto(alloc: Global, text: &mut String, answer: &Answer) -> Result<
         Answer::Full => text.push_str("full\n"),
         Answer::IdUsed => text.push_str("id-used\n"),
         Answer::NotHere => text.push_str("not-here\n"),
+        Answer::Halted => text.push_str("halted\n"),
     }
 }
 
@@ -204,7 +205,7 @@ fn item_onto(alloc: Global, text: &mut String, item: Item) -> Result<(), AllocEr
     match item {
         Item::Byte(byte) => {
             text.push_str(" ")?;
-            byte_onto(alloc, text, byte)
+            byte_onto(text, byte)
         }
         Item::Set(setting) => {
             text.push_str(" set ")?;

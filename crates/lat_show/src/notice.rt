@@ -37,7 +37,7 @@ fn service_onto(alloc: Global, text: &mut String, service: &Service) -> Result<(
         ≡ string_bytes text.old ++ service_printed service.now) }
 {
     text.push_str("service ")?;
-    name_onto(alloc, text, &service.name)?;
+    name_onto(text, &service.name)?;
     rated_onto(alloc, text, service.rating, &service.description)?;
     text.push_str("\n")
 }
@@ -70,19 +70,14 @@ fn request_onto(
 }
 
 #[tactic(auto, unfolding(crate::specs::NoticePrinted::offer_printed))]
-fn offer_onto(
-    alloc: Global,
-    text: &mut String,
-    node: &Name,
-    service: &Name,
-) -> Result<(), AllocError>
+fn offer_onto(text: &mut String, node: &Name, service: &Name) -> Result<(), AllocError>
     ensures { OnOk result (string_bytes text.new
         ≡ string_bytes text.old ++ offer_printed node.now service.now) }
 {
     text.push_str(" node ")?;
-    name_onto(alloc, text, node)?;
+    name_onto(text, node)?;
     text.push_str(" service ")?;
-    name_onto(alloc, text, service)
+    name_onto(text, service)
 }
 
 #[tactic(auto, unfolding(crate::specs::NoticePrinted::announcer_printed))]
@@ -117,7 +112,7 @@ fn node_onto(
         ≡ string_bytes text.old ++ node_printed node.now description.now) }
 {
     text.push_str(" node ")?;
-    name_onto(alloc, text, node)?;
+    name_onto(text, node)?;
     description_onto(alloc, text, description.as_slice())
 }
 
@@ -140,14 +135,14 @@ fn announcement_onto(
 }
 
 #[tactic(auto, unfolding(crate::specs::NoticePrinted::command_printed))]
-fn command_onto(alloc: Global, text: &mut String, command: &Command) -> Result<(), AllocError>
+fn command_onto(text: &mut String, command: &Command) -> Result<(), AllocError>
     ensures { OnOk result (string_bytes text.new
         ≡ string_bytes text.old ++ command_printed command.now) }
 {
     let action = command.action.number();
     request_onto(text, "command", command.incarnation, command.request)?;
     write!(text, " action {action}")?;
-    offer_onto(alloc, text, &command.node, &command.service)?;
+    offer_onto(text, &command.node, &command.service)?;
     text.push_str("\n")
 }
 
@@ -160,14 +155,14 @@ fn outcome_onto(text: &mut String, outcome: u8, place: u16) -> Result<(), AllocE
 }
 
 #[tactic(auto, unfolding(crate::specs::NoticePrinted::status_printed))]
-fn status_onto(alloc: Global, text: &mut String, status: &Status) -> Result<(), AllocError>
+fn status_onto(text: &mut String, status: &Status) -> Result<(), AllocError>
     ensures { OnOk result (string_bytes text.new
         ≡ string_bytes text.old ++ status_printed status.now) }
 {
     request_onto(text, "status", status.incarnation, status.request)?;
     outcome_onto(text, status.outcome.number(), status.outcome.place())?;
     text.push_str(" node ")?;
-    name_onto(alloc, text, &status.node)?;
+    name_onto(text, &status.node)?;
     text.push_str("\n")
 }
 
@@ -181,23 +176,23 @@ fn question_onto(text: &mut String, word: &str, id: u16) -> Result<(), AllocErro
 }
 
 #[tactic(auto, unfolding(crate::specs::NoticePrinted::solicit_printed))]
-fn solicit_onto(alloc: Global, text: &mut String, solicit: &Solicit) -> Result<(), AllocError>
+fn solicit_onto(text: &mut String, solicit: &Solicit) -> Result<(), AllocError>
     ensures { OnOk result (string_bytes text.new
         ≡ string_bytes text.old ++ solicit_printed solicit.now) }
 {
     question_onto(text, "solicit", solicit.id)?;
-    offer_onto(alloc, text, &solicit.asker, &solicit.service)?;
+    offer_onto(text, &solicit.asker, &solicit.service)?;
     text.push_str("\n")
 }
 
 #[tactic(auto, unfolding(crate::specs::NoticePrinted::response_printed))]
-fn response_onto(alloc: Global, text: &mut String, response: &Response) -> Result<(), AllocError>
+fn response_onto(text: &mut String, response: &Response) -> Result<(), AllocError>
     ensures { OnOk result (string_bytes text.new
         ≡ string_bytes text.old ++ response_printed response.now) }
 {
     let (rating, timer) = (response.rating, response.timer);
     question_onto(text, "response", response.id)?;
-    offer_onto(alloc, text, &response.node, &response.service)?;
+    offer_onto(text, &response.node, &response.service)?;
     write!(text, " rating {rating} timer {timer}\n")
 }
 
@@ -209,9 +204,9 @@ pub fn notice_onto(alloc: Global, text: &mut String, notice: &Notice) -> Result<
 {
     match notice {
         Notice::Announcement(announcement) => announcement_onto(alloc, text, announcement),
-        Notice::Command(command) => command_onto(alloc, text, command),
-        Notice::Status(status) => status_onto(alloc, text, status),
-        Notice::Solicit(solicit) => solicit_onto(alloc, text, solicit),
-        Notice::Response(response) => response_onto(alloc, text, response),
+        Notice::Command(command) => command_onto(text, command),
+        Notice::Status(status) => status_onto(text, status),
+        Notice::Solicit(solicit) => solicit_onto(text, solicit),
+        Notice::Response(response) => response_onto(text, response),
     }
 }

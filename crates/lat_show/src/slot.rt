@@ -39,7 +39,7 @@ fn asked_onto(
         ≡ string_bytes text.old ++ asked_printed service.now subject.now params.now) }
 {
     text.push_str(" service ")?;
-    name_onto(alloc, text, service)?;
+    name_onto(text, service)?;
     text.push_str(" subject ")?;
     hex_onto(alloc, text, subject.as_slice())?;
     text.push_str(" params ")?;
@@ -52,7 +52,7 @@ fn setting_onto(alloc: Global, text: &mut String, flag: u8, chars: &[u8]) -> Res
         ≡ string_bytes text.old ++ setting_printed flag chars.now) }
 {
     text.push_str(" flag ")?;
-    byte_onto(alloc, text, flag)?;
+    byte_onto(text, flag)?;
     text.push_str(" chars ")?;
     hex_onto(alloc, text, chars)
 }
@@ -103,7 +103,7 @@ pub fn slot_onto(alloc: Global, text: &mut String, slot: &Slot) -> Result<(), Al
         Slot::Attention { to, from, flag } => {
             ends_onto(text, "attention", *to, *from)?;
             text.push_str(" flag ")?;
-            byte_onto(alloc, text, *flag)?;
+            byte_onto(text, *flag)?;
             text.push_str("\n")
         }
         Slot::Reject { to, from, reason } => {

@@ -33,14 +33,14 @@ fn product_onto(text: &mut String, info: &StartInfo) -> Result<(), AllocError>
 }
 
 #[tactic(auto, unfolding(crate::specs::MessagePrinted::names_printed))]
-fn names_onto(alloc: Global, text: &mut String, slave: &Name, name: &Name) -> Result<(), AllocError>
+fn names_onto(text: &mut String, slave: &Name, name: &Name) -> Result<(), AllocError>
     ensures { OnOk result (string_bytes text.new
         ≡ string_bytes text.old ++ names_printed slave.now name.now) }
 {
     text.push_str(" slave ")?;
-    name_onto(alloc, text, slave)?;
+    name_onto(text, slave)?;
     text.push_str(" name ")?;
-    name_onto(alloc, text, name)
+    name_onto(text, name)
 }
 
 #[tactic(auto, unfolding(crate::specs::MessagePrinted::location_printed))]
@@ -65,7 +65,7 @@ fn info_onto(alloc: Global, text: &mut String, info: &StartInfo) -> Result<(), A
 {
     terms_onto(text, info)?;
     product_onto(text, info)?;
-    names_onto(alloc, text, &info.slave, &info.name)?;
+    names_onto(text, &info.slave, &info.name)?;
     location_onto(alloc, text, &info.location, &info.params)
 }
 

@@ -1,11 +1,13 @@
 -- Texts of numbers.
-use Rattle.std.proofs.Common.{◌≡◌, ◌≢◌, ℕ, ◌^◌, ◌<◌, suc, zero, Bool, true, false, List, [], ◌∷◌, length, get_or, refl, sym, ap, ◌∙◌, arith}
+use Rattle.std.proofs.Common.{◌≡◌, ◌≢◌, ℕ, ◌+◌, ◌^◌, ◌<◌, ◌≤◌, suc, zero, Bool, true, false, List, [], ◌∷◌, length, take, get_or, refl, sym, ap, ◌∙◌, arith}
 use Rattle.std.specs.Prelude.{Some, None, Result, Ok, Err, nat_lt, bytes_eq, decimal, ◌==◌}
 use Rattle.std.specs.Result.{result_ok}
+use Rattle.std.specs.Char.{digit_value}
 use Rattle.std.specs.Str.{IsUtf8}
 use Rattle.std.specs.Str.Parse.{AllDigits, IsNumeral, digits_value, ParsesUnsigned}
+use Rattle.std.proofs.lemmas.List.{length-take}
 use Rattle.std.proofs.lemmas.Str.{IsUtf8-from_ascii}
-use Rattle.std.proofs.lemmas.Str.Parse.{IsNumeralModel, numerals_by_value, tells_digits, without_leading_plus_none}
+use Rattle.std.proofs.lemmas.Str.Parse.{IsNumeralModel, numerals_by_value, tells_digits, without_leading_plus_none, digits_value_short}
 use Rattle.std.proofs.lemmas.Fmt.{decimal_is_IsNumeral, decimal_digit, first_decimal, IsAscii-decimal, decimal-digits_value}
 use Rattle.std.proofs.lemmas.Slice.Eq.{bytes_eq-Decides}
 use Rattle.std.proofs.lemmas.Bool.Decides.{nat_tests}
@@ -34,6 +36,23 @@ high_first (first ∷ rest) h =
 decimal_plain : (n : ℕ) → n < 2 ^ 64 → is_padded (decimal n) ≡ false
 decimal_plain zero h = rw (decimal_digit 0 (omega arith)) refl
 decimal_plain (suc n) h = high_first (decimal (suc n)) (first_decimal (suc n) (omega arith) h)
+
+-- the bytes up to a digit are digits where those before it are
+pub digits_more : (text : List ℕ) (at : ℕ) → at < length text → AllDigits 10 (take at text) → digit_value (get_or text at 0) < 10 → AllDigits 10 (take (at + 1) text)
+digits_more [] at within front digit = absurd (omega (arith, within))
+digits_more (c ∷ text) zero within front digit = (digit, tt)
+digits_more (c ∷ text) (suc at) within front digit =
+    let one : suc at + 1 ≡ suc (at + 1) = omega arith in
+    rw one (front.0, digits_more text at (omega (arith, within)) front.1 digit)
+
+digit_at : (text : List ℕ) (at : ℕ) → at < length text → AllDigits 10 text → digit_value (get_or text at 0) < 10
+digit_at [] at within digits = absurd (omega (arith, within))
+digit_at (c ∷ text) zero within digits = digits.0
+digit_at (c ∷ text) (suc at) within digits = digit_at text at (omega (arith, within)) digits.1
+
+-- what so few digits write is small enough for one digit more
+pub room_for_more : (text : List ℕ) (at : ℕ) → at < 19 → AllDigits 10 (take at text) → digits_value 10 (take at text) < 10 ^ 18
+room_for_more text at few digits = digits_value_short own (take at text) 18 digits (omega (arith, length-take at text, few))
 
 pub padded_none : (text : List ℕ) → is_padded text ≡ true → None ≡ number_of text
 padded_none text padded =
@@ -66,3 +85,14 @@ parse_is text (Err e) plain h =
     let digits : IsNumeral 10 text = rw is numeral.0 in
     let value : digits_value 10 text ≡ n = rw is numeral.1 in
     never (digits, omega (arith, below, value)))
+
+-- a text with a byte that is no digit is no number
+pub other_byte_none : (text : List ℕ) (at : ℕ) → at < length text → is_padded text ≡ false → 10 ≤ digit_value (get_or text at 0) → None ≡ number_of text
+other_byte_none text at within plain high =
+    parse_is {E = ℕ} text (Err 0) plain (rw (without_leading_plus_none text (plain_front text plain).0) (λ reads. omega (arith, high, digit_at text at within reads.0.1)))
+
+-- at most 19 digits are the number that they write
+pub digits_are : (text : List ℕ) (n : ℕ) → 0 < length text → length text ≤ 19 → is_padded text ≡ false → AllDigits 10 text → n ≡ digits_value 10 text → Some n ≡ number_of text
+digits_are text n some few plain digits is =
+    let below : digits_value 10 text < 10 ^ 19 = digits_value_short own text 19 digits few in
+    parse_is {E = ℕ} text (Ok n) plain (rw (without_leading_plus_none text (plain_front text plain).0) (((some, digits), omega (arith, below)), is))

@@ -1,8 +1,11 @@
 -- Where a text's first line ends.
 use Rattle.std.proofs.Common.{◌≡◌, ℕ, suc, ◌+◌, ◌<◌, Bool, true, false, List, [], ◌∷◌, length, take, drop, refl, sym, ◌∙◌, subst, arith, add-one}
-use Rattle.std.specs.Prelude.{Some, None, position, ◌==◌}
-use Rattle.std.specs.List.{position_from}
+use Rattle.std.specs.Prelude.{Option, Some, None, position, nat_lt, ◌==◌}
+use Rattle.std.specs.List.{position_from, position_or_len}
 use Rattle.std.proofs.lemmas.Iterator.Adapters.{position_from-zero}
+use Rattle.std.proofs.lemmas.List.Sums.{position_or_len_is}
+use Rattle.std.proofs.lemmas.Bool.Decides.{nat_tests}
+use Rattle.memchr.specs.Find.{IsFirstByte, is_byte}
 use Rattle.lat_text.specs.Lines.{Cut, Line, lines_of, no_line, byte_before, line_feed}
 
 -- so many bytes stand in front of the first line feed
@@ -54,3 +57,21 @@ line_found at text line behind h front back =
 -- a text without a line feed has no line
 pub no_line_ends : (text : List ℕ) → position (λ x. x == line_feed) text ≡ None → lines_of text ≡ no_line text
 no_line_ends text h = none_from 0 text (sym (position_from-zero (λ x. x == line_feed) text) ∙ h)
+
+untrue : (b : Bool) → ¬ (b ≡ true) → b ≡ false
+untrue true h = absurd (h refl)
+untrue false h = refl
+
+-- the first place that a search found is the place of the first line feed
+pub search_is_position : (text : List ℕ) (r : Option ℕ) → IsFirstByte (is_byte line_feed) text r → r ≡ position (λ b. b == line_feed) text
+search_is_position text None h =
+    let at : position_or_len (λ b. b == line_feed) text ≡ length text =
+    position_or_len_is (λ b. b == line_feed) text (length text) 0 (omega arith) (λ k lt. untrue _ (h k (omega arith) lt)) (λ lt. absurd (omega (arith, lt))) in
+    let past : nat_lt (length text) (length text) ≡ false = grind (arith, nat_tests) in
+    rw (at, past) refl
+search_is_position text (Some k) h =
+    let high = h.0.high in
+    let at : position_or_len (λ b. b == line_feed) text ≡ k =
+    position_or_len_is (λ b. b == line_feed) text k 0 (omega (arith, high)) (λ j lt. untrue _ (h.0.before j (omega arith) lt)) (λ lt. h.1) in
+    let within : nat_lt k (length text) ≡ true = grind (arith, nat_tests) in
+    rw (at, within) refl

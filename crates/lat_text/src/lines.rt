@@ -3,10 +3,12 @@
 ghost use Rattle.std.specs.Prelude.{◌≡◌, ◌<◌, length, IfSome, IfNone, position, ◌==◌};
 ghost use Rattle.lat_text.specs.Lines.{Lines, lines_of, no_line, line_feed};
 
+use memchr::memchr;
+
 fn line_end(text: &[u8]) -> Option<usize>
     ensures { result ≡ position (λ b. b == line_feed) text.now }
 {
-    text.iter().position(|byte| *byte == b'\n')
+    memchr(b'\n', text)
 }
 
 /// The first line of a text, without the line feed that ends it, and the text behind that. There is none where no

@@ -27,7 +27,7 @@ fn full_onto(text: &mut String, number: usize) -> Result<(), AllocError>
     write!(text, "line {number} full\n")
 }
 
-fn choice_onto(alloc: Global, text: &mut String, best: Option<Best>) -> Result<(), AllocError>
+fn choice_onto(text: &mut String, best: Option<Best>) -> Result<(), AllocError>
     ensures { OnOk result (string_bytes text.new
         ≡ string_bytes text.old ++ choice_line (option_map best_shown best)) }
 {
@@ -35,13 +35,12 @@ fn choice_onto(alloc: Global, text: &mut String, best: Option<Best>) -> Result<(
         return text.push_str("none\n");
     };
     let rating = best.rating;
-    address_onto(alloc, text, best.from)?;
+    address_onto(text, best.from)?;
     write!(text, " {rating}\n")
 }
 
 // Asks for the best node of a service.
 fn best_onto(
-    alloc: Global,
     text: &mut String,
     directory: &Directory,
     at: u64,
@@ -53,7 +52,7 @@ fn best_onto(
         OnOk result (string_bytes text.new
         ≡ string_bytes text.old ++ choice_line (best directory.now.groups service.now at h)) }
 {
-    choice_onto(alloc, text, directory.best(service, at))
+    choice_onto(text, directory.best(service, at))
 }
 
 // Hears an announcement, or prints its first bad field.
@@ -111,6 +110,6 @@ pub fn entry_onto(
         Entry::Hear { at, from, found } => hear_onto(
             alloc, text, directory, number, at, from, found,
         ),
-        Entry::Best { at, service } => Ok(best_onto(alloc, text, directory, at, &service)?),
+        Entry::Best { at, service } => Ok(best_onto(text, directory, at, &service)?),
     }
 }

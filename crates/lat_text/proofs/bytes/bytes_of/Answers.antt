@@ -1,11 +1,16 @@
 use Rattle.std.proofs.Common.{arith}
-use Rattle.hex.proofs.HexLemmas.{decode_of-ok}
+use Rattle.std.proofs.lemmas.Grind.{common_steps}
+use Rattle.lat_text.proofs.HexRead.{bytes_are, none_read, none_left, pair_read, pair_bad}
 use Rattle.lat_text.proofs.bytes.bytes_of.Goals as goal
 
-pub returns-in-Ok-clause-least : goal.returns-in-Ok-clause-least
-returns-in-Ok-clause-least c =
-    omega (arith, c.if-text-least.false, (decode_of-ok c.args.text.now c.in-Ok.bytes.items c.in-Ok.ensures.ok).2)
+pub loop-pair-init : goal.loop-pair-init
+loop-pair-init c = grind (arith, common_steps, none_read)
 
-pub returns-in-Ok-clause-most : goal.returns-in-Ok-clause-most
-returns-in-Ok-clause-most c =
-    omega (arith, c.if-text-most.false, (decode_of-ok c.args.text.now c.in-Ok.bytes.items c.in-Ok.ensures.ok).2)
+pub returns-in_default-clause-reads : goal.returns-in_default-clause-reads
+returns-in_default-clause-reads c = grind (arith, common_steps, bytes_are, pair_bad)
+
+pub loop-pair-preserved : goal.loop-pair-preserved
+loop-pair-preserved c = grind (arith, common_steps, pair_read)
+
+pub returns-clause-reads : goal.returns-clause-reads
+returns-clause-reads c = grind (arith, common_steps, bytes_are, none_left)
