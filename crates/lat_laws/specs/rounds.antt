@@ -1,6 +1,7 @@
 -- Rounds of a world in which nothing was lost, and what they bring.
 pub mod Lossless
 pub mod Rounds
+pub mod Calm
 pub mod Settles
 pub mod Idle
 pub mod Measure

@@ -8,6 +8,14 @@ broken = 2
 abbrev pub no_use : ℕ
 no_use = 3
 
+-- of a circuit, too: its end was halted
+abbrev pub halted : ℕ
+halted = 3
+
+-- no such circuit lives here
+abbrev pub no_circuit : ℕ
+no_circuit = 5
+
 abbrev pub no_answer : ℕ
 no_answer = 6
 

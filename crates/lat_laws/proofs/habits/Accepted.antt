@@ -12,11 +12,11 @@ use Rattle.lat_machines.specs.values.Addresses.{everyone}
 use Rattle.lat_machines.specs.values.Messages.{Head, RunMessage, WideMessage, StartMessage, StopMessage}
 use Rattle.lat_machines.specs.values.Notices.{AnnouncementNotice, CommandNotice, StatusNotice, SolicitNotice, ResponseNotice}
 use Rattle.lat_machines.specs.values.Frames.{Value, OfCircuit, OfNotice, Whole, Malformed}
-use Rattle.lat_machines.specs.values.Events.{Numbers, Event, Hears, Time, Connects, Puts, Sets, Takes, Attends, Closes, Requests, Withdraws, Announces}
+use Rattle.lat_machines.specs.values.Events.{Numbers, Event, Hears, Time, Connects, Puts, Sets, Takes, Attends, Closes, Requests, Withdraws, Announces, Avoids, Readies, Halts}
 use Rattle.lat_machines.specs.values.Answers.{Ignored, IdUsed}
 use Rattle.lat_machines.specs.cores.Hearing.{names, hear_run}
 use Rattle.lat_machines.specs.cores.Cores.{at_moment}
-use Rattle.lat_machines.specs.node.Node.{NodeConfig, Node, NodeStep, Requested, tells, open_node, request_of, Verdict, Accepts, Rejects, on_free_line, free_line, was_requested, verdict, judged, asked_at, answers_one, answers_in, asked_on, answers_asked, heard_at, hears_run, hears_value, solicited, requests_again, withdraws, node_step}
+use Rattle.lat_machines.specs.node.Node.{NodeConfig, Node, NodeStep, Requested, tells, open_node, request_of, Verdict, Accepts, Rejects, on_free_line, free_line, was_requested, verdict, judged, asked_at, answers_one, answers_in, asked_on, answers_asked, heard_at, hears_run, hears_value, solicited, requests_again, withdraws, node_step, turns_away, starts, makes_way}
 use Rattle.lat_machines.specs.world.Histories.{RatedEvent, node_run}
 use Rattle.lat_laws.specs.habits.Accepted.{AcceptedOnce}
 
@@ -81,7 +81,7 @@ run_once config st from wide m slots k h = go (names st.core.circuits from m.to 
 value_once : (config : NodeConfig) (rates : List ℕ) (st : Node) (from : ℕ) (v : Value) (k : Option Numbers) → Once st → Once (hears_value config rates st from v k).state
 value_once config rates st from (OfCircuit (RunMessage m slots)) k h = run_once config st from false m slots k h
 value_once config rates st from (OfCircuit (WideMessage m slots)) k h = run_once config st from true m slots k h
-value_once config rates st from (OfCircuit (StartMessage true ask to source info)) k h = h
+value_once config rates st from (OfCircuit (StartMessage true ask to source info)) k h = node_cond st.halted (turns_away config st from source) (starts config (makes_way config st from source) from source info) h h
 value_once config rates st from (OfCircuit (StartMessage false ask to source info)) k h = h
 value_once config rates st from (OfCircuit (StopMessage master ask to source reason text)) k h = h
 value_once config rates st from (OfNotice (StatusNotice m)) k h = h
@@ -117,6 +117,9 @@ step_once config rates st (Withdraws id) h = go (request_of id st)
     go None = h
     go (Some r) = h
 step_once config rates st Announces h = h
+step_once config rates st (Avoids line) h = h
+step_once config rates st (Readies line ready) h = h
+step_once config rates st Halts h = h
 
 once_on : (config : NodeConfig) (es : List RatedEvent) (st : Node) → Once st → Once (node_run config es st)
 once_on config [] st h = h

@@ -5,21 +5,21 @@ use Rattle.std.proofs.lemmas.Bool.{and_parts, true≢false, eqb-false}
 use Rattle.lat_model.specs.sessions.Slots.{Slot}
 use Rattle.lat_model.specs.sessions.Calls.{Call, Connect, Answer, RejectAsk}
 use Rattle.lat_model.specs.Lists.{updated}
-use Rattle.lat_model.specs.ends.End.{End, Step, lives, call_end}
+use Rattle.lat_model.specs.ends.End.{End, Step, lives, call_end, finish, lapse}
 use Rattle.lat_model.specs.ends.Timers.{note_empty, time_step}
 use Rattle.lat_model.specs.ends.Run.{run_end}
 use Rattle.lat_model.specs.ends.Starting.{Agreed, Setup, make_slave, again_start, hear_reply, hear_stop}
 use Rattle.lat_model.specs.circuits.World.{CircuitEntry, Table, first_end}
 use Rattle.lat_model.specs.circuits.Arriving.{is_of, living, slave_of}
-use Rattle.lat_model.proofs.circuits.Kin.{Kin, kin_time, kin_run, kin_again, kin_stop}
+use Rattle.lat_model.proofs.circuits.Kin.{Kin, kin_time, kin_run, kin_again, kin_stop, kin_finish}
 use Rattle.lat_model.proofs.circuits.Begins.{kin_call}
 use Rattle.lat_machines.specs.values.Names.{Name}
 use Rattle.lat_machines.specs.values.Messages.{Head}
 use Rattle.lat_machines.specs.values.Keys.{Key}
-use Rattle.lat_machines.specs.values.Events.{Numbers, Event, Hears, Time, Connects, Puts, Sets, Takes, Attends, Closes, Requests, Withdraws, Announces}
+use Rattle.lat_machines.specs.values.Events.{Numbers, Event, Hears, Time, Connects, Puts, Sets, Takes, Attends, Closes, Requests, Withdraws, Announces, Avoids, Readies, Halts}
 use Rattle.lat_machines.specs.values.Answers.{Again, Running, Ended}
-use Rattle.lat_machines.specs.cores.Acts.{Acted, idle, steps_at, call_at, called, local_at, time_at, move_at}
-use Rattle.lat_machines.specs.cores.Hearing.{HeardAct, foreign, names, fits_kind, numbers_at, run_frame, run_at, hear_run, hear_stop_at, hear_reply_at, start_at, Repeats, Makes, Refuses, start_fact}
+use Rattle.lat_machines.specs.cores.Acts.{Acted, idle, steps_at, call_at, called, local_at, time_at, move_at, end_at}
+use Rattle.lat_machines.specs.cores.Hearing.{HeardAct, foreign, names, fits_kind, numbers_at, run_frame, run_at, hear_run, hear_stop_at, hear_reply_at, start_at, Repeats, Makes, Refuses, start_fact, follows, is_outlived, outlive_at}
 use Rattle.lat_machines.specs.cores.Cores.{Core, Side, Doing, rests, acts, setup_of, circuit_to}
 use Rattle.lat_machines.specs.server.Server.{ServerConfig, Server, server_side, open_server, connects_on, opens, server_step}
 use Rattle.lat_machines.specs.node.Node.{NodeConfig, Node, node_side, open_node, node_step}
@@ -56,6 +56,9 @@ module _ {K : Type 0} (key : CircuitEntry → K) (steady : Steady key) (b : Bool
   time_lone : (x now : ℕ) → Lone key (time_at b t x now).table
   time_lone x now = act_cond key (lives (t.circuit_at x).end) (steps_at b t x (time_step now (t.circuit_at x).end)) (idle t) (λ i. at_living x (time_step now (t.circuit_at x).end) i (kin_time now (t.circuit_at x).end)) (λ i. h)
 
+  end_lone : (x r : ℕ) → Lone key (end_at b t x r).table
+  end_lone x r = act_cond key (lives (t.circuit_at x).end) (steps_at b t x (finish r (t.circuit_at x).end)) (idle t) (λ i. at_living x (finish r (t.circuit_at x).end) i (kin_finish r (t.circuit_at x).end)) (λ i. h)
+
   move_lone : (x now : ℕ) → Lone key (move_at b t x now).table
   move_lone x now =
       let s : Step = record { end = record ((t.circuit_at x).end) { moment = now }; sent = [] } in
@@ -83,6 +86,7 @@ lone_acts key steady k = record {
   renames = λ c ns h. h;
   calls = λ c x y a h. local_lone key steady k.server c.circuits h x y;
   times = λ c x h. time_lone key steady k.server c.circuits h x c.moment;
+  ends = λ c x r h. end_lone key steady k.server c.circuits h x r;
   runs = λ c from wide m slots n h. run_lone key steady k.server c.circuits h from wide m slots n c.moment;
   stops = λ c from to source reason h. stop_lone key steady k.server c.circuits h from to source c.moment reason;
 }
@@ -99,10 +103,13 @@ any_allowed (Closes line) = λ id. tt
 any_allowed (Requests to id service) = tt
 any_allowed (Withdraws id) = tt
 any_allowed Announces = tt
+any_allowed (Avoids line) = tt
+any_allowed (Readies line ready) = tt
+any_allowed Halts = tt
 
 -- the server: by addresses
 
-abbrev by_address : CircuitEntry → ℕ
+abbrev pub by_address : CircuitEntry → ℕ
 by_address z = z.address
 
 steady_address : Steady by_address
@@ -137,27 +144,30 @@ opens_lone config line address node service key request c h = go (nat_eq (circui
 abbrev LoneCore : {K : Type 0} → (CircuitEntry → K) → Core → Type 0
 LoneCore key c = Lone key c.circuits
 
-server_acts : (config : ServerConfig) → ServerActs config (λ y. Unit {0}) (LoneCore by_address) (LoneCore by_address)
+server_acts : (config : ServerConfig) → ServerActs config (λ y. Unit {0}) (LoneCore by_address) (LoneCore by_address) (Unit {0})
 server_acts config = record {
   acts = lone_acts by_address steady_address (server_side config);
   replies = λ c from to source g h. reply_lone c.circuits from to source c.moment g h;
   done = λ c h. h;
-  opens = λ line address node service key request c can ex free h. opens_lone config line address node service key request c h;
+  opens = λ o line address node service key request c can ex free h. opens_lone config line address node service key request c h;
 }
 
-server_lone : (config : ServerConfig) (es : List Event) (st : Server) → LoneCore by_address st.core → LoneCore by_address (server_run config es st).core
+pub server_lone : (config : ServerConfig) (es : List Event) (st : Server) → LoneCore by_address st.core → LoneCore by_address (server_run config es st).core
 server_lone config [] st h = h
-server_lone config (e ∷ es) st h = server_lone config es (server_step config st e).state (server_keeps config (λ y. Unit {0}) (LoneCore by_address) (LoneCore by_address) (server_acts config) st e (any_allowed e) h)
+server_lone config (e ∷ es) st h = server_lone config es (server_step config st e).state (server_keeps config (λ y. Unit {0}) (LoneCore by_address) (LoneCore by_address) (Unit {0}) (server_acts config) st e (λ q. tt) (λ q. tt) (any_allowed e) h)
 
-none_yet : {K : Type 0} (key : CircuitEntry → K) (t : Table) → ((k : ℕ) → lives (t.circuit_at k).end ≡ false) → Lone key t
+pub none_yet : {K : Type 0} (key : CircuitEntry → K) (t : Table) → ((k : ℕ) → lives (t.circuit_at k).end ≡ false) → Lone key t
 none_yet key t n = record { new = λ k d. n k; zero = n 0; one = λ x y a b e. absurd (true≢false (sym a ∙ n x)) }
 
+pub server_found : (config : ServerConfig) (es : List Event) → Lone by_address (server_run config es (open_server config)).core.circuits
+server_found config es = server_lone config es (open_server config) (none_yet by_address (open_server config).core.circuits (λ k. refl))
+
 pub server_apart : ServerCircuitsApart
-server_apart config es = (server_lone config es (open_server config) (none_yet by_address (open_server config).core.circuits (λ k. refl))).one
+server_apart config es = (server_found config es).one
 
 -- the node: by addresses and ids
 
-abbrev by_peer : CircuitEntry → ℕ × ℕ
+abbrev pub by_peer : CircuitEntry → ℕ × ℕ
 by_peer z = (z.address, z.end.peer)
 
 steady_peer : Steady by_peer
@@ -179,18 +189,32 @@ start_lone u t from source now g h = go (nat_eq (slave_of t from source) 0) refl
         let k : ℕ = slave_of t from source in
         at_living by_peer steady_peer false t h k (again_start now (t.circuit_at k).end) (and_parts (is_of (t.circuit_at k) from source) (lives (t.circuit_at k).end) (least_true test 0 t.drawn (eqb-false k 0 q))).1 (kin_again now (t.circuit_at k).end)
 
-node_acts : (config : NodeConfig) → NodeActs config (λ y. Unit {0}) (LoneCore by_peer) (LoneCore by_peer)
+outlive_lone : (t : Table) (from source x : ℕ) → Lone by_peer t → Lone by_peer (outlive_at from source x t)
+outlive_lone t from source x h = go (is_outlived c from source) refl
+  where
+    c : CircuitEntry
+    c = t.circuit_at x
+
+    go : (n : Bool) → is_outlived c from source ≡ n → Lone by_peer (cond n (steps_at false t x (lapse 5 c.end)).table t)
+    go true i = lone_steps by_peer false t x (lapse 5 c.end) h (and_parts (nat_eq c.address from && follows c.end.peer source) (lives c.end) i).1 refl
+    go false i = h
+
+node_acts : (config : NodeConfig) → NodeActs config (λ y. Unit {0}) (LoneCore by_peer) (LoneCore by_peer) (Unit {0})
 node_acts config = record {
   acts = lone_acts by_peer steady_peer (node_side config);
-  starts = λ c from source g h. start_lone (setup_of config.timing) c.circuits from source c.moment g h;
+  starts = λ o c from source g h. start_lone (setup_of config.timing) c.circuits from source c.moment g h;
+  lapses = λ c from source x h. outlive_lone c.circuits from source x h;
   done = λ c h. h;
   accepts = λ st x id line request service w v l ex free h. local_lone by_peer steady_peer false st.core.circuits h x (Answer id);
   refuses = λ c x id reason h. local_lone by_peer steady_peer false c.circuits h x (RejectAsk id reason);
 }
 
-node_lone : (config : NodeConfig) (es : List RatedEvent) (st : Node) → LoneCore by_peer st.core → LoneCore by_peer (node_run config es st).core
+pub node_lone : (config : NodeConfig) (es : List RatedEvent) (st : Node) → LoneCore by_peer st.core → LoneCore by_peer (node_run config es st).core
 node_lone config [] st h = h
-node_lone config (e ∷ es) st h = node_lone config es (node_step config e.rates st e.event).state (node_keeps config (λ y. Unit {0}) (LoneCore by_peer) (LoneCore by_peer) (node_acts config) e.rates st e.event (any_allowed e.event) h)
+node_lone config (e ∷ es) st h = node_lone config es (node_step config e.rates st e.event).state (node_keeps config (λ y. Unit {0}) (LoneCore by_peer) (LoneCore by_peer) (Unit {0}) (node_acts config) e.rates st e.event (λ q. tt) (any_allowed e.event) h)
+
+pub node_found : (config : NodeConfig) (es : List RatedEvent) → Lone by_peer (node_run config es (open_node config)).core.circuits
+node_found config es = node_lone config es (open_node config) (none_yet by_peer (open_node config).core.circuits (λ k. refl))
 
 pub node_apart : NodeCircuitsApart
-node_apart config es x y a b p q = (node_lone config es (open_node config) (none_yet by_peer (open_node config).core.circuits (λ k. refl))).one x y a b (ap₂ (λ m n. (m, n)) p q)
+node_apart config es x y a b p q = (node_found config es).one x y a b (ap₂ (λ m n. (m, n)) p q)

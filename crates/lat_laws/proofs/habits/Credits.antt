@@ -6,7 +6,7 @@ use Rattle.lat_model.specs.sessions.Session.{blank}
 use Rattle.lat_model.specs.sessions.Calls.{Call, Connect, Answer, RejectAsk}
 use Rattle.lat_model.specs.Lists.{updated}
 use Rattle.lat_model.specs.numbers.Link.{Frame}
-use Rattle.lat_model.specs.ends.End.{End, Step, lives, call_end}
+use Rattle.lat_model.specs.ends.End.{End, Step, lives, call_end, finish, lapse}
 use Rattle.lat_model.specs.ends.Timers.{note_empty, time_step}
 use Rattle.lat_model.specs.ends.Run.{run_end}
 use Rattle.lat_model.specs.ends.Starting.{Agreed, Setup, make_slave, again_start, hear_reply, hear_stop}
@@ -18,8 +18,8 @@ use Rattle.lat_machines.specs.values.Messages.{Head}
 use Rattle.lat_machines.specs.values.Keys.{Key}
 use Rattle.lat_machines.specs.values.Events.{Numbers, Event}
 use Rattle.lat_machines.specs.values.Answers.{Again, Running, Ended}
-use Rattle.lat_machines.specs.cores.Acts.{Acted, idle, put_at, steps_at, call_at, called, local_at, time_at, move_at}
-use Rattle.lat_machines.specs.cores.Hearing.{HeardAct, foreign, names, fits_kind, numbers_at, run_frame, run_at, hear_run, hear_stop_at, hear_reply_at, start_at, Repeats, Makes, Refuses, start_fact}
+use Rattle.lat_machines.specs.cores.Acts.{Acted, idle, put_at, steps_at, call_at, called, local_at, time_at, move_at, end_at}
+use Rattle.lat_machines.specs.cores.Hearing.{HeardAct, foreign, names, fits_kind, numbers_at, run_frame, run_at, hear_run, hear_stop_at, hear_reply_at, start_at, Repeats, Makes, Refuses, start_fact, follows, is_outlived, outlive_at}
 use Rattle.lat_machines.specs.cores.Cores.{Core, Side, Doing, rests, acts, with_circuits, setup_of, circuit_to}
 use Rattle.lat_machines.specs.server.Server.{ServerConfig, Server, server_side, open_server, connects_on, opens, server_step}
 use Rattle.lat_machines.specs.node.Node.{NodeConfig, Node, node_side, open_node, node_step}
@@ -114,6 +114,13 @@ module _ (b : Bool) (t : Table) where
       let s : Step = time_step now (t.circuit_at x).end in
       act_cond t (lives (t.circuit_at x).end) (steps_at b t x s) (idle t) (λ l. steps_grow b t x s l (to_time 0 b _ (grows_kept b) 0 now (t.circuit_at x).end (omega arith))) (table_same t)
 
+  -- a circuit that lives is ended
+  ends_grow : (x : ℕ) (s : Step) → s.end.half.sessions ≡ sess t x → lives (t.circuit_at x).end ≡ true → TableGrows t (steps_at b t x s).table
+  ends_grow x s q l = steps_grow b t x s l (λ h. record { past = subst Past (sym q) h; each = λ k. subst (λ z. Grown ((sess t x).session k) (z.session k)) (sym q) (grown_same ((sess t x).session k)) })
+
+  end_grow : (x r : ℕ) → TableGrows t (end_at b t x r).table
+  end_grow x r = act_cond t (lives (t.circuit_at x).end) (steps_at b t x (finish r (t.circuit_at x).end)) (idle t) (ends_grow x (finish r (t.circuit_at x).end) refl) (table_same t)
+
   move_grow : (x now : ℕ) → TableGrows t (move_at b t x now).table
   move_grow x now =
       let s : Step = record { end = record ((t.circuit_at x).end) { moment = now }; sent = [] } in
@@ -142,6 +149,16 @@ reply_grow t from to source now g =
     heard_cond t (nat_eq c.address from && lives c.end && (not c.end.running || nat_eq c.end.peer source)) (record { act = steps_at true t to (hear_reply now source g c.end); answer = cond c.end.running Again Running }) (foreign t)
     (λ i. steps_grow true t to (hear_reply now source g c.end) (and_parts (nat_eq c.address from) (lives c.end) (and_parts (nat_eq c.address from && lives c.end) (not c.end.running || nat_eq c.end.peer source) i).0).1 (to_reply 0 true _ (grows_kept true) 0 now source g c.end (omega arith)))
     (table_same t)
+
+outlive_grow : (t : Table) (from source x : ℕ) → TableGrows t (outlive_at from source x t)
+outlive_grow t from source x = go (is_outlived c from source) refl
+  where
+    c : CircuitEntry
+    c = t.circuit_at x
+
+    go : (n : Bool) → is_outlived c from source ≡ n → TableGrows t (cond n (steps_at false t x (lapse 5 c.end)).table t)
+    go true i = ends_grow false t x (lapse 5 c.end) refl (and_parts (nat_eq c.address from && follows c.end.peer source) (lives c.end) i).1
+    go false i = table_same t
 
 start_grow : (u : Setup) (t : Table) (from source now : ℕ) (g : Agreed) → TableGrows t (start_at u t from source now g (start_fact t from source)).table
 start_grow u t from source now g = go (nat_eq (slave_of t from source) 0) refl (nat_lt (living t) 8 && nat_lt t.drawn 65535)
@@ -174,6 +191,7 @@ since_acts c k = record {
   renames = λ d ns s. record { tidy = s.tidy; each = s.each };
   calls = λ d x y a s. since_then c d _ (local_grow k.server d.circuits x y) s;
   times = λ d x s. since_then c d _ (time_grow k.server d.circuits x d.moment) s;
+  ends = λ d x r s. since_then c d _ (end_grow k.server d.circuits x r) s;
   runs = λ d from wide h slots n s. since_then c d _ (run_grow k.server d.circuits from wide h slots n d.moment) s;
   stops = λ d from to source reason s. since_then c d _ (stop_grow k.server d.circuits from to source d.moment reason) s;
 }
@@ -202,18 +220,19 @@ opens_since config line address node service key request c d s = go (nat_eq (cir
     go true = seated made.core (since_then c renamed _ (makes_grow true d.circuits address (called (setup_of config.timing) d.moment) (λ k. refl)) named)
     go false = seated d s
 
-server_acts : (config : ServerConfig) (c : Core) → ServerActs config (λ y. Unit {0}) (Since c) (Since c)
+server_acts : (config : ServerConfig) (c : Core) → ServerActs config (λ y. Unit {0}) (Since c) (Since c) (Unit {0})
 server_acts config c = record {
   acts = since_acts c (server_side config);
   replies = λ d from to source g s. since_then c d _ (reply_grow d.circuits from to source d.moment g) s;
   done = λ d s. s;
-  opens = λ line address node service key request d can ex free s. opens_since config line address node service key request c d s;
+  opens = λ o line address node service key request d can ex free s. opens_since config line address node service key request c d s;
 }
 
-node_acts : (config : NodeConfig) (c : Core) → NodeActs config (λ y. Unit {0}) (Since c) (Since c)
+node_acts : (config : NodeConfig) (c : Core) → NodeActs config (λ y. Unit {0}) (Since c) (Since c) (Unit {0})
 node_acts config c = record {
   acts = since_acts c (node_side config);
-  starts = λ d from source g s. since_then c d _ (start_grow (setup_of config.timing) d.circuits from source d.moment g) s;
+  starts = λ o d from source g s. since_then c d _ (start_grow (setup_of config.timing) d.circuits from source d.moment g) s;
+  lapses = λ d from source x s. since_then c d _ (outlive_grow d.circuits from source x) s;
   done = λ d s. s;
   accepts = λ st x id line request service w v l ex free s. (let p : Since c (with_circuits st.core (local_at false st.core.circuits x (Answer id)).table) = since_then c st.core _ (local_grow false st.core.circuits x (Answer id)) s in record { tidy = p.tidy; each = p.each });
   refuses = λ d x id reason s. since_then c d _ (local_grow false d.circuits x (RejectAsk id reason)) s;
@@ -223,11 +242,11 @@ node_acts config c = record {
 
 server_since : (config : ServerConfig) (c : Core) (es : List Event) (st : Server) → Since c st.core → Since c (server_run config es st).core
 server_since config c [] st s = s
-server_since config c (e ∷ es) st s = server_since config c es (server_step config st e).state (server_keeps config (λ y. Unit {0}) (Since c) (Since c) (server_acts config c) st e (any_allowed e) s)
+server_since config c (e ∷ es) st s = server_since config c es (server_step config st e).state (server_keeps config (λ y. Unit {0}) (Since c) (Since c) (Unit {0}) (server_acts config c) st e (λ q. tt) (λ q. tt) (any_allowed e) s)
 
 node_since : (config : NodeConfig) (c : Core) (es : List RatedEvent) (st : Node) → Since c st.core → Since c (node_run config es st).core
 node_since config c [] st s = s
-node_since config c (e ∷ es) st s = node_since config c es (node_step config e.rates st e.event).state (node_keeps config (λ y. Unit {0}) (Since c) (Since c) (node_acts config c) e.rates st e.event (any_allowed e.event) s)
+node_since config c (e ∷ es) st s = node_since config c es (node_step config e.rates st e.event).state (node_keeps config (λ y. Unit {0}) (Since c) (Since c) (Unit {0}) (node_acts config c) e.rates st e.event (λ q. tt) (any_allowed e.event) s)
 
 since_none : (c : Core) → Tidy c.circuits → Since c c
 since_none c h = record { tidy = h; each = λ x k. grown_same (session_on c x k) }

@@ -7,7 +7,7 @@ use Rattle.lat_machines.specs.values.Answers.{Answer}
 use Rattle.lat_machines.specs.server.Queue.{QueueEvent, Request, waiting, first, next_request}
 use Rattle.lat_machines.specs.cores.Cores.{Seat, Core}
 use Rattle.lat_machines.specs.cores.Lines.{has_session}
-use Rattle.lat_machines.specs.server.Server.{ServerConfig, Server, ServerStep, offer_on, can_open, fitting, grantable, passed}
+use Rattle.lat_machines.specs.server.Server.{ServerConfig, Server, ServerStep, offer_on, can_open, fitting, grantable, passed, may_grant}
 use Rattle.lat_machines.specs.world.Safe.{NoGrant}
 use Rattle.lat_machines.proofs.queue.Grants.{extend}
 use Rattle.lat_machines.proofs.queue.Served.{Seated, AllSeated, served_on, ended_on}
@@ -35,11 +35,12 @@ none_more config st e s g line a b = go (offer_on line config.offers) (g line a 
 
     go : (o : Option Name) → grantable st line o ≡ None → grantable (record st { queue = st.queue ++ e ∷ [] }) line o ≡ None
     go None q = refl
-    go (Some service) q = by (has_session st.core line) q
+    go (Some service) q = by (may_grant st line) (has_session st.core line) q
       where
-        by : (n : Bool) → cond n None (fitting st.core (next_request service st.queue)) ≡ None → cond n None (fitting st.core (next_request service (st.queue ++ e ∷ []))) ≡ None
-        by true r = refl
-        by false r = ap (λ z. fitting st.core (first z)) (s service) ∙ fits (waiting service st.queue) r
+        by : (m n : Bool) → cond m (cond n None (fitting st.core (next_request service st.queue))) None ≡ None → cond m (cond n None (fitting st.core (next_request service (st.queue ++ e ∷ [])))) None ≡ None
+        by false n r = refl
+        by true true r = refl
+        by true false r = ap (λ z. fitting st.core (first z)) (s service) ∙ fits (waiting service st.queue) r
 
 -- the queue is told of an event, by which nobody waits more or less
 pub notes_pass : (config : ServerConfig) (st : Server) (e : QueueEvent) (a : Answer) (f : OutFrame) → Still st.queue e → AllSeated st.core st.queue st.core.seats → NoGrant config st → passed config (record { state = record st { queue = st.queue ++ e ∷ [] }; answer = a; frames = f ∷ [] }) ≡ record { state = record st { queue = st.queue ++ e ∷ [] }; answer = a; frames = f ∷ [] }

@@ -10,13 +10,13 @@ use Rattle.lat_machines.specs.values.Messages.{RunMessage, WideMessage, StartMes
 use Rattle.lat_machines.specs.values.Notices.{Kept, Waiting, Granted, Cancelled, QueueFull, RecordsFull, KeptAs, Unknown, Action, Ask, Cancel, Announcement, Command, AnnouncementNotice, CommandNotice, StatusNotice, SolicitNotice, ResponseNotice}
 use Rattle.lat_machines.specs.values.Notices as Notices
 use Rattle.lat_machines.specs.values.Frames.{Value, OfCircuit, OfNotice, Whole, Malformed}
-use Rattle.lat_machines.specs.values.Events.{Numbers, Event, Hears, Time, Connects, Puts, Sets, Takes, Attends, Closes, Requests, Withdraws, Announces}
-use Rattle.lat_machines.specs.values.Answers.{Answer, Announced, Apart, DirectoryFull, Ignored, Busy, NoLine, NoService, SessionsFull, CircuitsFull, IdsOut, Closed, Full, Connected, NotKept, KeptIs}
+use Rattle.lat_machines.specs.values.Events.{Numbers, Event, Hears, Time, Connects, Puts, Sets, Takes, Attends, Closes, Requests, Withdraws, Announces, Avoids, Readies, Halts}
+use Rattle.lat_machines.specs.values.Answers.{Answer, Announced, Apart, DirectoryFull, Ignored, Busy, NoLine, NoService, SessionsFull, CircuitsFull, IdsOut, Closed, Full, Connected, NotKept, KeptIs, Done, Halted}
 use Rattle.lat_machines.specs.server.Directory.{Best, best, refuses, meets}
 use Rattle.lat_machines.specs.server.Queue.{Asks, Cancels, Request, is_waiting, waits}
 use Rattle.lat_machines.specs.server.Records.{kept_now, kept_for, new_answer, ask_answer}
 use Rattle.lat_machines.specs.cores.Cores.{Seat, Core, Doing, at_moment, circuit_to}
-use Rattle.lat_machines.specs.cores.Lines.{session_of, seat_at, has_session, line_exists}
+use Rattle.lat_machines.specs.cores.Lines.{session_of, seat_at, has_session, line_exists, had_session}
 use Rattle.lat_machines.specs.cores.LineCalls.{Said, says, put_on, set_on, attend_on, take_on, close_on, on_line}
 use Rattle.lat_machines.specs.server.Server.{ServerConfig, Server, ServerStep, server_side, open_server, offered, tells, does, has_room, opens, connects_to, solicits_for, connect_event, hears_announcement, key_of, hears_command, hears_value, server_event, passed}
 use Rattle.lat_machines.specs.world.Histories.{server_run}
@@ -173,7 +173,7 @@ event_refused config st (Hears from (Whole v) k now) q =
     let s : Server = record st { core = at_moment now st.core } in
     refused_cond config s (Hears from (Whole v) k now) (nat_eq from everyone) (tells s Ignored) (hears_value config s from v k) (λ q. absurd (false≢true q)) (value_refused config s from v k now) q
 event_refused config st (Time now) q = absurd (false≢true q)
-event_refused config st (Connects line service) q = connect_refused config st line service q
+event_refused config st (Connects line service) q = refused_cond config st (Connects line service) st.halted (tells st Halted) (connect_event config st line service) (λ r. absurd (false≢true r)) (connect_refused config st line service) q
 event_refused config st (Puts line bytes) q =
     plain_refused config st (Puts line bytes) (server_event config st (Puts line bytes))
     (line_plain config.lines st.core line (λ s. put_on (server_side config) st.core s bytes) (λ s. said_cond (put_open (session_of st.core s)) _ (says st.core Closed) refl refl)) q
@@ -193,6 +193,18 @@ event_refused config st (Closes line) q =
 event_refused config st (Requests to id service) q = absurd (false≢true q)
 event_refused config st (Withdraws id) q = absurd (false≢true q)
 event_refused config st Announces q = absurd (false≢true q)
+event_refused config st (Avoids line) q = absurd (true≢false (sym q ∙ go (line_exists config.lines line) (had_session st.core line)))
+  where
+    go : (n m : Bool) → is_refused (cond n (cond m Done Closed) NoLine) ≡ false
+    go true true = refl
+    go true false = refl
+    go false m = refl
+event_refused config st (Readies line ready) q = absurd (true≢false (sym q ∙ go (line_exists config.lines line)))
+  where
+    go : (n : Bool) → is_refused (cond n Done NoLine) ≡ false
+    go true = refl
+    go false = refl
+event_refused config st Halts q = absurd (false≢true q)
 
 -- behind every history, with the pass
 
@@ -212,6 +224,9 @@ moved_calm config st (Closes line) g = record { seated = g.seated; quiet = g.qui
 moved_calm config st (Requests to id service) g = record { seated = g.seated; quiet = g.quiet }
 moved_calm config st (Withdraws id) g = record { seated = g.seated; quiet = g.quiet }
 moved_calm config st Announces g = record { seated = g.seated; quiet = g.quiet }
+moved_calm config st (Avoids line) g = record { seated = g.seated; quiet = g.quiet }
+moved_calm config st (Readies line ready) g = record { seated = g.seated; quiet = g.quiet }
+moved_calm config st Halts g = record { seated = g.seated; quiet = g.quiet }
 
 before_calm : (config : ServerConfig) (es : List Event) (e : Event) → 0 < config.timing.sessions → Calm config (server_before config es e)
 before_calm config es e pos = moved_calm config (server_run config es (open_server config)) e (settled config es pos)

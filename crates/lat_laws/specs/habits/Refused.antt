@@ -1,6 +1,6 @@
 -- A refused event grants nothing. Where it changes something, that is the solicit id or one event of the queue, and one
 -- frame goes out.
-use Rattle.std.specs.Prelude.{◌≡◌, ◌≢◌, ℕ, ◌+◌, ◌%◌, ◌<◌, Bool, true, false, List, [], ◌∷◌, ◌++◌, Option, Some}
+use Rattle.std.specs.Prelude.{◌≡◌, ◌≢◌, ℕ, ◌+◌, ◌%◌, ◌<◌, Bool, true, false, List, [], ◌∷◌, ◌++◌, Option, Some, cond}
 use Rattle.lat_machines.specs.values.Names.{Name}
 use Rattle.lat_machines.specs.values.Addresses.{everyone}
 use Rattle.lat_machines.specs.values.Messages.{StartInfo, StartMessage, StopMessage}
@@ -12,7 +12,7 @@ use Rattle.lat_machines.specs.values.Answers as Answers
 use Rattle.lat_machines.specs.server.Queue.{QueueEvent, Asks, Cancels, Request, waits}
 use Rattle.lat_machines.specs.server.Records.{kept_now, record_of}
 use Rattle.lat_machines.specs.server.Server.{ServerConfig, Server, ServerStep, open_server, key_of}
-use Rattle.lat_machines.specs.node.Node.{NodeConfig, Node, NodeStep, open_node}
+use Rattle.lat_machines.specs.node.Node.{NodeConfig, Node, NodeStep, open_node, makes_way}
 use Rattle.lat_machines.specs.world.Histories.{server_run, RatedEvent, node_run}
 use Rattle.lat_machines.specs.world.Refusals.{server_moved, node_moved, server_after, node_after}
 use Rattle.lat_model.specs.Reasons as reasons
@@ -107,15 +107,23 @@ RepeatedCommandsGrantNothing =
     server_after config events (command_heard from m numbers now)
     ≡ answers_again (server_before config events (command_heard from m numbers now)) from m r
 
--- a START that a node refuses: a STOP for want of resources goes back, under the id that the START came with
-abbrev pub stops_alone : Node → ℕ → ℕ → NodeStep
-stops_alone state from source = record {
+-- a START that a node refuses: a STOP goes back, under the id that the START came with
+abbrev pub stops_alone : Node → ℕ → ℕ → ℕ → NodeStep
+stops_alone state from source reason = record {
   state = state;
   answer = StartRefused;
-  frames = plain from 0 (OfCircuit (StopMessage false false source 0 reasons.no_resources [])) ∷ [];
+  frames = plain from 0 (OfCircuit (StopMessage false false source 0 reason [])) ∷ [];
 }
 
-pub record IsTurnedAway (state : Node) (e : Event) (s : NodeStep) : Type 0 where
+-- A halted node is halted still; another one wants resources, and where it is prompt it has ended the slaves that the START
+-- follows
+abbrev pub turned_away : NodeConfig → Node → ℕ → ℕ → NodeStep
+turned_away config state from source =
+    cond state.halted
+    (stops_alone state from source reasons.halted)
+    (stops_alone (makes_way config state from source) from source reasons.no_resources)
+
+pub record IsTurnedAway (config : NodeConfig) (state : Node) (e : Event) (s : NodeStep) : Type 0 where
   pub from : ℕ
   pub ask : Bool
   pub to : ℕ
@@ -124,10 +132,10 @@ pub record IsTurnedAway (state : Node) (e : Event) (s : NodeStep) : Type 0 where
   pub numbers : Option Numbers
   pub now : ℕ
   pub event : e ≡ Hears from (Whole (OfCircuit (StartMessage true ask to source info))) numbers now
-  pub step : s ≡ stops_alone state from source
+  pub step : s ≡ turned_away config state from source
 
 abbrev pub RefusedStartsStop : Type 0
 RefusedStartsStop =
     (config : NodeConfig) (events : List RatedEvent) (rates : List ℕ) (e : Event) →
     (node_after config events rates e).answer ≡ StartRefused →
-    IsTurnedAway (node_before config events e) e (node_after config events rates e)
+    IsTurnedAway config (node_before config events e) e (node_after config events rates e)

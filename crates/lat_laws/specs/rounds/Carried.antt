@@ -4,7 +4,7 @@ use Rattle.lat_model.specs.numbers.Link.{fresh}
 use Rattle.lat_model.specs.ends.End.{Sent, Run, CallStart, ReplyStart, Stopped, End, lives}
 use Rattle.lat_model.specs.circuits.World.{Wired, World, table}
 use Rattle.lat_model.specs.circuits.Arriving.{refusal}
-use Rattle.lat_model.specs.circuits.Events.{WorldEvent, Delivers, occurs}
+use Rattle.lat_model.specs.circuits.Events.{WorldEvent, Delivers, occurs, Lapses, Stops}
 use Rattle.lat_laws.specs.rounds.Lossless.{is_side, is_in}
 use Rattle.lat_model.specs.Lists.{Each}
 use Rattle.lat_laws.specs.rounds.Flight.{Flow, ShowsTaken, Clear, Old}
@@ -193,13 +193,15 @@ abbrev pub done_after : World → List ℕ → WorldEvent → List ℕ
 done_after w done (Delivers i now g) = done_with done i (slice_get w.frames i)
 done_after w done _ = done
 
--- a frame that comes to the other end comes in its turn, or again
+-- a frame that comes to the other end comes in its turn, or again; no circuit lapses, and no STOP comes from no circuit
 abbrev pub InTurn : World → List ℕ → WorldEvent → Type 0
 InTurn w done (Delivers i now g) =
     (v : Wired) →
     slice_get w.frames i ≡ Some v →
     v.to ≡ (table w (not v.by_server)).own →
     (is_in i done ≡ true) ⊎ ((is_in i done ≡ false) × IsNext w done v i)
+InTurn w done (Lapses b x r) = ⊥
+InTurn w done (Stops b to destination source r) = ⊥
 InTurn w done _ = Unit {0}
 
 -- and so each frame of these events

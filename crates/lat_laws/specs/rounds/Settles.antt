@@ -8,6 +8,7 @@ use Rattle.lat_machines.specs.server.Server.{Offer}
 use Rattle.lat_machines.specs.world.Machines.{Setups, Machines, Move, Does, HearsFrame, HearsForeign, run, open_machines}
 use Rattle.lat_machines.specs.world.Reports.{Row, Report, partner, row, report}
 use Rattle.lat_machines.specs.world.Safe.{Fit}
+use Rattle.lat_laws.specs.rounds.Calm.{Calm}
 use Rattle.lat_laws.specs.rounds.Lossless.{Lossless}
 use Rattle.lat_laws.specs.rounds.Rounds.{rounds, Whole, YoungRounds}
 
@@ -50,12 +51,13 @@ pub record IsSettled (r : Row) : Type 0 where
   pub up : r.up.taken ≡ r.up.put
   pub down : r.down.taken ≡ r.down.put
 
--- a world after some moves, at which nothing was lost, and the moment of the last of them
+-- a calm world after some moves, at which nothing was lost, and the moment of the last of them
 pub record Begins (u : Setups) (now : ℕ) (w : Machines) : Type 0 where
   pub fit : Fit u
   pub usual : Usual u
   pub moves : List Move
   pub short : Each ShortMove moves
+  pub calm : Calm u moves
   pub reached : w ≡ run u moves (open_machines u)
   pub lossless : Lossless u w
   pub server : w.server.core.moment ≤ now

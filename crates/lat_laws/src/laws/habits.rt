@@ -11,8 +11,9 @@ ghost use Rattle.lat_laws.specs.habits.Credits.{ServerSlotsCredited, NodeSlotsCr
 /// A refused event connects no line: neither by itself nor by the grant pass behind it. A connect that no node serves draws
 /// a solicit id and sends a Solicit (`unserved`). A refused command is noted in the queue and answered by a Status
 /// (`commands`); so is one whose key is known, from its record, but for the cancel of a request that waits (`again`). At a
-/// node a refused START is answered by a STOP (`starts`). Nothing else changes but the moment. The other refusals change
-/// nothing at all, by `refusals_change_nothing` of the machines.
+/// node a refused START is answered by a STOP, which says whether the node is halted (`starts`). Nothing else changes but the
+/// moment, and that a prompt node has ended the slaves that the START follows. The other refusals change nothing at all, by
+/// `refusals_change_nothing` of the machines.
 pub fn refused_events_grant_nothing()
     ensures unserved { UnservedGrantsNothing }
     ensures commands { RefusedCommandsGrantNothing }

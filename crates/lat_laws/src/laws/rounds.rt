@@ -1,4 +1,7 @@
 //! The laws of rounds, and of what stands below them.
+//!
+//! Rounds promise what they promise of a calm world: neither end is prompt, and nobody is halted. Such an end breaks nothing
+//! off: it sends a STOP from each circuit that ends, and none from no circuit. Lines may be ready or not.
 
 ghost use Rattle.std.specs.Prelude.{◌≡◌, ◌≢◌, ℕ, ◌+◌, ◌<◌, ◌≤◌, true, false, Bool, List, [], length, Some, slice_get};
 ghost use Rattle.lat_model.specs.Lists.{Each};
@@ -21,6 +24,7 @@ ghost use Rattle.lat_laws.specs.rounds.Plain.{WorldPlain, ShortWorldEvent};
 ghost use Rattle.lat_machines.specs.world.Machines.{Setups, Machines, Move, run, open_machines};
 ghost use Rattle.lat_laws.specs.rounds.Lossless.{is_in, Lossless};
 ghost use Rattle.lat_laws.specs.rounds.Rounds.{rounds};
+ghost use Rattle.lat_laws.specs.rounds.Calm.{Calm};
 ghost use Rattle.lat_laws.specs.rounds.Settles.{Begins, ShortMove, RoundsAreYoung, RoundsSettle};
 ghost use Rattle.lat_laws.specs.rounds.Carried.{flying, server_end, node_end, Kinds, Carried, IsNext, Orderly, done_all};
 ghost use Rattle.lat_laws.specs.rounds.Progress.{Still, Ready, Brings};
@@ -60,8 +64,9 @@ pub fn sessions_stay_plain()
         WorldPlain (go_on events (open_world server node u v)) }
 {}
 
-/// In every run in which frames come in order, what is in flight between two circuits brings what was sent; where a slave has
-/// ended, its STOP is in flight; and a slave whose master waits has its reply in flight.
+/// In every run in which frames come in order, no circuit lapses and no STOP comes from no circuit, what is in flight between
+/// two circuits brings what was sent; where a slave has ended, its STOP is in flight; and a slave whose master waits has its
+/// reply in flight.
 pub fn frames_are_carried()
     ensures { (server node : ℕ) (u v : Setup) (events : List WorldEvent) →
         server ≢ node →
@@ -162,23 +167,25 @@ pub fn rounds_bring_forward()
         Brings now m s }
 {}
 
-/// Nothing is lost in rounds, and what stands behind them is a run of the two machines.
+/// Nothing is lost in the rounds of a calm world, and what stands behind them is a run of the two machines, of a calm world
+/// too.
 pub fn nothing_is_lost_in_rounds()
     ensures { (u : Setups) (now : ℕ) (w : Machines) (rs : List (List (List ℕ))) →
         Begins u now w →
         Lossless u (rounds u now rs w) ×
         ((moves : List Move) × (rounds u now rs w ≡ run u moves (open_machines u))
-        × Each ShortMove moves) }
+        × Each ShortMove moves
+        × Calm u moves) }
 {}
 
-/// Each frame that rounds deliver is young, also one of an end that has ended since.
+/// Each frame that rounds of a calm world deliver is young, also one of an end that has ended since.
 pub fn rounds_are_young()
     ensures { RoundsAreYoung }
 {}
 
-/// Where nothing was lost, rounds bring all that was put: behind whole rounds, four for each item put, twenty for each session
-/// and twenty more, each session that the server still holds and neither end has closed has taken, both ways, what the other
-/// end has put.
+/// In a calm world at which nothing was lost, rounds bring all that was put: behind whole rounds, four for each item put,
+/// twenty for each session and twenty more, each session that the server still holds and neither end has closed has taken,
+/// both ways, what the other end has put.
 pub fn rounds_settle()
     ensures { RoundsSettle }
 {}

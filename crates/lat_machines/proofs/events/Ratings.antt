@@ -5,7 +5,7 @@ use Rattle.lat_machines.specs.values.Names.{Name, same}
 use Rattle.lat_machines.specs.values.Addresses.{everyone}
 use Rattle.lat_machines.specs.values.Notices.{AnnouncementNotice, CommandNotice, StatusNotice, SolicitNotice, ResponseNotice}
 use Rattle.lat_machines.specs.values.Frames.{Value, OfCircuit, OfNotice, Whole, Malformed}
-use Rattle.lat_machines.specs.values.Events.{Numbers, Event, Hears, Time, Connects, Puts, Sets, Takes, Attends, Closes, Requests, Withdraws, Announces}
+use Rattle.lat_machines.specs.values.Events.{Numbers, Event, Hears, Time, Connects, Puts, Sets, Takes, Attends, Closes, Requests, Withdraws, Announces, Avoids, Readies, Halts}
 use Rattle.lat_machines.specs.values.Answers.{Ignored}
 use Rattle.lat_machines.specs.cores.Cores.{at_moment}
 use Rattle.lat_machines.specs.node.Node.{NodeConfig, Node, tells, solicited, hears_value, node_step, SameButFrames}
@@ -42,3 +42,6 @@ same_but_frames config rates others st (Closes line) = record { state = refl; an
 same_but_frames config rates others st (Requests to id service) = record { state = refl; answer = refl }
 same_but_frames config rates others st (Withdraws id) = record { state = refl; answer = refl }
 same_but_frames config rates others st Announces = record { state = refl; answer = refl }
+same_but_frames config rates others st (Avoids line) = record { state = refl; answer = refl }
+same_but_frames config rates others st (Readies line ready) = record { state = refl; answer = refl }
+same_but_frames config rates others st Halts = record { state = refl; answer = refl }

@@ -1,5 +1,5 @@
 -- A young frame of the other end is heard by its number fields as by its numbers.
-use Rattle.std.proofs.Common.{◌≡◌, ℕ, ◌<◌, ⊎_elim, arith, refl, sym, ap, ap₂, ◌∙◌, subst, Bool, true, false, not, cond, ◌&&◌, List, Option, Some, None, slice_get, nat_eq}
+use Rattle.std.proofs.Common.{◌≡◌, ℕ, ◌<◌, ⊎_elim, arith, refl, sym, ap, ap₂, ◌∙◌, subst, Bool, true, false, not, cond, ◌&&◌, List, Option, Some, None, slice_get, nat_eq, ◌++◌}
 use Rattle.std.proofs.lemmas.Bool.{and_parts, false≢true}
 use Rattle.lat_model.specs.sessions.Slots.{Slot}
 use Rattle.lat_model.specs.numbers.Link.{Frame}
@@ -19,7 +19,7 @@ use Rattle.lat_machines.specs.values.Runs.{slots_in, run_head}
 use Rattle.lat_machines.specs.values.Events.{Numbers, Hears}
 use Rattle.lat_machines.specs.values.Answers.{Ignored}
 use Rattle.lat_machines.specs.cores.Hearing.{names, fits_kind, numbers_at, run_frame, run_at, foreign, hear_run}
-use Rattle.lat_machines.specs.cores.Cores.{Side, Core, sent_frame, at_moment}
+use Rattle.lat_machines.specs.cores.Cores.{Side, Core, sent_frame, at_moment, told_stranger}
 use Rattle.lat_machines.specs.server.Server.{ServerConfig, Server, server_step}
 use Rattle.lat_machines.specs.server.Server as Server
 use Rattle.lat_machines.specs.node.Node.{NodeConfig, Node, node_step}
@@ -52,8 +52,8 @@ same_hear b t from wide h slots k now p = go (names t from h.to h.from) refl (fi
     go true i true j = ap (λ z. run_at b t h.to true now h.ask (run_frame z slots)) (p i j)
 
 server_same : (config : ServerConfig) (st : Server) (from : ℕ) (v : Value) (k : Numbers) → SameIn st.core.circuits from k v → Server.hears_value config st from v None ≡ Server.hears_value config st from v (Some k)
-server_same config st from (OfCircuit (RunMessage h slots)) k p = ap (Server.heard_at config st) (same_hear true st.core.circuits from false h slots k st.core.moment p)
-server_same config st from (OfCircuit (WideMessage h slots)) k p = ap (Server.heard_at config st) (same_hear true st.core.circuits from true h slots k st.core.moment p)
+server_same config st from (OfCircuit (RunMessage h slots)) k p = ap (λ z. record { state = (Server.heard_at config st z).state; answer = (Server.heard_at config st z).answer; frames = (Server.heard_at config st z).frames ++ told_stranger (Server.server_side config) config.prompt st.core from h }) (same_hear true st.core.circuits from false h slots k st.core.moment p)
+server_same config st from (OfCircuit (WideMessage h slots)) k p = ap (λ z. record { state = (Server.heard_at config st z).state; answer = (Server.heard_at config st z).answer; frames = (Server.heard_at config st z).frames ++ told_stranger (Server.server_side config) config.prompt st.core from h }) (same_hear true st.core.circuits from true h slots k st.core.moment p)
 server_same config st from (OfCircuit (StartMessage master ask to source info)) k p = refl
 server_same config st from (OfCircuit (StopMessage master ask to source reason text)) k p = refl
 server_same config st from (OfNotice n) k p = refl
@@ -62,8 +62,8 @@ pub server_bytes : (config : ServerConfig) (st : Server) (from : ℕ) (v : Value
 server_bytes config st from v k now p = ap (λ z. Server.passed config (cond (nat_eq from everyone) (Server.tells (record st { core = at_moment now st.core }) Ignored) z)) (server_same config (record st { core = at_moment now st.core }) from v k p)
 
 node_same : (config : NodeConfig) (rates : List ℕ) (st : Node) (from : ℕ) (v : Value) (k : Numbers) → SameIn st.core.circuits from k v → Node.hears_value config rates st from v None ≡ Node.hears_value config rates st from v (Some k)
-node_same config rates st from (OfCircuit (RunMessage h slots)) k p = ap (λ z. Node.then_answers config (names st.core.circuits from h.to h.from) h.to (Node.heard_at config st z)) (same_hear false st.core.circuits from false h slots k st.core.moment p)
-node_same config rates st from (OfCircuit (WideMessage h slots)) k p = ap (λ z. Node.then_answers config (names st.core.circuits from h.to h.from) h.to (Node.heard_at config st z)) (same_hear false st.core.circuits from true h slots k st.core.moment p)
+node_same config rates st from (OfCircuit (RunMessage h slots)) k p = ap (λ z. record { state = (Node.then_answers config (names st.core.circuits from h.to h.from) h.to (Node.heard_at config st z)).state; answer = (Node.then_answers config (names st.core.circuits from h.to h.from) h.to (Node.heard_at config st z)).answer; frames = (Node.then_answers config (names st.core.circuits from h.to h.from) h.to (Node.heard_at config st z)).frames ++ told_stranger (Node.node_side config) config.prompt st.core from h }) (same_hear false st.core.circuits from false h slots k st.core.moment p)
+node_same config rates st from (OfCircuit (WideMessage h slots)) k p = ap (λ z. record { state = (Node.then_answers config (names st.core.circuits from h.to h.from) h.to (Node.heard_at config st z)).state; answer = (Node.then_answers config (names st.core.circuits from h.to h.from) h.to (Node.heard_at config st z)).answer; frames = (Node.then_answers config (names st.core.circuits from h.to h.from) h.to (Node.heard_at config st z)).frames ++ told_stranger (Node.node_side config) config.prompt st.core from h }) (same_hear false st.core.circuits from true h slots k st.core.moment p)
 node_same config rates st from (OfCircuit (StartMessage master ask to source info)) k p = refl
 node_same config rates st from (OfCircuit (StopMessage master ask to source reason text)) k p = refl
 node_same config rates st from (OfNotice n) k p = refl

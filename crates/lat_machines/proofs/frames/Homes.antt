@@ -1,5 +1,5 @@
 -- A frame leaves alone the circuits of other addresses.
-use Rattle.std.proofs.Common.{◌≡◌, ◌≢◌, ℕ, suc, ◌+◌, ◌≤◌, arith, refl, ap, ◌∙◌, Bool, true, false, not, cond, ◌&&◌, ◌||◌, List, [], ◌∷◌, ◌++◌, Option, Some, None, nat_eq, nat_lt, eqb-true}
+use Rattle.std.proofs.Common.{◌≡◌, ◌≢◌, ℕ, suc, ◌+◌, ◌≤◌, arith, refl, ap, ◌∙◌, Bool, true, false, not, cond, ◌&&◌, ◌||◌, List, [], ◌∷◌, ◌++◌, Option, Some, None, nat_eq, nat_lt, eqb-true, subst, sym}
 use Rattle.std.specs.List.{find}
 use Rattle.std.proofs.lemmas.Bool.{and_parts, eqb-false}
 use Rattle.lat_model.specs.sessions.Slots.{Slot}
@@ -7,7 +7,7 @@ use Rattle.lat_model.specs.sessions.Session.{Session, waits}
 use Rattle.lat_model.specs.Lists.{upwards}
 use Rattle.lat_model.specs.sessions.Calls.{Call, RejectAsk}
 use Rattle.lat_model.specs.sessions.Calls as Calls
-use Rattle.lat_model.specs.ends.End.{End, Step, lives, call_end}
+use Rattle.lat_model.specs.ends.End.{End, Step, lives, call_end, lapse}
 use Rattle.lat_model.specs.ends.Run.{run_end}
 use Rattle.lat_model.specs.ends.Starting.{Agreed, again_start, hear_reply, hear_stop}
 use Rattle.lat_model.specs.circuits.World.{CircuitEntry, Table}
@@ -24,7 +24,7 @@ use Rattle.lat_machines.specs.server.Records.{kept_for}
 use Rattle.lat_machines.specs.values.Events.{Numbers}
 use Rattle.lat_machines.specs.values.Answers.{Ignored, NotKept, KeptIs, Ended, Again, Running}
 use Rattle.lat_machines.specs.cores.Acts.{Acted, idle, steps_at, local_at}
-use Rattle.lat_machines.specs.cores.Hearing.{HeardAct, foreign, names, fits_kind, numbers_at, run_frame, run_at, hear_run, hear_stop_at, hear_reply_at, StartFact, Repeats, Makes, Refuses, start_fact}
+use Rattle.lat_machines.specs.cores.Hearing.{HeardAct, foreign, names, fits_kind, numbers_at, run_frame, run_at, hear_run, hear_stop_at, hear_reply_at, StartFact, Repeats, Makes, Refuses, start_fact, outlive, outlive_at, is_outlived, follows}
 use Rattle.lat_machines.specs.cores.Cores.{at_moment}
 use Rattle.lat_machines.specs.server.Server.{ServerConfig, Server, ServerStep, key_of}
 use Rattle.lat_machines.specs.server.Server as Server
@@ -181,10 +181,53 @@ start_home config st x from source info l n = go (nat_eq k 0) refl (nat_lt (livi
     go true i false = refl
     go false i b = steps_home false t x k (again_start st.core.moment (t.circuit_at k).end) (apart t x k from n (and_parts (nat_eq (t.circuit_at k).address from) (nat_eq (t.circuit_at k).end.peer source) (and_parts (is_of (t.circuit_at k) from source) (lives (t.circuit_at k).end) (least_true (λ j. is_of (t.circuit_at j) from source && lives (t.circuit_at j).end) 0 t.drawn (eqb-false k 0 i))).0).0)
 
+outlive_home : (from source x : ℕ) (ys : List ℕ) (t : Table) → (t.circuit_at x).address ≢ from → ((outlive from source ys t).circuit_at x ≡ t.circuit_at x) × ((outlive from source ys t).drawn ≡ t.drawn)
+outlive_home from source x [] t n = (refl, refl)
+outlive_home from source x (y ∷ ys) t n =
+    let u : Table = outlive_at from source y t in
+    let one : (u.circuit_at x ≡ t.circuit_at x) × (u.drawn ≡ t.drawn) = go (is_outlived (t.circuit_at y) from source) refl in
+    let all : ((outlive from source ys u).circuit_at x ≡ u.circuit_at x) × ((outlive from source ys u).drawn ≡ u.drawn) = outlive_home from source x ys u (subst (λ (c : CircuitEntry). c.address ≢ from) (sym one.0) n) in
+    (all.0 ∙ one.0, all.1 ∙ one.1)
+  where
+    e : End
+    e = (t.circuit_at y).end
+
+    go : (b : Bool) → is_outlived (t.circuit_at y) from source ≡ b → ((cond b (steps_at false t y (lapse 5 e)).table t).circuit_at x ≡ t.circuit_at x) × ((cond b (steps_at false t y (lapse 5 e)).table t).drawn ≡ t.drawn)
+    go false i = (refl, refl)
+    go true i = (steps_home false t x y (lapse 5 e) (apart t x y from n (and_parts (nat_eq (t.circuit_at y).address from) (follows e.peer source) (and_parts (nat_eq (t.circuit_at y).address from && follows e.peer source) (lives e) i).0).0), refl)
+
+way_home : (config : NodeConfig) (st : Node) (x from source : ℕ) → (st.core.circuits.circuit_at x).address ≢ from → (Node.makes_way config st from source).core.circuits.circuit_at x ≡ st.core.circuits.circuit_at x
+way_home config st x from source n = go config.prompt
+  where
+    go : (b : Bool) → (cond b (outlive from source (upwards 0 st.core.circuits.drawn) st.core.circuits) st.core.circuits).circuit_at x ≡ st.core.circuits.circuit_at x
+    go true = (outlive_home from source x (upwards 0 st.core.circuits.drawn) st.core.circuits n).0
+    go false = refl
+
+outlive_drawn : (from source : ℕ) (ys : List ℕ) (t : Table) → (outlive from source ys t).drawn ≡ t.drawn
+outlive_drawn from source [] t = refl
+outlive_drawn from source (y ∷ ys) t = outlive_drawn from source ys (outlive_at from source y t) ∙ go (is_outlived (t.circuit_at y) from source)
+  where
+    go : (b : Bool) → (cond b (steps_at false t y (lapse 5 (t.circuit_at y).end)).table t).drawn ≡ t.drawn
+    go true = refl
+    go false = refl
+
+way_drawn : (config : NodeConfig) (st : Node) (from source : ℕ) → (Node.makes_way config st from source).core.circuits.drawn ≡ st.core.circuits.drawn
+way_drawn config st from source = go config.prompt
+  where
+    go : (b : Bool) → (cond b (outlive from source (upwards 0 st.core.circuits.drawn) st.core.circuits) st.core.circuits).drawn ≡ st.core.circuits.drawn
+    go true = outlive_drawn from source (upwards 0 st.core.circuits.drawn) st.core.circuits
+    go false = refl
+
 node_message : (config : NodeConfig) (st : Node) (x from : ℕ) (m : Message) (k : Option Numbers) → x ≤ st.core.circuits.drawn → (st.core.circuits.circuit_at x).address ≢ from → (Node.hears_message config st from m k).state.core.circuits.circuit_at x ≡ st.core.circuits.circuit_at x
 node_message config st x from (RunMessage h slots) k l n = node_run_home config st x from false h slots k n
 node_message config st x from (WideMessage h slots) k l n = node_run_home config st x from true h slots k n
-node_message config st x from (StartMessage true ask to source info) k l n = start_home config st x from source info l n
+node_message config st x from (StartMessage true ask to source info) k l n = by st.halted
+  where
+    by : (b : Bool) → (cond b (Node.turns_away config st from source) (Node.starts config (Node.makes_way config st from source) from source info)).state.core.circuits.circuit_at x ≡ st.core.circuits.circuit_at x
+    by true = refl
+    by false =
+        let way : (Node.makes_way config st from source).core.circuits.circuit_at x ≡ st.core.circuits.circuit_at x = way_home config st x from source n in
+        start_home config (Node.makes_way config st from source) x from source info (subst (λ z. x ≤ z) (sym (way_drawn config st from source)) l) (subst (λ (c : CircuitEntry). c.address ≢ from) (sym way) n) ∙ way
 node_message config st x from (StartMessage false ask to source info) k l n = refl
 node_message config st x from (StopMessage master ask to source reason text) k l n = stop_home false st.core.circuits x from to source st.core.moment reason n
 

@@ -54,12 +54,16 @@ node_value : (config : NodeConfig) (rates : List ℕ) (st : Node) (from : ℕ) (
 node_value config rates st from (OfCircuit (RunMessage h slots)) k f a q = let z : ⊥ = cc in z
 node_value config rates st from (OfCircuit (WideMessage h slots)) k f a q = let z : ⊥ = cc in z
 node_value config rates st from (OfCircuit (StartMessage false ask to source info)) k f a q = let z : ⊥ = cc in z
-node_value config rates st from (OfCircuit (StartMessage true ask to source info)) k f a q = go (start_fact st.core.circuits from source) q
+node_value config rates st from (OfCircuit (StartMessage true ask to source info)) k f a q = by st.halted q
   where
     go : (x : StartFact) → start_answer x ≢ Bad f a
     go (Repeats x) q = let z : ⊥ = cc in z
     go (Makes x) q = let z : ⊥ = cc in z
     go Refuses q = let z : ⊥ = cc in z
+
+    by : (n : Bool) → (cond n (Node.turns_away config st from source) (Node.starts config (Node.makes_way config st from source) from source info)).answer ≢ Bad f a
+    by true q = let z : ⊥ = cc in z
+    by false q = go (start_fact (Node.makes_way config st from source).core.circuits from source) q
 node_value config rates st from (OfCircuit (StopMessage master ask to source reason text)) k f a q = let z : ⊥ = cc in z
 node_value config rates st from (OfNotice (AnnouncementNotice x)) k f a q = let z : ⊥ = cc in z
 node_value config rates st from (OfNotice (CommandNotice x)) k f a q = let z : ⊥ = cc in z

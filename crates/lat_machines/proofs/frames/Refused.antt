@@ -3,20 +3,21 @@ use Rattle.std.proofs.Common.{◌≡◌, ℕ, suc, refl, sym, ap, ◌∙◌, Boo
 use Rattle.std.proofs.lemmas.Bool.{false≢true}
 use Rattle.lat_model.specs.sessions.Session.{put_open, take_open, unframed}
 use Rattle.lat_model.specs.sessions.Sessions.{least_free}
+use Rattle.lat_model.specs.Lists.{updated}
 use Rattle.lat_model.specs.circuits.Arriving.{living}
 use Rattle.lat_machines.specs.values.Names.{Name, same}
 use Rattle.lat_machines.specs.values.Addresses.{everyone}
 use Rattle.lat_machines.specs.values.Messages.{RunMessage, WideMessage, StartMessage, StopMessage, StartInfo}
 use Rattle.lat_machines.specs.values.Notices.{Kept, KeptAs, Unknown, Action, Ask, Cancel, Announcement, Command, AnnouncementNotice, CommandNotice, StatusNotice, SolicitNotice, ResponseNotice}
 use Rattle.lat_machines.specs.values.Frames.{Value, OfCircuit, OfNotice, Whole, Malformed}
-use Rattle.lat_machines.specs.values.Events.{Numbers, Event, Hears, Time, Connects, Puts, Sets, Takes, Attends, Closes, Requests, Withdraws, Announces}
-use Rattle.lat_machines.specs.values.Answers.{Answer, Announced, Apart, DirectoryFull, Ignored, Busy, NoLine, SessionsFull, CircuitsFull, IdsOut, Closed, Full, Connected, NotKept, KeptIs, IdUsed}
-use Rattle.lat_machines.specs.server.Directory.{Best, best, refuses, meets}
+use Rattle.lat_machines.specs.values.Events.{Numbers, Event, Hears, Time, Connects, Puts, Sets, Takes, Attends, Closes, Requests, Withdraws, Announces, Avoids, Readies, Halts}
+use Rattle.lat_machines.specs.values.Answers.{Answer, Done, Announced, Apart, DirectoryFull, Ignored, Busy, NoLine, SessionsFull, CircuitsFull, IdsOut, Closed, Full, Connected, NotKept, KeptIs, IdUsed, Halted}
+use Rattle.lat_machines.specs.server.Directory.{Best, best, refuses, meets, avoid}
 use Rattle.lat_machines.specs.server.Queue.{Cancels}
 use Rattle.lat_machines.specs.server.Records.{kept_for}
 use Rattle.lat_machines.specs.cores.Hearing.{StartFact, Repeats, Makes, Refuses, start_fact}
 use Rattle.lat_machines.specs.cores.Cores.{Seat, Core, Doing, at_moment, circuit_to}
-use Rattle.lat_machines.specs.cores.Lines.{session_of, seat_at, has_session, line_exists}
+use Rattle.lat_machines.specs.cores.Lines.{session_of, seat_at, has_session, had_session, peer_address, line_exists}
 use Rattle.lat_machines.specs.cores.LineCalls.{Said, says, put_on, set_on, attend_on, take_on, close_on, on_line}
 use Rattle.lat_machines.specs.server.Server.{ServerConfig, Server, ServerStep, server_side, opens, does, has_room, connects_to, solicits_for, connect_event, status_frame, key_of, open_server, hears_announcement, hears_command, server_event, passed}
 use Rattle.lat_machines.specs.server.Server as Server
@@ -121,13 +122,28 @@ value_same config st from (OfNotice (ResponseNotice m)) k h = refl
 value_same config st from (OfNotice (StatusNotice m)) k h = refl
 value_same config st from (OfNotice (SolicitNotice m)) k h = refl
 
+avoid_same : (config : ServerConfig) (st : Server) (line : ℕ) → Same st (Server.avoids_on config st line)
+avoid_same config st line h = go (line_exists config.lines line) (had_session st.core line) h
+  where
+    go : (n m : Bool) → Same st (Server.tells (record st { heard = cond n (cond m (avoid (peer_address st.core line) st.heard) st.heard) st.heard }) (cond n (cond m Done Closed) NoLine))
+    go false m h = refl
+    go true false h = refl
+    go true true h = absurd (false≢true h)
+
+ready_same : (config : ServerConfig) (st : Server) (line : ℕ) (ready : Bool) → Same st (Server.readies_on config st line ready)
+ready_same config st line ready h = go (line_exists config.lines line) h
+  where
+    go : (n : Bool) → Same st (Server.tells (record st { ready = cond n (updated st.ready line ready) st.ready }) (cond n Done NoLine))
+    go false h = refl
+    go true h = absurd (false≢true h)
+
 event_same : (config : ServerConfig) (st : Server) (e : Event) → Same (server_moved e st) (server_event config st e)
 event_same config st (Hears from (Malformed field at) k now) h = refl
 event_same config st (Hears from (Whole v) k now) h =
     let s : Server = record st { core = at_moment now st.core } in
     same_cond s (nat_eq from everyone) (Server.tells s Ignored) (Server.hears_value config s from v k) (λ y. refl) (value_same config s from v k) h
 event_same config st (Time now) h = absurd (false≢true h)
-event_same config st (Connects line service) h = connect_same config st line service h
+event_same config st (Connects line service) h = same_cond st st.halted (Server.tells st Halted) (connect_event config st line service) (λ y. refl) (connect_same config st line service) h
 event_same config st (Puts line bytes) h = said_same st _ (line_same config.lines st.core line (λ s. put_on (server_side config) st.core s bytes) (λ s. done_same st.core (put_open (session_of st.core s)) _ refl)) h
 event_same config st (Sets line setting) h =
     said_same st _
@@ -139,6 +155,9 @@ event_same config st (Closes line) h = said_same st _ (line_same config.lines st
 event_same config st (Requests to id service) h = refl
 event_same config st (Withdraws id) h = refl
 event_same config st Announces h = refl
+event_same config st (Avoids line) h = avoid_same config st line h
+event_same config st (Readies line ready) h = ready_same config st line ready h
+event_same config st Halts h = absurd (false≢true h)
 
 -- the pass behind it
 
@@ -156,6 +175,9 @@ passed_same config st (Closes line) a g = passes_nothing config st a g.seated g.
 passed_same config st (Requests to id service) a g = passes_nothing config st a g.seated g.quiet
 passed_same config st (Withdraws id) a g = passes_nothing config st a g.seated g.quiet
 passed_same config st Announces a g = passes_nothing config st a g.seated g.quiet
+passed_same config st (Avoids line) a g = passes_nothing config st a g.seated g.quiet
+passed_same config st (Readies line ready) a g = passes_nothing config st a g.seated g.quiet
+passed_same config st Halts a g = passes_nothing config st a g.seated g.quiet
 
 pub server_unchanged : ServerUnchanged
 server_unchanged config es e pos h =
@@ -177,10 +199,10 @@ node_cond st false s t p q = q
 node_said : (st : Node) (s : Said) → SaidSame st.core s → NodeSame st (Node.said st s)
 node_said st s p h = ap (λ c. Node.tells (Node.with_core st c) s.answer) (p h)
 
-start_same : (config : NodeConfig) (st : Node) (from source : ℕ) (info : StartInfo) (fact : StartFact) → NodeSame st (hears_start config st from source info fact)
-start_same config st from source info (Repeats k) h = absurd (false≢true h)
-start_same config st from source info (Makes k) h = absurd (false≢true h)
-start_same config st from source info Refuses h = absurd (false≢true h)
+start_same : (config : NodeConfig) (st way : Node) (from source : ℕ) (info : StartInfo) (fact : StartFact) → NodeSame st (hears_start config way from source info fact)
+start_same config st way from source info (Repeats k) h = absurd (false≢true h)
+start_same config st way from source info (Makes k) h = absurd (false≢true h)
+start_same config st way from source info Refuses h = absurd (false≢true h)
 
 solicited_same : (config : NodeConfig) (rates : List ℕ) (st : Node) (from id : ℕ) (o : Option Name) → NodeSame st (solicited config rates st from id o)
 solicited_same config rates st from id None h = refl
@@ -189,7 +211,7 @@ solicited_same config rates st from id (Some s) h = absurd (false≢true h)
 node_value : (config : NodeConfig) (rates : List ℕ) (st : Node) (from : ℕ) (v : Value) (k : Option Numbers) → NodeSame st (Node.hears_value config rates st from v k)
 node_value config rates st from (OfCircuit (RunMessage x slots)) k h = absurd (false≢true h)
 node_value config rates st from (OfCircuit (WideMessage x slots)) k h = absurd (false≢true h)
-node_value config rates st from (OfCircuit (StartMessage true ask to source info)) k h = start_same config st from source info (start_fact st.core.circuits from source) h
+node_value config rates st from (OfCircuit (StartMessage true ask to source info)) k h = node_cond st st.halted (Node.turns_away config st from source) (Node.starts config (Node.makes_way config st from source) from source info) (λ y. absurd (false≢true y)) (start_same config st (Node.makes_way config st from source) from source info (start_fact (Node.makes_way config st from source).core.circuits from source)) h
 node_value config rates st from (OfCircuit (StartMessage false ask to source info)) k h = absurd (false≢true h)
 node_value config rates st from (OfCircuit (StopMessage master ask to source reason text)) k h = absurd (false≢true h)
 node_value config rates st from (OfNotice (StatusNotice m)) k h = refl
@@ -224,6 +246,9 @@ step_same config rates st (Closes line) h = node_said st _ (line_same config.lin
 step_same config rates st (Requests to id service) h = again_same config st to id service (request_of id st) h
 step_same config rates st (Withdraws id) h = withdraw_same config st (request_of id st) h
 step_same config rates st Announces h = absurd (false≢true h)
+step_same config rates st (Avoids line) h = refl
+step_same config rates st (Readies line ready) h = refl
+step_same config rates st Halts h = absurd (false≢true h)
 
 pub node_unchanged : NodeUnchanged
 node_unchanged config es rates e h = step_same config rates _ e h

@@ -133,12 +133,16 @@ node_message : (config : NodeConfig) (st : Node) (from : ℕ) (m : Message) (k :
 node_message config st from (RunMessage h slots) k r p q = inner (hear_run false st.core.circuits from false h slots k st.core.moment).answer r (run_whole false st.core.circuits from false h slots k st.core.moment r p) q
 node_message config st from (WideMessage h slots) k r p q = inner (hear_run false st.core.circuits from true h slots k st.core.moment).answer r (run_whole false st.core.circuits from true h slots k st.core.moment r p) q
 node_message config st from (StartMessage false ask to source info) k r p q = let z : ⊥ = cc in z
-node_message config st from (StartMessage true ask to source info) k r p q = go (start_fact st.core.circuits from source) q
+node_message config st from (StartMessage true ask to source info) k r p q = by st.halted q
   where
     go : (f : StartFact) → start_answer f ≢ Circuit (Broke r)
     go (Repeats x) q = let z : ⊥ = cc in z
     go (Makes x) q = let z : ⊥ = cc in z
     go Refuses q = let z : ⊥ = cc in z
+
+    by : (n : Bool) → (cond n (Node.turns_away config st from source) (Node.starts config (Node.makes_way config st from source) from source info)).answer ≢ Circuit (Broke r)
+    by true q = let z : ⊥ = cc in z
+    by false q = go (start_fact (Node.makes_way config st from source).core.circuits from source) q
 node_message config st from (StopMessage master ask to source reason text) k r p q =
     let c : CircuitEntry = st.core.circuits.circuit_at to in
     inner (hear_stop_at false st.core.circuits from to source st.core.moment reason).answer r (stop_whole st.core.circuits (nat_eq c.address from && (nat_eq c.end.peer source || nat_eq source 0) && lives c.end) (steps_at false st.core.circuits to (hear_stop st.core.moment reason c.end)) r reason) q

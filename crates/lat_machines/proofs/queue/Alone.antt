@@ -6,7 +6,7 @@ use Rattle.lat_model.specs.sessions.Session.{put_open, take_open}
 use Rattle.lat_model.specs.sessions.Sessions.{least_free}
 use Rattle.lat_model.specs.sessions.Calls.{Call, Connect, Put, Set, Attend, Take, Close}
 use Rattle.lat_model.specs.Lists.{updated, upwards}
-use Rattle.lat_model.specs.ends.End.{End, Step, lives, call_end}
+use Rattle.lat_model.specs.ends.End.{End, Step, lives, call_end, finish}
 use Rattle.lat_model.specs.ends.Timers.{note_empty, time_step}
 use Rattle.lat_model.specs.ends.Run.{run_end}
 use Rattle.lat_model.specs.ends.Starting.{Agreed, Setup, hear_reply, hear_stop}
@@ -22,14 +22,14 @@ use Rattle.lat_machines.specs.values.Notices.{Kept, KeptAs, Unknown, Action, Ask
 use Rattle.lat_machines.specs.values.Frames.{Value, OfCircuit, OfNotice, Whole, Malformed}
 use Rattle.lat_machines.specs.values.Timing.{agreed_by}
 use Rattle.lat_machines.specs.values.Keys.{Key}
-use Rattle.lat_machines.specs.values.Events.{Numbers, Event, Hears, Time, Connects, Puts, Sets, Takes, Attends, Closes, Requests, Withdraws, Announces}
-use Rattle.lat_machines.specs.values.Answers.{Again, Running, Ended, Answer, Connected, Ignored, Closed, Busy, NoLine, SessionsFull, CircuitsFull, IdsOut, NotKept, KeptIs}
+use Rattle.lat_machines.specs.values.Events.{Numbers, Event, Hears, Time, Connects, Puts, Sets, Takes, Attends, Closes, Requests, Withdraws, Announces, Avoids, Readies, Halts}
+use Rattle.lat_machines.specs.values.Answers.{Again, Running, Ended, Answer, Connected, Ignored, Closed, Busy, NoLine, SessionsFull, CircuitsFull, IdsOut, NotKept, KeptIs, Halted}
 use Rattle.lat_machines.specs.server.Directory.{Best, best}
 use Rattle.lat_machines.specs.server.Queue.{Cancels, Request, LegalQueue}
 use Rattle.lat_machines.specs.server.Records.{kept_for}
-use Rattle.lat_machines.specs.cores.Acts.{Acted, idle, steps_at, call_at, called, local_at, time_at, move_at}
+use Rattle.lat_machines.specs.cores.Acts.{Acted, idle, steps_at, call_at, called, local_at, time_at, move_at, end_at}
 use Rattle.lat_machines.specs.cores.Hearing.{HeardAct, foreign, names, fits_kind, numbers_at, run_frame, run_at, hear_run, hear_stop_at, hear_reply_at}
-use Rattle.lat_machines.specs.cores.Cores.{Seat, Core, Doing, rests, then_doing, acts, setup_of, at_moment, time_each, circuit_to}
+use Rattle.lat_machines.specs.cores.Cores.{Seat, Core, Doing, rests, then_doing, acts, setup_of, at_moment, time_each, circuit_to, end_each}
 use Rattle.lat_machines.specs.cores.Lines.{session_of, seat_at, has_session, line_exists}
 use Rattle.lat_machines.specs.cores.LineCalls.{Said, says, calls_on, put_on, set_on, attend_on, take_on, close_on, on_line}
 use Rattle.lat_machines.specs.server.Server.{ServerConfig, Server, ServerStep, server_side, open_server, offer_on, tells, does, has_room, connects_on, opens, connects_to, solicits_for, connect_event, status_frame, key_of, hears_command, hears_value, server_event, finished_requests, Passing, grantable, grants_by, grant_line, grant_lines, server_step}
@@ -84,6 +84,9 @@ local_sound t x c r =
 
 time_sound : (t : Table) (x now : ℕ) → Sound t → Sound (time_at true t x now).table
 time_sound t x now r = act_cond (lives (t.circuit_at x).end) (steps_at true t x (time_step now (t.circuit_at x).end)) (idle t) (λ i. steps_sound t x (time_step now (t.circuit_at x).end) r i (kin_time now (t.circuit_at x).end).sessions) (λ i. r)
+
+end_sound : (t : Table) (x n : ℕ) → Sound t → Sound (end_at true t x n).table
+end_sound t x n r = act_cond (lives (t.circuit_at x).end) (steps_at true t x (finish n (t.circuit_at x).end)) (idle t) (λ i. steps_sound t x (finish n (t.circuit_at x).end) r i refl) (λ i. r)
 
 move_sound : (t : Table) (x now : ℕ) → Sound t → Sound (move_at true t x now).table
 move_sound t x now r =
@@ -161,6 +164,10 @@ times_sound : (config : ServerConfig) (xs : List ℕ) (d : Doing) → Sound d.co
 times_sound config [] d r = r
 times_sound config (x ∷ xs) d r = times_sound config xs (then_doing d (λ c. acts (server_side config) c (time_at true c.circuits x c.moment))) (time_sound d.core.circuits x d.core.moment r)
 
+ends_sound : (config : ServerConfig) (n : ℕ) (xs : List ℕ) (d : Doing) → Sound d.core.circuits → Sound (end_each (server_side config) n xs d).core.circuits
+ends_sound config n [] d r = r
+ends_sound config n (x ∷ xs) d r = ends_sound config n xs (then_doing d (λ c. acts (server_side config) c (end_at true c.circuits x n))) (end_sound d.core.circuits x n r)
+
 said_cond : (n : Bool) (a b : Said) → Sound a.core.circuits → Sound b.core.circuits → Sound (cond n a b).core.circuits
 said_cond true a b p q = p
 said_cond false a b p q = q
@@ -204,7 +211,7 @@ event_sound config st (Hears from (Whole v) k now) r =
     let s : Server = record st { core = at_moment now st.core } in
     steady_cond s (nat_eq from everyone) (tells s Ignored) (hears_value config s from v k) (λ y. y) (value_sound config s from v k) r
 event_sound config st (Time now) r = times_sound config (upwards 0 st.core.circuits.drawn) (rests (at_moment now st.core)) r
-event_sound config st (Connects line service) r = connect_sound config st line service r
+event_sound config st (Connects line service) r = steady_cond st st.halted (tells st Halted) (connect_event config st line service) (λ y. y) (connect_sound config st line service) r
 event_sound config st (Puts line bytes) r = line_sound config.lines st.core line (λ s. put_on (server_side config) st.core s bytes) r (λ s. call_sound_if config st.core s (put_open (session_of st.core s)) (Put s.id bytes) _ Closed r)
 event_sound config st (Sets line setting) r =
     line_sound config.lines st.core line (λ s. set_on (server_side config) st.core s setting) r
@@ -215,6 +222,9 @@ event_sound config st (Closes line) r = line_sound config.lines st.core line (λ
 event_sound config st (Requests to id service) r = r
 event_sound config st (Withdraws id) r = r
 event_sound config st Announces r = r
+event_sound config st (Avoids line) r = r
+event_sound config st (Readies line ready) r = r
+event_sound config st Halts r = ends_sound config 3 (upwards 0 st.core.circuits.drawn) (rests st.core) r
 
 -- the grant pass
 

@@ -14,10 +14,10 @@ use Rattle.lat_machines.specs.server.Queue.{QueueEvent, Asks, Cancels, Grants, F
 use Rattle.lat_machines.specs.cores.Acts.{call_at, local_at}
 use Rattle.lat_machines.specs.cores.Cores.{Seat, no_seat, Core, Doing, rests, with_circuits, acts, setup_of, circuit_to}
 use Rattle.lat_machines.specs.cores.Lines.{end_of, session_of, over, last_on, seat_at, has_session}
-use Rattle.lat_machines.specs.server.Server.{ServerConfig, Server, Passing, server_side, offer_on, has_room, may_call, can_open, connects_on, opens, granting, fitting, grantable, grants_by, grant_line, grant_lines, grant_pass}
+use Rattle.lat_machines.specs.server.Server.{ServerConfig, Server, Passing, server_side, offer_on, has_room, may_call, can_open, connects_on, opens, granting, fitting, grantable_on, grantable, grants_by, grant_line, grant_lines, grant_pass, may_grant}
 use Rattle.lat_machines.specs.world.Safe.{NoGrant}
 use Rattle.lat_machines.proofs.events.Servers.{each_filter}
-use Rattle.lat_machines.proofs.queue.Legal.{grantable_next}
+use Rattle.lat_machines.proofs.queue.Legal.{grantable_ready, grantable_next}
 use Rattle.lat_machines.proofs.queue.Rooms.{Ready, Grown, Called, call_opens, Connected_at, connect_opens, grown_then, test_of, least_true}
 
 -- opening a session
@@ -256,7 +256,7 @@ next_none c d g h r s service q can n =
     n
 
 pub grant_can : (st : Server) (line : ℕ) (service : Name) (r : Request) → grantable st line (Some service) ≡ Some r → can_open st.core r.from ≡ true
-grant_can st line service r q = go (has_session st.core line) (next_request service st.queue) q
+grant_can st line service r q = go (has_session st.core line) (next_request service st.queue) (grantable_ready st line service r q)
   where
     fit : (b : Bool) (x : Request) → can_open st.core x.from ≡ b → cond b (Some x) None ≡ Some r → can_open st.core r.from ≡ true
     fit true x i q = let e : x ≡ r = cc in ap (λ (z : Request). can_open st.core z.from) (sym e) ∙ i
@@ -273,7 +273,7 @@ Quiet st line o = grantable st line o ≡ None
 
 quiet_after : (config : ServerConfig) (p : Passing) (line other : ℕ) (s : Name) (r : Request) (o : Option Name) → 0 < config.timing.sessions → Ready p.state.core → grantable p.state line (Some s) ≡ Some r → Quiet p.state other o → Quiet (granting config line s p r).state other o
 quiet_after config p line other s r None pos rd q n = refl
-quiet_after config p line other s r (Some service) pos rd q n = go (has_session p.state.core other) refl n
+quiet_after config p line other s r (Some service) pos rd q n = by (may_grant p.state other) refl
   where
     c : Core
     c = p.state.core
@@ -284,7 +284,10 @@ quiet_after config p line other s r (Some service) pos rd q n = go (has_session 
     o : Opened c line (Some r.key) st.core
     o = opens_at config line r.from r.key.node s (Some r.key) (Some r.key.request) c pos rd (grant_can p.state line s r q)
 
-    held_still : (nat_eq line other || has_session c other) ≡ true → Quiet st other (Some service)
+    On : Type 0
+    On = grantable_on st.core st.queue other service ≡ None
+
+    held_still : (nat_eq line other || has_session c other) ≡ true → On
     held_still h = ap (λ b. cond b None (fitting st.core (next_request service st.queue))) (holds_opened c st.core line other (Some r.key) o h)
 
     or_true : (b : Bool) → b || true ≡ true
@@ -295,17 +298,25 @@ quiet_after config p line other s r (Some service) pos rd q n = go (has_session 
     either true x q = refl
     either false x q = q
 
-    go : (b : Bool) → has_session c other ≡ b → cond b None (fitting c (next_request service p.state.queue)) ≡ None → Quiet st other (Some service)
+    go : (b : Bool) → has_session c other ≡ b → cond b None (fitting c (next_request service p.state.queue)) ≡ None → On
     go true i n = held_still (ap (λ b. nat_eq line other || b) i ∙ or_true (nat_eq line other))
     go false i n = either (has_session st.core other) (fitting st.core (next_request service st.queue)) (next_none c st.core o.grown p.state.queue r s service (grantable_next p.state line s r q) (grant_can p.state line s r q) n)
+
+    by : (b : Bool) → may_grant p.state other ≡ b → Quiet st other (Some service)
+    by true i = ap (λ z. cond z (grantable_on st.core st.queue other service) None) i ∙ go (has_session c other) refl (sym (ap (λ z. cond z (grantable_on c p.state.queue other service) None) i) ∙ n)
+    by false i = ap (λ z. cond z (grantable_on st.core st.queue other service) None) i
 
 -- the line itself has a session then
 quiet_own : (config : ServerConfig) (p : Passing) (line : ℕ) (s : Name) (r : Request) → 0 < config.timing.sessions → Ready p.state.core → grantable p.state line (Some s) ≡ Some r → Quiet (granting config line s p r).state line (Some s)
 quiet_own config p line s r pos rd q =
     let st : Server = (granting config line s p r).state in
     let o : Opened p.state.core line (Some r.key) st.core = opens_at config line r.from r.key.node s (Some r.key) (Some r.key.request) p.state.core pos rd (grant_can p.state line s r q) in
-    ap (λ b. cond b None (fitting st.core (next_request s st.queue))) (holds_opened p.state.core st.core line line (Some r.key) o (ap (λ b. b || has_session p.state.core line) (eqb_same line)))
+    by (may_grant st line) (grantable_on st.core st.queue line s) (ap (λ b. cond b None (fitting st.core (next_request s st.queue))) (holds_opened p.state.core st.core line line (Some r.key) o (ap (λ b. b || has_session p.state.core line) (eqb_same line))))
   where
+    by : (b : Bool) (x : Option Request) → x ≡ None → cond b x None ≡ None
+    by true x q = q
+    by false x q = refl
+
     eqb_same : (n : ℕ) → nat_eq n n ≡ true
     eqb_same n = go (nat_eq n n) refl
       where

@@ -12,11 +12,11 @@ use Rattle.lat_machines.specs.server.Directory.{Best, best}
 use Rattle.lat_machines.specs.values.Keys.{Key}
 use Rattle.lat_machines.specs.server.Queue.{QueueEvent, Asks, Cancels, Grants, Finishes, Request, next_request, LegalQueue}
 use Rattle.lat_machines.specs.server.Records.{ask_answer, kept_for, is_granted}
-use Rattle.lat_machines.specs.values.Events.{Numbers, Event, Hears, Time, Connects, Puts, Sets, Takes, Attends, Closes, Requests, Withdraws, Announces, is_heard}
-use Rattle.lat_machines.specs.values.Answers.{Connected, NoLine, Busy, SessionsFull, CircuitsFull, IdsOut, Ignored, NotKept, KeptIs}
+use Rattle.lat_machines.specs.values.Events.{Numbers, Event, Hears, Time, Connects, Puts, Sets, Takes, Attends, Closes, Requests, Withdraws, Announces, Avoids, Readies, Halts, is_heard}
+use Rattle.lat_machines.specs.values.Answers.{Connected, NoLine, Busy, SessionsFull, CircuitsFull, IdsOut, Ignored, NotKept, KeptIs, Halted}
 use Rattle.lat_machines.specs.cores.Cores.{Seat, Core, Doing, at_moment, circuit_to}
 use Rattle.lat_machines.specs.cores.Lines.{over, has_session, line_exists}
-use Rattle.lat_machines.specs.server.Server.{ServerConfig, Server, ServerStep, Passing, offer_on, tells, does, offered, has_room, can_open, opens, connects_to, solicits_for, connect_event, hears_message, hears_command, hears_notice, hears_value, hears, server_event, key_of, status_frame, finish_one, finish_all, finished_requests, fitting, grantable, grants_by, grant_line, grant_lines, server_step}
+use Rattle.lat_machines.specs.server.Server.{ServerConfig, Server, ServerStep, Passing, offer_on, tells, does, offered, has_room, can_open, opens, connects_to, solicits_for, connect_event, hears_message, hears_command, hears_notice, hears_value, hears, server_event, key_of, status_frame, finish_one, finish_all, finished_requests, fitting, grantable_on, grantable, grants_by, grant_line, grant_lines, server_step, may_grant}
 use Rattle.lat_machines.specs.world.Machines.{Setups, Machines, Move, Does, HearsFrame, HearsForeign, Posted, tell, is_for_other, comes, is_own, happens, run, counted, marked_delivered, heard_as}
 use Rattle.std.specs.Prelude.{slice_get}
 
@@ -128,7 +128,7 @@ keeps_hear config st from (Whole v) k l = keeps_cond st (nat_eq from everyone) (
 keeps_event : (config : ServerConfig) (st : Server) (e : Event) → Keeps st (server_event config st e).state
 keeps_event config st (Hears from payload k now) l = keeps_hear config (record st { core = at_moment now st.core }) from payload k l
 keeps_event config st (Time now) l = l
-keeps_event config st (Connects line service) l = keeps_connect config st line service l
+keeps_event config st (Connects line service) l = keeps_cond st st.halted (tells st Halted) (connect_event config st line service) (λ y. y) (keeps_connect config st line service) l
 keeps_event config st (Puts line bytes) l = l
 keeps_event config st (Sets line setting) l = l
 keeps_event config st (Takes line n) l = l
@@ -137,6 +137,9 @@ keeps_event config st (Closes line) l = l
 keeps_event config st (Requests to id service) l = l
 keeps_event config st (Withdraws id) l = l
 keeps_event config st Announces l = l
+keeps_event config st (Avoids line) l = l
+keeps_event config st (Readies line ready) l = l
+keeps_event config st Halts l = l
 
 -- what follows it
 
@@ -152,8 +155,16 @@ keeps_finish c (s ∷ ss) h l = keeps_finish c ss (finish_one c s.key (over c s)
         step true = legal_finish h k l
         step false = l
 
+-- a line that grants is ready
+pub grantable_ready : (st : Server) (line : ℕ) (service : Name) (r : Request) → grantable st line (Some service) ≡ Some r → grantable_on st.core st.queue line service ≡ Some r
+grantable_ready st line service r q = go (may_grant st line) q
+  where
+    go : (n : Bool) → cond n (grantable_on st.core st.queue line service) None ≡ Some r → grantable_on st.core st.queue line service ≡ Some r
+    go true q = q
+    go false q = let z : ⊥ = cc in absurd z
+
 pub grantable_next : (st : Server) (line : ℕ) (service : Name) (r : Request) → grantable st line (Some service) ≡ Some r → next_request service st.queue ≡ Some r
-grantable_next st line service r q = go (has_session st.core line) (next_request service st.queue) refl q
+grantable_next st line service r q = go (has_session st.core line) (next_request service st.queue) refl (grantable_ready st line service r q)
   where
     fit : (n : Bool) (x : Request) → cond n (Some x) None ≡ Some r → Some x ≡ Some r
     fit true x q = q

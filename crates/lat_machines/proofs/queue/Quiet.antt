@@ -1,13 +1,13 @@
 -- In every run no line of the server could grant a request.
 use Rattle.std.proofs.Common.{◌≡◌, ℕ, suc, ◌<◌, inr, refl, sym, ap, ◌∙◌, subst, Bool, true, false, not, cond, ◌&&◌, ◌||◌, List, [], ◌∷◌, Option, Some, None, slice_get, nat_eq, nat_lt}
 use Rattle.std.proofs.lemmas.Bool.{or_parts}
-use Rattle.lat_model.specs.ends.End.{Sent, Run, CallStart, ReplyStart, Stopped, End, Step, lives, call_end}
+use Rattle.lat_model.specs.ends.End.{Sent, Run, CallStart, ReplyStart, Stopped, End, Step, lives, call_end, finish, lapse}
 use Rattle.lat_model.specs.ends.Timers.{note_empty, time_step}
 use Rattle.lat_model.specs.ends.Run.{run_end}
 use Rattle.lat_model.specs.ends.Starting.{Agreed, reply_end, make_slave, again_start, hear_reply, hear_stop}
 use Rattle.lat_model.specs.circuits.World.{CircuitEntry, Table, Wired, World, table, with_table, put_circuit, at_end, first_end}
 use Rattle.lat_model.specs.circuits.Arriving.{is_of, living, slave_of, make_in, arrive}
-use Rattle.lat_model.specs.circuits.Events.{deliver_in, WorldEvent, Calls, Locally, Times, Moves, Delivers, Injects, occurs, go_on}
+use Rattle.lat_model.specs.circuits.Events.{deliver_in, WorldEvent, Calls, Locally, Times, Moves, Delivers, Injects, occurs, go_on, Ends, Lapses, Stops}
 use Rattle.lat_model.specs.circuits.WorldOk.{WorldOk}
 use Rattle.lat_model.proofs.sessions.Words.{upd_all}
 use Rattle.lat_model.proofs.circuits.Kin.{kin_time, kin_run, kin_stop}
@@ -22,7 +22,7 @@ use Rattle.lat_machines.specs.world.Machines.{Setups, Posted, Machines, Move, Do
 use Rattle.lat_machines.specs.world.Safe.{Fit, circuits_open, NoGrant}
 use Rattle.lat_machines.proofs.events.Leads.{Quiet}
 use Rattle.lat_machines.proofs.events.Servers.{BroughtBy, ServerMade, did_event}
-use Rattle.lat_machines.proofs.events.Tied.{Beside, Anything, any_own, Goes, happens_goes, open_beside, brought_local, brought_frame, foreign_in, marked_beside}
+use Rattle.lat_machines.proofs.events.Tied.{Beside, Anything, AnyDeed, any_own, Goes, happens_goes, open_beside, brought_local, brought_frame, foreign_in, marked_beside}
 use Rattle.lat_machines.proofs.queue.Rooms.{Ready}
 use Rattle.lat_machines.proofs.queue.Grants.{no_grant}
 
@@ -102,6 +102,14 @@ event_masters w (Times b x now) m =
 event_masters w (Moves b x now) m =
     let e : End = ((table w b).circuit_at x).end in
     masters_cond (lives e) (at_end w b x (record { end = record e { moment = now }; sent = [] })) w (at_masters w b x (record { end = record e { moment = now }; sent = [] }) m refl) m
+event_masters w (Ends b x r) m =
+    let e : End = ((table w b).circuit_at x).end in
+    masters_cond (lives e) (at_end w b x (finish r e)) w (at_masters w b x (finish r e) m refl) m
+event_masters w (Lapses b x r) m =
+    let e : End = ((table w b).circuit_at x).end in
+    masters_cond (lives e) (at_end w b x (lapse r e)) w (at_masters w b x (lapse r e) m refl) m
+event_masters w (Stops true to d s r) m = m
+event_masters w (Stops false to d s r) m = m
 event_masters w (Delivers i now g) m = deliver_masters w now g (slice_get w.frames i) m
 event_masters w (Injects b from bit destination source now g s) m = masters_cond (nat_eq from w.server.own || nat_eq from w.node.own) w (arrive w b from bit destination source now g s) m (arrive_masters w b from bit destination source now g s m)
 
@@ -123,11 +131,11 @@ pub record Going (u : Setups) (m : Machines) (w : World) : Type 0 where
   pub masters : Masters w
   pub quiet : NoGrant u.server m.server
 
-quiet_step : (L D : List ℕ → Type 0) (u : Setups) (m : Machines) (w : World) (b : Bool) (e : Event) (rates : List ℕ) → 0 < u.server.timing.sessions → Going u m w → BroughtBy L D w b e → NoGrant u.server (tell u m b e rates).server
-quiet_step L D u m w false e rates pos g h = g.quiet
-quiet_step L D u m w true e rates pos g h =
+quiet_step : (D : List ℕ → Type 0) (u : Setups) (m : Machines) (w : World) (b : Bool) (e : Event) (rates : List ℕ) → 0 < u.server.timing.sessions → Going u m w → BroughtBy AnyDeed D w b e → NoGrant u.server (tell u m b e rates).server
+quiet_step D u m w false e rates pos g h = g.quiet
+quiet_step D u m w true e rates pos g h =
     let x : ServerStep = server_event u.server m.server e in
-    let d : ServerMade L D w x.state x.frames = did_event u.server w m.server e g.beside.ties.server g.beside.ties.setup g.beside.fits h in
+    let d : ServerMade AnyDeed D w x.state x.frames = did_event u.server w m.server e (λ i. tt) g.beside.ties.server g.beside.ties.setup g.beside.fits h in
     let at : (go_on d.made.leads.events w).server ≡ x.state.core.circuits = ap (λ (z : World). z.server) d.made.leads.there in
     let r : Ready x.state.core = ready_of (go_on d.made.leads.events w) x.state.core at (go_on_ok d.made.leads.events w g.ok) (masters_on d.made.leads.events w g.masters) in
     no_grant u.server (finished_requests x.state) pos (record { masters = r.masters; new = r.new })
@@ -137,18 +145,18 @@ quiet_cond u true x y p q = p refl
 quiet_cond u false x y p q = q refl
 
 quiet_happens : (u : Setups) (m : Machines) (w : World) (e : Move) → 0 < u.server.timing.sessions → Going u m w → NoGrant u.server (happens u m e).server
-quiet_happens u m w (Does b e rates) pos g = quiet_cond u (is_heard e) m (tell u m b e rates) (λ i. g.quiet) (λ i. quiet_step Anything Anything u m w b e rates pos g (brought_local Anything Anything w b e tt (any_own e) i))
+quiet_happens u m w (Does b e rates) pos g = quiet_cond u (is_heard e) m (tell u m b e rates) (λ i. g.quiet) (λ i. quiet_step Anything u m w b e rates pos g (brought_local AnyDeed Anything w b e tt (any_own e) i))
 quiet_happens u m w (HearsForeign b from payload now rates) pos g =
     quiet_cond u (is_own u from) m (tell u m b (Hears from payload None now) rates) (λ i. g.quiet)
     (λ i. let o : (nat_eq from u.server.own ≡ false) × (nat_eq from u.node.own ≡ false) = or_parts (nat_eq from u.server.own) (nat_eq from u.node.own) i in
-    quiet_step Anything Quiet u m w b (Hears from payload None now) rates pos g (λ a. refl, λ n. foreign_in Anything w b from payload n (subst (λ z. nat_eq from z ≡ false) (sym g.beside.ties.server_own) o.0) (subst (λ z. nat_eq from z ≡ false) (sym g.beside.ties.node_own) o.1)))
+    quiet_step Quiet u m w b (Hears from payload None now) rates pos g (λ a. refl, λ n. foreign_in AnyDeed w b from payload n (subst (λ z. nat_eq from z ≡ false) (sym g.beside.ties.server_own) o.0) (subst (λ z. nat_eq from z ≡ false) (sym g.beside.ties.node_own) o.1)))
 quiet_happens u m w (HearsFrame i now rates) pos g = go (slice_get m.posts i) refl
   where
     go : (o : Option Posted) → slice_get m.posts i ≡ o → NoGrant u.server (comes u m i now rates o).server
     go None q = g.quiet
     go (Some f) q =
         quiet_cond u (is_for_other u f) (tell u (marked_delivered i m) (not f.by_server) (heard_as u f now) rates) (counted (marked_delivered i m))
-        (λ t. quiet_step Anything Anything u (marked_delivered i m) w (not f.by_server) (heard_as u f now) rates pos (record { beside = marked_beside u m w i g.beside; ok = g.ok; masters = g.masters; quiet = g.quiet }) (λ a. tt, λ n. brought_frame u m w f i g.beside q t))
+        (λ t. quiet_step Anything u (marked_delivered i m) w (not f.by_server) (heard_as u f now) rates pos (record { beside = marked_beside u m w i g.beside; ok = g.ok; masters = g.masters; quiet = g.quiet }) (λ a. tt, λ n. brought_frame u m w f i g.beside q t))
         (λ t. g.quiet)
 
 quiet_on : (u : Setups) (es : List Move) (m : Machines) (w : World) → 0 < u.server.timing.sessions → Going u m w → NoGrant u.server (run u es m).server

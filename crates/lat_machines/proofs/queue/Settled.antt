@@ -12,13 +12,13 @@ use Rattle.lat_machines.specs.values.Addresses.{everyone}
 use Rattle.lat_machines.specs.values.Messages.{RunMessage, WideMessage, StartMessage, StopMessage}
 use Rattle.lat_machines.specs.values.Notices.{Kept, KeptAs, Unknown, Action, Ask, Cancel, Command, AnnouncementNotice, CommandNotice, StatusNotice, SolicitNotice, ResponseNotice}
 use Rattle.lat_machines.specs.values.Frames.{Value, OfCircuit, OfNotice, Whole, Malformed}
-use Rattle.lat_machines.specs.values.Events.{Numbers, Event, Hears, Time, Connects, Puts, Sets, Takes, Attends, Closes, Requests, Withdraws, Announces}
-use Rattle.lat_machines.specs.values.Answers.{Answer, Connected, Ignored, Closed, Busy, NoLine, SessionsFull, CircuitsFull, IdsOut, NotKept, KeptIs}
+use Rattle.lat_machines.specs.values.Events.{Numbers, Event, Hears, Time, Connects, Puts, Sets, Takes, Attends, Closes, Requests, Withdraws, Announces, Avoids, Readies, Halts}
+use Rattle.lat_machines.specs.values.Answers.{Answer, Connected, Ignored, Closed, Busy, NoLine, SessionsFull, CircuitsFull, IdsOut, NotKept, KeptIs, Halted}
 use Rattle.lat_machines.specs.server.Directory.{Best, best}
 use Rattle.lat_machines.specs.server.Queue.{QueueEvent, Asks, Cancels, Grants, Request}
 use Rattle.lat_machines.specs.server.Records.{ask_answer, kept_for}
-use Rattle.lat_machines.specs.cores.Acts.{call_at, time_at}
-use Rattle.lat_machines.specs.cores.Cores.{Seat, Core, Doing, rests, then_doing, acts, setup_of, at_moment, time_each, circuit_to}
+use Rattle.lat_machines.specs.cores.Acts.{call_at, time_at, end_at}
+use Rattle.lat_machines.specs.cores.Cores.{Seat, Core, Doing, rests, then_doing, acts, setup_of, at_moment, time_each, circuit_to, end_each}
 use Rattle.lat_machines.specs.cores.Lines.{session_of, seat_at, over, has_session, line_exists}
 use Rattle.lat_machines.specs.cores.LineCalls.{Said, says, calls_on, put_on, set_on, attend_on, take_on, close_on, on_line}
 use Rattle.lat_machines.specs.server.Server.{ServerConfig, Server, ServerStep, server_side, open_server, offered, offer_on, tells, does, has_room, connects_on, opens, connects_to, solicits_for, connect_event, status_frame, key_of, hears_command, hears_value, server_event, finish_all, finished_requests, Passing, granting, grantable, grants_by, grant_line, grant_lines, grant_pass, passed, server_step}
@@ -115,6 +115,10 @@ times_seats : (config : ServerConfig) (xs : List ℕ) (d : Doing) → (time_each
 times_seats config [] d = refl
 times_seats config (x ∷ xs) d = times_seats config xs (then_doing d (λ c. acts (server_side config) c (time_at true c.circuits x c.moment)))
 
+ends_seats : (config : ServerConfig) (r : ℕ) (xs : List ℕ) (d : Doing) → (end_each (server_side config) r xs d).core.seats ≡ d.core.seats
+ends_seats config r [] d = refl
+ends_seats config r (x ∷ xs) d = ends_seats config r xs (then_doing d (λ c. acts (server_side config) c (end_at true c.circuits x r)))
+
 said_seats : (ss : List Seat) (n : Bool) (x y : Said) → x.core.seats ≡ ss → y.core.seats ≡ ss → (cond n x y).core.seats ≡ ss
 said_seats ss true x y p q = p
 said_seats ss false x y p q = q
@@ -133,7 +137,7 @@ event_served config st (Hears from (Whole v) k now) l =
     let s : Server = record st { core = at_moment now st.core } in
     served_cond s (nat_eq from everyone) (tells s Ignored) (hears_value config s from v k) (λ y. y) (value_served config s from v k) l
 event_served config st (Time now) l = subst (AllServed st.queue) (sym (times_seats config (upwards 0 st.core.circuits.drawn) (rests (at_moment now st.core)))) l
-event_served config st (Connects line service) l = connect_served config st line service l
+event_served config st (Connects line service) l = served_cond st st.halted (tells st Halted) (connect_event config st line service) (λ y. y) (connect_served config st line service) l
 event_served config st (Puts line bytes) l = subst (AllServed st.queue) (sym (line_seats config.lines st.core line (λ s. put_on (server_side config) st.core s bytes) (λ s. call_seats config st.core s (put_open (session_of st.core s)) (Put s.id bytes) _ Closed))) l
 event_served config st (Sets line setting) l =
     subst (AllServed st.queue)
@@ -144,6 +148,9 @@ event_served config st (Closes line) l = subst (AllServed st.queue) (sym (line_s
 event_served config st (Requests to id service) l = l
 event_served config st (Withdraws id) l = l
 event_served config st Announces l = l
+event_served config st (Avoids line) l = l
+event_served config st (Readies line ready) l = l
+event_served config st Halts l = subst (AllServed st.queue) (sym (ends_seats config 3 (upwards 0 st.core.circuits.drawn) (rests st.core))) l
 
 -- the grant pass
 

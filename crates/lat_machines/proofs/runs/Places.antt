@@ -11,7 +11,7 @@ use Rattle.lat_model.specs.sessions.EndOk.{EndOk}
 use Rattle.lat_model.specs.sessions.Calls.{Call, call}
 use Rattle.lat_model.specs.Lists.{is_empty, any_up_to}
 use Rattle.lat_model.specs.numbers.Link.{Frame, showing, form_message, window_open, is_unsent, is_next, ack_in, take_message}
-use Rattle.lat_model.specs.ends.End.{wire_of, Sent, Run, CallStart, ReplyStart, Stopped, Half, End, Step, still, then_do, lives, finish, send_bare, all_known, send_message, acknowledge, form_packed, occasion, send_again, send_start, call_end}
+use Rattle.lat_model.specs.ends.End.{wire_of, Sent, Run, CallStart, ReplyStart, Stopped, Half, End, Step, still, then_do, lives, finish, send_bare, all_known, send_message, acknowledge, form_packed, occasion, send_again, send_start, call_end, lapse}
 use Rattle.lat_model.specs.ends.Run.{RunStep, RunRepeated, RunBroke, ack_end, take_end, taken_end, broken_end, body_end, after_run, run_end}
 use Rattle.lat_model.specs.ends.Timers.{note_empty, passed, silent, unused, a_round, rounds_step, may_form, alive_step, due_step, living, time_step}
 use Rattle.lat_model.specs.ends.Starting.{Agreed, reply_end, noted, make_master, make_slave, again_start, hear_reply, hear_stop}
@@ -21,7 +21,7 @@ use Rattle.lat_model.specs.circuits.World.{CircuitEntry, Table, Wired, World, ta
 use Rattle.lat_model.specs.circuits.WorldOk.{WorldOk, mate}
 use Rattle.lat_model.specs.circuits.Arriving.{is_of, slave_of, make_in, arrive}
 use Rattle.lat_model.specs.circuits.Arriving as Arriving
-use Rattle.lat_model.specs.circuits.Events.{deliver_in, WorldEvent, Calls, Locally, Times, Moves, Delivers, Injects, occurs, go_on}
+use Rattle.lat_model.specs.circuits.Events.{deliver_in, WorldEvent, Calls, Locally, Times, Moves, Delivers, Injects, occurs, go_on, Ends, Lapses, Stops}
 use Rattle.lat_model.proofs.sessions.Words.{upd_all, upd_field, slots_of-append, asks-append}
 use Rattle.lat_model.proofs.sessions.Packs.{pack_up}
 use Rattle.lat_model.proofs.sessions.Joins.{Touched}
@@ -334,6 +334,10 @@ event_placed w (Calls address now) ok m = put_placed w true (suc w.server.drawn)
 event_placed w (Locally b x c) ok m = step_placed w b x (λ e. record { end = call_end c e; sent = [] }) m (λ a. call_placed c (w.server.circuit_at x).end (fits_at w ok x a).joined.master_ok)
 event_placed w (Times b x now) ok m = step_placed w b x (time_step now) m (λ a. time_placed now (w.server.circuit_at x).end (mate w x) (fits_at w ok x a))
 event_placed w (Moves b x now) ok m = step_placed w b x (λ e. record { end = record e { moment = now }; sent = [] }) m (λ a p. p)
+event_placed w (Ends b x r) ok m = step_placed w b x (finish r) m (λ a p. p)
+event_placed w (Lapses b x r) ok m = step_placed w b x (lapse r) m (λ a p. p)
+event_placed w (Stops true to d s r) ok m = m
+event_placed w (Stops false to d s r) ok m = m
 event_placed w (Delivers i now g) ok m = deliver_placed w now g (slice_get w.frames i) ok m
 event_placed w (Injects b from bit destination source now g s) ok m = foreign (nat_eq from w.server.own || nat_eq from w.node.own)
   where

@@ -5,7 +5,7 @@ use Rattle.lat_model.specs.circuits.Events.{go_on}
 use Rattle.lat_model.specs.circuits.WorldOk.{WorldOk}
 use Rattle.lat_model.proofs.circuits.Arrives.{go_on_ok}
 use Rattle.lat_machines.specs.values.Frames.{Value, Whole}
-use Rattle.lat_machines.specs.values.Events.{Numbers, Event, Hears, Time, Connects, Puts, Sets, Takes, Attends, Closes, Requests, Withdraws, Announces}
+use Rattle.lat_machines.specs.values.Events.{Numbers, Event, Hears, Time, Connects, Puts, Sets, Takes, Attends, Closes, Requests, Withdraws, Announces, Avoids, Readies, Halts}
 use Rattle.lat_machines.specs.server.Server.{Server, ServerStep, server_step}
 use Rattle.lat_machines.specs.node.Node.{Node, NodeStep, node_step}
 use Rattle.lat_machines.specs.world.Machines.{Setups, Posted, Machines, post_all, HearsFrame, own_of, tell, heard_as, counted, marked_delivered, comes, happens, run, open_machines}
@@ -45,6 +45,9 @@ unnamed_step u m b (Closes line) rates h = told u m b (Closes line) rates
 unnamed_step u m b (Requests to id service) rates h = told u m b (Requests to id service) rates
 unnamed_step u m b (Withdraws id) rates h = told u m b (Withdraws id) rates
 unnamed_step u m b Announces rates h = told u m b Announces rates
+unnamed_step u m b (Avoids line) rates h = told u m b (Avoids line) rates
+unnamed_step u m b (Readies line ready) rates h = told u m b (Readies line ready) rates
+unnamed_step u m b Halts rates h = told u m b Halts rates
 
 -- heard by its bytes as by its numbers
 by_bytes : (u : Setups) (m : Machines) (w : World) (b : Bool) (from : ℕ) (v : Value) (k : Numbers) (now : ℕ) (rates : List ℕ) (m' : Machines) → Beside u m w → SameIn (table w b) from k v → StepBy u m b (Hears from (Whole v) (Some k) now) rates m' → StepBy u m b (Hears from (Whole v) None now) rates m'

@@ -1,5 +1,6 @@
 -- Spans of frames, and of a core with the frames that it made.
 use Rattle.std.proofs.Common.{◌≡◌, ℕ, refl, sym, ◌∙◌, Bool, true, false, not, cond, ◌&&◌, List, [], ◌∷◌, ◌++◌, map}
+use Rattle.lat_model.specs.circuits.Events.{stray_stop}
 use Rattle.lat_model.specs.sessions.Slots.{Slot}
 use Rattle.lat_model.specs.sessions.Session.{put_open, take_open}
 use Rattle.lat_model.specs.sessions.Calls.{Call, Put, Set, Attend, Take, Close}
@@ -8,18 +9,18 @@ use Rattle.lat_model.specs.numbers.Link.{Frame}
 use Rattle.lat_model.specs.ends.End.{Sent, Run, CallStart, ReplyStart, Stopped}
 use Rattle.lat_model.specs.circuits.World.{Table, Wired}
 use Rattle.lat_machines.specs.values.Names.{Name}
-use Rattle.lat_machines.specs.values.Messages.{RunMessage, WideMessage, StartMessage, StopMessage}
+use Rattle.lat_machines.specs.values.Messages.{RunMessage, WideMessage, StartMessage, StopMessage, Head}
 use Rattle.lat_machines.specs.values.Frames.{Value, OfCircuit, OfNotice, Whole, Malformed, OutFrame}
 use Rattle.lat_machines.specs.values.Timing.{Timing, is_wide, wide_params}
 use Rattle.lat_machines.specs.values.Runs.{run_message}
 use Rattle.lat_machines.specs.values.Events.{Event, Hears}
 use Rattle.lat_machines.specs.values.Answers.{Answer, Closed, NoLine}
-use Rattle.lat_machines.specs.cores.Acts.{Acted, time_at}
-use Rattle.lat_machines.specs.cores.Cores.{Seat, Side, Core, sent_frame, with_circuits, Doing, then_doing, acts, time_each}
+use Rattle.lat_machines.specs.cores.Acts.{Acted, time_at, end_at}
+use Rattle.lat_machines.specs.cores.Cores.{Seat, Side, Core, sent_frame, with_circuits, Doing, then_doing, acts, time_each, end_each, told_stranger, is_stranger}
 use Rattle.lat_machines.specs.cores.Lines.{session_of, seat_at, has_session, line_exists}
 use Rattle.lat_machines.specs.cores.LineCalls.{Said, says, calls_on, put_on, set_on, attend_on, take_on, close_on, on_line}
 use Rattle.lat_machines.proofs.events.Leads.{each_more}
-use Rattle.lat_machines.proofs.spans.Tables.{TableOk, WireOk, ActOk, local_ok, time_ok}
+use Rattle.lat_machines.proofs.spans.Tables.{TableOk, WireOk, ActOk, local_ok, time_ok, end_ok}
 
 -- what never changes: the other end's address, and which configurations are wide
 pub record Facts : Type 0 where
@@ -110,6 +111,13 @@ core_none b p c r = record { table = r; frames = tt }
 pub core_then : (b : Bool) (p : Facts) (c d : Core) (fs gs : List OutFrame) → CoreOk b p c fs → CoreOk b p d gs → CoreOk b p d (fs ++ gs)
 core_then b p c d fs gs x y = record { table = y.table; frames = each_more (FrameOk b p) fs gs x.frames y.frames }
 
+pub stranger_ok : (b : Bool) (p : Facts) (k : Side) (prompt : Bool) (d : Core) (from : ℕ) (h : Head) (c : Core) → CircuitsOk b p c.circuits → CoreOk b p c (told_stranger k prompt d from h)
+stranger_ok b p k prompt d from h c r = go (prompt && is_stranger d.circuits from h)
+  where
+    go : (n : Bool) → CoreOk b p c (cond n (map (sent_frame k d) (stray_stop k.server from h.from h.to 5 ∷ [])) [])
+    go true = record { table = r; frames = ((λ a. tt), tt) }
+    go false = record { table = r; frames = tt }
+
 -- time, and calls on lines
 
 pub times_ok : (b : Bool) (p : Facts) (t : Timing) (name : Name) → TimingOk b p t → (xs : List ℕ) (d : Doing) → CoreOk b p d.core d.frames → CoreOk b p (time_each (side_of b t name) xs d).core (time_each (side_of b t name) xs d).frames
@@ -118,6 +126,13 @@ times_ok b p t name i (x ∷ xs) d r =
     let e : Doing = acts (side_of b t name) d.core (time_at b d.core.circuits x d.core.moment) in
     times_ok b p t name i xs (then_doing d (λ c. acts (side_of b t name) c (time_at b c.circuits x c.moment)))
     (core_then b p d.core e.core d.frames e.frames r (acts_ok b p t name d.core (time_at b d.core.circuits x d.core.moment) i (time_ok b p.other (both p) d.core.circuits x d.core.moment r.table)))
+
+pub ends_ok : (b : Bool) (p : Facts) (t : Timing) (name : Name) → TimingOk b p t → (n : ℕ) (xs : List ℕ) (d : Doing) → CoreOk b p d.core d.frames → CoreOk b p (end_each (side_of b t name) n xs d).core (end_each (side_of b t name) n xs d).frames
+ends_ok b p t name i n [] d r = r
+ends_ok b p t name i n (x ∷ xs) d r =
+    let e : Doing = acts (side_of b t name) d.core (end_at b d.core.circuits x n) in
+    ends_ok b p t name i n xs (then_doing d (λ c. acts (side_of b t name) c (end_at b c.circuits x n)))
+    (core_then b p d.core e.core d.frames e.frames r (acts_ok b p t name d.core (end_at b d.core.circuits x n) i (end_ok b p.other (both p) d.core.circuits x n r.table)))
 
 said_cond : (b : Bool) (p : Facts) (n : Bool) (x y : Said) → CircuitsOk b p x.core.circuits → CircuitsOk b p y.core.circuits → CircuitsOk b p (cond n x y).core.circuits
 said_cond b p true x y f g = f

@@ -8,7 +8,7 @@ use Rattle.lat_model.proofs.numbers.Net.{each_at}
 use Rattle.lat_machines.specs.values.Notices.{Notice}
 use Rattle.lat_machines.specs.values.Messages.{RunMessage, WideMessage, StartMessage, StopMessage}
 use Rattle.lat_machines.specs.values.Frames.{Value, OfCircuit, OfNotice, Reading, Whole, Malformed, OutFrame}
-use Rattle.lat_machines.specs.values.Events.{Event, Hears, Time, Connects, Puts, Sets, Takes, Attends, Closes, Requests, Withdraws, Announces, is_heard}
+use Rattle.lat_machines.specs.values.Events.{Event, Hears, Time, Connects, Puts, Sets, Takes, Attends, Closes, Requests, Withdraws, Announces, Avoids, Readies, Halts, is_heard}
 use Rattle.lat_machines.specs.world.Machines.{Setups, Posted, Machines, post_all, Move, Does, HearsFrame, HearsForeign, core_of, own_of, tell, is_for_other, heard_as, counted, marked_delivered, comes, is_own, happens, run, open_machines}
 use Rattle.lat_machines.specs.world.Safe.{Fit, circuits_open}
 use Rattle.lat_machines.specs.world.Ties.{Shown}
@@ -59,6 +59,9 @@ own_event b p (Closes line) q = tt
 own_event b p (Requests to id service) q = tt
 own_event b p (Withdraws id) q = tt
 own_event b p Announces q = tt
+own_event b p (Avoids line) q = tt
+own_event b p (Readies line ready) q = tt
+own_event b p Halts q = tt
 
 -- nor does a frame of a foreign address
 foreign_event : (u : Setups) (b : Bool) (from : ℕ) (r : Reading) (now : ℕ) → is_own u from ≡ false → EventOk b (facts u b) (Hears from r None now)

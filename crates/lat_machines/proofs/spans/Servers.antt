@@ -1,29 +1,30 @@
 -- What every event of a server keeps of spans.
 use Rattle.std.proofs.Common.{◌≡◌, ℕ, suc, ap, ap₂, Bool, true, false, cond, ◌&&◌, List, [], ◌∷◌, ◌++◌, Option, Some, None, nat_eq, nat_lt}
+use Rattle.lat_model.specs.sessions.Slots.{Slot}
 use Rattle.lat_model.specs.sessions.Sessions.{least_free}
 use Rattle.lat_model.specs.sessions.Calls.{Connect}
 use Rattle.lat_model.specs.Lists.{updated, upwards}
 use Rattle.lat_model.specs.circuits.Arriving.{living}
 use Rattle.lat_machines.specs.values.Names.{Name}
 use Rattle.lat_machines.specs.values.Addresses.{everyone}
-use Rattle.lat_machines.specs.values.Messages.{RunMessage, WideMessage, StartMessage, StopMessage}
+use Rattle.lat_machines.specs.values.Messages.{RunMessage, WideMessage, StartMessage, StopMessage, Head}
 use Rattle.lat_machines.specs.values.Notices.{Kept, KeptAs, Unknown, Action, Ask, Cancel, Command, AnnouncementNotice, CommandNotice, StatusNotice, SolicitNotice, ResponseNotice}
 use Rattle.lat_machines.specs.values.Frames.{Value, OfCircuit, OfNotice, Whole, Malformed}
 use Rattle.lat_machines.specs.values.Timing.{is_wide, agreed_by}
 use Rattle.lat_machines.specs.values.Keys.{Key}
-use Rattle.lat_machines.specs.values.Events.{Numbers, Event, Hears, Time, Connects, Puts, Sets, Takes, Attends, Closes, Requests, Withdraws, Announces}
-use Rattle.lat_machines.specs.values.Answers.{Connected, Ignored, Busy, NoLine, SessionsFull, CircuitsFull, IdsOut, NotKept, KeptIs}
+use Rattle.lat_machines.specs.values.Events.{Numbers, Event, Hears, Time, Connects, Puts, Sets, Takes, Attends, Closes, Requests, Withdraws, Announces, Avoids, Readies, Halts}
+use Rattle.lat_machines.specs.values.Answers.{Connected, Ignored, Busy, NoLine, SessionsFull, CircuitsFull, IdsOut, NotKept, KeptIs, Halted}
 use Rattle.lat_machines.specs.server.Directory.{Best, best}
 use Rattle.lat_machines.specs.server.Queue.{Cancels, Request}
 use Rattle.lat_machines.specs.server.Records.{kept_for}
 use Rattle.lat_machines.specs.cores.Acts.{call_at, local_at}
 use Rattle.lat_machines.specs.cores.Hearing.{hear_run, hear_stop_at, hear_reply_at}
-use Rattle.lat_machines.specs.cores.Cores.{Core, Doing, rests, acts, setup_of, at_moment, circuit_to}
+use Rattle.lat_machines.specs.cores.Cores.{Core, Doing, rests, acts, setup_of, at_moment, circuit_to, told_stranger}
 use Rattle.lat_machines.specs.cores.Lines.{has_session, line_exists}
 use Rattle.lat_machines.specs.cores.LineCalls.{put_on, set_on, attend_on, take_on, close_on}
-use Rattle.lat_machines.specs.server.Server.{ServerConfig, Server, ServerStep, server_side, offer_on, tells, does, has_room, connects_on, opens, connects_to, solicits_for, connect_event, status_frame, key_of, hears_command, hears_value, server_event, finished_requests, Passing, granting, grantable, grants_by, grant_line, grant_lines, server_step}
+use Rattle.lat_machines.specs.server.Server.{ServerConfig, Server, ServerStep, server_side, offer_on, tells, does, has_room, connects_on, opens, connects_to, solicits_for, connect_event, status_frame, key_of, hears_command, hears_value, server_event, finished_requests, Passing, granting, grantable, grants_by, grant_line, grant_lines, server_step, hears_run, heard_at}
 use Rattle.lat_machines.proofs.spans.Tables.{local_ok, call_ok, run_ok, stop_ok, reply_ok}
-use Rattle.lat_machines.proofs.spans.Frames.{Facts, both, CircuitsOk, CoreOk, ReadOk, EventOk, TimingOk, acts_ok, core_none, core_then, times_ok, line_ok, put_ok, set_ok, attend_ok, take_ok, close_ok}
+use Rattle.lat_machines.proofs.spans.Frames.{Facts, both, CircuitsOk, CoreOk, ReadOk, EventOk, TimingOk, acts_ok, core_none, core_then, times_ok, line_ok, put_ok, set_ok, attend_ok, take_ok, close_ok, ends_ok, stranger_ok}
 
 abbrev StepOk : Facts → ServerStep → Type 0
 StepOk p s = CoreOk true p s.state.core s.frames
@@ -98,9 +99,15 @@ reply_says : (s n w i : Bool) → w ≡ s → i ≡ (s && n) → (w && i) ≡ (s
 reply_says true n w i q h = ap₂ (λ x y. x && y) q h
 reply_says false n w i q h = ap (λ x. x && i) q
 
+hears_run_ok : (p : Facts) (config : ServerConfig) (st : Server) (from : ℕ) (wide : Bool) (h : Head) (slots : List Slot) (k : Option Numbers) → TimingOk true p config.timing → CircuitsOk true p st.core.circuits → StepOk p (hears_run config st from wide h slots k)
+hears_run_ok p config st from wide h slots k i r =
+    let s : ServerStep = heard_at config st (hear_run true st.core.circuits from wide h slots k st.core.moment) in
+    let o : StepOk p s = acts_ok true p config.timing config.name st.core (hear_run true st.core.circuits from wide h slots k st.core.moment).act i (run_ok true p.other (both p) st.core.circuits from wide h slots k st.core.moment r) in
+    core_then true p s.state.core s.state.core s.frames (told_stranger (server_side config) config.prompt st.core from h) o (stranger_ok true p (server_side config) config.prompt st.core from h s.state.core o.table)
+
 value_ok : (p : Facts) (config : ServerConfig) (st : Server) (from : ℕ) (v : Value) (k : Option Numbers) → TimingOk true p config.timing → CircuitsOk true p st.core.circuits → ReadOk true p from v → StepOk p (hears_value config st from v k)
-value_ok p config st from (OfCircuit (RunMessage h slots)) k i r y = acts_ok true p config.timing config.name st.core (hear_run true st.core.circuits from false h slots k st.core.moment).act i (run_ok true p.other (both p) st.core.circuits from false h slots k st.core.moment r)
-value_ok p config st from (OfCircuit (WideMessage h slots)) k i r y = acts_ok true p config.timing config.name st.core (hear_run true st.core.circuits from true h slots k st.core.moment).act i (run_ok true p.other (both p) st.core.circuits from true h slots k st.core.moment r)
+value_ok p config st from (OfCircuit (RunMessage h slots)) k i r y = hears_run_ok p config st from false h slots k i r
+value_ok p config st from (OfCircuit (WideMessage h slots)) k i r y = hears_run_ok p config st from true h slots k i r
 value_ok p config st from (OfCircuit (StartMessage true ask to source info)) k i r y = core_none true p st.core r
 value_ok p config st from (OfCircuit (StartMessage false ask to source info)) k i r y =
     acts_ok true p config.timing config.name st.core (hear_reply_at st.core.circuits from to source st.core.moment (agreed_by config.timing info)).act i
@@ -118,7 +125,7 @@ event_ok p config st (Hears from (Whole v) k now) i r y =
     let s : Server = record st { core = at_moment now st.core } in
     step_cond p (nat_eq from everyone) (tells s Ignored) (hears_value config s from v k) (record { table = r; frames = tt }) (value_ok p config s from v k i r y)
 event_ok p config st (Time now) i r y = times_ok true p config.timing config.name i (upwards 0 st.core.circuits.drawn) (rests (at_moment now st.core)) (record { table = r; frames = tt })
-event_ok p config st (Connects line service) i r y = connect_ok p config st line service i r
+event_ok p config st (Connects line service) i r y = step_cond p st.halted (tells st Halted) (connect_event config st line service) (record { table = r; frames = tt }) (connect_ok p config st line service i r)
 event_ok p config st (Puts line bytes) i r y = record { table = line_ok true p config.lines st.core line (λ s. put_on (server_side config) st.core s bytes) r (λ s. put_ok true p config.timing config.name st.core s bytes r); frames = tt }
 event_ok p config st (Sets line setting) i r y = record { table = line_ok true p config.lines st.core line (λ s. set_on (server_side config) st.core s setting) r (λ s. set_ok true p config.timing config.name st.core s setting r); frames = tt }
 event_ok p config st (Takes line n) i r y = record { table = line_ok true p config.lines st.core line (λ s. take_on (server_side config) st.core s n) r (λ s. take_ok true p config.timing config.name st.core s n r); frames = tt }
@@ -127,6 +134,9 @@ event_ok p config st (Closes line) i r y = record { table = line_ok true p confi
 event_ok p config st (Requests to id service) i r y = record { table = r; frames = tt }
 event_ok p config st (Withdraws id) i r y = record { table = r; frames = tt }
 event_ok p config st Announces i r y = record { table = r; frames = tt }
+event_ok p config st (Avoids line) i r y = record { table = r; frames = tt }
+event_ok p config st (Readies line ready) i r y = record { table = r; frames = tt }
+event_ok p config st Halts i r y = ends_ok true p config.timing config.name i 3 (upwards 0 st.core.circuits.drawn) (rests st.core) (record { table = r; frames = tt })
 
 -- the grant pass
 

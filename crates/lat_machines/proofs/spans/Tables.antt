@@ -4,7 +4,7 @@ use Rattle.std.proofs.lemmas.Bool.{and_parts, true≢false, false≢true, eqb-fa
 use Rattle.lat_model.specs.sessions.Slots.{Slot}
 use Rattle.lat_model.specs.sessions.Calls.{Call}
 use Rattle.lat_model.specs.Lists.{Each}
-use Rattle.lat_model.specs.ends.End.{Sent, End, Step, lives, call_end}
+use Rattle.lat_model.specs.ends.End.{Sent, End, Step, lives, call_end, finish, Stopped, lapse}
 use Rattle.lat_model.specs.ends.Timers.{note_empty, time_step}
 use Rattle.lat_model.specs.ends.Run.{run_end}
 use Rattle.lat_model.specs.ends.Starting.{Agreed, Setup, reply_end, make_slave, again_start, hear_reply, hear_stop}
@@ -16,8 +16,8 @@ use Rattle.lat_model.proofs.circuits.Begins.{kin_call}
 use Rattle.lat_machines.specs.values.Messages.{Head}
 use Rattle.lat_machines.specs.values.Events.{Numbers}
 use Rattle.lat_machines.specs.values.Answers.{Again, Running, Ended}
-use Rattle.lat_machines.specs.cores.Acts.{Acted, idle, put_at, steps_at, call_at, called, local_at, time_at, move_at}
-use Rattle.lat_machines.specs.cores.Hearing.{HeardAct, foreign, names, fits_kind, numbers_at, run_frame, run_at, hear_run, hear_stop_at, hear_reply_at, StartFact, Repeats, Makes, Refuses, start_fact, start_at}
+use Rattle.lat_machines.specs.cores.Acts.{Acted, idle, put_at, steps_at, call_at, called, local_at, time_at, move_at, end_at, stray_at}
+use Rattle.lat_machines.specs.cores.Hearing.{HeardAct, foreign, names, fits_kind, numbers_at, run_frame, run_at, hear_run, hear_stop_at, hear_reply_at, StartFact, Repeats, Makes, Refuses, start_fact, start_at, outlive, outlive_at, is_outlived, follows}
 use Rattle.lat_machines.proofs.queue.Rooms.{least_true}
 use Rattle.lat_machines.proofs.spans.Times.{has_span, SentRunning, each_any, time_sends}
 
@@ -94,6 +94,29 @@ pub time_ok : (b : Bool) (o : ℕ) (z : Bool) (t : Table) (x now : ℕ) → Tabl
 time_ok b o z t x now r =
     let e : End = (t.circuit_at x).end in
     act_cond b o z (lives e) (steps_at b t x (time_step now e)) (idle t) (λ i. steps_ok b o z t x (time_step now e) r i (kin_time now e).wide (kin_time now e).running (time_sends now e)) (λ i. idle_ok b o z t r)
+
+pub end_ok : (b : Bool) (o : ℕ) (z : Bool) (t : Table) (x r : ℕ) → TableOk b o z t → ActOk b o z (end_at b t x r)
+end_ok b o z t x n r =
+    let e : End = (t.circuit_at x).end in
+    act_cond b o z (lives e) (steps_at b t x (finish n e)) (idle t) (λ i. steps_ok b o z t x (finish n e) r i refl refl (quietly e (nat_eq e.peer 0))) (λ i. idle_ok b o z t r)
+  where
+    quietly : (e : End) (c : Bool) → SentRunning e (cond c [] (Stopped n ∷ []))
+    quietly e true = tt
+    quietly e false = ((λ y. absurd (false≢true y)), tt)
+
+pub stray_ok : (b : Bool) (o : ℕ) (z : Bool) (t : Table) (to d s r : ℕ) → TableOk b o z t → ActOk b o z (stray_at b t to d s r)
+stray_ok b o z t to d s n r = record { table = r; sent = ((λ y. absurd (false≢true y)), tt) }
+
+pub outlive_ok : (o : ℕ) (z : Bool) (from source : ℕ) (xs : List ℕ) (t : Table) → TableOk false o z t → TableOk false o z (outlive from source xs t)
+outlive_ok o z from source [] t r = r
+outlive_ok o z from source (x ∷ xs) t r = outlive_ok o z from source xs (outlive_at from source x t) (go (is_outlived (t.circuit_at x) from source) refl)
+  where
+    e : End
+    e = (t.circuit_at x).end
+
+    go : (n : Bool) → is_outlived (t.circuit_at x) from source ≡ n → TableOk false o z (cond n (steps_at false t x (lapse 5 e)).table t)
+    go true i = (steps_ok false o z t x (lapse 5 e) r (and_parts (nat_eq (t.circuit_at x).address from && follows e.peer source) (lives e) i).1 refl refl tt).table
+    go false i = r
 
 move_ok : (b : Bool) (o : ℕ) (z : Bool) (t : Table) (x now : ℕ) → TableOk b o z t → ActOk b o z (move_at b t x now)
 move_ok b o z t x now r =

@@ -1,5 +1,6 @@
 -- Tallied numbers, act by act, of a core.
 use Rattle.std.proofs.Common.{◌≡◌, ℕ, suc, ◌+◌, arith, refl, sym, ap, ◌∙◌, subst, Bool, true, false, not, cond, ◌&&◌, ◌||◌, List, [], ◌∷◌, map, Option, Some, nat_eq, nat_lt}
+use Rattle.lat_model.specs.circuits.Events.{stray_stop}
 use Rattle.std.proofs.lemmas.Bool.{and_parts, eqb-false}
 use Rattle.lat_model.specs.sessions.Slots.{Slot}
 use Rattle.lat_model.specs.sessions.Session.{put_open, take_open}
@@ -17,9 +18,9 @@ use Rattle.lat_machines.specs.values.Names.{Name}
 use Rattle.lat_machines.specs.values.Timing.{Timing}
 use Rattle.lat_machines.specs.values.Events.{Numbers}
 use Rattle.lat_machines.specs.values.Answers.{Answer, Closed, NoLine, Heard, Running, Taken, Again, AckOnly, Foreign, Broke, Ended}
-use Rattle.lat_machines.specs.cores.Acts.{idle, steps_at, local_at, time_at, move_at}
+use Rattle.lat_machines.specs.cores.Acts.{idle, steps_at, local_at, time_at, move_at, end_at, stray_at}
 use Rattle.lat_machines.specs.cores.Hearing.{HeardAct, foreign, answer_of, names, fits_kind, numbers_at, run_frame, run_at, hear_run, hear_stop_at, hear_reply_at, StartFact, Repeats, Makes, Refuses, start_fact, start_at}
-use Rattle.lat_machines.specs.cores.Cores.{Seat, Side, Core, sent_frame, with_circuits, Doing, then_doing, acts, time_each}
+use Rattle.lat_machines.specs.cores.Cores.{Seat, Side, Core, sent_frame, with_circuits, Doing, then_doing, acts, time_each, end_each, told_stranger, is_stranger}
 use Rattle.lat_machines.specs.cores.Lines.{session_of, seat_at, has_session, line_exists}
 use Rattle.lat_machines.specs.cores.LineCalls.{Said, says, calls_on, put_on, set_on, attend_on, take_on, close_on, on_line}
 use Rattle.lat_machines.specs.world.Bears.{BearsValue}
@@ -28,7 +29,7 @@ use Rattle.lat_machines.proofs.events.Leads.{append_nil}
 use Rattle.lat_machines.proofs.queue.Rooms.{least_true}
 use Rattle.lat_machines.proofs.spans.Frames.{side_of}
 use Rattle.lat_machines.proofs.tally.Ends.{plus_zero, Counts, plainly, quiet, RunCounts, taken_by_run, counts_run}
-use Rattle.lat_machines.proofs.tally.Tables.{CoreCounts, Same, Steady, act_cond, cond_none, core_none, core_then, idle_same, local_counts, messages_on, more_as, new_counts, steps_counts, steps_same, tallied_same, time_counts}
+use Rattle.lat_machines.proofs.tally.Tables.{CoreCounts, Same, Steady, act_cond, cond_none, core_none, core_then, idle_same, local_counts, messages_on, more_as, new_counts, steps_counts, steps_same, tallied_same, time_counts, end_counts}
 
 -- a frame without a circuit's mark
 plain_more : (c d : Core) (to : ℕ) (v : Value) (fs : List OutFrame) → BearsValue (messages_on d.circuits 0) Plain 0 v → Same c d fs → Same c d (plain to 0 v ∷ fs)
@@ -177,6 +178,23 @@ times_counts b t name (x ∷ xs) c d p =
     let e : Doing = acts (side_of b t name) d.core (time_at b d.core.circuits x d.core.moment) in
     times_counts b t name xs c (then_doing d (λ y. acts (side_of b t name) y (time_at b y.circuits x y.moment)))
     (core_then c d.core e.core d.frames e.frames (λ y. 0) p (time_counts b (side_of b t name) d.core x d.core.moment p.steady))
+
+pub ends_counts : (b : Bool) (t : Timing) (name : Name) (n : ℕ) (xs : List ℕ) (c : Core) (d : Doing) → Same c d.core d.frames → Same c (end_each (side_of b t name) n xs d).core (end_each (side_of b t name) n xs d).frames
+ends_counts b t name n [] c d p = p
+ends_counts b t name n (x ∷ xs) c d p =
+    let e : Doing = acts (side_of b t name) d.core (end_at b d.core.circuits x n) in
+    ends_counts b t name n xs c (then_doing d (λ y. acts (side_of b t name) y (end_at b y.circuits x n)))
+    (core_then c d.core e.core d.frames e.frames (λ y. 0) p (end_counts b (side_of b t name) d.core x n p.steady))
+
+pub stray_counts : (k : Side) (b : Bool) (c : Core) (to d s r : ℕ) → Steady c.circuits → Same c (acts k c (stray_at b c.circuits to d s r)).core (acts k c (stray_at b c.circuits to d s r)).frames
+stray_counts k b c to d s n r = plain_more c c to _ [] refl (core_none c r)
+
+pub stranger_counts : (k : Side) (prompt : Bool) (d : Core) (from : ℕ) (h : Head) (c : Core) → Steady c.circuits → Same c c (told_stranger k prompt d from h)
+stranger_counts k prompt d from h c r = go (prompt && is_stranger d.circuits from h)
+  where
+    go : (n : Bool) → Same c c (cond n (map (sent_frame k d) (stray_stop k.server from h.from h.to 5 ∷ [])) [])
+    go true = plain_more c c from _ [] refl (core_none c r)
+    go false = core_none c r
 
 said_cond : (c : Core) (n : Bool) (x y : Said) → Same c x.core [] → Same c y.core [] → Same c (cond n x y).core []
 said_cond c true x y f g = f

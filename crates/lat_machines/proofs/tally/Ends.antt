@@ -211,7 +211,7 @@ counts_then e s f p q = record {
 counts_still : (e : End) → Counts e (still e)
 counts_still e = quiet e (still e) refl refl
 
-counts_finish : (r : ℕ) (e : End) → Counts e (finish r e)
+pub counts_finish : (r : ℕ) (e : End) → Counts e (finish r e)
 counts_finish r e = plainly e (finish r e) (sends (nat_eq e.peer 0)) refl
   where
     sends : (n : Bool) → NoRun (cond n [] (Stopped r ∷ []))

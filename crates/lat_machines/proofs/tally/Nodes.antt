@@ -12,18 +12,18 @@ use Rattle.lat_machines.specs.values.Names.{Name, same}
 use Rattle.lat_machines.specs.values.Addresses.{everyone}
 use Rattle.lat_machines.specs.values.Messages.{Head, StartInfo, RunMessage, WideMessage, StartMessage, StopMessage}
 use Rattle.lat_machines.specs.values.Notices.{AnnouncementNotice, CommandNotice, StatusNotice, SolicitNotice, ResponseNotice}
-use Rattle.lat_machines.specs.values.Frames.{Value, OfCircuit, OfNotice, Whole, Malformed}
+use Rattle.lat_machines.specs.values.Frames.{Value, OfCircuit, OfNotice, Whole, Malformed, OutFrame}
 use Rattle.lat_machines.specs.values.Timing.{agreed_by}
-use Rattle.lat_machines.specs.values.Events.{Numbers, Event, Hears, Time, Connects, Puts, Sets, Takes, Attends, Closes, Requests, Withdraws, Announces}
+use Rattle.lat_machines.specs.values.Events.{Numbers, Event, Hears, Time, Connects, Puts, Sets, Takes, Attends, Closes, Requests, Withdraws, Announces, Avoids, Readies, Halts}
 use Rattle.lat_machines.specs.values.Answers.{Ignored, IdUsed}
-use Rattle.lat_machines.specs.cores.Hearing.{HeardAct, names, hear_run, StartFact, Repeats, Makes, Refuses, start_fact, start_at}
-use Rattle.lat_machines.specs.cores.Cores.{Core, setup_of, rests, acts, at_moment}
+use Rattle.lat_machines.specs.cores.Hearing.{HeardAct, names, hear_run, StartFact, Repeats, Makes, Refuses, start_fact, start_at, outlive}
+use Rattle.lat_machines.specs.cores.Cores.{Core, setup_of, rests, acts, at_moment, Doing, ends_all, told_stranger, with_circuits}
 use Rattle.lat_machines.specs.cores.LineCalls.{put_on, set_on, attend_on, take_on, close_on}
-use Rattle.lat_machines.specs.node.Node.{NodeConfig, Requested, Node, NodeStep, node_side, open_node, tells, request_of, Verdict, Accepts, Rejects, verdict, judged, asked_at, answers_one, answers_in, asked_on, answers_asked, heard_at, hears_run, names_for, hears_start, solicited, hears_value, requests_again, withdraws, node_step}
+use Rattle.lat_machines.specs.node.Node.{NodeConfig, Requested, Node, NodeStep, node_side, open_node, tells, request_of, Verdict, Accepts, Rejects, verdict, judged, asked_at, answers_one, answers_in, asked_on, answers_asked, heard_at, hears_run, names_for, hears_start, solicited, hears_value, requests_again, withdraws, node_step, halts, farewell, response, announcement, first_rate, rest_rates, turns_away, starts, makes_way}
 use Rattle.lat_machines.specs.world.Histories.{RatedEvent, node_run}
 use Rattle.lat_machines.specs.world.Tally.{taken_by, NodeTallied}
-use Rattle.lat_machines.proofs.tally.Tables.{Steady, CoreCounts, Same, core_none, more_as}
-use Rattle.lat_machines.proofs.tally.Cores.{core_quiet, local_quiet, stop_counts, start_counts, run_counts, taken_of, notice_more, times_counts, line_counts, put_same, set_same, attend_same, take_same, close_same}
+use Rattle.lat_machines.proofs.tally.Tables.{Steady, CoreCounts, Same, core_none, more_as, core_then, outlive_counts}
+use Rattle.lat_machines.proofs.tally.Cores.{core_quiet, local_quiet, stop_counts, start_counts, run_counts, taken_of, notice_more, times_counts, line_counts, put_same, set_same, attend_same, take_same, close_same, ends_counts, stray_counts, stranger_counts}
 use Rattle.lat_machines.proofs.tally.Servers.{run_says, wide_says}
 
 abbrev pub StepCounts : Event → Node → NodeStep → Type 0
@@ -66,7 +66,10 @@ asked_same config x st r = go (lives (st.core.circuits.circuit_at x).end)
 -- hearing
 
 hears_run_counts : (config : NodeConfig) (st : Node) (from : ℕ) (wide : Bool) (h : Head) (slots : List Slot) (k : Option Numbers) → Steady st.core.circuits → CoreCounts st.core (hears_run config st from wide h slots k).state.core (hears_run config st from wide h slots k).frames (λ y. cond (nat_eq h.to y) (taken_of (hear_run false st.core.circuits from wide h slots k st.core.moment).answer) 0)
-hears_run_counts config st from wide h slots k r = go (names st.core.circuits from h.to h.from)
+hears_run_counts config st from wide h slots k r =
+    let c : Core = (cond (names st.core.circuits from h.to h.from) (answers_asked config h.to s.state) s.state).core in
+    let x : CoreCounts st.core c s.frames (λ y. cond (nat_eq h.to y) (taken_of act.answer) 0) = go (names st.core.circuits from h.to h.from) in
+    core_then st.core c c s.frames (told_stranger (node_side config) config.prompt st.core from h) (λ y. cond (nat_eq h.to y) (taken_of act.answer) 0) x (stranger_counts (node_side config) config.prompt st.core from h c x.steady)
   where
     act : HeardAct
     act = hear_run false st.core.circuits from wide h slots k st.core.moment
@@ -89,9 +92,26 @@ started_same config st from source info (Makes k) h = h (names_for (Makes k) inf
 started_same config st from source info (Repeats k) h = h st.core refl
 started_same config st from source info Refuses h = h st.core refl
 
+silenced : (st : Node) (fs : List OutFrame) → Steady st.core.circuits → Same st.core st.core fs → Same st.core st.core (cond st.halted [] fs)
+silenced st fs r p = go st.halted
+  where
+    go : (n : Bool) → Same st.core st.core (cond n [] fs)
+    go true = core_none st.core r
+    go false = p
+
+halt_same : (config : NodeConfig) (st : Node) → Steady st.core.circuits → StepSame st (halts config st)
+halt_same config st r =
+    let d : Doing = ends_all (node_side config) 3 st.core in
+    let p : Same st.core d.core d.frames = ends_counts false config.timing config.name 3 (upwards 0 st.core.circuits.drawn) st.core (rests st.core) (core_none st.core r) in
+    core_then st.core d.core d.core d.frames (farewell config st.halted) (λ y. 0) p (go d.core p.steady st.halted)
+  where
+    go : (c : Core) → Steady c.circuits → (n : Bool) → Same c c (farewell config n)
+    go c t true = core_none c t
+    go c t false = notice_more c c everyone _ [] (core_none c t)
+
 solicited_same : (config : NodeConfig) (rates : List ℕ) (st : Node) (from id : ℕ) (o : Option Name) → Steady st.core.circuits → StepSame st (solicited config rates st from id o)
 solicited_same config rates st from id None r = core_none st.core r
-solicited_same config rates st from id (Some service) r = notice_more st.core st.core from _ _ (notice_more st.core st.core everyone _ [] (core_none st.core r))
+solicited_same config rates st from id (Some service) r = silenced st (response config from id service (first_rate rates) ∷ announcement config (rest_rates rates) ∷ []) r (notice_more st.core st.core from _ _ (notice_more st.core st.core everyone _ [] (core_none st.core r)))
 
 start_same : (config : NodeConfig) (st : Node) (from source : ℕ) (info : StartInfo) → Steady st.core.circuits → StepSame st (hears_start config st from source info (start_fact st.core.circuits from source))
 start_same config st from source info r = started_same config st from source info (start_fact st.core.circuits from source) (λ c q. at c q)
@@ -101,10 +121,21 @@ start_same config st from source info r = started_same config st from source inf
         subst (λ (t : Table). Same c (acts (node_side config) c (start_at (setup_of config.timing) c.circuits from source st.core.moment (agreed_by config.timing info) (start_fact t from source))).core (acts (node_side config) c (start_at (setup_of config.timing) c.circuits from source st.core.moment (agreed_by config.timing info) (start_fact t from source))).frames) q
         (start_counts (node_side config) c (setup_of config.timing) from source st.core.moment (agreed_by config.timing info) (subst Steady (sym q) r))
 
+starts_same : (config : NodeConfig) (st : Node) (from source : ℕ) (info : StartInfo) → Steady st.core.circuits → StepSame st (starts config (makes_way config st from source) from source info)
+starts_same config st from source info r =
+    let x : Node = makes_way config st from source in
+    let p : Same st.core x.core [] = go config.prompt in
+    let s : NodeStep = starts config x from source info in
+    core_then st.core x.core s.state.core [] s.frames (λ y. 0) p (start_same config x from source info p.steady)
+  where
+    go : (n : Bool) → Same st.core (with_circuits st.core (cond n (outlive from source (upwards 0 st.core.circuits.drawn) st.core.circuits) st.core.circuits)) []
+    go true = outlive_counts (node_side config) from source (upwards 0 st.core.circuits.drawn) st.core r
+    go false = core_none st.core r
+
 value_counts : (config : NodeConfig) (rates : List ℕ) (st : Node) (from : ℕ) (v : Value) (k : Option Numbers) (now : ℕ) → Steady st.core.circuits → StepCounts (Hears from (Whole v) k now) st (hears_value config rates st from v k)
 value_counts config rates st from (OfCircuit (RunMessage h slots)) k now r = more_as _ _ _ _ _ (λ x. run_says from h slots k now x (hear_run false st.core.circuits from false h slots k st.core.moment).answer) (hears_run_counts config st from false h slots k r)
 value_counts config rates st from (OfCircuit (WideMessage h slots)) k now r = more_as _ _ _ _ _ (λ x. wide_says from h slots k now x (hear_run false st.core.circuits from true h slots k st.core.moment).answer) (hears_run_counts config st from true h slots k r)
-value_counts config rates st from (OfCircuit (StartMessage true ask to source info)) k now r = start_same config st from source info r
+value_counts config rates st from (OfCircuit (StartMessage true ask to source info)) k now r = same_cond st st.halted (turns_away config st from source) (starts config (makes_way config st from source) from source info) (stray_counts (node_side config) false st.core from source 0 3 r) (starts_same config st from source info r)
 value_counts config rates st from (OfCircuit (StartMessage false ask to source info)) k now r = core_none st.core r
 value_counts config rates st from (OfCircuit (StopMessage master ask to source reason text)) k now r = stop_counts false (node_side config) st.core from to source st.core.moment reason r
 value_counts config rates st from (OfNotice (StatusNotice s)) k now r = core_none st.core r
@@ -156,7 +187,10 @@ step_counts config rates st (Attends line flag) r = line_counts config.lines st.
 step_counts config rates st (Closes line) r = line_counts config.lines st.core line (λ s. close_on (node_side config) st.core s) r (λ s. close_same false config.timing config.name st.core s r)
 step_counts config rates st (Requests to id service) r = again_same config st to id service (request_of id st) r
 step_counts config rates st (Withdraws id) r = withdraw_same config st (request_of id st) r
-step_counts config rates st Announces r = notice_more st.core st.core everyone _ [] (core_none st.core r)
+step_counts config rates st Announces r = silenced st (announcement config rates ∷ []) r (notice_more st.core st.core everyone _ [] (core_none st.core r))
+step_counts config rates st (Avoids line) r = core_none st.core r
+step_counts config rates st (Readies line ready) r = core_none st.core r
+step_counts config rates st Halts r = halt_same config st r
 
 steady_on : (config : NodeConfig) (es : List RatedEvent) (st : Node) → Steady st.core.circuits → Steady (node_run config es st).core.circuits
 steady_on config [] st r = r

@@ -12,21 +12,21 @@ use Rattle.lat_machines.specs.values.Notices.{Kept, KeptAs, Unknown, Action, Ask
 use Rattle.lat_machines.specs.values.Frames.{Value, OfCircuit, OfNotice, Whole, Malformed}
 use Rattle.lat_machines.specs.values.Timing.{agreed_by}
 use Rattle.lat_machines.specs.values.Keys.{Key}
-use Rattle.lat_machines.specs.values.Events.{Numbers, Event, Hears, Time, Connects, Puts, Sets, Takes, Attends, Closes, Requests, Withdraws, Announces}
-use Rattle.lat_machines.specs.values.Answers.{Heard, Running, Taken, Again, AckOnly, Foreign, Broke, Ended, Circuit, Connected, Ignored, Busy, NoLine, SessionsFull, CircuitsFull, IdsOut, NotKept, KeptIs}
+use Rattle.lat_machines.specs.values.Events.{Numbers, Event, Hears, Time, Connects, Puts, Sets, Takes, Attends, Closes, Requests, Withdraws, Announces, Avoids, Readies, Halts}
+use Rattle.lat_machines.specs.values.Answers.{Heard, Running, Taken, Again, AckOnly, Foreign, Broke, Ended, Circuit, Connected, Ignored, Busy, NoLine, SessionsFull, CircuitsFull, IdsOut, NotKept, KeptIs, Halted}
 use Rattle.lat_machines.specs.server.Directory.{Best, best}
 use Rattle.lat_machines.specs.server.Queue.{Cancels, Request}
 use Rattle.lat_machines.specs.server.Records.{kept_for}
 use Rattle.lat_machines.specs.cores.Acts.{call_at}
-use Rattle.lat_machines.specs.cores.Hearing.{hear_run}
-use Rattle.lat_machines.specs.cores.Cores.{Core, Doing, rests, acts, setup_of, at_moment, circuit_to}
+use Rattle.lat_machines.specs.cores.Hearing.{hear_run, HeardAct}
+use Rattle.lat_machines.specs.cores.Cores.{Core, Doing, rests, acts, setup_of, at_moment, circuit_to, told_stranger}
 use Rattle.lat_machines.specs.cores.Lines.{has_session, line_exists}
 use Rattle.lat_machines.specs.cores.LineCalls.{put_on, set_on, attend_on, take_on, close_on}
-use Rattle.lat_machines.specs.server.Server.{ServerConfig, Server, ServerStep, server_side, open_server, offer_on, tells, does, has_room, connects_on, opens, connects_to, solicits_for, connect_event, status_frame, key_of, hears_command, hears_value, server_event, finished_requests, Passing, grantable, grants_by, grant_line, grant_lines, server_step}
+use Rattle.lat_machines.specs.server.Server.{ServerConfig, Server, ServerStep, server_side, open_server, offer_on, tells, does, has_room, connects_on, opens, connects_to, solicits_for, connect_event, status_frame, key_of, hears_command, hears_value, server_event, finished_requests, Passing, grantable, grants_by, grant_line, grant_lines, server_step, hears_run, heard_at}
 use Rattle.lat_machines.specs.world.Histories.{server_run}
 use Rattle.lat_machines.specs.world.Tally.{taken_by, ServerTallied}
 use Rattle.lat_machines.proofs.tally.Tables.{Steady, CoreCounts, Same, core_none, core_then, more_as, local_counts, call_counts, cond_none}
-use Rattle.lat_machines.proofs.tally.Cores.{stop_counts, reply_counts, run_counts, taken_of, notice_more, times_counts, line_counts, put_same, set_same, attend_same, take_same, close_same}
+use Rattle.lat_machines.proofs.tally.Cores.{stop_counts, reply_counts, run_counts, taken_of, notice_more, times_counts, line_counts, put_same, set_same, attend_same, take_same, close_same, ends_counts, stranger_counts}
 
 abbrev pub StepCounts : Event → Server → ServerStep → Type 0
 StepCounts e st s = CoreCounts st.core s.state.core s.frames (taken_by e s.answer)
@@ -118,9 +118,16 @@ wide_says from h slots n now x Foreign = cond_none (nat_eq h.to x)
 wide_says from h slots n now x (Broke r) = cond_none (nat_eq h.to x)
 wide_says from h slots n now x (Ended r) = cond_none (nat_eq h.to x)
 
+hears_run_counts : (config : ServerConfig) (st : Server) (from : ℕ) (wide : Bool) (h : Head) (slots : List Slot) (k : Option Numbers) → Steady st.core.circuits → CoreCounts st.core (hears_run config st from wide h slots k).state.core (hears_run config st from wide h slots k).frames (λ y. cond (nat_eq h.to y) (taken_of (hear_run true st.core.circuits from wide h slots k st.core.moment).answer) 0)
+hears_run_counts config st from wide h slots k r =
+    let a : HeardAct = hear_run true st.core.circuits from wide h slots k st.core.moment in
+    let s : ServerStep = heard_at config st a in
+    let p : CoreCounts st.core s.state.core s.frames (λ y. cond (nat_eq h.to y) (taken_of a.answer) 0) = run_counts true (server_side config) st.core from wide h slots k st.core.moment r in
+    core_then st.core s.state.core s.state.core s.frames (told_stranger (server_side config) config.prompt st.core from h) (λ y. cond (nat_eq h.to y) (taken_of a.answer) 0) p (stranger_counts (server_side config) config.prompt st.core from h s.state.core p.steady)
+
 value_counts : (config : ServerConfig) (st : Server) (from : ℕ) (v : Value) (k : Option Numbers) (now : ℕ) → Steady st.core.circuits → StepCounts (Hears from (Whole v) k now) st (hears_value config st from v k)
-value_counts config st from (OfCircuit (RunMessage h slots)) k now r = more_as _ _ _ _ _ (λ x. run_says from h slots k now x (hear_run true st.core.circuits from false h slots k st.core.moment).answer) (run_counts true (server_side config) st.core from false h slots k st.core.moment r)
-value_counts config st from (OfCircuit (WideMessage h slots)) k now r = more_as _ _ _ _ _ (λ x. wide_says from h slots k now x (hear_run true st.core.circuits from true h slots k st.core.moment).answer) (run_counts true (server_side config) st.core from true h slots k st.core.moment r)
+value_counts config st from (OfCircuit (RunMessage h slots)) k now r = more_as _ _ _ _ _ (λ x. run_says from h slots k now x (hear_run true st.core.circuits from false h slots k st.core.moment).answer) (hears_run_counts config st from false h slots k r)
+value_counts config st from (OfCircuit (WideMessage h slots)) k now r = more_as _ _ _ _ _ (λ x. wide_says from h slots k now x (hear_run true st.core.circuits from true h slots k st.core.moment).answer) (hears_run_counts config st from true h slots k r)
 value_counts config st from (OfCircuit (StartMessage true ask to source info)) k now r = core_none st.core r
 value_counts config st from (OfCircuit (StartMessage false ask to source info)) k now r = reply_counts (server_side config) st.core from to source st.core.moment (agreed_by config.timing info) r
 value_counts config st from (OfCircuit (StopMessage master ask to source reason text)) k now r = stop_counts true (server_side config) st.core from to source st.core.moment reason r
@@ -155,7 +162,7 @@ event_counts config st (Hears from (Whole v) k now) r = go (nat_eq from everyone
     go false = heard
 event_counts config st (Time now) r =
     times_counts true config.timing config.name (upwards 0 st.core.circuits.drawn) st.core (rests (at_moment now st.core)) (core_none st.core r)
-event_counts config st (Connects line service) r = connect_counts config st line service r
+event_counts config st (Connects line service) r = same_cond st st.halted (tells st Halted) (connect_event config st line service) (core_none st.core r) (connect_counts config st line service r)
 event_counts config st (Puts line bytes) r = line_counts config.lines st.core line (λ s. put_on (server_side config) st.core s bytes) r (λ s. put_same true config.timing config.name st.core s bytes r)
 event_counts config st (Sets line setting) r = line_counts config.lines st.core line (λ s. set_on (server_side config) st.core s setting) r (λ s. set_same true config.timing config.name st.core s setting r)
 event_counts config st (Takes line n) r = line_counts config.lines st.core line (λ s. take_on (server_side config) st.core s n) r (λ s. take_same true config.timing config.name st.core s n r)
@@ -164,6 +171,9 @@ event_counts config st (Closes line) r = line_counts config.lines st.core line (
 event_counts config st (Requests to id service) r = core_none st.core r
 event_counts config st (Withdraws id) r = core_none st.core r
 event_counts config st Announces r = core_none st.core r
+event_counts config st (Avoids line) r = core_none st.core r
+event_counts config st (Readies line ready) r = core_none st.core r
+event_counts config st Halts r = ends_counts true config.timing config.name 3 (upwards 0 st.core.circuits.drawn) st.core (rests st.core) (core_none st.core r)
 
 -- the grant pass
 

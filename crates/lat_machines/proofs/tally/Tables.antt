@@ -1,11 +1,12 @@
 -- Tallied numbers, table by table: what circuits form, take and show, and what frames bear.
 use Rattle.std.proofs.Common.{◌≡◌, ◌≢◌, ℕ, suc, ◌+◌, ◌<◌, arith, refl, sym, ap, ap₂, ◌∙◌, subst, Bool, true, false, cond, ◌&&◌, ◌||◌, List, [], ◌∷◌, ◌++◌, map, nat_eq, eqb-true}
-use Rattle.std.proofs.lemmas.Bool.{true≢false, eqb-false}
+use Rattle.lat_machines.specs.cores.Hearing.{outlive, outlive_at, is_outlived, follows}
+use Rattle.std.proofs.lemmas.Bool.{true≢false, eqb-false, and_parts}
 use Rattle.lat_model.specs.sessions.Slots.{Slot}
 use Rattle.lat_model.specs.sessions.Calls.{Call}
 use Rattle.lat_model.specs.Lists.{Each}
 use Rattle.lat_model.specs.numbers.Link.{fresh}
-use Rattle.lat_model.specs.ends.End.{Mark, Fresh, Bare, Sent, Run, CallStart, ReplyStart, Stopped, End, Step, still, lives, call_end}
+use Rattle.lat_model.specs.ends.End.{Mark, Fresh, Bare, Sent, Run, CallStart, ReplyStart, Stopped, End, Step, still, lives, call_end, finish, lapse}
 use Rattle.lat_model.specs.ends.End as End
 use Rattle.lat_model.specs.ends.Timers.{note_empty, time_step}
 use Rattle.lat_model.specs.ends.Starting.{Setup}
@@ -14,12 +15,12 @@ use Rattle.lat_model.proofs.sessions.Words.{upd_same, upd_other, upd_all}
 use Rattle.lat_machines.specs.values.Messages.{RunMessage, WideMessage, StartMessage, StopMessage}
 use Rattle.lat_machines.specs.values.Frames.{Value, OfCircuit, OfNotice, FrameMark, OfRun, Plain, OutFrame}
 use Rattle.lat_machines.specs.values.Runs.{run_head, slots_in}
-use Rattle.lat_machines.specs.cores.Acts.{Acted, idle, put_at, steps_at, call_at, called, local_at, time_at}
-use Rattle.lat_machines.specs.cores.Cores.{Side, Core, sent_frame, acts}
+use Rattle.lat_machines.specs.cores.Acts.{Acted, idle, put_at, steps_at, call_at, called, local_at, time_at, end_at}
+use Rattle.lat_machines.specs.cores.Cores.{Side, Core, sent_frame, acts, with_circuits}
 use Rattle.lat_machines.specs.world.Bears.{BearsMarked, BearsValue, Bears}
 use Rattle.lat_machines.specs.world.Tally.{formed_in, taken_in, new_messages, new_of, is_run, sends_run, number_of, TalliedBy, Tallied}
 use Rattle.lat_machines.proofs.events.Leads.{each_more}
-use Rattle.lat_machines.proofs.tally.Ends.{formed, taken, shown, messages, new_by, new_in, runs_in, SentTallied, SentBears, Grown, grown_none, grown_then, bears_on, Full, shows_then, plus_zero, Counts, NoRun, plainly, quiet, counts_time}
+use Rattle.lat_machines.proofs.tally.Ends.{formed, taken, shown, messages, new_by, new_in, runs_in, SentTallied, SentBears, Grown, grown_none, grown_then, bears_on, Full, shows_then, plus_zero, Counts, NoRun, plainly, quiet, counts_time, counts_finish}
 
 -- counts
 
@@ -308,6 +309,25 @@ pub time_counts : (b : Bool) (k : Side) (c : Core) (x now : ℕ) → Steady c.ci
 time_counts b k c x now r =
     let e : End = (c.circuits.circuit_at x).end in
     act_cond k c (lives e) (steps_at b c.circuits x (time_step now e)) (idle c.circuits) (λ i. steps_same b k c x (time_step now e) r i (counts_time now e)) (λ i. idle_same k c r)
+
+pub end_counts : (b : Bool) (k : Side) (c : Core) (x n : ℕ) → Steady c.circuits → Same c (acts k c (end_at b c.circuits x n)).core (acts k c (end_at b c.circuits x n)).frames
+end_counts b k c x n r =
+    let e : End = (c.circuits.circuit_at x).end in
+    act_cond k c (lives e) (steps_at b c.circuits x (finish n e)) (idle c.circuits) (λ i. steps_same b k c x (finish n e) r i (counts_finish n e)) (λ i. idle_same k c r)
+
+pub outlive_counts : (k : Side) (from source : ℕ) (xs : List ℕ) (c : Core) → Steady c.circuits → Same c (with_circuits c (outlive from source xs c.circuits)) []
+outlive_counts k from source [] c r = core_none c r
+outlive_counts k from source (x ∷ xs) c r =
+    let d : Core = with_circuits c (outlive_at from source x c.circuits) in
+    let one : Same c d [] = go (is_outlived (c.circuits.circuit_at x) from source) refl in
+    core_then c d (with_circuits d (outlive from source xs d.circuits)) [] [] (λ y. 0) one (outlive_counts k from source xs d one.steady)
+  where
+    e : End
+    e = (c.circuits.circuit_at x).end
+
+    go : (n : Bool) → is_outlived (c.circuits.circuit_at x) from source ≡ n → Same c (with_circuits c (cond n (steps_at false c.circuits x (lapse 5 e)).table c.circuits)) []
+    go true i = steps_same false k c x (lapse 5 e) r (and_parts (nat_eq (c.circuits.circuit_at x).address from && follows e.peer source) (lives e) i).1 (quiet e (lapse 5 e) refl refl)
+    go false i = core_none c r
 
 -- a new circuit has formed and taken nothing
 pub new_counts : (b : Bool) (k : Side) (c : Core) (address : ℕ) (s : Step) → Steady c.circuits → s.end.half.link ≡ fresh → NoRun s.sent → Same c (acts k c (put_at b c.circuits (suc c.circuits.drawn) (suc c.circuits.drawn) address s)).core (acts k c (put_at b c.circuits (suc c.circuits.drawn) (suc c.circuits.drawn) address s)).frames

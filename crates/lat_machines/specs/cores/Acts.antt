@@ -1,8 +1,9 @@
 -- What happens to the circuits of one core: each act is an event of the world of circuits, seen from one side.
 use Rattle.std.specs.Prelude.{ℕ, suc, Bool, true, cond, List, [], ◌∷◌}
+use Rattle.lat_model.specs.circuits.Events.{stray_stop}
 use Rattle.lat_model.specs.Lists.{updated}
 use Rattle.lat_model.specs.sessions.Calls.{Call}
-use Rattle.lat_model.specs.ends.End.{CallStart, Step, lives, call_end}
+use Rattle.lat_model.specs.ends.End.{CallStart, Step, lives, call_end, finish}
 use Rattle.lat_model.specs.ends.Timers.{note_empty, time_step}
 use Rattle.lat_model.specs.ends.Starting.{Setup}
 use Rattle.lat_model.specs.circuits.World.{Table, Wired, wire_all, first_end}
@@ -42,6 +43,14 @@ local_at b t x c =
 
 abbrev pub time_at : Bool → Table → ℕ → ℕ → Acted
 time_at b t x now = cond (lives (t.circuit_at x).end) (steps_at b t x (time_step now (t.circuit_at x).end)) (idle t)
+
+-- this end ends the circuit
+abbrev pub end_at : Bool → Table → ℕ → ℕ → Acted
+end_at b t x r = cond (lives (t.circuit_at x).end) (steps_at b t x (finish r (t.circuit_at x).end)) (idle t)
+
+-- a STOP that comes from no circuit
+abbrev pub stray_at : Bool → Table → ℕ → ℕ → ℕ → ℕ → Acted
+stray_at b t to destination source r = record { table = t; sent = stray_stop b to destination source r ∷ [] }
 
 abbrev pub move_at : Bool → Table → ℕ → ℕ → Acted
 move_at b t x now =

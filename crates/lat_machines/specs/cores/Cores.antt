@@ -1,5 +1,7 @@
 -- What the two cores share: their moment, their circuits, and the line sessions that they ever had.
-use Rattle.std.specs.Prelude.{ℕ, Bool, true, false, cond, ◌&&◌, List, [], ◌∷◌, ◌++◌, map, max, Option, Some, None, nat_eq}
+use Rattle.std.specs.Prelude.{ℕ, Bool, true, false, cond, ◌&&◌, List, [], ◌∷◌, ◌++◌, map, max, Option, Some, None, nat_eq, not}
+use Rattle.lat_machines.specs.cores.Hearing.{names}
+use Rattle.lat_model.specs.circuits.Events.{stray_stop}
 use Rattle.lat_model.specs.Lists.{upwards, least}
 use Rattle.lat_model.specs.ends.End.{Sent, Run, CallStart, ReplyStart, Stopped, lives}
 use Rattle.lat_model.specs.ends.Starting.{Setup}
@@ -7,10 +9,11 @@ use Rattle.lat_model.specs.circuits.World.{Table, Wired, no_circuit}
 use Rattle.lat_machines.specs.values.Names.{Name}
 use Rattle.lat_machines.specs.values.Timing.{Timing, call_info, reply_info}
 use Rattle.lat_machines.specs.values.Frames.{OfCircuit, OfRun, OutFrame, plain}
-use Rattle.lat_machines.specs.values.Messages.{StartMessage, StopMessage}
+use Rattle.lat_machines.specs.values.Messages.{StartMessage, StopMessage, Head}
 use Rattle.lat_machines.specs.values.Runs.{run_message}
 use Rattle.lat_machines.specs.values.Keys.{Key}
-use Rattle.lat_machines.specs.cores.Acts.{Acted, time_at}
+use Rattle.lat_machines.specs.cores.Acts.{Acted, time_at, end_at}
+use Rattle.lat_model.specs.Reasons as reasons
 
 -- A line session. Its session is found by circuit and serial number, and for a call by circuit and id
 pub record Seat : Type 0 where
@@ -101,6 +104,25 @@ time_each k (x ∷ xs) d = time_each k xs (then_doing d (λ c. acts k c (time_at
 
 abbrev pub passes_time : Side → Core → Doing
 passes_time k c = time_each k (upwards 0 c.circuits.drawn) (rests c)
+
+-- this end ends each living circuit, by rising id
+abbrev pub end_each : Side → ℕ → List ℕ → Doing → Doing
+end_each k r [] d = d
+end_each k r (x ∷ xs) d = end_each k r xs (then_doing d (λ c. acts k c (end_at k.server c.circuits x r)))
+
+abbrev pub ends_all : Side → ℕ → Core → Doing
+ends_all k r c = end_each k r (upwards 0 c.circuits.drawn) (rests c)
+
+-- a RUN names no living circuit by the address and both ids, neither of which is 0
+abbrev pub is_stranger : Table → ℕ → Head → Bool
+is_stranger t from h = not (names t from h.to h.from) && not (nat_eq h.to 0) && not (nat_eq h.from 0)
+
+-- a prompt end tells him so
+abbrev pub told_stranger : Side → Bool → Core → ℕ → Head → List OutFrame
+told_stranger k prompt c from h =
+    cond (prompt && is_stranger c.circuits from h)
+    (map (sent_frame k c) (stray_stop k.server from h.from h.to reasons.no_circuit ∷ []))
+    []
 
 -- the circuit to an address: there is at most one that lives; 0 where none does
 abbrev pub circuit_to : Core → ℕ → ℕ

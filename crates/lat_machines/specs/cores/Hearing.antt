@@ -1,10 +1,10 @@
 -- What a table of circuits does at a circuit message.
-use Rattle.std.specs.Prelude.{ℕ, suc, Bool, true, false, not, cond, ◌&&◌, ◌||◌, List, [], ◌∷◌, length, Option, Some, None, nat_eq, nat_lt}
+use Rattle.std.specs.Prelude.{ℕ, suc, Bool, true, false, not, cond, ◌&&◌, ◌||◌, List, [], ◌∷◌, length, Option, Some, None, nat_eq, nat_lt, ◌+◌, ◌-◌, ◌%◌, nat_le}
 use Rattle.lat_model.specs.sessions.Slots.{Slot}
 use Rattle.lat_model.specs.Lists.{is_empty}
 use Rattle.lat_model.specs.numbers.Link.{Frame}
 use Rattle.lat_model.specs.numbers.Near.{near}
-use Rattle.lat_model.specs.ends.End.{Stopped, End, lives}
+use Rattle.lat_model.specs.ends.End.{Stopped, End, lives, lapse}
 use Rattle.lat_model.specs.ends.Run.{RunAnswer, RunTaken, RunRepeated, RunAckOnly, RunBroke, run_end}
 use Rattle.lat_model.specs.ends.Starting.{Agreed, Setup, make_slave, again_start, hear_reply, hear_stop}
 use Rattle.lat_model.specs.circuits.World.{CircuitEntry, Table, first_end}
@@ -94,6 +94,23 @@ start_fact t from source =
     cond (nat_eq (slave_of t from source) 0)
     (cond (nat_lt (living t) 8 && nat_lt t.drawn 65535) (Makes (suc t.drawn)) Refuses)
     (Repeats (slave_of t from source))
+
+-- an id that was drawn behind another one, by up to 32,767, counted round 65,535
+abbrev pub follows : ℕ → ℕ → Bool
+follows old new = nat_lt 0 ((new + 65535 - old) % 65535) && nat_le ((new + 65535 - old) % 65535) 32767
+
+-- a living slave of this address whose master's id is followed by this one
+abbrev pub is_outlived : CircuitEntry → ℕ → ℕ → Bool
+is_outlived c from source = nat_eq c.address from && follows c.end.peer source && lives c.end
+
+abbrev pub outlive_at : ℕ → ℕ → ℕ → Table → Table
+outlive_at from source x t =
+    cond (is_outlived (t.circuit_at x) from source) (steps_at false t x (lapse reasons.no_circuit (t.circuit_at x).end)).table t
+
+-- these end, and send nothing
+abbrev pub outlive : ℕ → ℕ → List ℕ → Table → Table
+outlive from source [] t = t
+outlive from source (x ∷ xs) t = outlive from source xs (outlive_at from source x t)
 
 abbrev pub start_at : Setup → Table → ℕ → ℕ → ℕ → Agreed → StartFact → Acted
 start_at u t from source now g (Repeats k) = steps_at false t k (again_start now (t.circuit_at k).end)

@@ -31,6 +31,14 @@ seat_at c line = last_on line no_seat c.seats
 abbrev pub has_session : Core → ℕ → Bool
 has_session c line = not (over c (seat_at c line))
 
+-- it had a session, present or past
+abbrev pub had_session : Core → ℕ → Bool
+had_session c line = nat_eq (seat_at c line).line line
+
+-- the address of the peer of its present or last session
+abbrev pub peer_address : Core → ℕ → ℕ
+peer_address c line = (c.circuits.circuit_at (seat_at c line).circuit).address
+
 -- how many lines are held
 abbrev pub used : Core → ℕ
 used c = length (filter (λ s. not (over c s)) c.seats)

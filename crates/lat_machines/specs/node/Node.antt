@@ -14,11 +14,11 @@ use Rattle.lat_machines.specs.values.Messages.{Head, StartInfo, Message, RunMess
 use Rattle.lat_machines.specs.values.Notices.{Action, Ask, Cancel, Service, Notice, AnnouncementNotice, CommandNotice, StatusNotice, SolicitNotice, ResponseNotice}
 use Rattle.lat_machines.specs.values.Frames.{Value, OfCircuit, OfNotice, Reading, Whole, Malformed, OutFrame, plain}
 use Rattle.lat_machines.specs.values.Timing.{Timing, agreed_by}
-use Rattle.lat_machines.specs.values.Events.{Numbers, Event, Hears, Time, Connects, Puts, Sets, Takes, Attends, Closes, Requests, Withdraws, Announces}
+use Rattle.lat_machines.specs.values.Events.{Numbers, Event, Hears, Time, Connects, Puts, Sets, Takes, Attends, Closes, Requests, Withdraws, Announces, Avoids, Readies, Halts}
 use Rattle.lat_machines.specs.values.Answers.{Again, Foreign, Answer, Circuit, Started, StartRefused, Noted, Solicited, Ignored, Bad, Done, Closed, IdUsed, NotHere}
-use Rattle.lat_machines.specs.cores.Hearing.{HeardAct, names, hear_run, hear_stop_at, StartFact, Repeats, Makes, Refuses, start_fact, start_at}
-use Rattle.lat_machines.specs.cores.Acts.{local_at}
-use Rattle.lat_machines.specs.cores.Cores.{Core, Side, setup_of, open_core, Doing, acts, at_moment, passes_time}
+use Rattle.lat_machines.specs.cores.Hearing.{HeardAct, names, hear_run, hear_stop_at, StartFact, Repeats, Makes, Refuses, start_fact, start_at, outlive}
+use Rattle.lat_machines.specs.cores.Acts.{local_at, stray_at}
+use Rattle.lat_machines.specs.cores.Cores.{Core, Side, setup_of, open_core, Doing, acts, at_moment, passes_time, ends_all, told_stranger, with_circuits}
 use Rattle.lat_machines.specs.cores.Lines.{has_session, used, ended, saturated_count}
 use Rattle.lat_machines.specs.cores.LineCalls.{Said, put_on, set_on, attend_on, take_on, close_on, on_line}
 use Rattle.lat_model.specs.sessions.Calls as Calls
@@ -33,6 +33,7 @@ pub record NodeConfig : Type 0 where
   pub timer : ℕ
   pub groups : List ℕ
   pub timing : Timing
+  pub prompt : Bool  -- it tells a stranger at once that no such circuit lives here
 
 -- a request, as it was first made
 pub record Requested : Type 0 where
@@ -45,6 +46,7 @@ pub record Node : Type 0 where
   pub requests : List Requested
   pub accepted : List ℕ  -- the requests for which a start was accepted
   pub turned_away : ℕ  -- asked sessions that became free without a line
+  pub halted : Bool
 
 pub record NodeStep : Type 0 where
   pub state : Node
@@ -55,7 +57,7 @@ abbrev pub node_side : NodeConfig → Side
 node_side config = record { server = false; timing = config.timing; name = config.name }
 
 abbrev pub open_node : NodeConfig → Node
-open_node config = record { core = open_core (node_side config) config.own; requests = []; accepted = []; turned_away = 0 }
+open_node config = record { core = open_core (node_side config) config.own; requests = []; accepted = []; turned_away = 0; halted = false }
 
 abbrev pub tells : Node → Answer → NodeStep
 tells state a = record { state = state; answer = a; frames = [] }
@@ -196,8 +198,8 @@ then_answers config named x s = record {
 
 abbrev pub hears_run : NodeConfig → Node → ℕ → Bool → Head → List Slot → Option Numbers → NodeStep
 hears_run config state from wide h slots k =
-    then_answers config (names state.core.circuits from h.to h.from) h.to
-    (heard_at config state (hear_run false state.core.circuits from wide h slots k state.core.moment))
+    let s : NodeStep = then_answers config (names state.core.circuits from h.to h.from) h.to (heard_at config state (hear_run false state.core.circuits from wide h slots k state.core.moment)) in
+    record { state = s.state; answer = s.answer; frames = s.frames ++ told_stranger (node_side config) config.prompt state.core from h }
 
 abbrev pub names_for : StartFact → Name → Core → Core
 names_for (Makes k) name c = record c { names = updated c.names k name }
@@ -216,12 +218,25 @@ hears_start config state from source info fact =
     (acts (node_side config) c
     (start_at (setup_of config.timing) c.circuits from source c.moment (agreed_by config.timing info) fact))
 
+-- a prompt node first ends the slaves that a START follows
+abbrev pub makes_way : NodeConfig → Node → ℕ → ℕ → Node
+makes_way config state from source =
+    with_core state (with_circuits state.core (cond config.prompt (outlive from source (upwards 0 state.core.circuits.drawn) state.core.circuits) state.core.circuits))
+
+abbrev pub starts : NodeConfig → Node → ℕ → ℕ → StartInfo → NodeStep
+starts config state from source info = hears_start config state from source info (start_fact state.core.circuits from source)
+
+-- a halted node makes no circuit
+abbrev pub turns_away : NodeConfig → Node → ℕ → ℕ → NodeStep
+turns_away config state from source =
+    does state StartRefused (acts (node_side config) state.core (stray_at false state.core.circuits from source 0 reasons.halted))
+
 abbrev pub hears_message : NodeConfig → Node → ℕ → Message → Option Numbers → NodeStep
 hears_message config state from (RunMessage h slots) k = hears_run config state from false h slots k
 hears_message config state from (WideMessage h slots) k = hears_run config state from true h slots k
 hears_message config state from (StartMessage master ask to source info) k =
     cond master
-    (hears_start config state from source info (start_fact state.core.circuits from source))
+    (cond state.halted (turns_away config state from source) (starts config (makes_way config state from source) from source info))
     (tells state (Circuit Foreign))
 hears_message config state from (StopMessage master ask to source reason text) k =
     heard_at config state (hear_stop_at false state.core.circuits from to source state.core.moment reason)
@@ -231,7 +246,7 @@ solicited config rates state from id None = tells state Ignored
 solicited config rates state from id (Some service) = record {
   state = state;
   answer = Solicited;
-  frames = response config from id service (first_rate rates) ∷ announcement config (rest_rates rates) ∷ [];
+  frames = cond state.halted [] (response config from id service (first_rate rates) ∷ announcement config (rest_rates rates) ∷ []);
 }
 
 abbrev pub hears_notice : NodeConfig → List ℕ → Node → ℕ → Notice → NodeStep
@@ -278,6 +293,21 @@ withdraws config state (Some r) = record {
   frames = command_frame config r.to r.id Cancel r.service ∷ [];
 }
 
+-- Halt: no circuit lives behind it, none is made any more, and an announcement says that no service is offered
+
+abbrev pub farewell : NodeConfig → Bool → List OutFrame
+farewell config true = []
+farewell config false = announcement (record config { services = [] }) [] ∷ []
+
+abbrev pub halts : NodeConfig → Node → NodeStep
+halts config state =
+    let d : Doing = ends_all (node_side config) reasons.halted state.core in
+    record {
+      state = record state { core = d.core; halted = true };
+      answer = Done;
+      frames = d.frames ++ farewell config state.halted;
+    }
+
 -- one event of the node
 
 abbrev pub node_step : NodeConfig → List ℕ → Node → Event → NodeStep
@@ -300,8 +330,11 @@ node_step config rates state (Withdraws id) = withdraws config state (request_of
 node_step config rates state Announces = record {
   state = state;
   answer = Done;
-  frames = announcement config rates ∷ [];
+  frames = cond state.halted [] (announcement config rates ∷ []);
 }
+node_step config rates state (Avoids line) = tells state NotHere
+node_step config rates state (Readies line ready) = tells state NotHere
+node_step config rates state Halts = halts config state
 
 -- two steps with different ratings: state and answer are the same
 pub record SameButFrames (a : NodeStep) (b : NodeStep) : Type 0 where
@@ -320,7 +353,7 @@ rates_of config Solicited e = suc (length config.services)
 rates_of config a e = 0
 
 pub record Allowed (allows : ℕ → ℕ → ℕ → Type 0) (config : NodeConfig) (state : Node) (e : Event) (rates : List ℕ) : Type 0 where
-  pub count : length rates ≡ rates_of config (node_step config rates state e).answer e
+  pub count : length rates ≡ cond state.halted 0 (rates_of config (node_step config rates state e).answer e)
   pub each : Each (allows (used state.core) config.lines) rates
 
 -- the frames that may go out at an event

@@ -57,6 +57,11 @@ refuses groups now a h = meets groups a && is_full_for groups now a.node h
 abbrev pub hear : List ℕ → ℕ → ℕ → Announcement → List HeardAnnouncement → List HeardAnnouncement
 hear groups now from a h = cond (refuses groups now a h) h (h ++ record { from = from; announcement = a; at = now } ∷ [])
 
+-- all that is known now from this address is dropped, under whatever name, until it is heard again. What an earlier address
+-- of such a node said doesn't come back
+abbrev pub avoid : ℕ → List HeardAnnouncement → List HeardAnnouncement
+avoid address h = filter (λ e. not (nat_eq e.from address)) (latest h)
+
 -- the chosen node, under the name that it announced
 pub record Best : Type 0 where
   pub from : ℕ

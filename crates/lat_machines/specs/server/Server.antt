@@ -1,26 +1,28 @@
 -- The server: its state, and what each event makes of it.
-use Rattle.std.specs.Prelude.{ℕ, suc, ◌+◌, ◌%◌, Bool, true, false, cond, ◌&&◌, List, [], ◌∷◌, ◌++◌, map, Option, Some, None, nat_eq, nat_lt}
+use Rattle.std.specs.Prelude.{ℕ, suc, ◌+◌, ◌%◌, Bool, true, false, cond, ◌&&◌, List, [], ◌∷◌, ◌++◌, map, Option, Some, None, nat_eq, nat_lt, not}
+use Rattle.lat_model.specs.sessions.Slots.{Slot}
 use Rattle.lat_model.specs.sessions.Sessions.{Sessions, held, least_free}
 use Rattle.lat_model.specs.Lists.{updated, upwards}
 use Rattle.lat_model.specs.sessions.Calls.{Connect}
 use Rattle.lat_model.specs.circuits.Arriving.{living}
 use Rattle.lat_machines.specs.values.Names.{Name}
 use Rattle.lat_machines.specs.values.Addresses.{everyone}
-use Rattle.lat_machines.specs.values.Messages.{Message, RunMessage, WideMessage, StartMessage, StopMessage}
+use Rattle.lat_machines.specs.values.Messages.{Message, RunMessage, WideMessage, StartMessage, StopMessage, Head}
 use Rattle.lat_machines.specs.values.Notices.{Kept, Granted, Outcome, KeptAs, Unknown, Action, Ask, Cancel, Announcement, Command, Notice, AnnouncementNotice, CommandNotice, StatusNotice, SolicitNotice, ResponseNotice}
 use Rattle.lat_machines.specs.values.Frames.{Value, OfCircuit, OfNotice, Reading, Whole, Malformed, OutFrame, plain}
 use Rattle.lat_machines.specs.values.Timing.{Timing, agreed_by}
-use Rattle.lat_machines.specs.server.Directory.{HeardAnnouncement, Best, best, meets, refuses, hear}
+use Rattle.lat_machines.specs.server.Directory.{HeardAnnouncement, Best, best, meets, refuses, hear, avoid}
 use Rattle.lat_machines.specs.values.Keys.{Key}
 use Rattle.lat_machines.specs.server.Queue.{QueueEvent, Asks, Cancels, Grants, Finishes, Request, next_request}
 use Rattle.lat_machines.specs.server.Records.{ask_answer, kept_for, is_granted}
-use Rattle.lat_machines.specs.values.Events.{Numbers, Event, Hears, Time, Connects, Puts, Sets, Takes, Attends, Closes, Requests, Withdraws, Announces}
-use Rattle.lat_machines.specs.values.Answers.{Foreign, Answer, Circuit, Announced, Apart, DirectoryFull, KeptIs, NotKept, Noted, Ignored, Bad, Done, Connected, NoLine, Busy, NoService, SessionsFull, CircuitsFull, IdsOut, NotHere}
+use Rattle.lat_machines.specs.values.Events.{Numbers, Event, Hears, Time, Connects, Puts, Sets, Takes, Attends, Closes, Requests, Withdraws, Announces, Avoids, Readies, Halts}
+use Rattle.lat_machines.specs.values.Answers.{Foreign, Answer, Circuit, Announced, Apart, DirectoryFull, KeptIs, NotKept, Noted, Ignored, Bad, Done, Connected, NoLine, Busy, NoService, SessionsFull, CircuitsFull, IdsOut, Closed, NotHere, Halted}
 use Rattle.lat_machines.specs.cores.Hearing.{HeardAct, hear_run, hear_stop_at, hear_reply_at}
 use Rattle.lat_machines.specs.cores.Acts.{call_at, local_at}
-use Rattle.lat_machines.specs.cores.Cores.{Seat, Core, Side, setup_of, open_core, Doing, rests, then_doing, acts, at_moment, passes_time, circuit_to}
-use Rattle.lat_machines.specs.cores.Lines.{over, has_session, line_exists, ended, saturated_count}
+use Rattle.lat_machines.specs.cores.Cores.{Seat, Core, Side, setup_of, open_core, Doing, rests, then_doing, acts, at_moment, passes_time, circuit_to, ends_all, told_stranger}
+use Rattle.lat_machines.specs.cores.Lines.{over, has_session, had_session, peer_address, line_exists, ended, saturated_count}
 use Rattle.lat_machines.specs.cores.LineCalls.{Said, put_on, set_on, attend_on, take_on, close_on, on_line}
+use Rattle.lat_model.specs.Reasons as reasons
 
 pub record Offer : Type 0 where
   pub line : ℕ
@@ -33,12 +35,15 @@ pub record ServerConfig : Type 0 where
   pub offers : List Offer
   pub groups : List ℕ
   pub timing : Timing
+  pub prompt : Bool  -- it tells a stranger at once that no such circuit lives here
 
 pub record Server : Type 0 where
   pub core : Core
   pub heard : List HeardAnnouncement  -- the announcements heard and not refused
   pub queue : List QueueEvent  -- all that the queue was told and did
   pub solicits : ℕ  -- the last solicit id drawn
+  pub ready : ℕ → Bool  -- the lines that may grant
+  pub halted : Bool
 
 pub record ServerStep : Type 0 where
   pub state : Server
@@ -49,7 +54,7 @@ abbrev pub server_side : ServerConfig → Side
 server_side config = record { server = true; timing = config.timing; name = config.name }
 
 abbrev pub open_server : ServerConfig → Server
-open_server config = record { core = open_core (server_side config) config.own; heard = []; queue = []; solicits = 0 }
+open_server config = record { core = open_core (server_side config) config.own; heard = []; queue = []; solicits = 0; ready = λ line. true; halted = false }
 
 abbrev pub offered : ServerConfig → List Name
 offered config = map (λ (o : Offer). o.service) config.offers
@@ -140,11 +145,14 @@ connect_event config state line service =
 abbrev pub heard_at : ServerConfig → Server → HeardAct → ServerStep
 heard_at config state h = does state (Circuit h.answer) (acts (server_side config) state.core h.act)
 
+abbrev pub hears_run : ServerConfig → Server → ℕ → Bool → Head → List Slot → Option Numbers → ServerStep
+hears_run config state from wide h slots k =
+    let s : ServerStep = heard_at config state (hear_run true state.core.circuits from wide h slots k state.core.moment) in
+    record { state = s.state; answer = s.answer; frames = s.frames ++ told_stranger (server_side config) config.prompt state.core from h }
+
 abbrev pub hears_message : ServerConfig → Server → ℕ → Message → Option Numbers → ServerStep
-hears_message config state from (RunMessage h slots) k =
-    heard_at config state (hear_run true state.core.circuits from false h slots k state.core.moment)
-hears_message config state from (WideMessage h slots) k =
-    heard_at config state (hear_run true state.core.circuits from true h slots k state.core.moment)
+hears_message config state from (RunMessage h slots) k = hears_run config state from false h slots k
+hears_message config state from (WideMessage h slots) k = hears_run config state from true h slots k
 hears_message config state from (StartMessage master ask to source info) k =
     cond master
     (tells state (Circuit Foreign))
@@ -201,13 +209,35 @@ hears config state from (Whole v) k =
     (tells state Ignored)
     (hears_value config state from v k)
 
+-- Avoid
+
+-- the peer of a line's newest session leaves the directory
+abbrev pub avoids_on : ServerConfig → Server → ℕ → ServerStep
+avoids_on config state line =
+    let there : Bool = line_exists config.lines line in
+    let had : Bool = had_session state.core line in
+    tells (record state { heard = cond there (cond had (avoid (peer_address state.core line) state.heard) state.heard) state.heard })
+    (cond there (cond had Done Closed) NoLine)
+
+-- Ready
+
+abbrev pub readies_on : ServerConfig → Server → ℕ → Bool → ServerStep
+readies_on config state line ready =
+    let there : Bool = line_exists config.lines line in
+    tells (record state { ready = cond there (updated state.ready line ready) state.ready }) (cond there Done NoLine)
+
+-- Halt: no circuit lives behind it, and none is called any more
+
+abbrev pub halts : ServerConfig → Server → ServerStep
+halts config state = does (record state { halted = true }) Done (ends_all (server_side config) reasons.halted state.core)
+
 -- an event, but for what follows every event
 
 abbrev pub server_event : ServerConfig → Server → Event → ServerStep
 server_event config state (Hears from payload k now) =
     hears config (with_core state (at_moment now state.core)) from payload k
 server_event config state (Time now) = does state Done (passes_time (server_side config) (at_moment now state.core))
-server_event config state (Connects line service) = connect_event config state line service
+server_event config state (Connects line service) = cond state.halted (tells state Halted) (connect_event config state line service)
 server_event config state (Puts line bytes) =
     said state (on_line config.lines state.core line (λ s. put_on (server_side config) state.core s bytes))
 server_event config state (Sets line setting) =
@@ -221,6 +251,9 @@ server_event config state (Closes line) =
 server_event config state (Requests to id service) = tells state NotHere
 server_event config state (Withdraws id) = tells state NotHere
 server_event config state Announces = tells state NotHere
+server_event config state (Avoids line) = avoids_on config state line
+server_event config state (Readies line ready) = readies_on config state line ready
+server_event config state Halts = halts config state
 
 -- granted requests whose sessions have become free are finished
 abbrev pub finish_one : Core → Option Key → Bool → List QueueEvent → List QueueEvent
@@ -256,12 +289,16 @@ abbrev pub fitting : Core → Option Request → Option Request
 fitting c None = None
 fitting c (Some r) = cond (can_open c r.from) (Some r) None
 
+abbrev pub grantable_on : Core → List QueueEvent → ℕ → Name → Option Request
+grantable_on c queue line service = cond (has_session c line) None (fitting c (next_request service queue))
+
+-- a line that isn't ready grants nothing, and nor does a halted server
+abbrev pub may_grant : Server → ℕ → Bool
+may_grant state line = not state.halted && state.ready line
+
 abbrev pub grantable : Server → ℕ → Option Name → Option Request
 grantable state line None = None
-grantable state line (Some service) =
-    cond (has_session state.core line)
-    None
-    (fitting state.core (next_request service state.queue))
+grantable state line (Some service) = cond (may_grant state line) (grantable_on state.core state.queue line service) None
 
 abbrev pub grants_by : ServerConfig → ℕ → Option Name → Option Request → Passing → Passing
 grants_by config line (Some service) (Some r) p = granting config line service p r

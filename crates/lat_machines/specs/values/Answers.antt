@@ -39,3 +39,4 @@ pub data Answer : Type 0 where
   Full : Answer
   IdUsed : Answer
   NotHere : Answer
+  Halted : Answer

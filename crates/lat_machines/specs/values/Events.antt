@@ -22,6 +22,9 @@ pub data Event : Type 0 where
   Requests : (to id : ℕ) (service : Name) → Event
   Withdraws : (id : ℕ) → Event
   Announces : Event
+  Avoids : (line : ℕ) → Event
+  Readies : (line : ℕ) (ready : Bool) → Event
+  Halts : Event
 
 abbrev pub is_heard : Event → Bool
 is_heard (Hears from payload numbers now) = true

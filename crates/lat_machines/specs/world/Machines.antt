@@ -4,7 +4,7 @@ use Rattle.lat_machines.specs.values.Addresses.{everyone}
 use Rattle.lat_machines.specs.values.Notices.{RecordsFull}
 use Rattle.lat_machines.specs.values.Frames.{Reading, Whole, OutFrame}
 use Rattle.lat_machines.specs.values.Events.{Event, Hears, is_heard}
-use Rattle.lat_machines.specs.values.Answers.{Broke, Answer, Circuit, StartRefused, DirectoryFull, KeptIs, Bad, NoLine, Busy, NoService, SessionsFull, CircuitsFull, IdsOut, Closed, Full, IdUsed}
+use Rattle.lat_machines.specs.values.Answers.{Broke, Answer, Circuit, StartRefused, DirectoryFull, KeptIs, Bad, NoLine, Busy, NoService, SessionsFull, CircuitsFull, IdsOut, Closed, Full, IdUsed, Halted}
 use Rattle.lat_machines.specs.cores.Cores.{Core}
 use Rattle.lat_machines.specs.server.Server.{ServerConfig, Server, ServerStep, open_server, server_step}
 use Rattle.lat_machines.specs.node.Node.{NodeConfig, Node, NodeStep, open_node, node_step}
@@ -63,6 +63,7 @@ is_noted IdsOut = true
 is_noted Closed = true
 is_noted Full = true
 is_noted IdUsed = true
+is_noted Halted = true
 is_noted _ = false
 
 abbrev pub noted_too : ℕ → Answer → List NotedEvent → List NotedEvent

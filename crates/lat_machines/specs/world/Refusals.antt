@@ -2,7 +2,7 @@
 use Rattle.std.specs.Prelude.{◌≡◌, ℕ, ◌<◌, Bool, true, false, List, Option}
 use Rattle.lat_machines.specs.values.Frames.{Reading, Malformed}
 use Rattle.lat_machines.specs.values.Events.{Numbers, Event, Hears}
-use Rattle.lat_machines.specs.values.Answers.{Answer, DirectoryFull, Noted, Ignored, Bad, NoLine, Busy, SessionsFull, CircuitsFull, IdsOut, Closed, Full, IdUsed, NotHere}
+use Rattle.lat_machines.specs.values.Answers.{Answer, DirectoryFull, Noted, Ignored, Bad, NoLine, Busy, SessionsFull, CircuitsFull, IdsOut, Closed, Full, IdUsed, NotHere, Halted}
 use Rattle.lat_machines.specs.cores.Cores.{Core, at_moment}
 use Rattle.lat_machines.specs.server.Server.{ServerConfig, Server, open_server, server_step}
 use Rattle.lat_machines.specs.server.Server as Server
@@ -27,6 +27,7 @@ changes_nothing Closed = true
 changes_nothing Full = true
 changes_nothing IdUsed = true
 changes_nothing NotHere = true
+changes_nothing Halted = true
 changes_nothing _ = false
 
 -- a core's moment may move on

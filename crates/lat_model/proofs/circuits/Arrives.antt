@@ -1,21 +1,21 @@
 -- Each event of a server and a node keeps what is known of their circuits.
-use Rattle.std.proofs.Common.{◌≡◌, ℕ, suc, ◌≤◌, ⊎_elim, sym, ap, ap₂, ◌∙◌, refl, subst, arith, Bool, true, false, not, cond, ◌&&◌, ◌||◌, List, [], ◌∷◌, min, Option, Some, None, nat_eq, nat_lt, slice_get, eqb-true}
+use Rattle.std.proofs.Common.{◌++◌, ◌≡◌, ℕ, suc, ◌≤◌, ⊎_elim, sym, ap, ap₂, ◌∙◌, refl, subst, arith, Bool, true, false, not, cond, ◌&&◌, ◌||◌, List, [], ◌∷◌, min, Option, Some, None, nat_eq, nat_lt, slice_get, eqb-true}
 use Rattle.std.proofs.lemmas.Bool.{false≢true, and_parts, eqb-false}
 use Rattle.lat_model.specs.sessions.Slots.{Slot}
 use Rattle.lat_model.specs.Lists.{upwards, least}
 use Rattle.lat_model.specs.numbers.Link.{Frame}
 use Rattle.lat_model.specs.numbers.NetOk.{FrameOf}
-use Rattle.lat_model.specs.ends.End.{Mark, Sent, Run, CallStart, ReplyStart, Stopped, End, Step, lives, call_end}
+use Rattle.lat_model.specs.ends.End.{Mark, Sent, Run, CallStart, ReplyStart, Stopped, End, Step, lives, call_end, finish, lapse}
 use Rattle.lat_model.specs.ends.Timers.{time_step}
 use Rattle.lat_model.specs.ends.Run.{run_end}
 use Rattle.lat_model.specs.ends.Starting.{Agreed, reply_end, Setup, make_slave, again_start, hear_reply, hear_stop}
 use Rattle.lat_model.specs.circuits.World.{CircuitEntry, Wired, World, table, with_table, put_circuit, at_end, first_end}
 use Rattle.lat_model.specs.circuits.Arriving.{is_of, run_in, stop_in, reply_in, living, slave_of, make_in, start_in, arrive}
-use Rattle.lat_model.specs.circuits.Events.{WorldEvent, Calls, Locally, Times, Moves, Delivers, Injects, deliver_in, occurs, go_on, open_world}
+use Rattle.lat_model.specs.circuits.Events.{WorldEvent, Calls, Locally, Times, Moves, Delivers, Injects, deliver_in, occurs, go_on, open_world, Ends, Lapses, Stops, stray_stop}
 use Rattle.lat_model.specs.circuits.WorldOk.{void_half, mate, Replied, ByServer, ByNode, FromSender, WorldOk}
 use Rattle.lat_model.proofs.numbers.Net.{each_imp, each_append, each_at}
-use Rattle.lat_model.proofs.circuits.Pairs.{StepOk, run_ok, time_ok, again_start_ok, heard_stop_ok, heard_reply_ok}
-use Rattle.lat_model.proofs.circuits.Kin.{kin_time, kin_run, kin_again, kin_stop, idle_calm, calm_time, calm_again, calm_stop, idle_call}
+use Rattle.lat_model.proofs.circuits.Pairs.{StepOk, run_ok, time_ok, again_start_ok, heard_stop_ok, heard_reply_ok, finish_ok, still_ok}
+use Rattle.lat_model.proofs.circuits.Kin.{kin_time, kin_run, kin_again, kin_stop, idle_calm, calm_time, calm_again, calm_stop, idle_call, kin_finish}
 use Rattle.lat_model.proofs.circuits.Worlds.{void_together, server_put, node_put, NodeKept, Beside}
 use Rattle.lat_model.proofs.circuits.Begins.{server_alive, node_alive, kin_window, quiet_server, quiet_node, moved_ok, call_step_ok, kin_call, world_cond, calls_ok, make_put, reply_put}
 
@@ -131,11 +131,30 @@ least_passes p (x ∷ xs) n = go (p x) refl (least_passes p xs) n
     go true e ih n = e
     go false e ih n = ih n
 
-refuse_ok : (w : World) → WorldOk w → (from d : ℕ) → WorldOk (with_table w false w.node (record { by_server = false; circuit = 0; to = from; destination = d; source = 0; sent = Stopped 7 } ∷ []))
-refuse_ok w ok from d = record { apart = ok.apart; ceiling = ok.ceiling; other_ceiling = ok.other_ceiling; matched = ok.matched; replied = λ p h r. (let o : Replied w p = ok.replied p h r in record { some = o.some; drawn = o.drawn; address = o.address; peer = o.peer }); calling = ok.calling; idle = λ q h nj. ok.idle q h (λ j. nj (record { address = j.address; running = j.running; peer = j.peer })); says = each_append (λ f. FromSender v f.by_server f.circuit f.to f.destination f.source f.sent) w.frames (record { by_server = false; circuit = 0; to = from; destination = d; source = 0; sent = Stopped 7 } ∷ []) (each_imp (λ f. FromSender w f.by_server f.circuit f.to f.destination f.source f.sent) (λ f. FromSender v f.by_server f.circuit f.to f.destination f.source f.sent) (λ f. says f.by_server f.circuit f.to f.destination f.source f.sent) w.frames ok.says) (tt, tt); none_server = ok.none_server; none_node = ok.none_node; windows = ok.windows }
+-- a STOP that comes from no circuit
+stray_ok : (w : World) → WorldOk w → (b : Bool) (to d s r : ℕ) → WorldOk (record w { frames = w.frames ++ stray_stop b to d s r ∷ [] })
+stray_ok w ok b to d s r = record {
+  apart = ok.apart;
+  ceiling = ok.ceiling;
+  other_ceiling = ok.other_ceiling;
+  matched = ok.matched;
+  replied = λ p h r. (let o : Replied w p = ok.replied p h r in record { some = o.some; drawn = o.drawn; address = o.address; peer = o.peer });
+  calling = ok.calling;
+  idle = λ q h nj. ok.idle q h (λ j. nj (record { address = j.address; running = j.running; peer = j.peer }));
+  says = each_append (λ f. FromSender v f.by_server f.circuit f.to f.destination f.source f.sent) w.frames (stray_stop b to d s r ∷ [])
+      (each_imp (λ f. FromSender w f.by_server f.circuit f.to f.destination f.source f.sent) (λ f. FromSender v f.by_server f.circuit f.to f.destination f.source f.sent) (λ f. says f.by_server f.circuit f.to f.destination f.source f.sent) w.frames ok.says)
+      (stopped b, tt);
+  none_server = ok.none_server;
+  none_node = ok.none_node;
+  windows = ok.windows;
+}
   where
     v : World
-    v = with_table w false w.node (record { by_server = false; circuit = 0; to = from; destination = d; source = 0; sent = Stopped 7 } ∷ [])
+    v = record w { frames = w.frames ++ stray_stop b to d s r ∷ [] }
+
+    stopped : (b : Bool) → FromSender v b 0 to d s (Stopped r)
+    stopped true = tt
+    stopped false = tt
 
     by_node : (y d s : ℕ) → ByNode w y d s → ByNode v y d s
     by_node y d s o = record { source = o.source; some = o.some; drawn = o.drawn; address = o.address; destination = o.destination }
@@ -161,7 +180,7 @@ start_in_ok w ok from s now g = go (nat_eq k 0) refl
 
     make : (b : Bool) → WorldOk (cond b (put_circuit w false (suc w.node.drawn) (suc w.node.drawn) from (make_slave now s g (first_end false false w.other))) (with_table w false w.node (record { by_server = false; circuit = 0; to = from; destination = s; source = 0; sent = Stopped 7 } ∷ [])))
     make true = make_put w ok from s now g
-    make false = refuse_ok w ok from s
+    make false = stray_ok w ok false from s 0 7
 
     go : (b : Bool) → nat_eq k 0 ≡ b → WorldOk (cond b (make_in w from s now g) (at_end w false k (again_start now (w.node.circuit_at k).end)))
     go true q = make (nat_lt (living w.node) 8 && nat_lt w.node.drawn 65535)
@@ -236,6 +255,20 @@ occurs_ok w ok (Moves true x now) =
 occurs_ok w ok (Moves false x now) =
     let e : End = (w.node.circuit_at x).end in
     world_cond (lives e) (at_end w false x (record { end = record e { moment = now }; sent = [] })) w (λ l. quiet_node w x (record { end = record e { moment = now }; sent = [] }) ok l (record { peer = refl; running = refl; master = refl; window = refl; wide = refl; sessions = refl }) (moved_ok false now e) (λ i. record { link = i.link; agreed = i.agreed; ceiling = i.ceiling; agreed_low = i.agreed_low; ceiling_low = i.ceiling_low; sessions = i.sessions; heard_run = i.heard_run; master = i.master })) ok
+occurs_ok w ok (Ends true x r) =
+    let e : End = (w.server.circuit_at x).end in
+    world_cond (lives e) (at_end w true x (finish r e)) w (λ l. quiet_server w x (finish r e) ok l (kin_finish r e) (finish_ok true r e)) ok
+occurs_ok w ok (Ends false x r) =
+    let e : End = (w.node.circuit_at x).end in
+    world_cond (lives e) (at_end w false x (finish r e)) w (λ l. quiet_node w x (finish r e) ok l (kin_finish r e) (finish_ok false r e) (λ i. idle_calm e (finish r e).end (record { half = refl; heard_run = refl; master = refl }) i)) ok
+occurs_ok w ok (Lapses true x r) =
+    let e : End = (w.server.circuit_at x).end in
+    world_cond (lives e) (at_end w true x (lapse r e)) w (λ l. quiet_server w x (lapse r e) ok l (record { peer = refl; running = refl; master = refl; window = refl; wide = refl; sessions = refl }) (still_ok true (lapse r e).end)) ok
+occurs_ok w ok (Lapses false x r) =
+    let e : End = (w.node.circuit_at x).end in
+    world_cond (lives e) (at_end w false x (lapse r e)) w (λ l. quiet_node w x (lapse r e) ok l (record { peer = refl; running = refl; master = refl; window = refl; wide = refl; sessions = refl }) (still_ok false (lapse r e).end) (λ i. idle_calm e (lapse r e).end (record { half = refl; heard_run = refl; master = refl }) i)) ok
+occurs_ok w ok (Stops true to d s r) = stray_ok w ok true to d s r
+occurs_ok w ok (Stops false to d s r) = stray_ok w ok false to d s r
 occurs_ok w ok (Delivers i now g) = deliver_ok w ok now g (slice_get w.frames i) (λ p e. each_at (λ f. FromSender w f.by_server f.circuit f.to f.destination f.source f.sent) w.frames i p ok.says e)
 occurs_ok w ok (Injects b from bit d s now g m) = go (nat_eq from w.server.own) (nat_eq from w.node.own) refl refl
   where

@@ -101,7 +101,7 @@ kin_cond : (e : End) (c : Bool) (s t : Step) → Kin e s.end → Kin e t.end →
 kin_cond e true s t p q = p
 kin_cond e false s t p q = q
 
-kin_finish : (r : ℕ) (e : End) → Kin e (finish r e).end
+pub kin_finish : (r : ℕ) (e : End) → Kin e (finish r e).end
 kin_finish r e = record { peer = refl; running = refl; master = refl; window = refl; wide = refl; sessions = refl }
 
 kin_bare : (a : Bool) (e : End) → Kin e (send_bare a e).end

@@ -1,18 +1,18 @@
 -- Both ends of a circuit have one span.
 use Rattle.std.proofs.Common.{◌≡◌, ◌≢◌, ℕ, suc, ◌≤◌, sym, ap, ◌∙◌, refl, subst, arith, Bool, true, false, not, cond, ◌&&◌, ◌||◌, List, [], ◌∷◌, Option, Some, None, slice_get, nat_eq, nat_lt, eqb-true}
 use Rattle.std.proofs.lemmas.Bool.{and_parts, or_parts, false≢true, eqb-false}
-use Rattle.lat_model.specs.ends.End.{Sent, Run, CallStart, ReplyStart, Stopped, End, Step, lives, still, call_end}
+use Rattle.lat_model.specs.ends.End.{Sent, Run, CallStart, ReplyStart, Stopped, End, Step, lives, still, call_end, finish, lapse}
 use Rattle.lat_model.specs.ends.Run.{run_end}
 use Rattle.lat_model.specs.ends.Timers.{time_step}
 use Rattle.lat_model.specs.ends.Starting.{Agreed, make_master, make_slave, again_start, noted, reply_end, hear_reply, hear_stop}
 use Rattle.lat_model.specs.circuits.World.{CircuitEntry, Wired, World, table, with_table, put_circuit, at_end, first_end}
 use Rattle.lat_model.specs.circuits.Arriving.{is_of, reply_in, living, slave_of, refusal, make_in, start_in, arrive}
-use Rattle.lat_model.specs.circuits.Events.{WorldEvent, Calls, Locally, Times, Moves, Delivers, Injects, WorldRun, deliver_in, occurs, go_on, open_world}
+use Rattle.lat_model.specs.circuits.Events.{WorldEvent, Calls, Locally, Times, Moves, Delivers, Injects, WorldRun, deliver_in, occurs, go_on, open_world, Ends, Lapses, Stops}
 use Rattle.lat_model.specs.circuits.WorldOk.{Joint, Replied, ByNode, FromSender, WorldOk}
 use Rattle.lat_model.specs.circuits.Spans.{ReadsSpan, TellsSpan, TellSpans, OneSpan}
 use Rattle.lat_model.proofs.sessions.Words.{upd_all}
 use Rattle.lat_model.proofs.numbers.Net.{each_at}
-use Rattle.lat_model.proofs.circuits.Kin.{Kin, kin_run, kin_time, kin_again, kin_stop}
+use Rattle.lat_model.proofs.circuits.Kin.{Kin, kin_run, kin_time, kin_again, kin_stop, kin_finish}
 use Rattle.lat_model.proofs.circuits.Begins.{kin_call}
 use Rattle.lat_model.proofs.circuits.Arrives.{occurs_ok, open_world_ok}
 
@@ -131,6 +131,14 @@ occurs_span a b w ok h (Times c x now) t =
 occurs_span a b w ok h (Moves c x now) t =
     let e : End = ((table w c).circuit_at x).end in
     span_cond a b (lives e) (at_end w c x (record { end = record e { moment = now }; sent = [] })) w (λ l. kin_at a b w c x (record { end = record e { moment = now }; sent = [] }) h (record { peer = refl; running = refl; master = refl; window = refl; wide = refl; sessions = refl })) (λ l. h)
+occurs_span a b w ok h (Ends c x r) t =
+    let e : End = ((table w c).circuit_at x).end in
+    span_cond a b (lives e) (at_end w c x (finish r e)) w (λ l. kin_at a b w c x (finish r e) h (kin_finish r e)) (λ l. h)
+occurs_span a b w ok h (Lapses c x r) t =
+    let e : End = ((table w c).circuit_at x).end in
+    span_cond a b (lives e) (at_end w c x (lapse r e)) w (λ l. kin_at a b w c x (lapse r e) h (record { peer = refl; running = refl; master = refl; window = refl; wide = refl; sessions = refl })) (λ l. h)
+occurs_span a b w ok h (Stops true to d s r) t = record { slaves = h.slaves; masters = h.masters }
+occurs_span a b w ok h (Stops false to d s r) t = record { slaves = h.slaves; masters = h.masters }
 occurs_span a b w ok h (Delivers i now g) t = deliver_span a b w ok h now g (slice_get w.frames i) (λ p e. each_at (λ f. FromSender w f.by_server f.circuit f.to f.destination f.source f.sent) w.frames i p ok.says e) t
 occurs_span a b w ok h (Injects c from bit d s now g m) t =
     span_cond a b (nat_eq from w.server.own || nat_eq from w.node.own) w (arrive w c from bit d s now g m) (λ e. h) (λ e. arrive_span a b w c from bit d s now g m h (foreign_reads a b w c from g m e))

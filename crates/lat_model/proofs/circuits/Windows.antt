@@ -7,14 +7,14 @@ use Rattle.lat_model.specs.sessions.Packing.{pack}
 use Rattle.lat_model.specs.sessions.Hearing.{hear_all}
 use Rattle.lat_model.specs.Lists.{is_empty}
 use Rattle.lat_model.specs.numbers.Link.{Frame, fresh, window_open, is_next}
-use Rattle.lat_model.specs.ends.End.{Sent, Run, CallStart, ReplyStart, Stopped, End, Step, still, then_do, lives, finish, send_bare, all_known, wire_of, send_message, acknowledge, form_packed, occasion, send_again, send_start, call_end}
+use Rattle.lat_model.specs.ends.End.{Sent, Run, CallStart, ReplyStart, Stopped, End, Step, still, then_do, lives, finish, send_bare, all_known, wire_of, send_message, acknowledge, form_packed, occasion, send_again, send_start, call_end, lapse}
 use Rattle.lat_model.specs.ends.Run.{RunBroke, RunRepeated, RunStep, ack_end, taken_end, broken_end, take_end, body_end, after_run, run_end}
 use Rattle.lat_model.specs.ends.Timers.{passed, silent, unused, a_round, rounds_step, may_form, alive_step, due_step, living, note_empty, time_step}
 use Rattle.lat_model.specs.ends.Starting.{Agreed, make_master, make_slave, again_start, noted, replied, reply_end, hear_reply, hear_stop}
 use Rattle.lat_model.specs.circuits.World.{CircuitEntry, Wired, World, table, with_table, put_circuit, at_end, first_end}
 use Rattle.lat_model.specs.circuits.Arriving as arriving
 use Rattle.lat_model.specs.circuits.Arriving.{is_of, reply_in, slave_of, refusal, make_in, start_in, arrive}
-use Rattle.lat_model.specs.circuits.Events.{WorldEvent, Calls, Locally, Times, Moves, Delivers, Injects, WorldRun, deliver_in, occurs, go_on, open_world}
+use Rattle.lat_model.specs.circuits.Events.{WorldEvent, Calls, Locally, Times, Moves, Delivers, Injects, WorldRun, deliver_in, occurs, go_on, open_world, Ends, Lapses, Stops}
 use Rattle.lat_model.specs.circuits.WorldOk.{WorldOk}
 use Rattle.lat_model.proofs.sessions.Words.{upd_all}
 use Rattle.lat_model.proofs.circuits.Kin.{and_false, right_false, kin_run, kin_time}
@@ -265,6 +265,16 @@ occurs_open w h (Moves b x now) =
     let e : End = ((table w b).circuit_at x).end in
     let o : Opens e = open_at w h b x in
     all_cond (lives e) (at_end w b x (record { end = record e { moment = now }; sent = [] })) w (λ q. step_open w b x (record { end = record e { moment = now }; sent = [] }) h (record { quiet = o.quiet; within = o.within })) h
+occurs_open w h (Ends b x r) =
+    let e : End = ((table w b).circuit_at x).end in
+    let o : Opens e = open_at w h b x in
+    all_cond (lives e) (at_end w b x (finish r e)) w (λ q. step_open w b x (finish r e) h (record { quiet = o.quiet; within = o.within })) h
+occurs_open w h (Lapses b x r) =
+    let e : End = ((table w b).circuit_at x).end in
+    let o : Opens e = open_at w h b x in
+    all_cond (lives e) (at_end w b x (lapse r e)) w (λ q. step_open w b x (lapse r e) h (record { quiet = o.quiet; within = o.within })) h
+occurs_open w h (Stops true to d s r) = record { server = h.server; node = h.node }
+occurs_open w h (Stops false to d s r) = record { server = h.server; node = h.node }
 occurs_open w h (Delivers i now g) = deliver_open w h now g (slice_get w.frames i)
 occurs_open w h (Injects b from bit d source now g m) =
     all_cond (nat_eq from w.server.own || nat_eq from w.node.own) w (arrive w b from bit d source now g m) (λ q. h) (arrive_open w h b from bit d source now g m)

@@ -1,10 +1,10 @@
 -- What happens in the world of circuits; frames of foreign addresses come with any content at any time.
 use Rattle.std.specs.Prelude.{◌≡◌, ◌≢◌, ◌≤◌, ℕ, suc, Bool, true, false, not, cond, ◌||◌, List, [], ◌∷◌, Option, Some, None, nat_eq, slice_get}
 use Rattle.lat_model.specs.sessions.Calls.{Call}
-use Rattle.lat_model.specs.ends.End.{Sent, lives, call_end}
+use Rattle.lat_model.specs.ends.End.{Sent, Stopped, lives, finish, lapse, call_end}
 use Rattle.lat_model.specs.ends.Timers.{time_step}
 use Rattle.lat_model.specs.ends.Starting.{Agreed, Setup, make_master}
-use Rattle.lat_model.specs.circuits.World.{Wired, World, table, put_circuit, at_end, first_end, no_circuit}
+use Rattle.lat_model.specs.circuits.World.{Wired, World, table, with_table, put_circuit, at_end, first_end, no_circuit}
 use Rattle.lat_model.specs.circuits.Arriving.{arrive}
 
 pub data WorldEvent : Type 0 where
@@ -12,8 +12,14 @@ pub data WorldEvent : Type 0 where
   Locally : Bool → ℕ → Call → WorldEvent  -- a local call at a circuit of a side
   Times : Bool → ℕ → ℕ → WorldEvent  -- a moment at a circuit; a core gives one to each
   Moves : Bool → ℕ → ℕ → WorldEvent  -- a circuit is given a moment and nothing else
+  Ends : Bool → ℕ → ℕ → WorldEvent  -- a side ends a circuit, for this reason
+  Lapses : Bool → ℕ → ℕ → WorldEvent  -- the same, and it sends nothing
+  Stops : Bool → ℕ → ℕ → ℕ → ℕ → WorldEvent  -- a side sends a STOP from no circuit: to this address, with both ids and the reason
   Delivers : ℕ → ℕ → Agreed → WorldEvent  -- a frame comes, and is read as telling this of its end
   Injects : Bool → ℕ → Bool → ℕ → ℕ → ℕ → Agreed → Sent → WorldEvent  -- a foreign frame
+
+abbrev pub stray_stop : Bool → ℕ → ℕ → ℕ → ℕ → Wired
+stray_stop b to destination source r = record { by_server = b; circuit = 0; to = to; destination = destination; source = source; sent = Stopped r }
 
 abbrev pub deliver_in : World → ℕ → Agreed → Option Wired → World
 deliver_in w now g None = w
@@ -37,6 +43,15 @@ occurs w (Moves b x now) =
     cond (lives ((table w b).circuit_at x).end)
     (at_end w b x (record { end = record (((table w b).circuit_at x).end) { moment = now }; sent = [] }))
     w
+occurs w (Ends b x r) =
+    cond (lives ((table w b).circuit_at x).end)
+    (at_end w b x (finish r ((table w b).circuit_at x).end))
+    w
+occurs w (Lapses b x r) =
+    cond (lives ((table w b).circuit_at x).end)
+    (at_end w b x (lapse r ((table w b).circuit_at x).end))
+    w
+occurs w (Stops b to destination source r) = with_table w b (table w b) (stray_stop b to destination source r ∷ [])
 occurs w (Delivers i now g) = deliver_in w now g (slice_get w.frames i)
 occurs w (Injects b from bit destination source now g s) =
     cond (nat_eq from w.server.own || nat_eq from w.node.own)

@@ -3,7 +3,7 @@ use Rattle.std.specs.Prelude.{◌≡◌, ◌≢◌, ℕ, ◌≤◌, Bool, true, 
 use Rattle.lat_model.specs.ends.End.{Sent, Run, CallStart, ReplyStart, Stopped}
 use Rattle.lat_model.specs.ends.Starting.{Agreed}
 use Rattle.lat_model.specs.circuits.World.{Wired, World}
-use Rattle.lat_model.specs.circuits.Events.{WorldEvent, Calls, Locally, Times, Moves, Delivers, Injects, occurs}
+use Rattle.lat_model.specs.circuits.Events.{WorldEvent, Calls, Locally, Times, Moves, Delivers, Injects, occurs, Ends, Lapses, Stops}
 
 -- What is read of a START that one end sent: the node makes a wide slave where both configurations are wide; the server's
 -- circuit becomes wide where its own configuration is, and the slave that replied
@@ -22,6 +22,9 @@ TellsSpan server node w (Calls address now) = Unit {0}
 TellsSpan server node w (Locally b x c) = Unit {0}
 TellsSpan server node w (Times b x now) = Unit {0}
 TellsSpan server node w (Moves b x now) = Unit {0}
+TellsSpan server node w (Ends b x r) = Unit {0}
+TellsSpan server node w (Lapses b x r) = Unit {0}
+TellsSpan server node w (Stops b to d s r) = Unit {0}
 TellsSpan server node w (Injects b from bit destination source now g s) = Unit {0}
 
 -- each START that is delivered among these events is read so

@@ -73,6 +73,10 @@ lives e = elim e.ended [ None ↦ e.exists | Some r ↦ false ]
 abbrev pub finish : ℕ → End → Step
 finish r e = record { end = record e { ended = Some r }; sent = cond (nat_eq e.peer 0) [] (Stopped r ∷ []) }
 
+-- the same, and nobody is told
+abbrev pub lapse : ℕ → End → Step
+lapse r e = still (record e { ended = Some r })
+
 abbrev pub send_bare : Bool → End → Step
 send_bare ask e = record {
   end = record e { half = record (e.half) { link = showing e.half.link }; owed = false; sent_at = e.moment };

@@ -3,16 +3,16 @@ use Rattle.std.proofs.Common.{◌≡◌, ◌≢◌, ℕ, zero, suc, ◌<◌, ◌
 use Rattle.std.proofs.lemmas.Bool.{true≢false, false≢true, and_parts, and_from, or_right, eqb-false, cases_lt}
 use Rattle.std.proofs.lemmas.Option.{slice_get_within}
 use Rattle.lat_model.specs.Lists.{upwards}
-use Rattle.lat_model.specs.ends.End.{Sent, Run, CallStart, ReplyStart, Stopped, End, Step, still, lives, call_end}
+use Rattle.lat_model.specs.ends.End.{Sent, Run, CallStart, ReplyStart, Stopped, End, Step, still, lives, call_end, finish, lapse}
 use Rattle.lat_model.specs.ends.Timers.{note_empty, time_step}
 use Rattle.lat_model.specs.ends.Run.{run_end}
 use Rattle.lat_model.specs.ends.Starting.{Agreed, Setup, reply_end, make_master, make_slave, again_start, hear_reply, hear_stop}
 use Rattle.lat_model.specs.circuits.World.{CircuitEntry, Wired, World, table, with_table, put_circuit, at_end, wire_all, first_end}
 use Rattle.lat_model.specs.circuits.WorldOk.{WorldOk}
 use Rattle.lat_model.specs.circuits.Arriving.{is_of, living, slave_of, refusal, stop_in, start_in, arrive}
-use Rattle.lat_model.specs.circuits.Events.{WorldEvent, Calls, Locally, Times, Moves, Delivers, Injects, deliver_in, occurs, go_on, open_world}
+use Rattle.lat_model.specs.circuits.Events.{WorldEvent, Calls, Locally, Times, Moves, Delivers, Injects, deliver_in, occurs, go_on, open_world, Ends, Lapses, Stops, stray_stop}
 use Rattle.lat_model.proofs.sessions.Words.{upd_same, upd_other}
-use Rattle.lat_model.proofs.circuits.Kin.{Kin, kin_time, kin_run, kin_again, kin_stop}
+use Rattle.lat_model.proofs.circuits.Kin.{Kin, kin_time, kin_run, kin_again, kin_stop, kin_finish}
 use Rattle.lat_model.proofs.circuits.Arrives.{occurs_ok}
 use Rattle.lat_machines.proofs.events.Leads.{append_nil}
 use Rattle.lat_laws.specs.rounds.Lossless.{is_in}
@@ -168,7 +168,7 @@ arrive_onward w false from bit d s now g (Stopped r) =
 
 -- what was asked stays so
 
-get_more : {A : Type 0} → (xs ys : List A) (k : ℕ) (x : A) → slice_get xs k ≡ Some x → slice_get (xs ++ ys) k ≡ Some x
+pub get_more : {A : Type 0} → (xs ys : List A) (k : ℕ) (x : A) → slice_get xs k ≡ Some x → slice_get (xs ++ ys) k ≡ Some x
 get_more [] ys k x e = let z : ⊥ = cc in absurd z
 get_more (y ∷ xs) ys zero x e = e
 get_more (y ∷ xs) ys (suc k) x e = get_more xs ys k x e
@@ -358,17 +358,58 @@ times_onward : (w : World) (b : Bool) (x now : ℕ) → Onward Any w (occurs w (
 times_onward w true x now = onward_cond w (lives (server_end w x)) (at_end w true x (time_step now (server_end w x))) w (λ l. kin_onward w x (time_step now (server_end w x)) l (kin_time now (server_end w x))) (onward_same w)
 times_onward w false x now = onward_cond w (lives (node_end w x)) (at_end w false x (time_step now (node_end w x))) w (λ l. node_onward w x (time_step now (node_end w x)) (kin_time now (node_end w x)).peer) (onward_same w)
 
+ends_onward : (w : World) (b : Bool) (x r : ℕ) → Onward Any w (occurs w (Ends b x r))
+ends_onward w true x r = onward_cond w (lives (server_end w x)) (at_end w true x (finish r (server_end w x))) w (λ l. kin_onward w x (finish r (server_end w x)) l (kin_finish r (server_end w x))) (onward_same w)
+ends_onward w false x r = onward_cond w (lives (node_end w x)) (at_end w false x (finish r (node_end w x))) w (λ l. node_onward w x (finish r (node_end w x)) refl) (onward_same w)
+
+lapses_onward : (w : World) (b : Bool) (x r : ℕ) → Onward Any w (occurs w (Lapses b x r))
+lapses_onward w true x r = onward_cond w (lives (server_end w x)) (at_end w true x (lapse r (server_end w x))) w (λ l. kin_onward w x (lapse r (server_end w x)) l (kin_finish r (server_end w x))) (onward_same w)
+lapses_onward w false x r = onward_cond w (lives (node_end w x)) (at_end w false x (lapse r (node_end w x))) w (λ l. node_onward w x (lapse r (node_end w x)) refl) (onward_same w)
+
+stops_onward : (w : World) (b : Bool) (to d s r : ℕ) → Onward Any w (occurs w (Stops b to d s r))
+stops_onward w true to d s r = record { server_own = refl; node_own = refl; more = stray_stop true to d s r ∷ []; frames = refl; up = λ p a. record { address = refl; alive = λ h. h; calling = λ h. h }; down = λ q l. record { address = refl; peer = refl }; drawn = omega arith }
+stops_onward w false to d s r = record { server_own = refl; node_own = refl; more = stray_stop false to d s r ∷ []; frames = refl; up = λ p a. record { address = refl; alive = λ h. h; calling = λ h. h }; down = λ q l. record { address = refl; peer = refl }; drawn = omega arith }
+
+injects_onward : (w : World) (b : Bool) (from : ℕ) (bit : Bool) (d s now : ℕ) (g : Agreed) (m : Sent) → Onward Any w (occurs w (Injects b from bit d s now g m))
+injects_onward w b from bit d s now g m = go (nat_eq from w.server.own || nat_eq from w.node.own)
+  where
+    go : (x : Bool) → Onward Any w (cond x w (arrive w b from bit d s now g m))
+    go true = onward_same w
+    go false = arrive_onward w b from bit d s now g m
+
+-- no frame of the world ever goes from its place
+pub record More (w : World) (v : World) : Type 0 where
+  pub more : List Wired
+  pub frames : v.frames ≡ w.frames ++ more
+
+more_of : {P : ℕ → Type 0} (w v : World) → Onward P w v → More w v
+more_of w v o = record { more = o.more; frames = o.frames }
+
+pub occurs_more : (w : World) (e : WorldEvent) → More w (occurs w e)
+occurs_more w (Calls address now) = more_of w (occurs w (Calls address now)) (calls_onward w address now)
+occurs_more w (Locally b x c) = more_of w (occurs w (Locally b x c)) (locally_onward w b x (call_end c) (λ e. refl) (λ e. refl))
+occurs_more w (Times b x now) = more_of w (occurs w (Times b x now)) (times_onward w b x now)
+occurs_more w (Moves b x now) = more_of w (occurs w (Moves b x now)) (locally_onward w b x (λ e. record e { moment = now }) (λ e. refl) (λ e. refl))
+occurs_more w (Ends b x r) = more_of w (occurs w (Ends b x r)) (ends_onward w b x r)
+occurs_more w (Lapses b x r) = more_of w (occurs w (Lapses b x r)) (lapses_onward w b x r)
+occurs_more w (Stops b to d s r) = more_of w (occurs w (Stops b to d s r)) (stops_onward w b to d s r)
+occurs_more w (Injects b from bit d s now g m) = more_of w (occurs w (Injects b from bit d s now g m)) (injects_onward w b from bit d s now g m)
+occurs_more w (Delivers i now g) = go (slice_get w.frames i)
+  where
+    go : (o : Option Wired) → More w (deliver_in w now g o)
+    go None = more_of w w (onward_same w)
+    go (Some f) = more_of w (deliver_in w now g (Some f)) (deliver_onward w now g f)
+
 pub occurs_called : (w : World) (done : List ℕ) → WorldOk w → ((j : ℕ) → length w.frames ≤ j → is_in j done ≡ false) → Called w done → (e : WorldEvent) → Called (occurs w e) (done_after w done e)
 occurs_called w done ok below k (Calls address now) = calls_called w done address now below k
 occurs_called w done ok below k (Locally b x c) = quiet_called w (occurs w (Locally b x c)) done (locally_onward w b x (call_end c) (λ e. refl) (λ e. refl)) k
 occurs_called w done ok below k (Times b x now) = quiet_called w (occurs w (Times b x now)) done (times_onward w b x now) k
 occurs_called w done ok below k (Moves b x now) = quiet_called w (occurs w (Moves b x now)) done (locally_onward w b x (λ e. record e { moment = now }) (λ e. refl) (λ e. refl)) k
 occurs_called w done ok below k (Delivers i now g) = deliver_called w done i now g ok below k (slice_get w.frames i) refl
-occurs_called w done ok below k (Injects b from bit d s now g m) = quiet_called w (occurs w (Injects b from bit d s now g m)) done (go (nat_eq from w.server.own || nat_eq from w.node.own)) k
-  where
-    go : (x : Bool) → Onward Any w (cond x w (arrive w b from bit d s now g m))
-    go true = onward_same w
-    go false = arrive_onward w b from bit d s now g m
+occurs_called w done ok below k (Injects b from bit d s now g m) = quiet_called w (occurs w (Injects b from bit d s now g m)) done (injects_onward w b from bit d s now g m) k
+occurs_called w done ok below k (Ends b x r) = quiet_called w (occurs w (Ends b x r)) done (ends_onward w b x r) k
+occurs_called w done ok below k (Lapses b x r) = quiet_called w (occurs w (Lapses b x r)) done (lapses_onward w b x r) k
+occurs_called w done ok below k (Stops b to d s r) = quiet_called w (occurs w (Stops b to d s r)) done (stops_onward w b to d s r) k
 
 pub go_on_called : (es : List WorldEvent) (w : World) (done : List ℕ) → WorldOk w → Kinds w → Carried w done → Called w done → Orderly w done es → Called (go_on es w) (done_all w done es)
 go_on_called [] w done ok kd k c o = c

@@ -118,7 +118,7 @@ rounds_case e = go e.running refl (not (all_known e) && passed e.since 1000 e) (
     go false q a true false = inl refl
     go false q a false c = inr (going_still e)
 
-finish_true : (r : ℕ) (e d : End) → d.running ≡ e.running → d.peer ≡ e.peer → True_step e (finish r d)
+pub finish_true : (r : ℕ) (e d : End) → d.running ≡ e.running → d.peer ≡ e.peer → True_step e (finish r d)
 finish_true r e d w q = record { truly = go (nat_eq d.peer 0); stops = λ l x n. ap (λ b. has_stop_sent (cond b [] (Stopped r ∷ []))) (ne_eqb d.peer 0 (λ z. n (sym q ∙ z))) }
   where
     go : (c : Bool) → Each (Truly e (finish r d).end) (cond c [] (Stopped r ∷ []))

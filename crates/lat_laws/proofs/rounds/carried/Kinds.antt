@@ -2,13 +2,13 @@
 use Rattle.std.proofs.Common.{◌≡◌, ℕ, suc, sym, ◌∙◌, refl, Bool, true, false, not, cond, ◌&&◌, ◌||◌, List, [], ◌∷◌, Option, Some, None, nat_eq, nat_lt, slice_get}
 use Rattle.std.proofs.lemmas.Bool.{true≢false, false≢true, and_parts, eqb-false}
 use Rattle.lat_model.specs.Lists.{upwards, least}
-use Rattle.lat_model.specs.ends.End.{Sent, Run, CallStart, ReplyStart, Stopped, End, Step, still, lives, call_end}
+use Rattle.lat_model.specs.ends.End.{Sent, Run, CallStart, ReplyStart, Stopped, End, Step, still, lives, call_end, finish, lapse}
 use Rattle.lat_model.specs.ends.Timers.{note_empty, time_step}
 use Rattle.lat_model.specs.ends.Run.{run_end}
 use Rattle.lat_model.specs.ends.Starting.{Agreed, Setup, reply_end, make_slave, again_start, hear_reply, hear_stop}
 use Rattle.lat_model.specs.circuits.World.{CircuitEntry, Wired, World, table, with_table, put_circuit, at_end, first_end}
 use Rattle.lat_model.specs.circuits.Arriving.{is_of, living, slave_of, start_in, arrive}
-use Rattle.lat_model.specs.circuits.Events.{WorldEvent, Calls, Locally, Times, Moves, Delivers, Injects, deliver_in, occurs, go_on, open_world}
+use Rattle.lat_model.specs.circuits.Events.{WorldEvent, Calls, Locally, Times, Moves, Delivers, Injects, deliver_in, occurs, go_on, open_world, Ends, Lapses, Stops}
 use Rattle.lat_model.proofs.sessions.Words.{upd_all}
 use Rattle.lat_model.proofs.circuits.Kin.{Kin, kin_time, kin_run, kin_again, kin_stop}
 use Rattle.lat_model.proofs.circuits.Begins.{kin_call}
@@ -114,6 +114,12 @@ occurs_kinds w k (Times true x now) = kinds_cond (lives (server_end w x)) (at_en
 occurs_kinds w k (Times false x now) = kinds_cond (lives (node_end w x)) (at_end w false x (time_step now (node_end w x))) w (λ l. node_kin w x (time_step now (node_end w x)) l (kin_time now (node_end w x)) k) k
 occurs_kinds w k (Moves true x now) = let e : End = server_end w x in kinds_cond (lives e) (at_end w true x (still (record e { moment = now }))) w (λ l. server_kinds w x (still (record e { moment = now })) refl k) k
 occurs_kinds w k (Moves false x now) = let e : End = node_end w x in kinds_cond (lives e) (at_end w false x (still (record e { moment = now }))) w (λ l. node_kinds w x (still (record e { moment = now })) refl (λ h. k.runs x l) k) k
+occurs_kinds w k (Ends true x r) = kinds_cond (lives (server_end w x)) (at_end w true x (finish r (server_end w x))) w (λ l. server_kinds w x (finish r (server_end w x)) refl k) k
+occurs_kinds w k (Ends false x r) = kinds_cond (lives (node_end w x)) (at_end w false x (finish r (node_end w x))) w (λ l. node_kinds w x (finish r (node_end w x)) refl (λ h. k.runs x l) k) k
+occurs_kinds w k (Lapses true x r) = kinds_cond (lives (server_end w x)) (at_end w true x (lapse r (server_end w x))) w (λ l. server_kinds w x (lapse r (server_end w x)) refl k) k
+occurs_kinds w k (Lapses false x r) = kinds_cond (lives (node_end w x)) (at_end w false x (lapse r (node_end w x))) w (λ l. node_kinds w x (lapse r (node_end w x)) refl (λ h. k.runs x l) k) k
+occurs_kinds w k (Stops true to d s r) = record { masters = k.masters; slaves = k.slaves; runs = k.runs }
+occurs_kinds w k (Stops false to d s r) = record { masters = k.masters; slaves = k.slaves; runs = k.runs }
 occurs_kinds w k (Delivers i now g) = deliver_kinds w k now g (slice_get w.frames i)
 occurs_kinds w k (Injects b from bit d s now g m) = go (nat_eq from w.server.own || nat_eq from w.node.own)
   where

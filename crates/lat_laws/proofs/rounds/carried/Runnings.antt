@@ -5,7 +5,7 @@ use Rattle.lat_model.specs.ends.End.{Mark, Run, lives}
 use Rattle.lat_model.specs.ends.Starting.{Setup}
 use Rattle.lat_model.specs.circuits.World.{Wired, World}
 use Rattle.lat_model.specs.circuits.Arriving.{arrive}
-use Rattle.lat_model.specs.circuits.Events.{WorldEvent, Calls, Locally, Times, Moves, Delivers, Injects, occurs, go_on, open_world}
+use Rattle.lat_model.specs.circuits.Events.{WorldEvent, Calls, Locally, Times, Moves, Delivers, Injects, occurs, go_on, open_world, Ends, Lapses, Stops}
 use Rattle.lat_model.specs.sessions.Slots.{Slot}
 use Rattle.lat_model.specs.numbers.Link.{Frame}
 use Rattle.lat_model.specs.numbers.NetOk.{Young}
@@ -21,7 +21,7 @@ use Rattle.lat_laws.proofs.rounds.flight.Hearing.{first_young}
 use Rattle.lat_laws.proofs.rounds.carried.Runs.{fly_first, line_of, front_of}
 use Rattle.lat_laws.proofs.rounds.carried.Downs.{line_down, front_down}
 use Rattle.lat_laws.proofs.rounds.carried.Kinds.{occurs_kinds}
-use Rattle.lat_laws.proofs.rounds.carried.Times.{times_carried, locally_carried, moves_carried}
+use Rattle.lat_laws.proofs.rounds.carried.Times.{times_carried, locally_carried, moves_carried, ends_carried}
 use Rattle.lat_laws.proofs.rounds.carried.Callers.{calls_carried}
 use Rattle.lat_laws.proofs.rounds.carried.Delivers.{deliver_carried}
 use Rattle.lat_laws.proofs.rounds.carried.Foreign.{arrive_foreign}
@@ -31,6 +31,9 @@ occurs_carried w done ok kd k (Calls address now) t = calls_carried w done addre
 occurs_carried w done ok kd k (Locally b x c) t = locally_carried w done b x c ok k
 occurs_carried w done ok kd k (Times b x now) t = times_carried w done b x now ok k
 occurs_carried w done ok kd k (Moves b x now) t = moves_carried w done b x now ok k
+occurs_carried w done ok kd k (Ends b x r) t = ends_carried w done b x r ok k
+occurs_carried w done ok kd k (Lapses b x r) t = absurd t
+occurs_carried w done ok kd k (Stops b to d s r) t = absurd t
 occurs_carried w done ok kd k (Delivers i now g) t = deliver_carried w done i now g ok kd k t
 occurs_carried w done ok kd k (Injects b from bit d s now g m) t = go (nat_eq from w.server.own) (nat_eq from w.node.own) refl refl
   where

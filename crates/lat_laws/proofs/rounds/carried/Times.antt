@@ -1,22 +1,22 @@
--- Time, local calls and moments keep what is in flight.
+-- Time, local calls, moments, and an end that a side makes keep what is in flight.
 use Rattle.std.proofs.Common.{◌≡◌, ℕ, ◌+◌, ◌≤◌, inl, ⊎_elim, sym, ap, ap₂, refl, subst, arith, Bool, true, false, cond, List, [], length}
 use Rattle.lat_model.specs.sessions.Slots.{Slot}
 use Rattle.lat_model.specs.sessions.Calls.{Call}
 use Rattle.lat_model.specs.numbers.Link.{Link}
-use Rattle.lat_model.specs.ends.End.{End, Step, still, lives, call_end}
+use Rattle.lat_model.specs.ends.End.{End, Step, still, lives, call_end, finish}
 use Rattle.lat_model.specs.ends.Timers.{time_step}
 use Rattle.lat_model.specs.circuits.World.{World, at_end}
-use Rattle.lat_model.specs.circuits.Events.{Locally, Times, Moves, occurs}
+use Rattle.lat_model.specs.circuits.Events.{Locally, Times, Moves, occurs, Ends}
 use Rattle.lat_model.specs.circuits.WorldOk.{WorldOk, Joint, Idle, void_half}
-use Rattle.lat_model.proofs.circuits.Kin.{Kin, kin_time}
+use Rattle.lat_model.proofs.circuits.Kin.{Kin, kin_time, kin_finish}
 use Rattle.lat_model.proofs.circuits.Begins.{kin_call, server_alive}
 use Rattle.lat_model.proofs.circuits.Worlds.{joint_decides}
 use Rattle.lat_model.proofs.numbers.Net.{prefix_length}
 use Rattle.lat_model.specs.circuits.Together.{Together}
 use Rattle.lat_laws.specs.rounds.Flight.{LinkSound}
 use Rattle.lat_laws.specs.rounds.Carried.{flying, server_end, node_end, Carried}
-use Rattle.lat_laws.proofs.rounds.flight.Sending.{Sends, quiet_sends, time_sends}
-use Rattle.lat_laws.proofs.rounds.carried.Ends.{True_step, time_true, quiet_true}
+use Rattle.lat_laws.proofs.rounds.flight.Sending.{Sends, quiet_sends, time_sends, finish_sends}
+use Rattle.lat_laws.proofs.rounds.carried.Ends.{True_step, time_true, quiet_true, finish_true}
 use Rattle.lat_laws.proofs.rounds.carried.Servers as Servers
 use Rattle.lat_laws.proofs.rounds.carried.Nodes as Nodes
 
@@ -71,6 +71,14 @@ call_sends c e = quiet_sends e (call_end c e) refl refl refl
 pub times_carried : (w : World) (done : List ℕ) (b : Bool) (x now : ℕ) → WorldOk w → Carried w done → Carried (occurs w (Times b x now)) done
 times_carried w done true x now ok k = carried_cond (lives (server_end w x)) done (at_end w true x (time_step now (server_end w x))) w (λ l. server_sends w done x (time_step now (server_end w x)) ok l (kin_time now (server_end w x)) (time_sends now (server_end w x)) (time_true now (server_end w x) l) k) k
 times_carried w done false x now ok k = carried_cond (lives (node_end w x)) done (at_end w false x (time_step now (node_end w x))) w (λ l. node_sends w done x (time_step now (node_end w x)) ok l (kin_time now (node_end w x)) (time_sends now (node_end w x)) (time_true now (node_end w x) l) k) k
+
+pub ends_carried : (w : World) (done : List ℕ) (b : Bool) (x r : ℕ) → WorldOk w → Carried w done → Carried (occurs w (Ends b x r)) done
+ends_carried w done true x r ok k =
+    let e : End = server_end w x in
+    carried_cond (lives e) done (at_end w true x (finish r e)) w (λ l. server_sends w done x (finish r e) ok l (kin_finish r e) (finish_sends r e) (finish_true r e e refl refl) k) k
+ends_carried w done false x r ok k =
+    let e : End = node_end w x in
+    carried_cond (lives e) done (at_end w false x (finish r e)) w (λ l. node_sends w done x (finish r e) ok l (kin_finish r e) (finish_sends r e) (finish_true r e e refl refl) k) k
 
 pub locally_carried : (w : World) (done : List ℕ) (b : Bool) (x : ℕ) (c : Call) → WorldOk w → Carried w done → Carried (occurs w (Locally b x c)) done
 locally_carried w done true x c ok k = carried_cond (lives (server_end w x)) done (at_end w true x (still (call_end c (server_end w x)))) w (λ l. server_sends w done x (still (call_end c (server_end w x))) ok l (kin_call c (server_end w x)) (call_sends c (server_end w x)) (quiet_true (server_end w x) (call_end c (server_end w x)) refl) k) k

@@ -5,11 +5,11 @@ use Rattle.lat_model.specs.sessions.Sessions.{Sessions}
 use Rattle.lat_model.specs.sessions.Calls.{Call, Put, Set, Attend, Take, Close}
 use Rattle.lat_machines.specs.values.Answers.{Done, NoLine, Closed, Full}
 use Rattle.lat_machines.specs.values.Events.{Event, Puts, Sets, Takes, Attends, Closes}
-use Rattle.lat_machines.specs.cores.Acts.{local_at, time_at}
-use Rattle.lat_machines.specs.cores.Cores.{Seat, Core, Side, Doing, then_doing, time_each, acts}
+use Rattle.lat_machines.specs.cores.Acts.{local_at, time_at, end_at}
+use Rattle.lat_machines.specs.cores.Cores.{Seat, Core, Side, Doing, then_doing, time_each, acts, end_each}
 use Rattle.lat_machines.specs.cores.Lines.{session_of, seat_at, has_session, line_exists}
 use Rattle.lat_machines.specs.cores.LineCalls.{Said, says, calls_on, put_on, set_on, attend_on, take_on, close_on, on_line}
-use Rattle.lat_laws.proofs.rounds.counting.Tables.{Holds, time_turned, local_turned}
+use Rattle.lat_laws.proofs.rounds.counting.Tables.{Holds, time_turned, local_turned, end_turned}
 
 -- the calls of an event
 abbrev pub EventAllows : (Call → Type 0) → Event → Type 0
@@ -24,6 +24,10 @@ module _ (n : ℕ) (side : Bool) (R : ℕ → Sessions → Sessions → Type 0) 
   pub times_hold : (k : Side) (xs : List ℕ) (d : Doing) → P d.core → P (time_each k xs d).core
   times_hold k [] d p = p
   times_hold k (x ∷ xs) d p = times_hold k xs (then_doing d (λ c. acts k c (time_at k.server c.circuits x c.moment))) (h.turns d.core (acts k d.core (time_at k.server d.core.circuits x d.core.moment)).core p refl (time_turned n side R h.kept k.server d.core.circuits x d.core.moment))
+
+  pub ends_hold : (k : Side) (r : ℕ) (xs : List ℕ) (d : Doing) → P d.core → P (end_each k r xs d).core
+  ends_hold k r [] d p = p
+  ends_hold k r (x ∷ xs) d p = ends_hold k r xs (then_doing d (λ c. acts k c (end_at k.server c.circuits x r))) (h.turns d.core (acts k d.core (end_at k.server d.core.circuits x r)).core p refl (end_turned n side R h.kept k.server d.core.circuits x r))
 
   said_cond : (b : Bool) (s t : Said) → P s.core → P t.core → P (cond b s t).core
   said_cond true s t p q = p

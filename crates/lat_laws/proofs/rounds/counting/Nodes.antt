@@ -13,14 +13,14 @@ use Rattle.lat_machines.specs.values.Messages.{Head, StartInfo, RunMessage, Wide
 use Rattle.lat_machines.specs.values.Notices.{Notice, AnnouncementNotice, CommandNotice, StatusNotice, SolicitNotice, ResponseNotice}
 use Rattle.lat_machines.specs.values.Frames.{Value, OfCircuit, OfNotice, Whole, Malformed}
 use Rattle.lat_machines.specs.values.Timing.{agreed_by}
-use Rattle.lat_machines.specs.values.Events.{Numbers, Event, Hears, Time, Connects, Puts, Sets, Takes, Attends, Closes, Requests, Withdraws, Announces}
+use Rattle.lat_machines.specs.values.Events.{Numbers, Event, Hears, Time, Connects, Puts, Sets, Takes, Attends, Closes, Requests, Withdraws, Announces, Avoids, Readies, Halts}
 use Rattle.lat_machines.specs.values.Answers.{Ignored}
-use Rattle.lat_machines.specs.cores.Cores.{Core, rests, setup_of, at_moment}
-use Rattle.lat_machines.specs.cores.Hearing.{names, hear_run, StartFact, Repeats, Makes, Refuses, start_fact, start_at}
+use Rattle.lat_machines.specs.cores.Cores.{Core, rests, setup_of, at_moment, with_circuits}
+use Rattle.lat_machines.specs.cores.Hearing.{names, hear_run, StartFact, Repeats, Makes, Refuses, start_fact, start_at, outlive}
 use Rattle.lat_machines.specs.cores.LineCalls.{put_on, set_on, attend_on, take_on, close_on}
-use Rattle.lat_machines.specs.node.Node.{NodeConfig, Node, NodeStep, node_side, heard_at, tells, Verdict, Accepts, Rejects, judged, verdict, asked_at, asked_on, answers_one, answers_in, answers_asked, hears_run, hears_start, hears_value, hears_notice, solicited, requests_again, withdraws, Requested, request_of, node_step}
-use Rattle.lat_laws.proofs.rounds.counting.Tables.{Turned, Holds, turned_same, run_turned, stop_turned, start_turned}
-use Rattle.lat_laws.proofs.rounds.counting.Cores.{EventAllows, times_hold, line_holds, local_holds, put_holds, set_holds, attend_holds, take_holds, close_holds}
+use Rattle.lat_machines.specs.node.Node.{NodeConfig, Node, NodeStep, node_side, heard_at, tells, Verdict, Accepts, Rejects, judged, verdict, asked_at, asked_on, answers_one, answers_in, answers_asked, hears_run, hears_start, hears_value, hears_notice, solicited, requests_again, withdraws, Requested, request_of, node_step, makes_way, starts, turns_away}
+use Rattle.lat_laws.proofs.rounds.counting.Tables.{Turned, Holds, turned_same, run_turned, stop_turned, start_turned, outlived_turned}
+use Rattle.lat_laws.proofs.rounds.counting.Cores.{EventAllows, times_hold, line_holds, local_holds, put_holds, set_holds, attend_holds, take_holds, close_holds, ends_hold}
 
 module _ (n : ℕ) (R : ℕ → Sessions → Sessions → Type 0) (A : Call → Type 0) (P : Core → Type 0) (h : Holds n false R A P) (config : NodeConfig) (accepts : (st : Node) (x id line : ℕ) (request : Option ℕ) → waits (asked_at st x id) ≡ true → P st.core → P (judged config st x id request (Accepts line)).core) (refuses : (id reason : ℕ) → A (RejectAsk id reason)) where
   judged_holds : (st : Node) (x id : ℕ) (request : Option ℕ) (v : Verdict) → waits (asked_at st x id) ≡ true → P st.core → P (judged config st x id request v).core
@@ -63,6 +63,14 @@ module _ (n : ℕ) (R : ℕ → Sessions → Sessions → Type 0) (A : Call → 
       go (Repeats k) t = h.turns st.core _ p refl t
       go Refuses t = h.turns st.core _ p refl t
 
+  -- the slaves that a START follows
+  way_holds : (st : Node) (from source : ℕ) → P st.core → P (makes_way config st from source).core
+  way_holds st from source p = go config.prompt
+    where
+      go : (b : Bool) → P (with_circuits st.core (cond b (outlive from source (upwards 0 st.core.circuits.drawn) st.core.circuits) st.core.circuits))
+      go true = h.turns st.core _ p refl (outlived_turned n false R h.kept from source (upwards 0 st.core.circuits.drawn) st.core.circuits)
+      go false = h.turns st.core _ p refl (turned_same n false R h.kept st.core.circuits)
+
   step_cond : (b : Bool) (s t : NodeStep) → P s.state.core → P t.state.core → P (cond b s t).state.core
   step_cond true s t p q = p
   step_cond false s t p q = q
@@ -81,7 +89,9 @@ module _ (n : ℕ) (R : ℕ → Sessions → Sessions → Type 0) (A : Call → 
   value_holds : (rates : List ℕ) (st : Node) (from : ℕ) (v : Value) (k : Option Numbers) → P st.core → P (hears_value config rates st from v k).state.core
   value_holds rates st from (OfCircuit (RunMessage a slots)) k p = run_holds st from false a k slots p
   value_holds rates st from (OfCircuit (WideMessage a slots)) k p = run_holds st from true a k slots p
-  value_holds rates st from (OfCircuit (StartMessage true ask to source info)) k p = start_holds st from source info p
+  value_holds rates st from (OfCircuit (StartMessage true ask to source info)) k p =
+      let m : Node = makes_way config st from source in
+      step_cond st.halted (turns_away config st from source) (starts config m from source info) (h.turns st.core _ p refl (turned_same n false R h.kept st.core.circuits)) (start_holds m from source info (way_holds st from source p))
   value_holds rates st from (OfCircuit (StartMessage false ask to source info)) k p = p
   value_holds rates st from (OfCircuit (StopMessage master ask to source reason text)) k p = h.turns st.core _ p refl (stop_turned n false R h.kept false st.core.circuits from to source st.core.moment reason)
   value_holds rates st from (OfNotice v) k p = notice_holds rates st from v p
@@ -112,3 +122,6 @@ module _ (n : ℕ) (R : ℕ → Sessions → Sessions → Type 0) (A : Call → 
   node_holds rates st (Requests to id service) a p = request_holds st to id service (request_of id st) p
   node_holds rates st (Withdraws id) a p = withdraw_holds st (request_of id st) p
   node_holds rates st Announces a p = p
+  node_holds rates st (Avoids line) a p = p
+  node_holds rates st (Readies line ready) a p = p
+  node_holds rates st Halts a p = ends_hold n false R A P h (node_side config) 3 (upwards 0 st.core.circuits.drawn) (rests st.core) p

@@ -8,7 +8,7 @@ use Rattle.lat_model.specs.ends.End.{lives, call_end}
 use Rattle.lat_model.specs.circuits.World.{CircuitEntry, Table}
 use Rattle.lat_machines.specs.values.Names.{Name}
 use Rattle.lat_machines.specs.values.Keys.{Key}
-use Rattle.lat_machines.specs.values.Events.{Event, Hears, Time, Connects, Puts, Sets, Takes, Attends, Closes, Requests, Withdraws, Announces, is_heard}
+use Rattle.lat_machines.specs.values.Events.{Event, Hears, Time, Connects, Puts, Sets, Takes, Attends, Closes, Requests, Withdraws, Announces, is_heard, Avoids, Readies, Halts}
 use Rattle.lat_machines.specs.cores.Acts.{idle, steps_at, local_at}
 use Rattle.lat_machines.specs.cores.Cores.{Seat, Core}
 use Rattle.lat_machines.specs.server.Server.{ServerConfig, connects_on}
@@ -199,6 +199,9 @@ any_connect (Closes line) = λ id. tt
 any_connect (Requests to id service) = tt
 any_connect (Withdraws id) = tt
 any_connect Announces = tt
+any_connect (Avoids line) = tt
+any_connect (Readies line ready) = tt
+any_connect Halts = tt
 
 any_answer : (e : Event) → EventAllows NoAnswer e
 any_answer (Hears from payload k now) = tt
@@ -212,6 +215,9 @@ any_answer (Closes line) = λ id. tt
 any_answer (Requests to id service) = tt
 any_answer (Withdraws id) = tt
 any_answer Announces = tt
+any_answer (Avoids line) = tt
+any_answer (Readies line ready) = tt
+any_answer Halts = tt
 
 pub record AllSeated (w : Machines) : Type 0 where
   pub server : ServerGood w.server.core

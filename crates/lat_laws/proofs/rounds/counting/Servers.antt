@@ -11,8 +11,8 @@ use Rattle.lat_machines.specs.values.Notices.{Kept, KeptAs, Unknown, Action, Ask
 use Rattle.lat_machines.specs.values.Frames.{Value, OfCircuit, OfNotice, Whole, Malformed}
 use Rattle.lat_machines.specs.values.Timing.{agreed_by}
 use Rattle.lat_machines.specs.values.Keys.{Key}
-use Rattle.lat_machines.specs.values.Events.{Numbers, Event, Hears, Time, Connects, Puts, Sets, Takes, Attends, Closes, Requests, Withdraws, Announces}
-use Rattle.lat_machines.specs.values.Answers.{Connected, Ignored, Busy, NoLine, SessionsFull, CircuitsFull, IdsOut, NotKept, KeptIs}
+use Rattle.lat_machines.specs.values.Events.{Numbers, Event, Hears, Time, Connects, Puts, Sets, Takes, Attends, Closes, Requests, Withdraws, Announces, Avoids, Readies, Halts}
+use Rattle.lat_machines.specs.values.Answers.{Connected, Ignored, Busy, NoLine, SessionsFull, CircuitsFull, IdsOut, NotKept, KeptIs, Halted}
 use Rattle.lat_machines.specs.server.Directory.{Best, best}
 use Rattle.lat_machines.specs.server.Queue.{Cancels, Request}
 use Rattle.lat_machines.specs.server.Records.{kept_for}
@@ -22,7 +22,7 @@ use Rattle.lat_machines.specs.cores.Lines.{has_session, line_exists}
 use Rattle.lat_machines.specs.cores.LineCalls.{put_on, set_on, attend_on, take_on, close_on}
 use Rattle.lat_machines.specs.server.Server.{ServerConfig, Server, ServerStep, server_side, offer_on, tells, does, has_room, connects_on, opens, connects_to, solicits_for, connect_event, status_frame, key_of, hears_command, hears_value, server_event, finished_requests, Passing, grantable, grants_by, grant_line, grant_lines, server_step}
 use Rattle.lat_laws.proofs.rounds.counting.Tables.{Holds, turned_same, call_turned, run_turned, stop_turned, reply_turned}
-use Rattle.lat_laws.proofs.rounds.counting.Cores.{EventAllows, times_hold, line_holds, put_holds, set_holds, attend_holds, take_holds, close_holds}
+use Rattle.lat_laws.proofs.rounds.counting.Cores.{EventAllows, times_hold, line_holds, put_holds, set_holds, attend_holds, take_holds, close_holds, ends_hold}
 
 module _ (n : ℕ) (R : ℕ → Sessions → Sessions → Type 0) (A : Call → Type 0) (P : Core → Type 0) (h : Holds n true R A P) (config : ServerConfig) (connects : (line x : ℕ) (service : Name) (key : Option Key) (request : Option ℕ) (c : Core) → P c → P (connects_on config line x service key request c).core) where
   opens_hold : (line address : ℕ) (node service : Name) (key : Option Key) (request : Option ℕ) (c : Core) → P c → P (opens config line address node service key request c).core
@@ -100,7 +100,7 @@ module _ (n : ℕ) (R : ℕ → Sessions → Sessions → Type 0) (A : Call → 
       let s : Server = record st { core = at_moment now st.core } in
       step_cond (nat_eq from everyone) (tells s Ignored) (hears_value config s from v k) (moment_holds st.core now p) (value_holds s from v k (moment_holds st.core now p))
   event_holds st (Time now) a p = times_hold n true R A P h (server_side config) (upwards 0 st.core.circuits.drawn) (rests (at_moment now st.core)) (moment_holds st.core now p)
-  event_holds st (Connects line service) a p = connect_holds st line service p
+  event_holds st (Connects line service) a p = step_cond st.halted (tells st Halted) (connect_event config st line service) p (connect_holds st line service p)
   event_holds st (Puts line bytes) a p = line_holds n true R A P h config.lines st.core line (λ s. put_on (server_side config) st.core s bytes) p (λ s. put_holds n true R A P h (server_side config) st.core s bytes a p)
   event_holds st (Sets line setting) a p = line_holds n true R A P h config.lines st.core line (λ s. set_on (server_side config) st.core s setting) p (λ s. set_holds n true R A P h (server_side config) st.core s setting a p)
   event_holds st (Takes line m) a p = line_holds n true R A P h config.lines st.core line (λ s. take_on (server_side config) st.core s m) p (λ s. take_holds n true R A P h (server_side config) st.core s m a p)
@@ -109,6 +109,9 @@ module _ (n : ℕ) (R : ℕ → Sessions → Sessions → Type 0) (A : Call → 
   event_holds st (Requests to id service) a p = p
   event_holds st (Withdraws id) a p = p
   event_holds st Announces a p = p
+  event_holds st (Avoids line) a p = p
+  event_holds st (Readies line ready) a p = p
+  event_holds st Halts a p = ends_hold n true R A P h (server_side config) 3 (upwards 0 st.core.circuits.drawn) (rests st.core) p
 
   -- the grant pass
 

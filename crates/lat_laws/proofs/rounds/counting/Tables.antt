@@ -1,10 +1,10 @@
 -- What each step of an end keeps, each act on a table of circuits keeps at every circuit.
-use Rattle.std.proofs.Common.{◌≡◌, ℕ, suc, ◌<◌, ◌≤◌, refl, sym, subst, arith, Bool, true, false, not, cond, ◌&&◌, ◌||◌, List, [], Option, nat_eq, nat_lt, eqb-true}
+use Rattle.std.proofs.Common.{◌≡◌, ℕ, suc, ◌<◌, ◌≤◌, refl, sym, subst, arith, Bool, true, false, not, cond, ◌&&◌, ◌||◌, List, [], ◌∷◌, Option, nat_eq, nat_lt, eqb-true}
 use Rattle.lat_model.specs.sessions.Slots.{Slot}
 use Rattle.lat_model.specs.sessions.Sessions.{Sessions}
 use Rattle.lat_model.specs.sessions.Calls.{Call, call}
 use Rattle.lat_model.specs.Lists.{updated}
-use Rattle.lat_model.specs.ends.End.{End, Step, lives, call_end}
+use Rattle.lat_model.specs.ends.End.{End, Step, lives, call_end, finish, lapse}
 use Rattle.lat_model.specs.ends.Timers.{time_step}
 use Rattle.lat_model.specs.ends.Run.{run_end}
 use Rattle.lat_model.specs.ends.Starting.{Agreed, Setup, again_start, hear_reply, hear_stop, void_sessions}
@@ -13,8 +13,8 @@ use Rattle.lat_model.specs.circuits.Arriving.{living, slave_of}
 use Rattle.lat_machines.specs.values.Messages.{Head}
 use Rattle.lat_machines.specs.values.Events.{Numbers}
 use Rattle.lat_machines.specs.values.Answers.{Ended, Again, Running}
-use Rattle.lat_machines.specs.cores.Acts.{Acted, idle, steps_at, call_at, local_at, time_at, move_at}
-use Rattle.lat_machines.specs.cores.Hearing.{HeardAct, foreign, names, fits_kind, numbers_at, run_frame, run_at, hear_run, hear_stop_at, hear_reply_at, Repeats, Makes, Refuses, start_fact, start_at}
+use Rattle.lat_machines.specs.cores.Acts.{Acted, idle, steps_at, call_at, local_at, time_at, move_at, end_at}
+use Rattle.lat_machines.specs.cores.Hearing.{HeardAct, foreign, names, fits_kind, numbers_at, run_frame, run_at, hear_run, hear_stop_at, hear_reply_at, Repeats, Makes, Refuses, start_fact, start_at, is_outlived, outlive_at, outlive}
 use Rattle.lat_machines.specs.cores.Cores.{Core}
 use Rattle.lat_laws.proofs.rounds.counting.Kept.{KeptByActs, to_time, to_run, to_again, to_stop, to_reply}
 
@@ -57,6 +57,21 @@ module _ (n : ℕ) (side : Bool) (R : ℕ → Sessions → Sessions → Type 0) 
   move_turned b t y now =
       let s : Step = record { end = record ((t.circuit_at y).end) { moment = now }; sent = [] } in
       act_cond t (lives (t.circuit_at y).end) (steps_at b t y s) (idle t) (steps_turned b t y s (c.same y (t.circuit_at y).end.half.sessions)) (turned_same t)
+
+  -- an end that ends keeps its sessions
+  pub end_turned : (b : Bool) (t : Table) (y r : ℕ) → Turned R t (end_at b t y r).table
+  end_turned b t y r = act_cond t (lives (t.circuit_at y).end) (steps_at b t y (finish r (t.circuit_at y).end)) (idle t) (steps_turned b t y (finish r (t.circuit_at y).end) (c.same y (t.circuit_at y).end.half.sessions)) (turned_same t)
+
+  outlived_at : (from source : ℕ) (t : Table) (y : ℕ) → Turned R t (outlive_at from source y t)
+  outlived_at from source t y = go (is_outlived (t.circuit_at y) from source)
+    where
+      go : (b : Bool) → Turned R t (cond b (steps_at false t y (lapse 5 (t.circuit_at y).end)).table t)
+      go true = steps_turned false t y (lapse 5 (t.circuit_at y).end) (c.same y (t.circuit_at y).end.half.sessions)
+      go false = turned_same t
+
+  pub outlived_turned : (from source : ℕ) (ys : List ℕ) (t : Table) → Turned R t (outlive from source ys t)
+  outlived_turned from source [] t = turned_same t
+  outlived_turned from source (y ∷ ys) t = turned_then t (outlive_at from source y t) (outlive from source ys (outlive_at from source y t)) (outlived_at from source t y) (outlived_turned from source ys (outlive_at from source y t))
 
   new_at : (b : Bool) → side ≡ b → (x : ℕ) (e : Sessions) (k m : ℕ) → n < x → R x e (void_sessions b k m)
   new_at b w x e k m l = subst (λ z. R x e (void_sessions z k m)) w (c.news x e k m l)

@@ -7,18 +7,18 @@ use Rattle.lat_model.specs.sessions.Calls.{Call, call}
 use Rattle.lat_model.specs.numbers.Link.{Frame}
 use Rattle.lat_model.specs.numbers.NetOk.{FrameOf}
 use Rattle.lat_model.specs.Lists.{Each}
-use Rattle.lat_model.specs.ends.End.{Mark, Sent, Run, CallStart, ReplyStart, Stopped, Half, End, Step, lives, call_end}
+use Rattle.lat_model.specs.ends.End.{Mark, Sent, Run, CallStart, ReplyStart, Stopped, Half, End, Step, lives, call_end, finish, lapse}
 use Rattle.lat_model.specs.ends.Timers.{note_empty, time_step}
 use Rattle.lat_model.specs.ends.Run.{run_end}
 use Rattle.lat_model.specs.ends.Starting.{Agreed, Setup, reply_end, make_slave, again_start, hear_reply, hear_stop, void_sessions}
 use Rattle.lat_model.specs.circuits.World.{CircuitEntry, Wired, World, table, with_table, put_circuit, at_end, first_end}
 use Rattle.lat_model.specs.circuits.Arriving.{is_of, living, slave_of, run_in, stop_in, reply_in, start_in, arrive}
-use Rattle.lat_model.specs.circuits.Events.{WorldEvent, Calls, Locally, Times, Moves, Delivers, Injects, deliver_in, occurs, go_on, open_world}
+use Rattle.lat_model.specs.circuits.Events.{WorldEvent, Calls, Locally, Times, Moves, Delivers, Injects, deliver_in, occurs, go_on, open_world, Ends, Lapses, Stops}
 use Rattle.lat_model.specs.circuits.Together.{Together}
 use Rattle.lat_model.specs.circuits.WorldOk.{void_half, mate, Idle, Joint, Replied, ByServer, ByNode, FromSender, WorldOk}
 use Rattle.lat_model.proofs.sessions.Words.{upd_other, upd_field}
 use Rattle.lat_model.proofs.numbers.Net.{each_at}
-use Rattle.lat_model.proofs.circuits.Kin.{Kin, kin_time, kin_run, kin_stop}
+use Rattle.lat_model.proofs.circuits.Kin.{Kin, kin_time, kin_run, kin_stop, kin_finish}
 use Rattle.lat_model.proofs.circuits.Begins.{kin_call}
 use Rattle.lat_model.proofs.circuits.Arrives.{Fair, says_fair, occurs_ok}
 use Rattle.lat_laws.specs.rounds.Idle.{NoStops}
@@ -347,6 +347,20 @@ occurs_plain w ok pl (Moves true x now) h =
 occurs_plain w ok pl (Moves false x now) h =
     let e : End = (w.node.circuit_at x).end in
     plain_cond (lives e) (at_end w false x (record { end = record e { moment = now }; sent = [] })) w (λ l. node_same w x (record { end = record e { moment = now }; sent = [] }) ok pl refl) pl
+occurs_plain w ok pl (Ends true x r) h =
+    let e : End = (w.server.circuit_at x).end in
+    plain_cond (lives e) (at_end w true x (finish r e)) w (λ l. server_same w x (finish r e) pl (kin_finish r e) refl) pl
+occurs_plain w ok pl (Ends false x r) h =
+    let e : End = (w.node.circuit_at x).end in
+    plain_cond (lives e) (at_end w false x (finish r e)) w (λ l. node_same w x (finish r e) ok pl refl) pl
+occurs_plain w ok pl (Lapses true x r) h =
+    let e : End = (w.server.circuit_at x).end in
+    plain_cond (lives e) (at_end w true x (lapse r e)) w (λ l. server_same w x (lapse r e) pl (kin_finish r e) refl) pl
+occurs_plain w ok pl (Lapses false x r) h =
+    let e : End = (w.node.circuit_at x).end in
+    plain_cond (lives e) (at_end w false x (lapse r e)) w (λ l. node_same w x (lapse r e) ok pl refl) pl
+occurs_plain w ok pl (Stops true to d s r) h = pl
+occurs_plain w ok pl (Stops false to d s r) h = pl
 occurs_plain w ok pl (Delivers i now g) h = deliver_plain w ok pl now g (slice_get w.frames i) (λ p e. each_at (λ f. FromSender w f.by_server f.circuit f.to f.destination f.source f.sent) w.frames i p ok.says e)
 occurs_plain w ok pl (Injects b from bit d s now g m) h = go (nat_eq from w.server.own) (nat_eq from w.node.own) refl refl
   where

@@ -6,7 +6,7 @@ use Rattle.lat_model.specs.sessions.Session.{Session, waits, put_open, take_open
 use Rattle.lat_model.specs.sessions.Sessions.{Sessions}
 use Rattle.lat_model.specs.sessions.Calls.{Call, Put, Set, Attend, Take, Close, Answer, RejectAsk}
 use Rattle.lat_model.specs.Lists.{upwards}
-use Rattle.lat_model.specs.ends.End.{ReplyStart, End, Step, lives, call_end}
+use Rattle.lat_model.specs.ends.End.{ReplyStart, End, Step, lives, call_end, finish, lapse}
 use Rattle.lat_model.specs.ends.Timers.{note_empty, time_step}
 use Rattle.lat_model.specs.ends.Run.{run_end}
 use Rattle.lat_model.specs.ends.Starting.{make_slave, again_start, hear_stop}
@@ -19,15 +19,15 @@ use Rattle.lat_machines.specs.values.Messages.{Head, StartInfo, RunMessage, Wide
 use Rattle.lat_machines.specs.values.Notices.{AnnouncementNotice, CommandNotice, StatusNotice, SolicitNotice, ResponseNotice}
 use Rattle.lat_machines.specs.values.Frames.{Value, OfCircuit, OfNotice, Whole, Malformed}
 use Rattle.lat_machines.specs.values.Timing.{agreed_by}
-use Rattle.lat_machines.specs.values.Events.{Numbers, Event, Hears, Time, Connects, Puts, Sets, Takes, Attends, Closes, Requests, Withdraws, Announces, is_heard}
+use Rattle.lat_machines.specs.values.Events.{Numbers, Event, Hears, Time, Connects, Puts, Sets, Takes, Attends, Closes, Requests, Withdraws, Announces, is_heard, Avoids, Readies, Halts}
 use Rattle.lat_machines.specs.values.Answers.{Closed, Ignored, IdUsed, NoLine, Ended}
 use Rattle.lat_machines.specs.values.Answers as A
-use Rattle.lat_machines.specs.cores.Acts.{Acted, idle, put_at, steps_at, local_at, time_at}
-use Rattle.lat_machines.specs.cores.Hearing.{HeardAct, foreign, names, fits_kind, numbers_at, run_frame, run_at, hear_run, hear_stop_at, Makes, Repeats, Refuses, start_fact}
-use Rattle.lat_machines.specs.cores.Cores.{Seat, Core, Doing, rests, then_doing, acts, with_circuits, setup_of, at_moment, time_each}
+use Rattle.lat_machines.specs.cores.Acts.{Acted, idle, put_at, steps_at, local_at, time_at, end_at}
+use Rattle.lat_machines.specs.cores.Hearing.{HeardAct, foreign, names, fits_kind, numbers_at, run_frame, run_at, hear_run, hear_stop_at, Makes, Repeats, Refuses, start_fact, is_outlived, outlive_at, outlive}
+use Rattle.lat_machines.specs.cores.Cores.{Seat, Core, Doing, rests, then_doing, acts, with_circuits, setup_of, at_moment, time_each, end_each}
 use Rattle.lat_machines.specs.cores.Lines.{session_of, seat_at, has_session, line_exists}
 use Rattle.lat_machines.specs.cores.LineCalls.{Said, says, calls_on, put_on, set_on, attend_on, take_on, close_on, on_line}
-use Rattle.lat_machines.specs.node.Node.{NodeConfig, Node, NodeStep, Requested, node_side, request_of, Verdict, Accepts, Rejects, verdict, judged, asked_at, answers_one, answers_in, asked_on, answers_asked, requests_again, withdraws, solicited, hears_run, hears_start, node_step}
+use Rattle.lat_machines.specs.node.Node.{NodeConfig, Node, NodeStep, Requested, node_side, request_of, Verdict, Accepts, Rejects, verdict, judged, asked_at, answers_one, answers_in, asked_on, answers_asked, requests_again, withdraws, solicited, hears_run, hears_start, node_step, makes_way, starts, turns_away}
 use Rattle.lat_machines.specs.node.Node as N
 use Rattle.lat_machines.specs.world.Machines.{Setups, Posted, Machines, Move, Does, HearsFrame, HearsForeign, tell, is_for_other, heard_as, counted, marked_delivered, comes, is_own, happens, run, open_machines}
 use Rattle.lat_laws.specs.rounds.Seated.{Seated, BothSeated}
@@ -234,6 +234,29 @@ times_answered : (config : NodeConfig) (xs : List ℕ) (d : Doing) → Answered 
 times_answered config [] d r = r
 times_answered config (x ∷ xs) d r = times_answered config xs (then_doing d (λ c. acts (node_side config) c (time_at false c.circuits x c.moment))) (time_answered d.core.circuits x d.core.moment r)
 
+-- an end that ends
+end_answered : (t : Table) (x r : ℕ) → Answered t → Answered (end_at false t x r).table
+end_answered t x r g = act_cond (lives (t.circuit_at x).end) (steps_at false t x (finish r (t.circuit_at x).end)) (idle t) (λ i. steps_answered t x (finish r (t.circuit_at x).end) (λ l. absurd (false≢true l)) g) g
+
+ends_answered : (config : NodeConfig) (r : ℕ) (xs : List ℕ) (d : Doing) → Answered d.core.circuits → Answered (end_each (node_side config) r xs d).core.circuits
+ends_answered config r [] d g = g
+ends_answered config r (x ∷ xs) d g = ends_answered config r xs (then_doing d (λ c. acts (node_side config) c (end_at false c.circuits x r))) (end_answered d.core.circuits x r g)
+
+outlived_answered : (from source : ℕ) (xs : List ℕ) (t : Table) → Answered t → Answered (outlive from source xs t)
+outlived_answered from source [] t g = g
+outlived_answered from source (x ∷ xs) t g = outlived_answered from source xs (outlive_at from source x t) (go (is_outlived (t.circuit_at x) from source))
+  where
+    go : (b : Bool) → Answered (cond b (steps_at false t x (lapse 5 (t.circuit_at x).end)).table t)
+    go true = steps_answered t x (lapse 5 (t.circuit_at x).end) (λ l. absurd (false≢true l)) g
+    go false = g
+
+way_answered : (config : NodeConfig) (st : Node) (from source : ℕ) → Answered st.core.circuits → Answered (makes_way config st from source).core.circuits
+way_answered config st from source g = go config.prompt
+  where
+    go : (b : Bool) → Answered (cond b (outlive from source (upwards 0 st.core.circuits.drawn) st.core.circuits) st.core.circuits)
+    go true = outlived_answered from source (upwards 0 st.core.circuits.drawn) st.core.circuits g
+    go false = g
+
 node_cond : (n : Bool) (s t : NodeStep) → Answered s.state.core.circuits → Answered t.state.core.circuits → Answered (cond n s t).state.core.circuits
 node_cond true s t p q = p
 node_cond false s t p q = q
@@ -241,7 +264,9 @@ node_cond false s t p q = q
 value_answered : (config : NodeConfig) (rates : List ℕ) (st : Node) (from : ℕ) (v : Value) (k : Option Numbers) → NodeAnswered config.lines st.core → Answered (N.hears_value config rates st from v k).state.core.circuits
 value_answered config rates st from (OfCircuit (RunMessage h slots)) k r = hears_run_answered config st from false h slots k r.seated r.answered
 value_answered config rates st from (OfCircuit (WideMessage h slots)) k r = hears_run_answered config st from true h slots k r.seated r.answered
-value_answered config rates st from (OfCircuit (StartMessage true ask to source info)) k r = start_answered config st from source info r.answered
+value_answered config rates st from (OfCircuit (StartMessage true ask to source info)) k r =
+    let m : Node = makes_way config st from source in
+    node_cond st.halted (turns_away config st from source) (starts config m from source info) r.answered (start_answered config m from source info (way_answered config st from source r.answered))
 value_answered config rates st from (OfCircuit (StartMessage false ask to source info)) k r = r.answered
 value_answered config rates st from (OfCircuit (StopMessage master ask to source reason text)) k r = stop_answered st.core.circuits from to source st.core.moment reason r.answered
 value_answered config rates st from (OfNotice (StatusNotice m)) k r = r.answered
@@ -280,6 +305,9 @@ node_answered config rates st (Closes line) r = line_answered config.lines st.co
 node_answered config rates st (Requests to id service) r = again_answered config st to id service (request_of id st) r.answered
 node_answered config rates st (Withdraws id) r = withdraw_answered config st (request_of id st) r.answered
 node_answered config rates st Announces r = r.answered
+node_answered config rates st (Avoids line) r = r.answered
+node_answered config rates st (Readies line ready) r = r.answered
+node_answered config rates st Halts r = ends_answered config 3 (upwards 0 st.core.circuits.drawn) (rests st.core) r.answered
 
 -- in every run
 

@@ -14,22 +14,23 @@ use Rattle.lat_machines.specs.values.Messages.{Head, StartInfo, RunMessage, Wide
 use Rattle.lat_machines.specs.values.Notices.{Kept, KeptAs, Unknown, Action, Ask, Cancel, Command, AnnouncementNotice, CommandNotice, StatusNotice, SolicitNotice, ResponseNotice}
 use Rattle.lat_machines.specs.values.Frames.{Value, OfCircuit, OfNotice, Whole, Malformed}
 use Rattle.lat_machines.specs.values.Timing.{agreed_by}
-use Rattle.lat_machines.specs.values.Events.{Numbers, Event, Hears, Time, Connects, Puts, Sets, Takes, Attends, Closes, Requests, Withdraws, Announces, is_heard}
-use Rattle.lat_machines.specs.values.Answers.{Answer, Connected, Ignored, Closed, Busy, NoLine, SessionsFull, CircuitsFull, IdsOut, IdUsed, NotKept, KeptIs}
+use Rattle.lat_machines.specs.values.Events.{Numbers, Event, Hears, Time, Connects, Puts, Sets, Takes, Attends, Closes, Requests, Withdraws, Announces, is_heard, Avoids, Readies, Halts}
+use Rattle.lat_machines.specs.values.Answers.{Answer, Connected, Ignored, Closed, Busy, NoLine, SessionsFull, CircuitsFull, IdsOut, IdUsed, NotKept, KeptIs, Halted}
 use Rattle.lat_machines.specs.server.Directory.{Best, best}
 use Rattle.lat_machines.specs.server.Queue.{Cancels, Request, next_request}
 use Rattle.lat_machines.specs.server.Records.{kept_for}
-use Rattle.lat_machines.specs.cores.Acts.{Acted, time_at}
-use Rattle.lat_machines.specs.cores.Hearing.{HeardAct, names, hear_run, hear_stop_at, hear_reply_at, Makes, Repeats, Refuses, start_fact}
-use Rattle.lat_machines.specs.cores.Cores.{Seat, Core, Side, Doing, rests, then_doing, acts, setup_of, at_moment, time_each, circuit_to}
+use Rattle.lat_machines.specs.cores.Acts.{Acted, time_at, end_at}
+use Rattle.lat_machines.specs.cores.Hearing.{HeardAct, names, hear_run, hear_stop_at, hear_reply_at, Makes, Repeats, Refuses, start_fact, outlive}
+use Rattle.lat_machines.specs.cores.Cores.{Seat, Core, Side, Doing, rests, then_doing, acts, setup_of, at_moment, time_each, circuit_to, end_each, with_circuits}
 use Rattle.lat_machines.specs.cores.Lines.{session_of, seat_at, has_session, line_exists}
 use Rattle.lat_machines.specs.cores.LineCalls.{Said, says, calls_on, put_on, set_on, attend_on, take_on, close_on, on_line}
 use Rattle.lat_machines.specs.server.Server.{ServerConfig, Server, ServerStep, server_side, offer_on, tells, does, has_room, may_call, can_open, opens, connects_to, solicits_for, connect_event, status_frame, key_of, hears_command, hears_value, server_event, finished_requests, Passing, fitting, grantable, grants_by, grant_line, grant_lines, server_step}
-use Rattle.lat_machines.specs.node.Node.{NodeConfig, Node, NodeStep, Requested, node_side, open_node, request_of, answers_asked, requests_again, withdraws, solicited, hears_run, hears_start, node_step}
+use Rattle.lat_machines.specs.node.Node.{NodeConfig, Node, NodeStep, Requested, node_side, open_node, request_of, answers_asked, requests_again, withdraws, solicited, hears_run, hears_start, node_step, makes_way, starts, turns_away}
 use Rattle.lat_machines.specs.world.Machines.{Setups, Posted, Machines, Move, Does, HearsFrame, HearsForeign, tell, is_for_other, heard_as, counted, marked_delivered, comes, is_own, happens, run, open_machines}
+use Rattle.lat_machines.proofs.queue.Legal.{grantable_ready}
 use Rattle.lat_laws.specs.rounds.Seated.{LaterTable, Seated, BothSeated}
 use Rattle.lat_laws.proofs.rounds.ready.Laters.{accepts_none}
-use Rattle.lat_laws.proofs.rounds.ready.Tables.{table_same, local_later, time_at_later, run_at_later, stop_at_later, reply_at_later, make_later, again_at_later}
+use Rattle.lat_laws.proofs.rounds.ready.Tables.{table_same, local_later, time_at_later, run_at_later, stop_at_later, reply_at_later, make_later, again_at_later, end_at_later, outlive_later}
 use Rattle.lat_laws.proofs.rounds.ready.Seats.{seated_later}
 use Rattle.lat_laws.proofs.rounds.ready.Opens.{opens_seated, answers_seated, lines_exist}
 use Rattle.lat_machines.specs.node.Node as N
@@ -71,6 +72,10 @@ close_seated m lines k c line r = line_seated m lines c line (λ s. close_on k c
 times_seated : (m : Bool) (lines : ℕ) (k : Side) (xs : List ℕ) (d : Doing) → Seated m lines d.core → Seated m lines (time_each k xs d).core
 times_seated m lines k [] d r = r
 times_seated m lines k (x ∷ xs) d r = times_seated m lines k xs (then_doing d (λ c. acts k c (time_at k.server c.circuits x c.moment))) (acts_seated m lines k d.core (time_at k.server d.core.circuits x d.core.moment) (time_at_later m k.server d.core.circuits x d.core.moment) r)
+
+ends_seated : (m : Bool) (lines : ℕ) (k : Side) (r : ℕ) (xs : List ℕ) (d : Doing) → Seated m lines d.core → Seated m lines (end_each k r xs d).core
+ends_seated m lines k r [] d h = h
+ends_seated m lines k r (x ∷ xs) d h = ends_seated m lines k r xs (then_doing d (λ c. acts k c (end_at k.server c.circuits x r))) (acts_seated m lines k d.core (end_at k.server d.core.circuits x r) (end_at_later m k.server d.core.circuits x r) h)
 
 -- the server
 
@@ -140,7 +145,7 @@ event_seated config st (Hears from (Whole v) k now) pos r =
     let h : Seated true config.lines s.core = table_seated true config.lines st.core (at_moment now st.core) refl refl r in
     steady_cond config.lines (nat_eq from everyone) (tells s Ignored) (hears_value config s from v k) (λ y. h) (λ y. value_seated config s from v k h)
 event_seated config st (Time now) pos r = times_seated true config.lines (server_side config) (upwards 0 st.core.circuits.drawn) (rests (at_moment now st.core)) (table_seated true config.lines st.core (at_moment now st.core) refl refl r)
-event_seated config st (Connects line service) pos r = connect_event_seated config st line service pos r
+event_seated config st (Connects line service) pos r = steady_cond config.lines st.halted (tells st Halted) (connect_event config st line service) (λ i. r) (λ i. connect_event_seated config st line service pos r)
 event_seated config st (Puts line bytes) pos r = put_seated true config.lines (server_side config) st.core line bytes r
 event_seated config st (Sets line setting) pos r = set_seated true config.lines (server_side config) st.core line setting r
 event_seated config st (Takes line n) pos r = take_seated true config.lines (server_side config) st.core line n r
@@ -149,13 +154,16 @@ event_seated config st (Closes line) pos r = close_seated true config.lines (ser
 event_seated config st (Requests to id service) pos r = r
 event_seated config st (Withdraws id) pos r = r
 event_seated config st Announces pos r = r
+event_seated config st (Avoids line) pos r = r
+event_seated config st (Readies line ready) pos r = r
+event_seated config st Halts pos r = ends_seated true config.lines (server_side config) 3 (upwards 0 st.core.circuits.drawn) (rests st.core) r
 
 -- the grant pass
 
 pub grants_seated : (config : ServerConfig) (line : ℕ) (o : Option Name) (g : Option Request) (p : Passing) → 0 < config.timing.sessions → line_exists config.lines line ≡ true → grantable p.state line o ≡ g → Seated true config.lines p.state.core → Seated true config.lines (grants_by config line o g p).state.core
 grants_seated config line None g p pos ex q r = r
 grants_seated config line (Some service) None p pos ex q r = r
-grants_seated config line (Some service) (Some g) p pos ex q r = go (has_session p.state.core line) refl (next_request service p.state.queue) q
+grants_seated config line (Some service) (Some g) p pos ex q r = go (has_session p.state.core line) refl (next_request service p.state.queue) (grantable_ready p.state line service g q)
   where
     wrong : None ≡ Some g → ⊥
     wrong e = cc
@@ -212,10 +220,20 @@ start_seated config st from source info r = go (nat_eq (slave_of st.core.circuit
     go true false = table_seated false config.lines st.core (hears_start config st from source info Refuses).state.core refl refl r
     go false b = seated_later false config.lines st.core (hears_start config st from source info (Repeats (slave_of t from source))).state.core refl (again_at_later t (slave_of t from source) st.core.moment) r
 
+-- the slaves that a START follows
+way_seated : (config : NodeConfig) (st : Node) (from source : ℕ) → Seated false config.lines st.core → Seated false config.lines (makes_way config st from source).core
+way_seated config st from source r = go config.prompt
+  where
+    go : (b : Bool) → Seated false config.lines (with_circuits st.core (cond b (outlive from source (upwards 0 st.core.circuits.drawn) st.core.circuits) st.core.circuits))
+    go true = seated_later false config.lines st.core (with_circuits st.core (outlive from source (upwards 0 st.core.circuits.drawn) st.core.circuits)) refl (outlive_later from source (upwards 0 st.core.circuits.drawn) st.core.circuits) r
+    go false = r
+
 node_value_seated : (config : NodeConfig) (rates : List ℕ) (st : Node) (from : ℕ) (v : Value) (k : Option Numbers) → Seated false config.lines st.core → Seated false config.lines (N.hears_value config rates st from v k).state.core
 node_value_seated config rates st from (OfCircuit (RunMessage h slots)) k r = hears_run_seated config st from false h slots k r
 node_value_seated config rates st from (OfCircuit (WideMessage h slots)) k r = hears_run_seated config st from true h slots k r
-node_value_seated config rates st from (OfCircuit (StartMessage true ask to source info)) k r = start_seated config st from source info r
+node_value_seated config rates st from (OfCircuit (StartMessage true ask to source info)) k r =
+    let m : Node = makes_way config st from source in
+    node_cond config.lines st.halted (turns_away config st from source) (starts config m from source info) r (start_seated config m from source info (way_seated config st from source r))
 node_value_seated config rates st from (OfCircuit (StartMessage false ask to source info)) k r = r
 node_value_seated config rates st from (OfCircuit (StopMessage master ask to source reason text)) k r = acts_seated false config.lines (node_side config) st.core (hear_stop_at false st.core.circuits from to source st.core.moment reason).act (stop_at_later false false st.core.circuits from to source st.core.moment reason) r
 node_value_seated config rates st from (OfNotice (StatusNotice s)) k r = r
@@ -252,6 +270,9 @@ node_seated config rates st (Closes line) r = close_seated false config.lines (n
 node_seated config rates st (Requests to id service) r = again_seated config st to id service (request_of id st) r
 node_seated config rates st (Withdraws id) r = withdraw_seated config st (request_of id st) r
 node_seated config rates st Announces r = r
+node_seated config rates st (Avoids line) r = r
+node_seated config rates st (Readies line ready) r = r
+node_seated config rates st Halts r = ends_seated false config.lines (node_side config) 3 (upwards 0 st.core.circuits.drawn) (rests st.core) r
 
 -- both
 

@@ -4,7 +4,7 @@ use Rattle.std.proofs.lemmas.Bool.{true≢false, and_from, or_left, lt-ltb}
 use Rattle.lat_model.specs.sessions.Slots.{Slot}
 use Rattle.lat_model.specs.sessions.Joined.{Joined}
 use Rattle.lat_model.specs.numbers.Link.{Link, window_open}
-use Rattle.lat_model.specs.ends.End.{End, Step, lives, call_end}
+use Rattle.lat_model.specs.ends.End.{End, Step, lives, call_end, finish}
 use Rattle.lat_model.specs.ends.Timers.{note_empty, time_step}
 use Rattle.lat_model.specs.ends.Run.{run_end}
 use Rattle.lat_model.specs.ends.Starting.{make_slave, again_start, hear_stop, void_sessions}
@@ -14,11 +14,11 @@ use Rattle.lat_model.specs.circuits.Arriving.{living, slave_of}
 use Rattle.lat_model.proofs.circuits.Kin.{Calm, idle_calm, calm_time, calm_again, calm_stop, idle_call}
 use Rattle.lat_machines.specs.values.Messages.{Head, StartInfo, RunMessage, WideMessage, StartMessage, StopMessage}
 use Rattle.lat_machines.specs.values.Timing.{agreed_by}
-use Rattle.lat_machines.specs.values.Events.{Numbers, Event, Hears, Time, Connects, Puts, Sets, Takes, Attends, Closes, Requests, Withdraws, Announces, is_heard}
+use Rattle.lat_machines.specs.values.Events.{Numbers, Event, Hears, Time, Connects, Puts, Sets, Takes, Attends, Closes, Requests, Withdraws, Announces, is_heard, Avoids, Readies, Halts}
 use Rattle.lat_machines.specs.values.Frames.{OfCircuit, OfNotice, Whole, Malformed}
 use Rattle.lat_machines.specs.world.Machines.{Setups, Posted, Machines, Move, Does, HearsFrame, HearsForeign, tell, is_for_other, heard_as, counted, marked_delivered, comes, is_own, happens, run, open_machines}
 use Rattle.lat_machines.specs.values.Answers.{Ended}
-use Rattle.lat_machines.specs.cores.Acts.{Acted, idle, put_at, steps_at, move_at}
+use Rattle.lat_machines.specs.cores.Acts.{Acted, idle, put_at, steps_at, move_at, end_at}
 use Rattle.lat_machines.specs.cores.Hearing.{HeardAct, foreign, names, fits_kind, numbers_at, run_frame, run_at, hear_run, hear_stop_at, Makes, Repeats, Refuses, start_at}
 use Rattle.lat_machines.specs.cores.Cores.{Core, with_circuits, setup_of}
 use Rattle.lat_machines.specs.node.Node.{NodeConfig}
@@ -125,6 +125,7 @@ node_idles config S low = record {
     times = λ c x g. act_cond c (lives (c.circuits.circuit_at x).end) (steps_at false c.circuits x (time_step c.moment (c.circuits.circuit_at x).end)) (idle c.circuits) (steps_idle false c x (time_step c.moment (c.circuits.circuit_at x).end) (calm_idle (c.circuits.circuit_at x).end (time_step c.moment (c.circuits.circuit_at x).end).end (calm_time c.moment (c.circuits.circuit_at x).end) (stays_time c.moment (c.circuits.circuit_at x).end).heard (g x)) g) g;
     runs = λ c from wide h slots n g. runs c from wide h slots n g;
     stops = λ c from to source reason g. stops c from to source reason g;
+    ends = λ c x r g. ends c x r g;
   };
   starts = λ c from source info s g. starts c from source info g (nat_eq (slave_of c.circuits from source) 0) (nat_lt (living c.circuits) 8 && nat_lt c.circuits.drawn 65535);
 }
@@ -155,6 +156,11 @@ node_idles config S low = record {
         let y : CircuitEntry = c.circuits.circuit_at to in
         heard_cond c (nat_eq y.address from && (nat_eq y.end.peer source || nat_eq source 0) && lives y.end) (record { act = steps_at false c.circuits to (hear_stop c.moment reason y.end); answer = Ended reason }) (foreign c.circuits)
         (steps_idle false c to (hear_stop c.moment reason y.end) (calm_idle y.end (hear_stop c.moment reason y.end).end (λ i. calm_stop c.moment reason y.end) (stop_heard c.moment reason y.end) (g to)) g) g
+
+    ends : (c : Core) (x r : ℕ) → CoreIdle c → CoreIdle (with_circuits c (end_at false c.circuits x r).table)
+    ends c x r g =
+        let e : End = (c.circuits.circuit_at x).end in
+        act_cond c (lives e) (steps_at false c.circuits x (finish r e)) (idle c.circuits) (steps_idle false c x (finish r e) (calm_idle e (finish r e).end (λ i. record { half = refl; heard_run = refl; master = refl }) (λ q. q) (g x)) g) g
 
     again_heard : (now : ℕ) (e : End) → e.heard_run ≡ true → (again_start now e).end.heard_run ≡ true
     again_heard now e q = (calm_again now e).heard_run ∙ q
@@ -189,6 +195,9 @@ says_any (Closes line) = tt
 says_any (Requests to id service) = tt
 says_any (Withdraws id) = tt
 says_any Announces = tt
+says_any (Avoids line) = tt
+says_any (Readies line ready) = tt
+says_any Halts = tt
 
 abbrev pub NodeIdle : Machines → Type 0
 NodeIdle w = CoreIdle w.node.core

@@ -5,7 +5,7 @@ use Rattle.lat_model.specs.Lists.{Each}
 use Rattle.lat_model.proofs.numbers.Net.{each_at}
 use Rattle.lat_machines.specs.values.Messages.{RunMessage, WideMessage, StartMessage, StopMessage}
 use Rattle.lat_machines.specs.values.Frames.{Value, OfCircuit, OfNotice, Reading, Whole, Malformed, OutFrame}
-use Rattle.lat_machines.specs.values.Events.{Event, Hears, Time, Connects, Puts, Sets, Takes, Attends, Closes, Requests, Withdraws, Announces, is_heard}
+use Rattle.lat_machines.specs.values.Events.{Event, Hears, Time, Connects, Puts, Sets, Takes, Attends, Closes, Requests, Withdraws, Announces, is_heard, Avoids, Readies, Halts}
 use Rattle.lat_machines.specs.server.Server.{server_step}
 use Rattle.lat_machines.specs.node.Node.{node_step}
 use Rattle.lat_machines.specs.world.Machines.{Setups, Posted, Machines, post_all, Move, Does, HearsFrame, HearsForeign, tell, is_for_other, heard_as, counted, marked_delivered, comes, is_own, happens, run, open_machines}
@@ -46,6 +46,9 @@ own_event u b (Closes line) q = tt
 own_event u b (Requests to id service) q = tt
 own_event u b (Withdraws id) q = tt
 own_event u b Announces q = tt
+own_event u b (Avoids line) q = tt
+own_event u b (Readies line ready) q = tt
+own_event u b Halts q = tt
 
 away : (u : Setups) (b : Bool) (from : ℕ) → is_own u from ≡ false → from ≢ (ways_of u b).other
 away u true from q = eqb-false from u.node.own (or_parts (nat_eq from u.server.own) (nat_eq from u.node.own) q).1

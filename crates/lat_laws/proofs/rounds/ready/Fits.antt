@@ -5,7 +5,7 @@ use Rattle.lat_model.specs.sessions.Slots.{Slot}
 use Rattle.lat_model.specs.sessions.Session.{waits}
 use Rattle.lat_model.specs.sessions.Sessions.{Sessions, named, held}
 use Rattle.lat_model.specs.sessions.Calls.{Call, Connect, Put, Set, Attend, Take, Close, Answer, RejectAsk, call, connect}
-use Rattle.lat_model.specs.ends.End.{ReplyStart, End, Step, lives, call_end}
+use Rattle.lat_model.specs.ends.End.{ReplyStart, End, Step, lives, call_end, finish}
 use Rattle.lat_model.specs.ends.Timers.{note_empty, time_step}
 use Rattle.lat_model.specs.ends.Run.{run_end}
 use Rattle.lat_model.specs.ends.Starting.{Agreed, reply_end, make_slave, again_start, hear_reply, hear_stop}
@@ -17,7 +17,7 @@ use Rattle.lat_machines.specs.values.Messages.{Head, StartInfo}
 use Rattle.lat_machines.specs.values.Timing.{Timing, is_wide, agreed_by}
 use Rattle.lat_machines.specs.values.Events.{Numbers}
 use Rattle.lat_machines.specs.values.Answers.{Again, Running, Ended}
-use Rattle.lat_machines.specs.cores.Acts.{Acted, idle, put_at, steps_at, called, local_at, time_at, move_at}
+use Rattle.lat_machines.specs.cores.Acts.{Acted, idle, put_at, steps_at, called, local_at, time_at, move_at, end_at}
 use Rattle.lat_machines.specs.cores.Hearing.{HeardAct, foreign, names, fits_kind, numbers_at, run_frame, run_at, hear_run, hear_stop_at, hear_reply_at, Makes, Repeats, Refuses, start_at}
 use Rattle.lat_machines.specs.cores.Cores.{Core, with_circuits, setup_of, at_moment}
 use Rattle.lat_machines.specs.world.Machines.{Setups}
@@ -118,6 +118,11 @@ stop_fits p b c from to source reason g =
     heard_cond p c (nat_eq y.address from && (nat_eq y.end.peer source || nat_eq source 0) && lives y.end) (record { act = steps_at b c.circuits to (hear_stop c.moment reason y.end); answer = Ended reason }) (foreign c.circuits)
     (λ i. steps_fit p b c to (hear_stop c.moment reason y.end) (stop_end_fits p c.moment c.moment y.address reason y.end (g to)) g) (λ i. g)
 
+end_fits : (p : Ways) (b : Bool) (c : Core) (x r : ℕ) → CoreFits p c → CoreFits p (with_circuits c (end_at b c.circuits x r).table)
+end_fits p b c x r g =
+    let e : End = (c.circuits.circuit_at x).end in
+    act_cond p c (lives e) (steps_at b c.circuits x (finish r e)) (idle c.circuits) (λ i. steps_fit p b c x (finish r e) (fits_by p c.moment (c.circuits.circuit_at x).address e (finish r e).end refl refl refl refl refl (g x).due (g x)) g) (λ i. g)
+
 moment_fits : (p : Ways) (c : Core) (now : ℕ) → CoreFits p c → CoreFits p (at_moment now c)
 moment_fits p c now g x = let h : EndFits p c.moment (c.circuits.circuit_at x).address (c.circuits.circuit_at x).end = g x in record { ceiling = h.ceiling; due = omega (arith, h.due); window = h.window; room = h.room; timer = h.timer }
 
@@ -181,6 +186,7 @@ server_fits u = record {
     times = time_fits (ways_of u true) true;
     runs = run_fits (ways_of u true) true;
     stops = stop_fits (ways_of u true) true;
+    ends = end_fits (ways_of u true) true;
   };
   opens = λ c address g. put_fits (ways_of u true) true c (suc c.circuits.drawn) (suc c.circuits.drawn) address (called (setup_of u.server.timing) c.moment) (record { ceiling = refl; due = omega arith; window = λ q. absurd (false≢true q); room = λ q a. absurd (false≢true q); timer = λ q a. refl }) g;
   replies = λ c from to source info s g. replies c from to source info s g;
@@ -208,6 +214,7 @@ node_fits u = record {
     times = time_fits (ways_of u false) false;
     runs = run_fits (ways_of u false) false;
     stops = stop_fits (ways_of u false) false;
+    ends = end_fits (ways_of u false) false;
   };
   starts = λ c from source info s g. go c from source info s g (nat_eq (slave_of c.circuits from source) 0) (nat_lt (living c.circuits) 8 && nat_lt c.circuits.drawn 65535);
 }

@@ -1,5 +1,6 @@
 -- Each START that a core sends says a size of 1,500, and a call its timer.
 use Rattle.std.proofs.Common.{◌≡◌, ℕ, suc, refl, Bool, true, false, cond, ◌&&◌, List, [], ◌∷◌, ◌++◌, map, Option, Some, None, nat_eq, nat_lt, find}
+use Rattle.lat_model.specs.circuits.Events.{stray_stop}
 use Rattle.lat_model.specs.sessions.Slots.{Slot}
 use Rattle.lat_model.specs.sessions.Sessions.{Sessions, least_free}
 use Rattle.lat_model.specs.sessions.Calls.{Connect}
@@ -10,23 +11,23 @@ use Rattle.lat_model.specs.circuits.World.{Wired}
 use Rattle.lat_model.specs.circuits.Arriving.{living}
 use Rattle.lat_machines.specs.values.Names.{Name, same}
 use Rattle.lat_machines.specs.values.Addresses.{everyone}
-use Rattle.lat_machines.specs.values.Messages.{RunMessage, WideMessage, StartMessage, StopMessage}
+use Rattle.lat_machines.specs.values.Messages.{RunMessage, WideMessage, StartMessage, StopMessage, Head}
 use Rattle.lat_machines.specs.values.Notices.{Kept, KeptAs, Unknown, Action, Ask, Cancel, Command, AnnouncementNotice, CommandNotice, StatusNotice, SolicitNotice, ResponseNotice}
 use Rattle.lat_machines.specs.values.Frames.{Value, OfCircuit, OfNotice, Whole, Malformed, OutFrame}
 use Rattle.lat_machines.specs.values.Timing.{agreed_by}
 use Rattle.lat_machines.specs.values.Runs.{run_message}
 use Rattle.lat_machines.specs.values.Keys.{Key}
-use Rattle.lat_machines.specs.values.Events.{Numbers, Event, Hears, Time, Connects, Puts, Sets, Takes, Attends, Closes, Requests, Withdraws, Announces}
-use Rattle.lat_machines.specs.values.Answers.{Connected, Ignored, Busy, NoLine, SessionsFull, CircuitsFull, IdsOut, IdUsed, NotKept, KeptIs}
+use Rattle.lat_machines.specs.values.Events.{Numbers, Event, Hears, Time, Connects, Puts, Sets, Takes, Attends, Closes, Requests, Withdraws, Announces, Avoids, Readies, Halts}
+use Rattle.lat_machines.specs.values.Answers.{Connected, Ignored, Busy, NoLine, SessionsFull, CircuitsFull, IdsOut, IdUsed, NotKept, KeptIs, Halted}
 use Rattle.lat_machines.specs.server.Directory.{Best, best}
 use Rattle.lat_machines.specs.server.Queue.{Cancels, Request}
 use Rattle.lat_machines.specs.server.Records.{kept_for}
-use Rattle.lat_machines.specs.cores.Acts.{Acted, call_at, local_at, time_at}
+use Rattle.lat_machines.specs.cores.Acts.{Acted, call_at, local_at, time_at, end_at}
 use Rattle.lat_machines.specs.cores.Hearing.{hear_run, hear_stop_at, hear_reply_at, StartFact, start_fact, start_at}
-use Rattle.lat_machines.specs.cores.Cores.{Core, Side, Doing, rests, then_doing, acts, with_circuits, setup_of, at_moment, time_each, circuit_to, sent_frame}
+use Rattle.lat_machines.specs.cores.Cores.{Core, Side, Doing, rests, then_doing, acts, with_circuits, setup_of, at_moment, time_each, circuit_to, sent_frame, end_each, ends_all, told_stranger, is_stranger}
 use Rattle.lat_machines.specs.cores.Lines.{has_session, line_exists}
 use Rattle.lat_machines.specs.server.Server.{ServerConfig, Server, ServerStep, server_side, offer_on, tells, does, has_room, connects_on, opens, connects_to, solicits_for, connect_event, status_frame, key_of, hears_command, hears_value, server_event, finished_requests, Passing, grantable, grants_by, grant_line, grant_lines, server_step}
-use Rattle.lat_machines.specs.node.Node.{NodeConfig, Node, NodeStep, Requested, node_side, request_of, requests_again, withdraws, solicited, names_for, hears_start, node_step}
+use Rattle.lat_machines.specs.node.Node.{NodeConfig, Node, NodeStep, Requested, node_side, request_of, requests_again, withdraws, solicited, names_for, node_step, makes_way, starts, turns_away, farewell}
 use Rattle.lat_machines.specs.node.Node as N
 use Rattle.lat_machines.proofs.events.Leads.{each_more}
 use Rattle.lat_laws.specs.rounds.Fitting.{ValueFine}
@@ -60,6 +61,21 @@ acts_fine k c x = wires_fine k (with_circuits c x.table) x.sent
 times_fine : (k : Side) (xs : List ℕ) (d : Doing) → FramesFine k.timing.timer d.frames → FramesFine k.timing.timer (time_each k xs d).frames
 times_fine k [] d r = r
 times_fine k (x ∷ xs) d r = times_fine k xs (then_doing d (λ c. acts k c (time_at k.server c.circuits x c.moment))) (more_fine k.timing.timer d.frames (acts k d.core (time_at k.server d.core.circuits x d.core.moment)).frames r (acts_fine k d.core (time_at k.server d.core.circuits x d.core.moment)))
+
+ends_fine : (k : Side) (r : ℕ) (xs : List ℕ) (d : Doing) → FramesFine k.timing.timer d.frames → FramesFine k.timing.timer (end_each k r xs d).frames
+ends_fine k r [] d h = h
+ends_fine k r (x ∷ xs) d h = ends_fine k r xs (then_doing d (λ c. acts k c (end_at k.server c.circuits x r))) (more_fine k.timing.timer d.frames (acts k d.core (end_at k.server d.core.circuits x r)).frames h (acts_fine k d.core (end_at k.server d.core.circuits x r)))
+
+-- with what a prompt end tells a stranger
+told_fine : (k : Side) (prompt : Bool) (c : Core) (from : ℕ) (h : Head) (fs : List OutFrame) → FramesFine k.timing.timer fs → FramesFine k.timing.timer (fs ++ told_stranger k prompt c from h)
+told_fine k prompt c from h fs p = more_fine k.timing.timer fs (told_stranger k prompt c from h) p (go (prompt && is_stranger c.circuits from h))
+  where
+    v : Wired
+    v = stray_stop k.server from h.from h.to 5
+
+    go : (b : Bool) → FramesFine k.timing.timer (cond b (map (sent_frame k c) (v ∷ [])) [])
+    go true = wires_fine k c (v ∷ [])
+    go false = tt
 
 -- the server
 
@@ -128,8 +144,8 @@ command_fine config st from m Cancel = go (kept_for (key_of m) (st.queue ++ Canc
     go (Some k) = (tt, tt)
 
 value_fine : (config : ServerConfig) (st : Server) (from : ℕ) (v : Value) (k : Option Numbers) → FramesFine config.timing.timer (hears_value config st from v k).frames
-value_fine config st from (OfCircuit (RunMessage h slots)) k = acts_fine (server_side config) st.core (hear_run true st.core.circuits from false h slots k st.core.moment).act
-value_fine config st from (OfCircuit (WideMessage h slots)) k = acts_fine (server_side config) st.core (hear_run true st.core.circuits from true h slots k st.core.moment).act
+value_fine config st from (OfCircuit (RunMessage h slots)) k = told_fine (server_side config) config.prompt st.core from h _ (acts_fine (server_side config) st.core (hear_run true st.core.circuits from false h slots k st.core.moment).act)
+value_fine config st from (OfCircuit (WideMessage h slots)) k = told_fine (server_side config) config.prompt st.core from h _ (acts_fine (server_side config) st.core (hear_run true st.core.circuits from true h slots k st.core.moment).act)
 value_fine config st from (OfCircuit (StartMessage true ask to source info)) k = tt
 value_fine config st from (OfCircuit (StartMessage false ask to source info)) k = acts_fine (server_side config) st.core (hear_reply_at st.core.circuits from to source st.core.moment (agreed_by config.timing info)).act
 value_fine config st from (OfCircuit (StopMessage master ask to source reason text)) k = acts_fine (server_side config) st.core (hear_stop_at true st.core.circuits from to source st.core.moment reason).act
@@ -145,7 +161,7 @@ event_fine config st (Hears from (Whole v) k now) =
     let s : Server = record st { core = at_moment now st.core } in
     steady_cond config.timing.timer (nat_eq from everyone) (tells s Ignored) (hears_value config s from v k) tt (value_fine config s from v k)
 event_fine config st (Time now) = times_fine (server_side config) (upwards 0 st.core.circuits.drawn) (rests (at_moment now st.core)) tt
-event_fine config st (Connects line service) = connect_fine config st line service
+event_fine config st (Connects line service) = steady_cond config.timing.timer st.halted (tells st Halted) (connect_event config st line service) tt (connect_fine config st line service)
 event_fine config st (Puts line bytes) = tt
 event_fine config st (Sets line setting) = tt
 event_fine config st (Takes line n) = tt
@@ -154,6 +170,9 @@ event_fine config st (Closes line) = tt
 event_fine config st (Requests to id service) = tt
 event_fine config st (Withdraws id) = tt
 event_fine config st Announces = tt
+event_fine config st (Avoids line) = tt
+event_fine config st (Readies line ready) = tt
+event_fine config st Halts = ends_fine (server_side config) 3 (upwards 0 st.core.circuits.drawn) (rests st.core) tt
 
 grants_fine : (config : ServerConfig) (line : ℕ) (o : Option Name) (g : Option Request) (p : Passing) → FramesFine config.timing.timer p.frames → FramesFine config.timing.timer (grants_by config line o g p).frames
 grants_fine config line None g p r = r
@@ -173,13 +192,19 @@ node_cond : (t : ℕ) (n : Bool) (x y : NodeStep) → FramesFine t x.frames → 
 node_cond t true x y p q = p
 node_cond t false x y p q = q
 
+-- a halted node says nothing
+quiet_fine : (t : ℕ) (n : Bool) (fs : List OutFrame) → FramesFine t fs → FramesFine t (cond n [] fs)
+quiet_fine t true fs p = tt
+quiet_fine t false fs p = p
+
 node_value_fine : (config : NodeConfig) (rates : List ℕ) (st : Node) (from : ℕ) (v : Value) (k : Option Numbers) → FramesFine config.timing.timer (N.hears_value config rates st from v k).frames
-node_value_fine config rates st from (OfCircuit (RunMessage h slots)) k = acts_fine (node_side config) st.core (hear_run false st.core.circuits from false h slots k st.core.moment).act
-node_value_fine config rates st from (OfCircuit (WideMessage h slots)) k = acts_fine (node_side config) st.core (hear_run false st.core.circuits from true h slots k st.core.moment).act
+node_value_fine config rates st from (OfCircuit (RunMessage h slots)) k = told_fine (node_side config) config.prompt st.core from h _ (acts_fine (node_side config) st.core (hear_run false st.core.circuits from false h slots k st.core.moment).act)
+node_value_fine config rates st from (OfCircuit (WideMessage h slots)) k = told_fine (node_side config) config.prompt st.core from h _ (acts_fine (node_side config) st.core (hear_run false st.core.circuits from true h slots k st.core.moment).act)
 node_value_fine config rates st from (OfCircuit (StartMessage true ask to source info)) k =
-    let fact : StartFact = start_fact st.core.circuits from source in
-    let c : Core = names_for fact info.name st.core in
-    acts_fine (node_side config) c (start_at (setup_of config.timing) c.circuits from source c.moment (agreed_by config.timing info) fact)
+    let m : Node = makes_way config st from source in
+    let fact : StartFact = start_fact m.core.circuits from source in
+    let c : Core = names_for fact info.name m.core in
+    node_cond config.timing.timer st.halted (turns_away config st from source) (starts config m from source info) (tt, tt) (acts_fine (node_side config) c (start_at (setup_of config.timing) c.circuits from source c.moment (agreed_by config.timing info) fact))
 node_value_fine config rates st from (OfCircuit (StartMessage false ask to source info)) k = tt
 node_value_fine config rates st from (OfCircuit (StopMessage master ask to source reason text)) k = acts_fine (node_side config) st.core (hear_stop_at false st.core.circuits from to source st.core.moment reason).act
 node_value_fine config rates st from (OfNotice (StatusNotice m)) k = tt
@@ -187,7 +212,7 @@ node_value_fine config rates st from (OfNotice (SolicitNotice m)) k = go (find (
   where
     go : (o : Option Name) → FramesFine config.timing.timer (solicited config rates st from m.id o).frames
     go None = tt
-    go (Some n) = (tt, (tt, tt))
+    go (Some n) = quiet_fine config.timing.timer st.halted _ (tt, (tt, tt))
 node_value_fine config rates st from (OfNotice (AnnouncementNotice a)) k = tt
 node_value_fine config rates st from (OfNotice (CommandNotice m)) k = tt
 node_value_fine config rates st from (OfNotice (ResponseNotice m)) k = tt
@@ -214,4 +239,11 @@ node_fine config rates st (Attends line flag) = tt
 node_fine config rates st (Closes line) = tt
 node_fine config rates st (Requests to id service) = again_fine config st to id service (request_of id st)
 node_fine config rates st (Withdraws id) = withdraw_fine config st (request_of id st)
-node_fine config rates st Announces = (tt, tt)
+node_fine config rates st Announces = quiet_fine config.timing.timer st.halted _ (tt, tt)
+node_fine config rates st (Avoids line) = tt
+node_fine config rates st (Readies line ready) = tt
+node_fine config rates st Halts = more_fine config.timing.timer (ends_all (node_side config) 3 st.core).frames (farewell config st.halted) (ends_fine (node_side config) 3 (upwards 0 st.core.circuits.drawn) (rests st.core) tt) (go st.halted)
+  where
+    go : (n : Bool) → FramesFine config.timing.timer (farewell config n)
+    go true = tt
+    go false = (tt, tt)

@@ -28,6 +28,7 @@ keeps n k = record {
   times = λ c x g. g;
   runs = λ c from wide h slots m g. g;
   stops = λ c from to source reason g. g;
+  ends = λ c x r g. g;
 }
 
 keeps_server : (n : ℕ) (config : ServerConfig) → KeepsServer config Anything (Until n)

@@ -1,9 +1,9 @@
 -- What each act of a core keeps of its circuits.
-use Rattle.std.proofs.Common.{◌≡◌, ℕ, suc, ◌≤◌, sym, ap, ◌∙◌, refl, subst, arith, Bool, true, false, not, cond, ◌&&◌, ◌||◌, List, [], Option, nat_eq, eqb-true}
+use Rattle.std.proofs.Common.{◌≡◌, ℕ, suc, ◌≤◌, sym, ap, ◌∙◌, refl, subst, arith, Bool, true, false, not, cond, ◌&&◌, ◌||◌, List, [], ◌∷◌, Option, nat_eq, eqb-true}
 use Rattle.std.proofs.lemmas.Bool.{and_parts, true≢false, false≢true}
 use Rattle.lat_model.specs.sessions.Slots.{Slot}
 use Rattle.lat_model.specs.sessions.Calls.{Call}
-use Rattle.lat_model.specs.ends.End.{End, Step, lives, call_end}
+use Rattle.lat_model.specs.ends.End.{End, Step, lives, call_end, finish, lapse}
 use Rattle.lat_model.specs.ends.Timers.{note_empty, time_step}
 use Rattle.lat_model.specs.ends.Run.{run_end}
 use Rattle.lat_model.specs.ends.Starting.{Agreed, Setup, make_slave, again_start, hear_reply, hear_stop}
@@ -13,8 +13,8 @@ use Rattle.lat_model.proofs.sessions.Words.{upd_other, upd_all}
 use Rattle.lat_machines.specs.values.Messages.{Head}
 use Rattle.lat_machines.specs.values.Events.{Numbers}
 use Rattle.lat_machines.specs.values.Answers.{Again, Running, Ended}
-use Rattle.lat_machines.specs.cores.Acts.{Acted, idle, put_at, steps_at, call_at, called, local_at, time_at, move_at}
-use Rattle.lat_machines.specs.cores.Hearing.{HeardAct, foreign, names, fits_kind, numbers_at, run_frame, run_at, hear_run, hear_stop_at, hear_reply_at}
+use Rattle.lat_machines.specs.cores.Acts.{Acted, idle, put_at, steps_at, call_at, called, local_at, time_at, move_at, end_at}
+use Rattle.lat_machines.specs.cores.Hearing.{HeardAct, foreign, names, fits_kind, numbers_at, run_frame, run_at, hear_run, hear_stop_at, hear_reply_at, is_outlived, outlive_at, outlive}
 use Rattle.lat_laws.specs.rounds.Seated.{Found, SessionsLater, LaterTable}
 use Rattle.lat_laws.proofs.rounds.ready.Laters.{later_same, later_then, accepts_none, call_later, time_later, run_later, reply_later, stop_later, again_leaves}
 
@@ -116,6 +116,20 @@ local_later m b t x c h =
 
 pub time_at_later : (m b : Bool) (t : Table) (x now : ℕ) → LaterTable m t (time_at b t x now).table
 time_at_later m b t x now = act_cond m (lives (t.circuit_at x).end) t (steps_at b t x (time_step now (t.circuit_at x).end)) (idle t) (λ i. steps_later m b t x (time_step now (t.circuit_at x).end) (λ q. i) (time_later now (t.circuit_at x).end)) (λ i. table_same m t)
+
+pub end_at_later : (m b : Bool) (t : Table) (x r : ℕ) → LaterTable m t (end_at b t x r).table
+end_at_later m b t x r = act_cond m (lives (t.circuit_at x).end) t (steps_at b t x (finish r (t.circuit_at x).end)) (idle t) (λ i. steps_later m b t x (finish r (t.circuit_at x).end) (λ q. i) (later_same (t.circuit_at x).end.half.sessions)) (λ i. table_same m t)
+
+outlived_later : (from source : ℕ) (t : Table) (x : ℕ) → LaterTable false t (outlive_at from source x t)
+outlived_later from source t x = go (is_outlived (t.circuit_at x) from source)
+  where
+    go : (b : Bool) → LaterTable false t (cond b (steps_at false t x (lapse 5 (t.circuit_at x).end)).table t)
+    go true = steps_later false false t x (lapse 5 (t.circuit_at x).end) (λ q. absurd (false≢true q)) (later_same (t.circuit_at x).end.half.sessions)
+    go false = table_same false t
+
+pub outlive_later : (from source : ℕ) (xs : List ℕ) (t : Table) → LaterTable false t (outlive from source xs t)
+outlive_later from source [] t = table_same false t
+outlive_later from source (x ∷ xs) t = table_then false t (outlive_at from source x t) (outlive from source xs (outlive_at from source x t)) (outlived_later from source t x) (outlive_later from source xs (outlive_at from source x t))
 
 move_later : (m b : Bool) (t : Table) (x now : ℕ) → LaterTable m t (move_at b t x now).table
 move_later m b t x now =

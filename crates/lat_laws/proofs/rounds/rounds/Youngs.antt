@@ -36,7 +36,7 @@ use Rattle.lat_laws.proofs.rounds.rounds.Nexts.{NextOf, next_of}
 use Rattle.lat_laws.proofs.rounds.rounds.Delivers.{marked_lossless, deliver_keeps, time_keeps, round_keeps}
 use Rattle.lat_laws.proofs.rounds.rounds.Places.{place, shown_circuit, next_shown}
 use Rattle.lat_laws.proofs.rounds.rounds.Done.{done_of, done_has, not_done, FoundAt, shown_at}
-use Rattle.lat_laws.proofs.rounds.rounds.Moves.{Moved, Reached, run_more, moved_deliver, moved_time, moved_round}
+use Rattle.lat_laws.proofs.rounds.rounds.Moves.{Moved, Reached, run_more, moved_deliver, moved_time, moved_round, calm_then}
 use Rattle.lat_laws.proofs.rounds.rounds.Beside.{Beside, Follows, tied, run_follows}
 
 -- RUNs that come in their turn are young, whether their senders live or have ended
@@ -126,7 +126,7 @@ first_is_young u m w i p h l at other new = ⊎_elim {C = IsYoung u m p} notice 
 -- rounds
 
 pub reached_follows : (u : Setups) (m : Machines) → Fit u → Usual u → Reached u m → Follows u m
-reached_follows u m f s r = subst (Follows u) (sym r.there) (run_follows u r.moves f s r.short (subst (Lossless u) r.there r.lossless))
+reached_follows u m f s r = subst (Follows u) (sym r.there) (run_follows u r.moves f s r.short r.calm (subst (Lossless u) r.there r.lossless))
 
 pub reached_within : (u : Setups) (m : Machines) → Reached u m → Within m
 reached_within u m r = subst Within (sym r.there) (run_grows u r.moves (open_machines u) (open_within u)).within
@@ -136,6 +136,7 @@ reached_then u m v r q l = record {
   moves = r.moves ++ q.moves;
   there = q.there ∙ (ap (run u q.moves) r.there ∙ sym (run_more u r.moves q.moves (open_machines u)));
   short = each_more ShortMove r.moves q.moves r.short q.short;
+  calm = calm_then u m v r.moves r.calm q;
   lossless = l;
 }
 
@@ -168,4 +169,4 @@ reached_young u (x ∷ rs) now m f s r =
     )
 
 pub rounds_young : (u : Setups) (now : ℕ) (m : Machines) (rs : List (List (List ℕ))) → Begins u now m → YoungRounds u now rs m
-rounds_young u now m rs g = reached_young u rs now m g.fit g.usual (record { moves = g.moves; there = g.reached; short = g.short; lossless = g.lossless })
+rounds_young u now m rs g = reached_young u rs now m g.fit g.usual (record { moves = g.moves; there = g.reached; short = g.short; calm = g.calm; lossless = g.lossless })

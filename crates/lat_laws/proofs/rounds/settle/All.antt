@@ -48,7 +48,7 @@ module _ (u : Setups) (now : ℕ) (w : Machines) (r : List (List ℕ)) (more : L
   end = rounds u t more z
 
   begins : Reached u w
-  begins = record { moves = b.moves; there = b.reached; short = b.short; lossless = b.lossless }
+  begins = record { moves = b.moves; there = b.reached; short = b.short; calm = b.calm; lossless = b.lossless }
 
   reached_timed : Reached u both_timed
   reached_timed = reached_then u w both_timed begins (moved_time u t w) (time_keeps u t w (reached_within u w begins) b.lossless).lossless

@@ -156,7 +156,7 @@ module _ (u : Setups) (fit : Fit u) (usual : Usual u) (p q : ℕ) (c : CircuitEn
   other_stays m i now r f w e other false by n = refl
   other_stays m i now r f w e other true by n =
       let k : Follows u m = reached_follows u m fit usual w.reached in
-      node_else u.node r m.node q f.frame.circuit (own_of u f.by_server) now f.frame.value (Some (record { number = f.frame.number; acknowledgement = f.frame.acknowledgement })) w.has.drawn (λ z. n refl (sym z ∙ w.has.end.1)) (speaks_of u m k.world i f k.beside e by other)
+      node_else u.node r m.node q f.frame.circuit (own_of u f.by_server) now f.frame.value (Some (record { number = f.frame.number; acknowledgement = f.frame.acknowledgement })) w.reached.calm.patient.node w.has.drawn (λ z. n refl (sym z ∙ w.has.end.1)) (speaks_of u m k.world i f k.beside e by other)
 
   -- the frame itself
   named : (m : Machines) → Wait m → names m.node.core.circuits u.server.own q p ≡ true

@@ -167,7 +167,7 @@ module _ (u : Setups) (p : ℕ) (now : ℕ) (w : Machines) (r : List (List ℕ))
   reached_timed = reached_then u w both_timed o.reached (moved_time u then_now w) (time_keeps u then_now w within o.reached.lossless).lossless
 
   pub reached_one : Reached u one
-  reached_one = reached_then u w one o.reached (moved_one u w (Does true (Time then_now) []) tt) (does_keeps u w true (Time then_now) [] within o.reached.lossless).lossless
+  reached_one = reached_then u w one o.reached (moved_one u w (Does true (Time then_now) []) tt tt) (does_keeps u w true (Time then_now) [] within o.reached.lossless).lossless
 
   pub reached_come : Reached u all_come
   reached_come = (let k : Keeps u w both_timed = time_keeps u then_now w within o.reached.lossless in reached_then u both_timed all_come reached_timed (moved_deliveries u then_now r both_timed) (deliveries_keep u then_now r both_timed (reached_within u both_timed reached_timed) k.lossless).lossless)
@@ -185,7 +185,7 @@ module _ (u : Setups) (p : ℕ) (now : ℕ) (w : Machines) (r : List (List ℕ))
   runs_here = record { drawn = here.drawn; address = o.home; end = (o.running, refl) }
 
   pub runs_one : HasEnd p u.node.own (RunsTo q) one.server.core
-  runs_one = runs_on u p u.node.own q w one (moved_one u w (Does true (Time then_now) []) tt) runs_here
+  runs_one = runs_on u p u.node.own q w one (moved_one u w (Does true (Time then_now) []) tt tt) runs_here
 
   pub runs_timed : HasEnd p u.node.own (RunsTo q) both_timed.server.core
   runs_timed = runs_on u p u.node.own q w both_timed (moved_time u then_now w) runs_here

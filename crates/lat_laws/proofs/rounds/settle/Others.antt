@@ -1,4 +1,4 @@
--- A frame of a circuit of the server leaves alone the slaves of its other circuits.
+-- A frame of a circuit of the server leaves alone the slaves of its other circuits, at a node that isn't prompt.
 use Rattle.std.proofs.Common.{◌≡◌, ◌≢◌, ℕ, suc, ◌+◌, ◌≤◌, ⊎_elim, sym, ap, ◌∙◌, refl, subst, arith, Bool, true, false, not, cond, ◌&&◌, ◌||◌, List, [], ◌∷◌, Option, Some, None, nat_eq, nat_lt, slice_get, eqb-true, ne_eqb, find}
 use Rattle.std.proofs.lemmas.Bool.{true≢false, false≢true, and_parts, eqb-false}
 use Rattle.lat_model.specs.Lists.{upwards}
@@ -23,9 +23,9 @@ use Rattle.lat_machines.specs.values.Runs.{slots_in, run_head}
 use Rattle.lat_machines.specs.values.Events.{Numbers, Hears}
 use Rattle.lat_machines.specs.values.Answers.{Ignored, Ended}
 use Rattle.lat_machines.specs.cores.Acts.{Acted, idle, steps_at, local_at}
-use Rattle.lat_machines.specs.cores.Hearing.{HeardAct, foreign, names, fits_kind, numbers_at, run_frame, run_at, hear_run, hear_stop_at, Repeats, Makes, Refuses, start_fact}
-use Rattle.lat_machines.specs.cores.Cores.{Side, Core, sent_frame, at_moment}
-use Rattle.lat_machines.specs.node.Node.{NodeConfig, Node, NodeStep, Verdict, Accepts, Rejects, judged, verdict, asked_at, answers_one, answers_in, asked_on, answers_asked, solicited, hears_run, hears_start, hears_value, node_step}
+use Rattle.lat_machines.specs.cores.Hearing.{HeardAct, foreign, names, fits_kind, numbers_at, run_frame, run_at, hear_run, hear_stop_at, Repeats, Makes, Refuses, start_fact, outlive}
+use Rattle.lat_machines.specs.cores.Cores.{Side, Core, sent_frame, at_moment, with_circuits}
+use Rattle.lat_machines.specs.node.Node.{NodeConfig, Node, NodeStep, Verdict, Accepts, Rejects, judged, verdict, asked_at, answers_one, answers_in, asked_on, answers_asked, solicited, hears_run, hears_start, hears_value, node_step, makes_way, starts, turns_away}
 use Rattle.lat_machines.specs.node.Node as N
 use Rattle.lat_machines.specs.world.Machines.{Setups, Posted, Machines, is_for_other}
 use Rattle.lat_machines.specs.world.Ties.{Shown, IsNotice}
@@ -145,6 +145,17 @@ start_else config st y from source info l n = go (nat_eq (slave_of t from source
         let x : ℕ = slave_of st.core.circuits from source in
         steps_else st.core.circuits y x (again_start st.core.moment (st.core.circuits.circuit_at x).end) (not_named st.core.circuits y x from source n (and_parts (is_of (st.core.circuits.circuit_at x) from source) (lives (st.core.circuits.circuit_at x).end) (least_passes (λ i. is_of (st.core.circuits.circuit_at i) from source && lives (st.core.circuits.circuit_at i).end) (upwards 0 st.core.circuits.drawn) (eqb-false x 0 z))).0)
 
+-- a node that isn't prompt ends no slave that a START follows
+starts_else : (config : NodeConfig) (st : Node) (y from source : ℕ) (info : StartInfo) → config.prompt ≡ false → y ≤ st.core.circuits.drawn → (st.core.circuits.circuit_at y).end.peer ≢ source → (starts config (makes_way config st from source) from source info).state.core.circuits.circuit_at y ≡ st.core.circuits.circuit_at y
+starts_else config st y from source info p l n = subst (λ z. (starts config z from source info).state.core.circuits.circuit_at y ≡ st.core.circuits.circuit_at y) (sym same_node) (start_else config st y from source info l n)
+  where
+    same_node : makes_way config st from source ≡ st
+    same_node = ap (λ b. record st { core = with_circuits st.core (cond b (outlive from source (upwards 0 st.core.circuits.drawn) st.core.circuits) st.core.circuits) }) p
+
+step_else : (st : Node) (y : ℕ) (n : Bool) (s t : NodeStep) → s.state.core.circuits.circuit_at y ≡ st.core.circuits.circuit_at y → t.state.core.circuits.circuit_at y ≡ st.core.circuits.circuit_at y → (cond n s t).state.core.circuits.circuit_at y ≡ st.core.circuits.circuit_at y
+step_else st y true s t p q = p
+step_else st y false s t p q = q
+
 notice_else : (config : NodeConfig) (rates : List ℕ) (st : Node) (y from : ℕ) (m : Notice) → (N.hears_notice config rates st from m).state.core.circuits.circuit_at y ≡ st.core.circuits.circuit_at y
 notice_else config rates st y from (StatusNotice m) = refl
 notice_else config rates st y from (SolicitNotice m) = go (find (same m.service) config.services)
@@ -156,23 +167,23 @@ notice_else config rates st y from (AnnouncementNotice a) = refl
 notice_else config rates st y from (CommandNotice m) = refl
 notice_else config rates st y from (ResponseNotice r) = refl
 
-value_else : (config : NodeConfig) (rates : List ℕ) (st : Node) (y x from : ℕ) (v : Value) (k : Option Numbers) → y ≤ st.core.circuits.drawn → (st.core.circuits.circuit_at y).end.peer ≢ x → Speaks x v → (hears_value config rates st from v k).state.core.circuits.circuit_at y ≡ st.core.circuits.circuit_at y
-value_else config rates st y x from (OfCircuit (RunMessage h slots)) k l n s = hears_run_else config st y from false h slots k (λ q. n (q ∙ s))
-value_else config rates st y x from (OfCircuit (WideMessage h slots)) k l n s = hears_run_else config st y from true h slots k (λ q. n (q ∙ s))
-value_else config rates st y x from (OfCircuit (StartMessage true ask to source info)) k l n s = start_else config st y from source info l (λ q. n (q ∙ s refl))
-value_else config rates st y x from (OfCircuit (StartMessage false ask to source info)) k l n s = refl
-value_else config rates st y x from (OfCircuit (StopMessage master ask to source reason text)) k l n s = stop_else st.core.circuits y from to source st.core.moment reason (λ q. s.1 (sym s.0 ∙ q)) (λ q. n (q ∙ s.0))
-value_else config rates st y x from (OfNotice m) k l n s = notice_else config rates st y from m
+value_else : (config : NodeConfig) (rates : List ℕ) (st : Node) (y x from : ℕ) (v : Value) (k : Option Numbers) → config.prompt ≡ false → y ≤ st.core.circuits.drawn → (st.core.circuits.circuit_at y).end.peer ≢ x → Speaks x v → (hears_value config rates st from v k).state.core.circuits.circuit_at y ≡ st.core.circuits.circuit_at y
+value_else config rates st y x from (OfCircuit (RunMessage h slots)) k p l n s = hears_run_else config st y from false h slots k (λ q. n (q ∙ s))
+value_else config rates st y x from (OfCircuit (WideMessage h slots)) k p l n s = hears_run_else config st y from true h slots k (λ q. n (q ∙ s))
+value_else config rates st y x from (OfCircuit (StartMessage true ask to source info)) k p l n s = step_else st y st.halted (turns_away config st from source) (starts config (makes_way config st from source) from source info) refl (starts_else config st y from source info p l (λ q. n (q ∙ s refl)))
+value_else config rates st y x from (OfCircuit (StartMessage false ask to source info)) k p l n s = refl
+value_else config rates st y x from (OfCircuit (StopMessage master ask to source reason text)) k p l n s = stop_else st.core.circuits y from to source st.core.moment reason (λ q. s.1 (sym s.0 ∙ q)) (λ q. n (q ∙ s.0))
+value_else config rates st y x from (OfNotice m) k p l n s = notice_else config rates st y from m
 
-pub node_else : (config : NodeConfig) (rates : List ℕ) (st : Node) (y x from now : ℕ) (v : Value) (k : Option Numbers) → y ≤ st.core.circuits.drawn → (st.core.circuits.circuit_at y).end.peer ≢ x → Speaks x v → (node_step config rates st (Hears from (Whole v) k now)).state.core.circuits.circuit_at y ≡ st.core.circuits.circuit_at y
-node_else config rates st y x from now v k l n s = go (nat_eq from everyone)
+pub node_else : (config : NodeConfig) (rates : List ℕ) (st : Node) (y x from now : ℕ) (v : Value) (k : Option Numbers) → config.prompt ≡ false → y ≤ st.core.circuits.drawn → (st.core.circuits.circuit_at y).end.peer ≢ x → Speaks x v → (node_step config rates st (Hears from (Whole v) k now)).state.core.circuits.circuit_at y ≡ st.core.circuits.circuit_at y
+node_else config rates st y x from now v k p l n s = go (nat_eq from everyone)
   where
     t : Node
     t = record st { core = at_moment now st.core }
 
     go : (b : Bool) → (cond b (N.tells t Ignored) (hears_value config rates t from v k)).state.core.circuits.circuit_at y ≡ st.core.circuits.circuit_at y
     go true = refl
-    go false = value_else config rates t y x from v k l n s
+    go false = value_else config rates t y x from v k p l n s
 
 -- each frame of the server states its own circuit
 

@@ -3,7 +3,7 @@ use Rattle.std.proofs.Common.{◌≡◌, ℕ, suc, ◌≤◌, refl, sym, ap, ◌
 use Rattle.std.proofs.lemmas.Bool.{true≢false, false≢true, and_parts, eqb-false}
 use Rattle.lat_model.specs.sessions.Slots.{Slot}
 use Rattle.lat_model.specs.sessions.Calls.{Call}
-use Rattle.lat_model.specs.ends.End.{End, Step, lives, call_end}
+use Rattle.lat_model.specs.ends.End.{End, Step, lives, call_end, finish}
 use Rattle.lat_model.specs.ends.Timers.{note_empty, time_step}
 use Rattle.lat_model.specs.ends.Run.{run_end}
 use Rattle.lat_model.specs.ends.Starting.{Agreed, reply_end, make_slave, again_start, hear_reply, hear_stop}
@@ -50,6 +50,7 @@ pub record KeepsEnd (P : End → Type 0) : Type 0 where
   pub times : (n : ℕ) (e : End) → lives e ≡ true → P e → P (time_step n e).end
   pub runs : (n : ℕ) (a : Bool) (f : Frame (List Slot)) (e : End) → lives e ≡ true → P e → P (run_end n a f e).step.end
   pub stops : (n r : ℕ) (e : End) → lives e ≡ true → P e → P (hear_stop n r e).end
+  pub ends : (r : ℕ) (e : End) → lives e ≡ true → P e → P (finish r e).end
 
 module _ (P : End → Type 0) (k : KeepsEnd P) (x : ℕ) (home : ℕ) where
   abbrev At : Core → Type 0
@@ -100,6 +101,7 @@ module _ (P : End → Type 0) (k : KeepsEnd P) (x : ℕ) (home : ℕ) where
     times = λ c y g. (let s : Step = time_step c.moment (c.circuits.circuit_at y).end in act_keeps c (lives (c.circuits.circuit_at y).end) (steps_at side.server c.circuits y s) (idle c.circuits) (λ l. alive_at c y s side.server l (λ e a p q. subst (λ w. P (time_step c.moment w).end) q (k.times c.moment e a p)) g) g);
     runs = λ c from wide h slots n g. runs side.server c from wide h slots n g;
     stops = λ c from to source reason g. stops side.server c from to source reason g;
+    ends = λ c y r g. (let s : Step = finish r (c.circuits.circuit_at y).end in act_keeps c (lives (c.circuits.circuit_at y).end) (steps_at side.server c.circuits y s) (idle c.circuits) (λ l. alive_at c y s side.server l (λ e a p q. subst (λ w. P (finish r w).end) q (k.ends r e a p)) g) g);
   }
     where
       moved : (b : Bool) (c : Core) (y : ℕ) → At c → At (with_circuits c (move_at b c.circuits y c.moment).table)
@@ -185,6 +187,7 @@ runs_keep q = record {
   times = λ n e l p. runs_kin q e (time_step n e).end (kin_time n e) p;
   runs = λ n a f e l p. runs_kin q e (run_end n a f e).step.end (kin_run n a f e) p;
   stops = λ n r e l p. runs_kin q e (hear_stop n r e).end (kin_stop n r e) p;
+  ends = λ r e l p. p;
 }
 
 pub runs_reply : (q n s : ℕ) (g : Agreed) (e : End) → lives e ≡ true → RunsTo q e → RunsTo q (hear_reply n s g e).end
@@ -211,6 +214,7 @@ slave_keeps p = record {
   times = λ n e l h. slave_kin p e (time_step n e).end (kin_time n e) h;
   runs = λ n a f e l h. slave_kin p e (run_end n a f e).step.end (kin_run n a f e) h;
   stops = λ n r e l h. slave_kin p e (hear_stop n r e).end (kin_stop n r e) h;
+  ends = λ r e l h. h;
 }
 
 -- one that has ended
@@ -229,6 +233,7 @@ ended_keeps = record {
   times = λ n e l d. ended_not e l d;
   runs = λ n a f e l d. ended_not e l d;
   stops = λ n r e l d. ended_not e l d;
+  ends = λ r e l d. ended_not e l d;
 }
 
 pub slave_again : (p n : ℕ) (e : End) → lives e ≡ true → SlaveOf p e → SlaveOf p (again_start n e).end
@@ -246,4 +251,4 @@ abbrev pub AnyEnd : End → Type 0
 AnyEnd e = Unit {0}
 
 pub any_keeps : KeepsEnd AnyEnd
-any_keeps = record { empties = λ n e p. tt; calls = λ k e l p. tt; moves = λ n e l p. tt; times = λ n e l p. tt; runs = λ n a f e l p. tt; stops = λ n r e l p. tt }
+any_keeps = record { empties = λ n e p. tt; calls = λ k e l p. tt; moves = λ n e l p. tt; times = λ n e l p. tt; runs = λ n a f e l p. tt; stops = λ n r e l p. tt; ends = λ r e l p. tt }

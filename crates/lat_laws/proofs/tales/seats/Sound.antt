@@ -3,18 +3,21 @@ use Rattle.std.proofs.Common.{◌≡◌, ℕ, inl, inr, ⊎_elim, refl, sym, ap,
 use Rattle.lat_model.specs.sessions.Session.{Session, gone}
 use Rattle.lat_model.specs.sessions.Calls.{Call, Connect, Put, Set, Attend, Take, Close, Answer, RejectAsk}
 use Rattle.lat_model.specs.Lists.{Each}
-use Rattle.lat_machines.specs.cores.Acts.{time_at, local_at}
-use Rattle.lat_machines.specs.cores.Hearing.{hear_run, hear_stop_at}
+use Rattle.lat_machines.specs.cores.Acts.{time_at, local_at, idle, steps_at, end_at}
+use Rattle.lat_machines.specs.cores.Hearing.{hear_run, hear_stop_at, is_outlived, outlive_at}
 use Rattle.lat_machines.specs.cores.Cores.{Seat, Core, Side, with_circuits, at_moment}
 use Rattle.lat_machines.specs.cores.Lines.{session_of, over}
 use Rattle.lat_laws.specs.rounds.Seated.{IsSeat, LaterTable, Placed, Seated}
 use Rattle.lat_laws.proofs.rounds.ready.Seats.{seated_later}
-use Rattle.lat_laws.proofs.rounds.ready.Laters.{accepts_none}
+use Rattle.lat_laws.proofs.rounds.ready.Laters.{accepts_none, later_same}
 use Rattle.lat_laws.proofs.rounds.ready.Tables as Laters
 use Rattle.lat_laws.proofs.tales.steps.Goes.{Ours, Untouched, went_untouched, IsQuiet}
-use Rattle.lat_laws.proofs.tales.steps.Tables.{sess, TableGood, Turned, turned_same, turned_then, local_turn, time_turn, run_turn, stop_turn}
-use Rattle.lat_laws.proofs.tales.steps.Ids.{NoConnect, TableIds, table_same, local_ids, time_ids, run_ids, stop_ids}
+use Rattle.lat_laws.proofs.tales.steps.Tables.{sess, TableGood, Turned, turned_same, turned_then, local_turn, time_turn, run_turn, stop_turn, end_turn}
+use Rattle.lat_laws.proofs.tales.steps.Ids.{NoConnect, TableIds, table_same, local_ids, time_ids, run_ids, stop_ids, end_ids}
 use Rattle.lat_laws.proofs.tales.steps.Walk.{Acts}
+use Rattle.lat_model.specs.ends.End.{Step, lives, finish, lapse}
+use Rattle.lat_model.specs.circuits.World.{Table}
+use Rattle.std.proofs.lemmas.Bool.{false≢true}
 
 -- two line sessions have sessions of their own
 abbrev pub Apart : Seat → Seat → Type 0
@@ -97,6 +100,27 @@ still_act m lines c d e q l t i s =
     let v : Turned d.circuits e.circuits = t s.sound.rest.good in
     record { sound = sound_act m lines d e q l v i s.sound; table = turned_then c.circuits d.circuits e.circuits s.table v; seats = q ∙ s.seats }
 
+-- a circuit that is ended keeps its sessions
+pub end_later : (m b : Bool) (t : Table) (x r : ℕ) → LaterTable m t (end_at b t x r).table
+end_later m b t x r = go (lives (t.circuit_at x).end)
+  where
+    s : Step
+    s = finish r (t.circuit_at x).end
+
+    go : (n : Bool) → LaterTable m t (cond n (steps_at b t x s) (idle t)).table
+    go true = Laters.steps_later m b t x s (λ q. absurd (false≢true q)) (later_same (sess t x))
+    go false = Laters.table_same m t
+
+pub outlive_later : (t : Table) (from source x : ℕ) → LaterTable false t (outlive_at from source x t)
+outlive_later t from source x = go (is_outlived (t.circuit_at x) from source)
+  where
+    s : Step
+    s = lapse 5 (t.circuit_at x).end
+
+    go : (n : Bool) → LaterTable false t (cond n (steps_at false t x s).table t)
+    go true = Laters.steps_later false false t x s (λ q. absurd (false≢true q)) (later_same (sess t x))
+    go false = Laters.table_same false t
+
 -- the calls of acts
 abbrev pub IsStill : Call → Type 0
 IsStill (Attend id flag) = Unit {0}
@@ -120,6 +144,7 @@ still_acts lines k c = record {
   renames = λ d ns s. still_act k.server lines c d (record d { names = ns }) refl (Laters.table_same k.server d.circuits) (turned_same d.circuits) (λ q. table_same d.circuits) s;
   calls = λ d x y p s. (let q : IsQuiet y × NoConnect y × (accepts_none y ≡ true) = plain_quiet y p in still_act k.server lines c d (with_circuits d (local_at k.server d.circuits x y).table) refl (Laters.local_later k.server k.server d.circuits x y q.2) (local_turn k.server d.circuits x y q.0) (λ w. local_ids k.server d.circuits x y q.1) s);
   times = λ d x s. still_act k.server lines c d (with_circuits d (time_at k.server d.circuits x d.moment).table) refl (Laters.time_at_later k.server k.server d.circuits x d.moment) (time_turn k.server d.circuits x d.moment) (λ w. time_ids k.server d.circuits x d.moment) s;
+  ends = λ d x r s. still_act k.server lines c d (with_circuits d (end_at k.server d.circuits x r).table) refl (end_later k.server k.server d.circuits x r) (end_turn k.server d.circuits x r) (λ w. end_ids k.server d.circuits x r) s;
   runs = λ d from wide h slots n s. still_act k.server lines c d (with_circuits d (hear_run k.server d.circuits from wide h slots n d.moment).act.table) refl (Laters.run_at_later k.server k.server d.circuits from wide h slots n d.moment) (run_turn k.server d.circuits from wide h slots n d.moment) (λ w. run_ids k.server d.circuits from wide h slots n d.moment) s;
   stops = λ d from to source reason s. still_act k.server lines c d (with_circuits d (hear_stop_at k.server d.circuits from to source d.moment reason).act.table) refl (Laters.stop_at_later k.server k.server d.circuits from to source d.moment reason) (stop_turn k.server d.circuits from to source d.moment reason) (λ w. stop_ids k.server d.circuits from to source d.moment reason) s;
 }

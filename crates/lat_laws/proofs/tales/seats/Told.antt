@@ -7,7 +7,7 @@ use Rattle.lat_model.specs.sessions.Sessions.{Sessions}
 use Rattle.lat_model.specs.sessions.Calls.{Put, Set, Take, touch, put_items, put_count, take_count, took}
 use Rattle.lat_model.specs.Lists.{Each}
 use Rattle.lat_machines.specs.values.Answers.{Answer, Accepted, Took, Done, Closed, Full}
-use Rattle.lat_machines.specs.values.Events.{Event, Hears, Time, Connects, Puts, Sets, Takes, Attends, Closes, Requests, Withdraws, Announces}
+use Rattle.lat_machines.specs.values.Events.{Event, Hears, Time, Connects, Puts, Sets, Takes, Attends, Closes, Requests, Withdraws, Announces, Avoids, Readies, Halts}
 use Rattle.lat_machines.specs.cores.Cores.{Seat, Core, Side}
 use Rattle.lat_machines.specs.cores.Lines.{session_of, sessions_of, over, seat_at}
 use Rattle.lat_machines.specs.cores.LineCalls.{says, calls_on, put_on, set_on, take_on, on_line}
@@ -161,6 +161,9 @@ server_tale config st (Closes line) pos h = fresh_tale true config.lines st.core
 server_tale config st (Requests to id service) pos h = fresh_tale true config.lines st.core _ (Requests to id service) _ refl refl h (server_fresh config st (Requests to id service) pos tt h)
 server_tale config st (Withdraws id) pos h = fresh_tale true config.lines st.core _ (Withdraws id) _ refl refl h (server_fresh config st (Withdraws id) pos tt h)
 server_tale config st Announces pos h = fresh_tale true config.lines st.core _ Announces _ refl refl h (server_fresh config st Announces pos tt h)
+server_tale config st (Avoids line) pos h = fresh_tale true config.lines st.core _ (Avoids line) _ refl refl h (server_fresh config st (Avoids line) pos tt h)
+server_tale config st (Readies line ready) pos h = fresh_tale true config.lines st.core _ (Readies line ready) _ refl refl h (server_fresh config st (Readies line ready) pos tt h)
+server_tale config st Halts pos h = fresh_tale true config.lines st.core _ Halts _ refl refl h (server_fresh config st Halts pos tt h)
 
 -- nothing follows an event of a node
 none_follows : (lines : ℕ) (b : Core) → Sound false lines b → Fresh false lines b b
@@ -184,3 +187,6 @@ node_tale config rates st (Closes line) h = fresh_tale false config.lines st.cor
 node_tale config rates st (Requests to id service) h = fresh_tale false config.lines st.core _ (Requests to id service) _ refl refl h (node_fresh config rates st (Requests to id service) tt h)
 node_tale config rates st (Withdraws id) h = fresh_tale false config.lines st.core _ (Withdraws id) _ refl refl h (node_fresh config rates st (Withdraws id) tt h)
 node_tale config rates st Announces h = fresh_tale false config.lines st.core _ Announces _ refl refl h (node_fresh config rates st Announces tt h)
+node_tale config rates st (Avoids line) h = fresh_tale false config.lines st.core _ (Avoids line) _ refl refl h (node_fresh config rates st (Avoids line) tt h)
+node_tale config rates st (Readies line ready) h = fresh_tale false config.lines st.core _ (Readies line ready) _ refl refl h (node_fresh config rates st (Readies line ready) tt h)
+node_tale config rates st Halts h = fresh_tale false config.lines st.core _ Halts _ refl refl h (node_fresh config rates st Halts tt h)

@@ -8,7 +8,7 @@ use Rattle.lat_model.specs.sessions.Offers.{Offers, offer}
 use Rattle.lat_model.specs.sessions.Packing.{form, first_form, next_form}
 use Rattle.lat_model.specs.sessions.Calls.{Call, Connect, Put, Set, Attend, Take, Close, Answer, RejectAsk, call, answer, reject}
 use Rattle.lat_model.specs.numbers.Link.{Frame}
-use Rattle.lat_model.specs.ends.End.{End, Step, lives, call_end}
+use Rattle.lat_model.specs.ends.End.{End, Step, lives, call_end, finish}
 use Rattle.lat_model.specs.ends.Timers.{note_empty, time_step}
 use Rattle.lat_model.specs.ends.Run.{run_end}
 use Rattle.lat_model.specs.ends.Starting.{Agreed, hear_reply, hear_stop}
@@ -16,7 +16,7 @@ use Rattle.lat_model.specs.circuits.World.{CircuitEntry, Table}
 use Rattle.lat_machines.specs.values.Messages.{Head}
 use Rattle.lat_machines.specs.values.Events.{Numbers}
 use Rattle.lat_machines.specs.values.Answers.{Again, Running, Ended}
-use Rattle.lat_machines.specs.cores.Acts.{Acted, idle, steps_at, local_at, time_at, move_at}
+use Rattle.lat_machines.specs.cores.Acts.{Acted, idle, steps_at, local_at, time_at, move_at, end_at}
 use Rattle.lat_machines.specs.cores.Hearing.{HeardAct, foreign, names, fits_kind, numbers_at, run_frame, run_at, hear_run, hear_stop_at, hear_reply_at}
 use Rattle.lat_laws.proofs.rounds.counting.Kept.{KeptByActs, to_time, to_run, to_stop, to_reply}
 use Rattle.lat_laws.proofs.rounds.counting.Steps.{pack_by, hear_by}
@@ -110,6 +110,9 @@ local_ids b t x c n =
 
 pub time_ids : (b : Bool) (t : Table) (x now : ℕ) → TableIds t (time_at b t x now).table
 time_ids b t x now = act_cond t (lives (t.circuit_at x).end) (steps_at b t x (time_step now (t.circuit_at x).end)) (idle t) (steps_ids b t x (time_step now (t.circuit_at x).end) (to_time 0 true Keeping ids_kept 0 now (t.circuit_at x).end (omega arith))) (table_same t)
+
+pub end_ids : (b : Bool) (t : Table) (x r : ℕ) → TableIds t (end_at b t x r).table
+end_ids b t x r = act_cond t (lives (t.circuit_at x).end) (steps_at b t x (finish r (t.circuit_at x).end)) (idle t) (steps_ids b t x (finish r (t.circuit_at x).end) (ids_same (sess t x))) (table_same t)
 
 move_ids : (b : Bool) (t : Table) (x now : ℕ) → TableIds t (move_at b t x now).table
 move_ids b t x now =

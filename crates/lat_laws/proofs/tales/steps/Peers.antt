@@ -3,7 +3,7 @@ use Rattle.std.proofs.Common.{◌≡◌, ℕ, suc, ◌≤◌, refl, sym, ap, ◌
 use Rattle.lat_model.specs.sessions.Slots.{Slot}
 use Rattle.lat_model.specs.sessions.Calls.{Call, Answer, RejectAsk}
 use Rattle.lat_model.specs.numbers.Link.{Frame}
-use Rattle.lat_model.specs.ends.End.{End, Step, still, lives, call_end}
+use Rattle.lat_model.specs.ends.End.{End, Step, still, lives, call_end, finish, lapse}
 use Rattle.lat_model.specs.ends.Timers.{note_empty, time_step}
 use Rattle.lat_model.specs.ends.Run.{run_end}
 use Rattle.lat_model.specs.ends.Starting.{Agreed, Setup, make_slave, again_start, noted, replied, hear_stop}
@@ -13,10 +13,10 @@ use Rattle.lat_model.proofs.sessions.Words.{upd_other}
 use Rattle.lat_model.proofs.circuits.Kin.{kin_time, kin_run, kin_stop}
 use Rattle.lat_model.proofs.circuits.Begins.{kin_call}
 use Rattle.lat_machines.specs.values.Messages.{Head}
-use Rattle.lat_machines.specs.values.Events.{Numbers, Event, Hears, Time, Connects, Puts, Sets, Takes, Attends, Closes, Requests, Withdraws, Announces}
+use Rattle.lat_machines.specs.values.Events.{Numbers, Event, Hears, Time, Connects, Puts, Sets, Takes, Attends, Closes, Requests, Withdraws, Announces, Avoids, Readies, Halts}
 use Rattle.lat_machines.specs.values.Answers.{Ended}
-use Rattle.lat_machines.specs.cores.Acts.{Acted, idle, steps_at, local_at, time_at, move_at}
-use Rattle.lat_machines.specs.cores.Hearing.{HeardAct, foreign, names, fits_kind, numbers_at, run_frame, run_at, hear_run, hear_stop_at, Repeats, Makes, Refuses, start_fact, start_at}
+use Rattle.lat_machines.specs.cores.Acts.{Acted, idle, steps_at, local_at, time_at, move_at, end_at}
+use Rattle.lat_machines.specs.cores.Hearing.{HeardAct, foreign, names, fits_kind, numbers_at, run_frame, run_at, hear_run, hear_stop_at, Repeats, Makes, Refuses, start_fact, start_at, is_outlived, outlive_at}
 use Rattle.lat_machines.specs.cores.Cores.{Core, setup_of}
 use Rattle.lat_machines.specs.node.Node.{NodeConfig, Node, node_step}
 use Rattle.lat_laws.proofs.rounds.counting.Cores.{EventAllows}
@@ -57,6 +57,16 @@ local_peers t x c =
 
 time_peers : (t : Table) (x now : ℕ) → KeepsPeers t (time_at false t x now).table
 time_peers t x now = act_cond t (lives (t.circuit_at x).end) (steps_at false t x (time_step now (t.circuit_at x).end)) (idle t) (steps_peers t x (time_step now (t.circuit_at x).end) (kin_time now (t.circuit_at x).end).peer) (peers_same t)
+
+end_peers : (t : Table) (x r : ℕ) → KeepsPeers t (end_at false t x r).table
+end_peers t x r = act_cond t (lives (t.circuit_at x).end) (steps_at false t x (finish r (t.circuit_at x).end)) (idle t) (steps_peers t x (finish r (t.circuit_at x).end) refl) (peers_same t)
+
+outlive_peers : (t : Table) (from source x : ℕ) → KeepsPeers t (outlive_at from source x t)
+outlive_peers t from source x = go (is_outlived (t.circuit_at x) from source)
+  where
+    go : (n : Bool) → KeepsPeers t (cond n (steps_at false t x (lapse 5 (t.circuit_at x).end)).table t)
+    go true = steps_peers t x (lapse 5 (t.circuit_at x).end) refl
+    go false = peers_same t
 
 move_peers : (t : Table) (x now : ℕ) → KeepsPeers t (move_at false t x now).table
 move_peers t x now =
@@ -116,25 +126,30 @@ any_allowed (Closes line) = λ id. tt
 any_allowed (Requests to id service) = tt
 any_allowed (Withdraws id) = tt
 any_allowed Announces = tt
+any_allowed (Avoids line) = tt
+any_allowed (Readies line ready) = tt
+any_allowed Halts = tt
 
 abbrev Keeping : Core → Core → Type 0
 Keeping c d = KeepsPeers c.circuits d.circuits
 
-peers_acts : (config : NodeConfig) (c : Core) → NodeActs config AnyCall (Keeping c) (Keeping c)
+peers_acts : (config : NodeConfig) (c : Core) → NodeActs config AnyCall (Keeping c) (Keeping c) (Unit {0})
 peers_acts config c = record {
   acts = record {
     moment = λ d now p. p;
     renames = λ d ns p. p;
     calls = λ d x y a p. peers_then c.circuits d.circuits _ p (local_peers d.circuits x y);
     times = λ d x p. peers_then c.circuits d.circuits _ p (time_peers d.circuits x d.moment);
+    ends = λ d x r p. peers_then c.circuits d.circuits _ p (end_peers d.circuits x r);
     runs = λ d from wide h slots n p. peers_then c.circuits d.circuits _ p (run_peers d.circuits from wide h slots n d.moment);
     stops = λ d from to source reason p. peers_then c.circuits d.circuits _ p (stop_peers d.circuits from to source d.moment reason);
   };
-  starts = λ d from source g p. peers_then c.circuits d.circuits _ p (start_peers (setup_of config.timing) d.circuits from source d.moment g);
+  starts = λ o d from source g p. peers_then c.circuits d.circuits _ p (start_peers (setup_of config.timing) d.circuits from source d.moment g);
+  lapses = λ d from source x p. peers_then c.circuits d.circuits _ p (outlive_peers d.circuits from source x);
   done = λ d p. p;
   accepts = λ st x id line request service w v l ex fr p. peers_then c.circuits st.core.circuits _ p (local_peers st.core.circuits x (Answer id));
   refuses = λ d x id reason p. peers_then c.circuits d.circuits _ p (local_peers d.circuits x (RejectAsk id reason));
 }
 
 pub node_peers : (config : NodeConfig) (rates : List ℕ) (st : Node) (e : Event) → KeepsPeers st.core.circuits (node_step config rates st e).state.core.circuits
-node_peers config rates st e = node_keeps config AnyCall (Keeping st.core) (Keeping st.core) (peers_acts config st.core) rates st e (any_allowed e) (peers_same st.core.circuits)
+node_peers config rates st e = node_keeps config AnyCall (Keeping st.core) (Keeping st.core) (Unit {0}) (peers_acts config st.core) rates st e (λ q. tt) (any_allowed e) (peers_same st.core.circuits)

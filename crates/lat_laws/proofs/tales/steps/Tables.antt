@@ -6,7 +6,7 @@ use Rattle.lat_model.specs.sessions.Slots.{Slot}
 use Rattle.lat_model.specs.sessions.Sessions.{Sessions}
 use Rattle.lat_model.specs.sessions.Calls.{Call}
 use Rattle.lat_model.specs.numbers.Link.{Frame}
-use Rattle.lat_model.specs.ends.End.{End, Step, still, lives, call_end}
+use Rattle.lat_model.specs.ends.End.{End, Step, still, lives, call_end, finish, lapse}
 use Rattle.lat_model.specs.ends.Timers.{note_empty, time_step}
 use Rattle.lat_model.specs.ends.Run.{run_end}
 use Rattle.lat_model.specs.ends.Starting.{Agreed, Setup, make_slave, again_start, noted, replied, reply_end, hear_reply, hear_stop}
@@ -18,8 +18,8 @@ use Rattle.lat_model.proofs.circuits.Begins.{kin_call}
 use Rattle.lat_machines.specs.values.Messages.{Head}
 use Rattle.lat_machines.specs.values.Events.{Numbers}
 use Rattle.lat_machines.specs.values.Answers.{Again, Running, Ended}
-use Rattle.lat_machines.specs.cores.Acts.{Acted, idle, put_at, steps_at, call_at, called, local_at, time_at, move_at}
-use Rattle.lat_machines.specs.cores.Hearing.{HeardAct, foreign, names, fits_kind, numbers_at, run_frame, run_at, hear_run, hear_stop_at, hear_reply_at, Repeats, Makes, Refuses, start_fact, start_at}
+use Rattle.lat_machines.specs.cores.Acts.{Acted, idle, put_at, steps_at, call_at, called, local_at, time_at, move_at, end_at}
+use Rattle.lat_machines.specs.cores.Hearing.{HeardAct, foreign, names, fits_kind, numbers_at, run_frame, run_at, hear_run, hear_stop_at, hear_reply_at, Repeats, Makes, Refuses, start_fact, start_at, follows, is_outlived, outlive_at}
 use Rattle.lat_machines.proofs.queue.Rooms.{least_true}
 use Rattle.lat_laws.proofs.rounds.counting.Kept.{to_time, to_run, to_again, to_stop, to_reply}
 use Rattle.lat_laws.proofs.tales.steps.Goes.{Good, Onto, Goes, goes_same, goes_kept, one_then, IsQuiet, goes_call, void_good}
@@ -155,6 +155,21 @@ pub time_turn : (b : Bool) (t : Table) (x now : ℕ) → Turns t (time_at b t x 
 time_turn b t x now =
     let e : End = (t.circuit_at x).end in
     act_cond t (lives e) (steps_at b t x (time_step now e)) (idle t) (λ i. steps_turn b t x (time_step now e) i (kin_peer e (time_step now e).end (kin_time now e)) (time_goes now e)) (turned_same t)
+
+pub end_turn : (b : Bool) (t : Table) (x r : ℕ) → Turns t (end_at b t x r).table
+end_turn b t x r =
+    let s : Step = finish r (t.circuit_at x).end in
+    act_cond t (lives (t.circuit_at x).end) (steps_at b t x s) (idle t) (λ i. steps_turn b t x s i (λ q. (q, refl)) (goes_same (sess t x))) (turned_same t)
+
+pub outlive_turn : (t : Table) (from source x : ℕ) → Turns t (outlive_at from source x t)
+outlive_turn t from source x = go (is_outlived c from source) refl
+  where
+    c : CircuitEntry
+    c = t.circuit_at x
+
+    go : (n : Bool) → is_outlived c from source ≡ n → Turns t (cond n (steps_at false t x (lapse 5 c.end)).table t)
+    go true i = steps_turn false t x (lapse 5 c.end) (and_parts (nat_eq c.address from && follows c.end.peer source) (lives c.end) i).1 (λ q. (q, refl)) (goes_same (sess t x))
+    go false i = turned_same t
 
 move_turn : (b : Bool) (t : Table) (x now : ℕ) → Turns t (move_at b t x now).table
 move_turn b t x now =

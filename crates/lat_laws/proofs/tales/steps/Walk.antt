@@ -21,21 +21,22 @@ use Rattle.lat_machines.specs.values.Notices.{Kept, KeptAs, Unknown, Action, Ask
 use Rattle.lat_machines.specs.values.Frames.{Value, OfCircuit, OfNotice, Whole, Malformed}
 use Rattle.lat_machines.specs.values.Timing.{agreed_by}
 use Rattle.lat_machines.specs.values.Keys.{Key}
-use Rattle.lat_machines.specs.values.Events.{Numbers, Event, Hears, Time, Connects, Puts, Sets, Takes, Attends, Closes, Requests, Withdraws, Announces}
-use Rattle.lat_machines.specs.values.Answers.{Answer, Done, Connected, Ignored, Closed, Busy, NoLine, SessionsFull, CircuitsFull, IdsOut, IdUsed, NotKept, KeptIs, Full}
+use Rattle.lat_machines.specs.values.Events.{Numbers, Event, Hears, Time, Connects, Puts, Sets, Takes, Attends, Closes, Requests, Withdraws, Announces, Avoids, Readies, Halts}
+use Rattle.lat_machines.specs.values.Answers.{Answer, Done, Connected, Ignored, Closed, Busy, NoLine, SessionsFull, CircuitsFull, IdsOut, IdUsed, NotKept, KeptIs, Full, Halted}
 use Rattle.lat_machines.specs.server.Directory.{Best, best}
 use Rattle.lat_machines.specs.server.Queue.{Cancels, Request, next_request}
 use Rattle.lat_machines.specs.server.Records.{kept_for}
-use Rattle.lat_machines.specs.cores.Acts.{idle, steps_at, time_at, local_at}
-use Rattle.lat_machines.specs.cores.Hearing.{names, hear_run, hear_stop_at, hear_reply_at, StartFact, Makes, Repeats, Refuses, start_fact, start_at}
-use Rattle.lat_machines.specs.cores.Cores.{Seat, Core, Side, Doing, rests, then_doing, acts, with_circuits, setup_of, at_moment, time_each, circuit_to}
+use Rattle.lat_machines.specs.cores.Acts.{idle, steps_at, time_at, local_at, end_at}
+use Rattle.lat_machines.specs.cores.Hearing.{names, hear_run, hear_stop_at, hear_reply_at, StartFact, Makes, Repeats, Refuses, start_fact, start_at, outlive_at, outlive}
+use Rattle.lat_machines.specs.cores.Cores.{Seat, Core, Side, Doing, rests, then_doing, acts, with_circuits, setup_of, at_moment, time_each, circuit_to, end_each}
 use Rattle.lat_machines.specs.cores.Lines.{session_of, seat_at, has_session, line_exists}
 use Rattle.lat_machines.specs.cores.LineCalls.{Said, says, calls_on, put_on, set_on, attend_on, take_on, close_on, on_line}
-use Rattle.lat_machines.specs.server.Server.{ServerConfig, Server, ServerStep, server_side, offer_on, tells, does, has_room, may_call, can_open, opens, connects_to, solicits_for, connect_event, status_frame, key_of, hears_command, hears_value, server_event, finished_requests, Passing, fitting, grantable, grants_by, grant_line, grant_lines, server_step}
-use Rattle.lat_machines.specs.node.Node.{NodeConfig, Node, NodeStep, Requested, node_side, request_of, Verdict, Accepts, Rejects, on_free_line, free_line, verdict, was_requested, is_offered, judged, asked_at, answers_one, answers_in, asked_on, answers_asked, requests_again, withdraws, solicited, hears_run, hears_start, node_step}
+use Rattle.lat_machines.specs.server.Server.{ServerConfig, Server, ServerStep, server_side, offer_on, tells, does, has_room, may_call, can_open, opens, connects_to, solicits_for, connect_event, status_frame, key_of, hears_command, hears_value, server_event, finished_requests, Passing, fitting, grantable, grants_by, grant_line, grant_lines, server_step, grantable_on}
+use Rattle.lat_machines.specs.node.Node.{NodeConfig, Node, NodeStep, Requested, node_side, request_of, Verdict, Accepts, Rejects, on_free_line, free_line, verdict, was_requested, is_offered, judged, asked_at, answers_one, answers_in, asked_on, answers_asked, requests_again, withdraws, solicited, hears_run, hears_start, node_step, turns_away, starts, makes_way}
 use Rattle.lat_machines.specs.node.Node as N
 use Rattle.lat_machines.proofs.queue.Rooms.{least_in, least_true}
 use Rattle.lat_laws.proofs.rounds.counting.Cores.{EventAllows}
+use Rattle.lat_machines.proofs.queue.Legal.{grantable_ready}
 
 -- each act of a core, with the calls that are allowed
 pub record Acts (k : Side) (A : Call → Type 0) (Q : Core → Type 0) : Type 0 where
@@ -43,19 +44,22 @@ pub record Acts (k : Side) (A : Call → Type 0) (Q : Core → Type 0) : Type 0 
   pub renames : (c : Core) (ns : ℕ → Name) → Q c → Q (record c { names = ns })
   pub calls : (c : Core) (x : ℕ) (y : Call) → A y → Q c → Q (with_circuits c (local_at k.server c.circuits x y).table)
   pub times : (c : Core) (x : ℕ) → Q c → Q (with_circuits c (time_at k.server c.circuits x c.moment).table)
+  pub ends : (c : Core) (x r : ℕ) → Q c → Q (with_circuits c (end_at k.server c.circuits x r).table)
   pub runs : (c : Core) (from : ℕ) (wide : Bool) (h : Head) (slots : List Slot) (n : Option Numbers) → Q c → Q (with_circuits c (hear_run k.server c.circuits from wide h slots n c.moment).act.table)
   pub stops : (c : Core) (from to source reason : ℕ) → Q c → Q (with_circuits c (hear_stop_at k.server c.circuits from to source c.moment reason).act.table)
 
--- `P` holds until the acts of an event are done, `Q` while sessions are opened or answered behind them
-pub record ServerActs (config : ServerConfig) (A : Call → Type 0) (P : Core → Type 0) (Q : Core → Type 0) : Type 0 where
+-- `P` holds until the acts of an event are done, `Q` while sessions are opened or answered behind them. `O` is what is known
+-- of a machine that isn't halted: no other one opens sessions or makes circuits
+pub record ServerActs (config : ServerConfig) (A : Call → Type 0) (P : Core → Type 0) (Q : Core → Type 0) (O : Type 0) : Type 0 where
   pub acts : Acts (server_side config) A P
   pub replies : (c : Core) (from to source : ℕ) (g : Agreed) → P c → P (with_circuits c (hear_reply_at c.circuits from to source c.moment g).act.table)
   pub done : (c : Core) → P c → Q c
-  pub opens : (line address : ℕ) (node service : Name) (key : Option Key) (request : Option ℕ) (c : Core) → can_open c address ≡ true → line_exists config.lines line ≡ true → has_session c line ≡ false → Q c → Q (opens config line address node service key request c).core
+  pub opens : O → (line address : ℕ) (node service : Name) (key : Option Key) (request : Option ℕ) (c : Core) → can_open c address ≡ true → line_exists config.lines line ≡ true → has_session c line ≡ false → Q c → Q (opens config line address node service key request c).core
 
-pub record NodeActs (config : NodeConfig) (A : Call → Type 0) (P : Core → Type 0) (Q : Core → Type 0) : Type 0 where
+pub record NodeActs (config : NodeConfig) (A : Call → Type 0) (P : Core → Type 0) (Q : Core → Type 0) (O : Type 0) : Type 0 where
   pub acts : Acts (node_side config) A P
-  pub starts : (c : Core) (from source : ℕ) (g : Agreed) → P c → P (with_circuits c (start_at (setup_of config.timing) c.circuits from source c.moment g (start_fact c.circuits from source)).table)
+  pub starts : O → (c : Core) (from source : ℕ) (g : Agreed) → P c → P (with_circuits c (start_at (setup_of config.timing) c.circuits from source c.moment g (start_fact c.circuits from source)).table)
+  pub lapses : (c : Core) (from source x : ℕ) → P c → P (with_circuits c (outlive_at from source x c.circuits))
   pub done : (c : Core) → P c → Q c
   pub accepts : (st : Node) (x id line : ℕ) (request : Option ℕ) (service : Name) → waits (asked_at st x id) ≡ true → verdict config st service request ≡ Accepts line → lives (st.core.circuits.circuit_at x).end ≡ true → line_exists config.lines line ≡ true → has_session st.core line ≡ false → Q st.core → Q (judged config st x id request (Accepts line)).core
   pub refuses : (c : Core) (x id reason : ℕ) → Q c → Q (with_circuits c (local_at false c.circuits x (RejectAsk id reason)).table)
@@ -75,6 +79,10 @@ call_if A Q k h c s n x a b w r = said_cond Q n (says (calls_on k c s x) a) (say
 times_keep : (A : Call → Type 0) (Q : Core → Type 0) (k : Side) → Acts k A Q → (xs : List ℕ) (d : Doing) → Q d.core → Q (time_each k xs d).core
 times_keep A Q k h [] d r = r
 times_keep A Q k h (x ∷ xs) d r = times_keep A Q k h xs (then_doing d (λ c. acts k c (time_at k.server c.circuits x c.moment))) (h.times d.core x r)
+
+ends_keep : (A : Call → Type 0) (Q : Core → Type 0) (k : Side) → Acts k A Q → (r : ℕ) (xs : List ℕ) (d : Doing) → Q d.core → Q (end_each k r xs d).core
+ends_keep A Q k h r [] d q = q
+ends_keep A Q k h r (x ∷ xs) d q = ends_keep A Q k h r xs (then_doing d (λ c. acts k c (end_at k.server c.circuits x r))) (h.ends d.core x r q)
 
 module _ (A : Call → Type 0) (Q : Core → Type 0) (k : Side) (h : Acts k A Q) (lines : ℕ) (c : Core) (line : ℕ) (r : Q c) where
   put_keeps : (bytes : List ℕ) → ((id : ℕ) → A (Put id bytes)) → Q (on_line lines c line (λ s. put_on k c s bytes)).core
@@ -106,9 +114,25 @@ both_true : (a b : Bool) → a ≡ true → b ≡ true → (a && b) ≡ true
 both_true true b p q = q
 both_true false b p q = p
 
-module _ (config : ServerConfig) (A : Call → Type 0) (P : Core → Type 0) (Q : Core → Type 0) (h : ServerActs config A P Q) where
-  connect_keeps : (st : Server) (line : ℕ) (service : Name) → P st.core → Q (connect_event config st line service).state.core
-  connect_keeps st line service p = go (line_exists config.lines line) refl (has_session st.core line) refl (best config.groups service st.core.moment st.heard)
+-- a line that grants is one of a server that isn't halted
+grantable_awake : (st : Server) (line : ℕ) (service : Name) (r : Request) → grantable st line (Some service) ≡ Some r → st.halted ≡ false
+grantable_awake st line service r = go st.halted refl
+  where
+    go : (n : Bool) → st.halted ≡ n → cond (not n && st.ready line) (grantable_on st.core st.queue line service) None ≡ Some r → n ≡ false
+    go true i q = let z : ⊥ = cc in absurd z
+    go false i q = refl
+
+pub grant_halted : (config : ServerConfig) (line : ℕ) (p : Passing) → (grant_line config p line).state.halted ≡ p.state.halted
+grant_halted config line p = go (offer_on line config.offers) (grantable p.state line (offer_on line config.offers))
+  where
+    go : (o : Option Name) (g : Option Request) → (grants_by config line o g p).state.halted ≡ p.state.halted
+    go None g = refl
+    go (Some service) None = refl
+    go (Some service) (Some g) = refl
+
+module _ (config : ServerConfig) (A : Call → Type 0) (P : Core → Type 0) (Q : Core → Type 0) (O : Type 0) (h : ServerActs config A P Q O) where
+  connect_keeps : (st : Server) (line : ℕ) (service : Name) → O → P st.core → Q (connect_event config st line service).state.core
+  connect_keeps st line service a p = go (line_exists config.lines line) refl (has_session st.core line) refl (best config.groups service st.core.moment st.heard)
     where
       r : Q st.core
       r = h.done st.core p
@@ -122,11 +146,11 @@ module _ (config : ServerConfig) (A : Call → Type 0) (P : Core → Type 0) (Q 
           (cond (has_room st.core x) (does st (Connected x (least_free (st.core.circuits.circuit_at x).end.half.sessions)) d) (tells st SessionsFull))
           (λ i. step_cond Q (nat_lt (living st.core.circuits) 8) (cond (nat_lt st.core.circuits.drawn 65535) (does st (Connected (suc st.core.circuits.drawn) 1) d) (tells st IdsOut)) (tells st CircuitsFull)
           (λ j. step_cond Q (nat_lt st.core.circuits.drawn 65535) (does st (Connected (suc st.core.circuits.drawn) 1) d) (tells st IdsOut)
-          (λ k. h.opens line b.from b.node service None None st.core (ap (λ z. cond z (may_call st.core) (has_room st.core x)) i ∙ both_true (nat_lt (living st.core.circuits) 8) (nat_lt st.core.circuits.drawn 65535) j k) ex fr r)
+          (λ k. h.opens a line b.from b.node service None None st.core (ap (λ z. cond z (may_call st.core) (has_room st.core x)) i ∙ both_true (nat_lt (living st.core.circuits) 8) (nat_lt st.core.circuits.drawn 65535) j k) ex fr r)
           (λ k. r))
           (λ j. r))
           (λ i. step_cond Q (has_room st.core x) (does st (Connected x (least_free (st.core.circuits.circuit_at x).end.half.sessions)) d) (tells st SessionsFull)
-          (λ k. h.opens line b.from b.node service None None st.core (ap (λ z. cond z (may_call st.core) (has_room st.core x)) i ∙ k) ex fr r)
+          (λ k. h.opens a line b.from b.node service None None st.core (ap (λ z. cond z (may_call st.core) (has_room st.core x)) i ∙ k) ex fr r)
           (λ k. r))
 
       go : (n : Bool) → line_exists config.lines line ≡ n → (m : Bool) → has_session st.core line ≡ m → (o : Option Best) → Q (cond n (cond m (tells st Busy) (elim o [ None ↦ solicits_for config st service | Some b ↦ connects_to config st line service b ])) (tells st NoLine)).state.core
@@ -161,29 +185,32 @@ module _ (config : ServerConfig) (A : Call → Type 0) (P : Core → Type 0) (Q 
   value_keeps st from (OfNotice (StatusNotice m)) k r = r
   value_keeps st from (OfNotice (SolicitNotice m)) k r = r
 
-  pub event_keeps : (st : Server) (e : Event) → EventAllows A e → P st.core → Q (server_event config st e).state.core
-  event_keeps st (Hears from (Malformed field at) k now) w r = h.done _ (h.acts.moment st.core now r)
-  event_keeps st (Hears from (Whole v) k now) w r =
+  pub event_keeps : (st : Server) (e : Event) → (st.halted ≡ false → O) → EventAllows A e → P st.core → Q (server_event config st e).state.core
+  event_keeps st (Hears from (Malformed field at) k now) a w r = h.done _ (h.acts.moment st.core now r)
+  event_keeps st (Hears from (Whole v) k now) a w r =
       let t : Server = record st { core = at_moment now st.core } in
       let q : P t.core = h.acts.moment st.core now r in
       step_cond Q (nat_eq from everyone) (tells t Ignored) (hears_value config t from v k) (λ y. h.done _ q) (λ y. h.done _ (value_keeps t from v k q))
-  event_keeps st (Time now) w r = h.done _ (times_keep A P (server_side config) h.acts (upwards 0 st.core.circuits.drawn) (rests (at_moment now st.core)) (h.acts.moment st.core now r))
-  event_keeps st (Connects line service) w r = connect_keeps st line service r
-  event_keeps st (Puts line bytes) w r = h.done _ (put_keeps A P (server_side config) h.acts config.lines st.core line r bytes w)
-  event_keeps st (Sets line setting) w r = h.done _ (set_keeps A P (server_side config) h.acts config.lines st.core line r setting w)
-  event_keeps st (Takes line n) w r = h.done _ (take_keeps A P (server_side config) h.acts config.lines st.core line r n w)
-  event_keeps st (Attends line flag) w r = h.done _ (attend_keeps A P (server_side config) h.acts config.lines st.core line r flag w)
-  event_keeps st (Closes line) w r = h.done _ (close_keeps A P (server_side config) h.acts config.lines st.core line r w)
-  event_keeps st (Requests to id service) w r = h.done _ r
-  event_keeps st (Withdraws id) w r = h.done _ r
-  event_keeps st Announces w r = h.done _ r
+  event_keeps st (Time now) a w r = h.done _ (times_keep A P (server_side config) h.acts (upwards 0 st.core.circuits.drawn) (rests (at_moment now st.core)) (h.acts.moment st.core now r))
+  event_keeps st (Connects line service) a w r = step_cond Q st.halted (tells st Halted) (connect_event config st line service) (λ y. h.done _ r) (λ y. connect_keeps st line service (a y) r)
+  event_keeps st (Puts line bytes) a w r = h.done _ (put_keeps A P (server_side config) h.acts config.lines st.core line r bytes w)
+  event_keeps st (Sets line setting) a w r = h.done _ (set_keeps A P (server_side config) h.acts config.lines st.core line r setting w)
+  event_keeps st (Takes line n) a w r = h.done _ (take_keeps A P (server_side config) h.acts config.lines st.core line r n w)
+  event_keeps st (Attends line flag) a w r = h.done _ (attend_keeps A P (server_side config) h.acts config.lines st.core line r flag w)
+  event_keeps st (Closes line) a w r = h.done _ (close_keeps A P (server_side config) h.acts config.lines st.core line r w)
+  event_keeps st (Requests to id service) a w r = h.done _ r
+  event_keeps st (Withdraws id) a w r = h.done _ r
+  event_keeps st Announces a w r = h.done _ r
+  event_keeps st (Avoids line) a w r = h.done _ r
+  event_keeps st (Readies line ready) a w r = h.done _ r
+  event_keeps st Halts a w r = h.done _ (ends_keep A P (server_side config) h.acts 3 (upwards 0 st.core.circuits.drawn) (rests st.core) r)
 
   -- the grant pass
 
-  grants_keep : (line : ℕ) (o : Option Name) (g : Option Request) (p : Passing) → line_exists config.lines line ≡ true → grantable p.state line o ≡ g → Q p.state.core → Q (grants_by config line o g p).state.core
-  grants_keep line None g p ex q r = r
-  grants_keep line (Some service) None p ex q r = r
-  grants_keep line (Some service) (Some g) p ex q r = go (has_session p.state.core line) refl (next_request service p.state.queue) q
+  grants_keep : (line : ℕ) (o : Option Name) (g : Option Request) (p : Passing) → (p.state.halted ≡ false → O) → line_exists config.lines line ≡ true → grantable p.state line o ≡ g → Q p.state.core → Q (grants_by config line o g p).state.core
+  grants_keep line None g p a ex q r = r
+  grants_keep line (Some service) None p a ex q r = r
+  grants_keep line (Some service) (Some g) p a ex q r = go (has_session p.state.core line) refl (next_request service p.state.queue) (grantable_ready p.state line service g q)
     where
       wrong : None ≡ Some g → ⊥
       wrong e = cc
@@ -192,7 +219,7 @@ module _ (config : ServerConfig) (A : Call → Type 0) (P : Core → Type 0) (Q 
       is_it y e = cc
 
       opened : (y : Request) (b : Bool) → can_open p.state.core y.from ≡ b → has_session p.state.core line ≡ false → cond b (Some y) None ≡ Some g → Q (opens config line g.from g.key.node service (Some g.key) (Some g.key.request) p.state.core).core
-      opened y true i f e = h.opens line g.from g.key.node service (Some g.key) (Some g.key.request) p.state.core (ap (λ (z : Request). can_open p.state.core z.from) (sym (is_it y e)) ∙ i) ex f r
+      opened y true i f e = h.opens (a (grantable_awake p.state line service g q)) line g.from g.key.node service (Some g.key) (Some g.key.request) p.state.core (ap (λ (z : Request). can_open p.state.core z.from) (sym (is_it y e)) ∙ i) ex f r
       opened y false i f e = absurd (wrong e)
 
       go : (b : Bool) → has_session p.state.core line ≡ b → (o : Option Request) → cond b None (fitting p.state.core o) ≡ Some g → Q (opens config line g.from g.key.node service (Some g.key) (Some g.key.request) p.state.core).core
@@ -200,16 +227,16 @@ module _ (config : ServerConfig) (A : Call → Type 0) (P : Core → Type 0) (Q 
       go false i None e = absurd (wrong e)
       go false i (Some y) e = opened y (can_open p.state.core y.from) refl i e
 
-  pub pass_keeps : (lines : List ℕ) (p : Passing) → Each (λ line. line_exists config.lines line ≡ true) lines → Q p.state.core → Q (grant_lines config lines p).state.core
-  pass_keeps [] p ex r = r
-  pass_keeps (line ∷ lines) p ex r = pass_keeps lines (grant_line config p line) ex.1 (grants_keep line (offer_on line config.offers) (grantable p.state line (offer_on line config.offers)) p ex.0 refl r)
+  pub pass_keeps : (lines : List ℕ) (p : Passing) → (p.state.halted ≡ false → O) → Each (λ line. line_exists config.lines line ≡ true) lines → Q p.state.core → Q (grant_lines config lines p).state.core
+  pass_keeps [] p a ex r = r
+  pass_keeps (line ∷ lines) p a ex r = pass_keeps lines (grant_line config p line) (λ y. a (sym (grant_halted config line p) ∙ y)) ex.1 (grants_keep line (offer_on line config.offers) (grantable p.state line (offer_on line config.offers)) p a ex.0 refl r)
 
   -- what follows an event
-  pub passed_keeps : (st : Server) (e : Event) → Q (server_event config st e).state.core → Q (server_step config st e).state.core
-  passed_keeps st e r = pass_keeps (upwards 0 config.lines) (record { state = finished_requests (server_event config st e).state; frames = [] }) (lines_exist config.lines 0 config.lines (omega arith)) r
+  pub passed_keeps : (st : Server) (e : Event) → ((server_event config st e).state.halted ≡ false → O) → Q (server_event config st e).state.core → Q (server_step config st e).state.core
+  passed_keeps st e a r = pass_keeps (upwards 0 config.lines) (record { state = finished_requests (server_event config st e).state; frames = [] }) a (lines_exist config.lines 0 config.lines (omega arith)) r
 
-  pub server_keeps : (st : Server) (e : Event) → EventAllows A e → P st.core → Q (server_step config st e).state.core
-  server_keeps st e w r = passed_keeps st e (event_keeps st e w r)
+  pub server_keeps : (st : Server) (e : Event) → (st.halted ≡ false → O) → ((server_event config st e).state.halted ≡ false → O) → EventAllows A e → P st.core → Q (server_step config st e).state.core
+  server_keeps st e a b w r = passed_keeps st e b (event_keeps st e a w r)
 
 -- the node
 
@@ -261,7 +288,7 @@ record Answering (Q : Core → Type 0) (x : ℕ) (c : Core) : Type 0 where
   pub keeps : Q c
   pub alive : lives (c.circuits.circuit_at x).end ≡ true
 
-module _ (config : NodeConfig) (A : Call → Type 0) (P : Core → Type 0) (Q : Core → Type 0) (h : NodeActs config A P Q) where
+module _ (config : NodeConfig) (A : Call → Type 0) (P : Core → Type 0) (Q : Core → Type 0) (O : Type 0) (h : NodeActs config A P Q O) where
   judged_keeps : (st : Node) (x id : ℕ) (request : Option ℕ) (service : Name) → waits (asked_at st x id) ≡ true → Answering Q x st.core → Answering Q x (judged config st x id request (verdict config st service request)).core
   judged_keeps st x id request service w a = go (verdict config st service request) refl
     where
@@ -305,8 +332,8 @@ module _ (config : NodeConfig) (A : Call → Type 0) (P : Core → Type 0) (Q : 
       go true = asked_keeps hd.to s.state q
       go false = q
 
-  start_keeps : (st : Node) (from source : ℕ) (info : StartInfo) → P st.core → P (hears_start config st from source info (start_fact st.core.circuits from source)).state.core
-  start_keeps st from source info r = go (nat_eq (slave_of st.core.circuits from source) 0) (nat_lt (living st.core.circuits) 8 && nat_lt st.core.circuits.drawn 65535) (h.starts st.core from source (agreed_by config.timing info) r)
+  start_keeps : (st : Node) (from source : ℕ) (info : StartInfo) → O → P st.core → P (hears_start config st from source info (start_fact st.core.circuits from source)).state.core
+  start_keeps st from source info a r = go (nat_eq (slave_of st.core.circuits from source) 0) (nat_lt (living st.core.circuits) 8 && nat_lt st.core.circuits.drawn 65535) (h.starts a st.core from source (agreed_by config.timing info) r)
     where
       t : Table
       t = st.core.circuits
@@ -319,21 +346,37 @@ module _ (config : NodeConfig) (A : Call → Type 0) (P : Core → Type 0) (Q : 
       go true false q = q
       go false b q = q
 
-  node_value_keeps : (rates : List ℕ) (st : Node) (from : ℕ) (v : Value) (k : Option Numbers) → P st.core → Q (N.hears_value config rates st from v k).state.core
-  node_value_keeps rates st from (OfCircuit (RunMessage hd slots)) k r = hears_run_keeps st from false hd slots k r
-  node_value_keeps rates st from (OfCircuit (WideMessage hd slots)) k r = hears_run_keeps st from true hd slots k r
-  node_value_keeps rates st from (OfCircuit (StartMessage true ask to source info)) k r = h.done _ (start_keeps st from source info r)
-  node_value_keeps rates st from (OfCircuit (StartMessage false ask to source info)) k r = h.done _ r
-  node_value_keeps rates st from (OfCircuit (StopMessage master ask to source reason text)) k r = h.done _ (h.acts.stops st.core from to source reason r)
-  node_value_keeps rates st from (OfNotice (StatusNotice m)) k r = h.done _ r
-  node_value_keeps rates st from (OfNotice (SolicitNotice m)) k r = go (find (same m.service) config.services)
+  -- the slaves that a START follows
+  outlive_keeps : (from source : ℕ) (xs : List ℕ) (c : Core) (t : Table) → P (with_circuits c t) → P (with_circuits c (outlive from source xs t))
+  outlive_keeps from source [] c t r = r
+  outlive_keeps from source (x ∷ xs) c t r = outlive_keeps from source xs c (outlive_at from source x t) (h.lapses (with_circuits c t) from source x r)
+
+  way_keeps : (st : Node) (from source : ℕ) → P st.core → P (makes_way config st from source).core
+  way_keeps st from source r = go config.prompt
+    where
+      go : (n : Bool) → P (with_circuits st.core (cond n (outlive from source (upwards 0 st.core.circuits.drawn) st.core.circuits) st.core.circuits))
+      go true = outlive_keeps from source (upwards 0 st.core.circuits.drawn) st.core st.core.circuits r
+      go false = r
+
+  node_value_keeps : (rates : List ℕ) (st : Node) (from : ℕ) (v : Value) (k : Option Numbers) → (st.halted ≡ false → O) → P st.core → Q (N.hears_value config rates st from v k).state.core
+  node_value_keeps rates st from (OfCircuit (RunMessage hd slots)) k a r = hears_run_keeps st from false hd slots k r
+  node_value_keeps rates st from (OfCircuit (WideMessage hd slots)) k a r = hears_run_keeps st from true hd slots k r
+  node_value_keeps rates st from (OfCircuit (StartMessage true ask to source info)) k a r = go st.halted refl
+    where
+      go : (n : Bool) → st.halted ≡ n → Q (cond n (turns_away config st from source) (starts config (makes_way config st from source) from source info)).state.core
+      go true i = h.done _ r
+      go false i = h.done _ (start_keeps (makes_way config st from source) from source info (a i) (way_keeps st from source r))
+  node_value_keeps rates st from (OfCircuit (StartMessage false ask to source info)) k a r = h.done _ r
+  node_value_keeps rates st from (OfCircuit (StopMessage master ask to source reason text)) k a r = h.done _ (h.acts.stops st.core from to source reason r)
+  node_value_keeps rates st from (OfNotice (StatusNotice m)) k a r = h.done _ r
+  node_value_keeps rates st from (OfNotice (SolicitNotice m)) k a r = go (find (same m.service) config.services)
     where
       go : (o : Option Name) → Q (solicited config rates st from m.id o).state.core
       go None = h.done _ r
       go (Some n) = h.done _ r
-  node_value_keeps rates st from (OfNotice (AnnouncementNotice a)) k r = h.done _ r
-  node_value_keeps rates st from (OfNotice (CommandNotice m)) k r = h.done _ r
-  node_value_keeps rates st from (OfNotice (ResponseNotice m)) k r = h.done _ r
+  node_value_keeps rates st from (OfNotice (AnnouncementNotice m)) k a r = h.done _ r
+  node_value_keeps rates st from (OfNotice (CommandNotice m)) k a r = h.done _ r
+  node_value_keeps rates st from (OfNotice (ResponseNotice m)) k a r = h.done _ r
 
   again_keeps : (st : Node) (to id : ℕ) (service : Name) (o : Option Requested) → Q st.core → Q (requests_again config st to id service o).state.core
   again_keeps st to id service None r = r
@@ -343,19 +386,22 @@ module _ (config : NodeConfig) (A : Call → Type 0) (P : Core → Type 0) (Q : 
   withdraw_keeps st None r = r
   withdraw_keeps st (Some x) r = r
 
-  pub node_keeps : (rates : List ℕ) (st : Node) (e : Event) → EventAllows A e → P st.core → Q (node_step config rates st e).state.core
-  node_keeps rates st (Hears from (Malformed field at) k now) w r = h.done _ (h.acts.moment st.core now r)
-  node_keeps rates st (Hears from (Whole v) k now) w r =
+  pub node_keeps : (rates : List ℕ) (st : Node) (e : Event) → (st.halted ≡ false → O) → EventAllows A e → P st.core → Q (node_step config rates st e).state.core
+  node_keeps rates st (Hears from (Malformed field at) k now) a w r = h.done _ (h.acts.moment st.core now r)
+  node_keeps rates st (Hears from (Whole v) k now) a w r =
       let t : Node = record st { core = at_moment now st.core } in
       let q : P t.core = h.acts.moment st.core now r in
-      node_cond Q (nat_eq from everyone) (N.tells t Ignored) (N.hears_value config rates t from v k) (h.done _ q) (node_value_keeps rates t from v k q)
-  node_keeps rates st (Time now) w r = h.done _ (times_keep A P (node_side config) h.acts (upwards 0 st.core.circuits.drawn) (rests (at_moment now st.core)) (h.acts.moment st.core now r))
-  node_keeps rates st (Connects line service) w r = h.done _ r
-  node_keeps rates st (Puts line bytes) w r = h.done _ (put_keeps A P (node_side config) h.acts config.lines st.core line r bytes w)
-  node_keeps rates st (Sets line setting) w r = h.done _ (set_keeps A P (node_side config) h.acts config.lines st.core line r setting w)
-  node_keeps rates st (Takes line n) w r = h.done _ (take_keeps A P (node_side config) h.acts config.lines st.core line r n w)
-  node_keeps rates st (Attends line flag) w r = h.done _ (attend_keeps A P (node_side config) h.acts config.lines st.core line r flag w)
-  node_keeps rates st (Closes line) w r = h.done _ (close_keeps A P (node_side config) h.acts config.lines st.core line r w)
-  node_keeps rates st (Requests to id service) w r = again_keeps st to id service (request_of id st) (h.done _ r)
-  node_keeps rates st (Withdraws id) w r = withdraw_keeps st (request_of id st) (h.done _ r)
-  node_keeps rates st Announces w r = h.done _ r
+      node_cond Q (nat_eq from everyone) (N.tells t Ignored) (N.hears_value config rates t from v k) (h.done _ q) (node_value_keeps rates t from v k a q)
+  node_keeps rates st (Time now) a w r = h.done _ (times_keep A P (node_side config) h.acts (upwards 0 st.core.circuits.drawn) (rests (at_moment now st.core)) (h.acts.moment st.core now r))
+  node_keeps rates st (Connects line service) a w r = h.done _ r
+  node_keeps rates st (Puts line bytes) a w r = h.done _ (put_keeps A P (node_side config) h.acts config.lines st.core line r bytes w)
+  node_keeps rates st (Sets line setting) a w r = h.done _ (set_keeps A P (node_side config) h.acts config.lines st.core line r setting w)
+  node_keeps rates st (Takes line n) a w r = h.done _ (take_keeps A P (node_side config) h.acts config.lines st.core line r n w)
+  node_keeps rates st (Attends line flag) a w r = h.done _ (attend_keeps A P (node_side config) h.acts config.lines st.core line r flag w)
+  node_keeps rates st (Closes line) a w r = h.done _ (close_keeps A P (node_side config) h.acts config.lines st.core line r w)
+  node_keeps rates st (Requests to id service) a w r = again_keeps st to id service (request_of id st) (h.done _ r)
+  node_keeps rates st (Withdraws id) a w r = withdraw_keeps st (request_of id st) (h.done _ r)
+  node_keeps rates st Announces a w r = h.done _ r
+  node_keeps rates st (Avoids line) a w r = h.done _ r
+  node_keeps rates st (Readies line ready) a w r = h.done _ r
+  node_keeps rates st Halts a w r = h.done _ (ends_keep A P (node_side config) h.acts 3 (upwards 0 st.core.circuits.drawn) (rests st.core) r)

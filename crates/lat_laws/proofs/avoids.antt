@@ -1,0 +1,3 @@
+-- What holds behind an avoid.
+pub mod Latest
+pub mod Avoided

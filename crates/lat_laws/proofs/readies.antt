@@ -1,0 +1,3 @@
+-- What holds of lines that are ready and of those that aren't.
+pub mod Grants
+pub mod Alone

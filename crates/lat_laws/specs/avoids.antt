@@ -1,0 +1,2 @@
+-- What holds behind an avoid.
+pub mod Avoided
