@@ -10,6 +10,10 @@ pub enum CircuitEnd {
     Broken,
     /// No session was held for too long.
     NoUse,
+    /// This end was halted.
+    Halted,
+    /// No such circuit lives at this end.
+    NoCircuit,
     /// The peer didn't answer for too long.
     NoAnswer,
     /// There is no place for one circuit more.
@@ -24,6 +28,8 @@ impl CircuitEnd {
         match self {
             CircuitEnd::Broken => 2,
             CircuitEnd::NoUse => 3,
+            CircuitEnd::Halted => 3,
+            CircuitEnd::NoCircuit => 5,
             CircuitEnd::NoAnswer => 6,
             CircuitEnd::NoResources => 7,
         }
