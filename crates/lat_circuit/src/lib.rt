@@ -31,5 +31,5 @@ pub use config::CircuitConfig;
 pub use lat_frames::Timing;
 pub use lat_session::{Asked, SessionCall, SessionFault};
 pub use room::CircuitRoom;
-pub use start::refusal;
+pub use start::stray_stop;
 pub use time::Due;

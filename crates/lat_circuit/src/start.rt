@@ -8,7 +8,6 @@ ghost use Rattle.lat_fields.specs.Params.{params_text};
 ghost use Rattle.lat_fields.specs.Payloads.{padded};
 ghost use Rattle.lat_frames.specs.Reasons.{end_bits};
 ghost use Rattle.lat_frames.specs.Written.{message_text};
-ghost use Rattle.lat_frames.specs.declared.reason.CircuitEnd.TheVariants as reasons;
 ghost use Rattle.lat_circuit.specs.Messages.{message_of, param_of, IsFormed};
 ghost use Rattle.lat_machines.specs.values.Timing.{wide_params};
 ghost use Rattle.lat_machines.specs.values.Messages.{StopMessage};
@@ -107,22 +106,23 @@ fn write_stop(master: bool, to: u16, from: u16, reason: u8, out: &mut Payload)
     write_padding(out);
 }
 
-/// The STOP with which a node turns away a START that finds no circuit left. It goes to the sender's address, for the
-/// circuit's id there, and states no id of its own.
+/// A STOP that no circuit sends, of a master or of a slave: it goes to this address, for the circuit's id there, which isn't
+/// 0, and states this id of this end, 0 where it has none. See "How a circuit ends" in docs/PROTOCOL.md.
 #[tactic(auto, using(crate::proofs::Messages::stop_formed))]
-pub fn refusal(to: Addr, circuit: u16) -> OutFrame
+pub fn stray_stop(
+    master: bool,
+    to: Addr,
+    destination: u16,
+    source: u16,
+    reason: CircuitEnd,
+) -> OutFrame
     ensures value { result ≡ frame_of to 0 marks.Plain (padded (message_text (message_of
-        (StopMessage false false circuit 0 (end_bits reasons.NoResources) [])))) }
-    ensures formed { 0 < circuit → IsFormed (StopMessage false false circuit 0 (end_bits reasons.NoResources) []) }
+        (StopMessage master false destination source (end_bits reason) [])))) }
+    ensures formed { 0 < destination →
+        IsFormed (StopMessage master false destination source (end_bits reason) []) }
 {
     let mut payload = Payload::empty();
-    write_stop(
-        false,
-        circuit,
-        0,
-        CircuitEnd::NoResources.bits(),
-        &mut payload,
-    );
+    write_stop(master, destination, source, reason.bits(), &mut payload);
     OutFrame {
         to,
         payload,

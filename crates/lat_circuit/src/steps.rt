@@ -4,7 +4,7 @@ ghost use Rattle.std.specs.Prelude.{◌≡◌, ◌+◌, ◌<◌, ◌≤◌, ◌+
 ghost use Rattle.lat_base.specs.declared.outbox.Mark.TheVariants.{Fresh};
 ghost use Rattle.lat_base.specs.Lending.{frame_of};
 ghost use Rattle.lat_frames.specs.Reasons.{end_bits};
-ghost use Rattle.lat_model.specs.ends.End.{End, send_bare, acknowledge, occasion, send_again, marked, send_start, finish, all_known};
+ghost use Rattle.lat_model.specs.ends.End.{End, send_bare, acknowledge, occasion, send_again, marked, send_start, finish, lapse, all_known};
 ghost use Rattle.lat_model.specs.numbers.Link.{again_frames};
 ghost use Rattle.lat_model.specs.sessions.Slots.{Slot};
 ghost use Rattle.lat_circuit.specs.Payloads.{head_size};
@@ -154,8 +154,8 @@ impl Circuit {
         self.rounds += 1;
     }
 
-    /// The circuit ends by this end itself, for this reason. The peer is told where its id is known.
-    pub(crate) fn finish(&mut self, end: CircuitEnd, out: &mut OutBox)
+    /// The circuit ends by this end itself, for this reason. The peer is told where its id is known: at most one frame.
+    pub fn finish(&mut self, end: CircuitEnd, out: &mut OutBox)
         requires { length out.old < 256 }
         ensures did { Simulates (finish (end_bits end)) self.old self.new out.old out.new }
         ensures keeps { Keeps self.old self.new }
@@ -166,5 +166,14 @@ impl Circuit {
         if self.link.ids().to != 0 {
             self.write_stop(reason, lend(out, self, Mark::Plain));
         }
+    }
+
+    /// The circuit ends for this reason, and nobody is told.
+    pub fn lapse(&mut self, end: CircuitEnd)
+        ensures state { (e : End) → Stands self.old e →
+            Stands self.new (lapse (end_bits end) e).end }
+        ensures keeps { Keeps self.old self.new }
+    {
+        self.ended = Some(end.bits());
     }
 }

@@ -1,17 +1,23 @@
 -- Below which moment all that is kept lives.
-use Rattle.std.proofs.Common.{◌≡◌, ℕ, ◌<◌, true, not, List, [], ◌∷◌, ◌++◌, map, filter, nat_lt, min, refl, ap, ◌∙◌, arith}
+use Rattle.std.proofs.Common.{◌≡◌, ℕ, ◌<◌, Bool, true, not, nat_eq, List, [], ◌∷◌, ◌++◌, map, filter, nat_lt, min, refl, ap, ◌∙◌, arith}
 use Rattle.std.specs.Prelude.{bytes_eq, fold}
 use Rattle.std.proofs.lemmas.List.Elements.{filter-append}
 use Rattle.std.proofs.lemmas.Bool.Decides.{nat_tests}
+use Rattle.lat_machines.specs.values.Addresses.{address}
 use Rattle.lat_dir.specs.declared.node.Node.{Node}
-use Rattle.lat_dir.specs.Words.{Nodes, living, others}
+use Rattle.lat_dir.specs.Words.{Nodes, living, others, elsewhere}
 use Rattle.lat_dir.specs.Expiry.{LiveUntil, soonest_of}
 use Rattle.lat_dir.proofs.Lists.{filter_swap}
 
--- without one of them
+-- without some of them
+live_filter : (p : List ℕ × Node → Bool) (until : ℕ) (nodes : Nodes) → LiveUntil until nodes → LiveUntil until (filter p nodes)
+live_filter p until nodes live now below = filter_swap (λ e. nat_lt now e.1.until) p nodes ∙ ap (filter p) (live now below)
+
 pub live_others : (until : ℕ) (name : List ℕ) (nodes : Nodes) → LiveUntil until nodes → LiveUntil until (others name nodes)
-live_others until name nodes live now below =
-    filter_swap (λ e. nat_lt now e.1.until) (λ e. not (bytes_eq e.0 name)) nodes ∙ ap (others name) (live now below)
+live_others until name nodes live = live_filter (λ e. not (bytes_eq e.0 name)) until nodes live
+
+pub live_elsewhere : (until from : ℕ) (nodes : Nodes) → LiveUntil until nodes → LiveUntil until (elsewhere from nodes)
+live_elsewhere until from nodes live = live_filter (λ e. not (nat_eq (address e.1.from.0) from)) until nodes live
 
 lives : (now until : ℕ) → now < until → nat_lt now until ≡ true
 lives now until below = grind (arith, nat_tests)

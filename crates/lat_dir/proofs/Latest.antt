@@ -1,8 +1,8 @@
--- One announcement more at the end of a list.
-use Rattle.std.proofs.Common.{◌≡◌, ℕ, Bool, true, false, not, ◌||◌, List, [], ◌∷◌, ◌++◌, filter, refl, ap, ◌∙◌}
+-- One announcement more at the end of a list, and all from an address fewer.
+use Rattle.std.proofs.Common.{◌≡◌, ℕ, Bool, true, false, not, ◌||◌, nat_eq, List, [], ◌∷◌, ◌++◌, filter, refl, ap, ◌∙◌, true≢false}
 use Rattle.std.proofs.lemmas.List.Elements.{filter-append}
 use Rattle.lat_machines.specs.values.Names.{Name, folded}
-use Rattle.lat_machines.specs.server.Directory.{HeardAnnouncement, of_node, any_of, latest, is_live, live}
+use Rattle.lat_machines.specs.server.Directory.{HeardAnnouncement, of_node, any_of, latest, is_live, live, avoid}
 use Rattle.lat_dir.proofs.Lists.{bytes_eq_sym, filter_swap}
 
 -- whether the announcement is of another node than this one's
@@ -52,3 +52,46 @@ live_push groups now h x =
     ap (filter (is_live groups now)) (latest_push h x)
     ∙ filter-append (is_live groups now) (filter (apart x) (latest h)) (x ∷ [])
     ∙ ap (λ es. es ++ filter (is_live groups now) (x ∷ [])) (filter_swap (is_live groups now) (apart x) (latest h))
+
+none_latest : (node : Name) (es : List HeardAnnouncement) → any_of node es ≡ false → any_of node (latest es) ≡ false
+none_latest node [] none = refl
+none_latest node (e ∷ es) none = by (of_node node e) refl (any_of e.announcement.node es) refl (none_latest node es) none
+  where
+    by : (a : Bool) → of_node node e ≡ a → (b : Bool) → any_of e.announcement.node es ≡ b
+        → (any_of node es ≡ false → any_of node (latest es) ≡ false)
+        → any_of node (e ∷ es) ≡ false → any_of node (latest (e ∷ es)) ≡ false
+    by true ea b eb ih none = absurd (true≢false (rw ea at none))
+    by false ea true eb ih none = rw eb (ih (rw ea at none))
+    by false ea false eb ih none = rw (eb, ea) (ih (rw ea at none))
+
+none_filter : (p : HeardAnnouncement → Bool) (node : Name) (es : List HeardAnnouncement) → any_of node es ≡ false → any_of node (filter p es) ≡ false
+none_filter p node [] none = refl
+none_filter p node (e ∷ es) none = by (of_node node e) refl (p e) refl (none_filter p node es) none
+  where
+    by : (a : Bool) → of_node node e ≡ a → (b : Bool) → p e ≡ b
+        → (any_of node es ≡ false → any_of node (filter p es) ≡ false)
+        → any_of node (e ∷ es) ≡ false → any_of node (filter p (e ∷ es)) ≡ false
+    by true ea b eb ih none = absurd (true≢false (rw ea at none))
+    by false ea true eb ih none = rw (eb, ea) (ih (rw ea at none))
+    by false ea false eb ih none = rw eb (ih (rw ea at none))
+
+-- some of the latest are the latest of themselves
+latest_filter : (p : HeardAnnouncement → Bool) (es : List HeardAnnouncement) → latest (filter p (latest es)) ≡ filter p (latest es)
+latest_filter p [] = refl
+latest_filter p (e ∷ es) = by (any_of e.announcement.node es) refl (p e) refl (latest_filter p es)
+  where
+    by : (a : Bool) → any_of e.announcement.node es ≡ a → (b : Bool) → p e ≡ b
+        → latest (filter p (latest es)) ≡ filter p (latest es)
+        → latest (filter p (latest (e ∷ es))) ≡ filter p (latest (e ∷ es))
+    by true ea b eb ih = rw ea ih
+    by false ea false eb ih = rw (ea, eb) ih
+    by false ea true eb ih =
+        let none = none_filter p e.announcement.node (latest es) (none_latest e.announcement.node es ea) in
+        rw (ea, eb, none) (ap (λ xs. e ∷ xs) ih)
+
+-- the live ones from other addresses
+pub live_avoid : (groups : List ℕ) (now from : ℕ) (h : List HeardAnnouncement)
+    → live groups now (avoid from h) ≡ filter (λ e. not (nat_eq e.from from)) (live groups now h)
+live_avoid groups now from h =
+    let p : HeardAnnouncement → Bool = λ e. not (nat_eq e.from from) in
+    ap (filter (is_live groups now)) (latest_filter p h) ∙ filter_swap (is_live groups now) p (latest h)

@@ -1,4 +1,5 @@
 pub mod Announcements
+pub mod Addresses
 pub mod Bits
 pub mod Lists
 pub mod Expiry

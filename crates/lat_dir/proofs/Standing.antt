@@ -1,5 +1,5 @@
 -- What a directory keeps stands for what was heard.
-use Rattle.std.proofs.Common.{◌≡◌, ℕ, ◌+◌, ◌*◌, ◌≤◌, Bool, true, false, not, List, [], ◌∷◌, ◌++◌, length, map, filter, nat_lt, nat_le, Result, Ok, Err, refl, sym, ap, ◌∙◌, arith}
+use Rattle.std.proofs.Common.{◌≡◌, ℕ, ◌+◌, ◌*◌, ◌≤◌, Bool, true, false, not, nat_eq, List, [], ◌∷◌, ◌++◌, length, map, filter, nat_lt, nat_le, Result, Ok, Err, refl, sym, ap, ◌∙◌, arith}
 use Rattle.std.specs.Prelude.{bytes_eq}
 use Rattle.std.proofs.lemmas.List.{length-map, map-append, append-nil}
 use Rattle.std.proofs.lemmas.List.Elements.{filter-append}
@@ -8,17 +8,16 @@ use Rattle.lat_notices.specs.declared.services.Service as services
 use Rattle.lat_notices.specs.declared.notice.Announcement as notices
 use Rattle.lat_machines.specs.values.Addresses.{address}
 use Rattle.lat_machines.specs.values.Names.{folded}
-use Rattle.lat_machines.specs.server.Directory.{HeardAnnouncement, meets, is_live, live, is_full_for, refuses}
+use Rattle.lat_machines.specs.server.Directory.{HeardAnnouncement, meets, is_live, live, is_full_for, refuses, avoid}
 use Rattle.lat_dir.specs.declared.directory.DirFault.{DirFault}
 use Rattle.lat_dir.specs.declared.directory.DirFault.TheVariants.{Full, Memory}
-use Rattle.lat_dir.specs.declared.node.Node.{Node}
 use Rattle.lat_dir.specs.Words.{Nodes, living, others, node_of, offer_of}
 use Rattle.lat_dir.specs.Stands.{Kept, Known, known, known_of, offer_in, Stands, heard, answer_to, at_moment, UnlessMemory}
 use Rattle.lat_dir.specs.Announcements.{service_shown, announcement_shown}
-use Rattle.lat_dir.specs.Steps.{forgotten, trimmed, is_full, answer_met, with_node, taken_in}
+use Rattle.lat_dir.specs.Steps.{forgotten, trimmed, is_full, answer_met, with_node, taken_in, avoided}
 use Rattle.lat_dir.proofs.Lists.{filter_map_is, filter_swap}
 use Rattle.lat_dir.proofs.Trimming.{living_later, living_trimmed, trimmed_many}
-use Rattle.lat_dir.proofs.Latest.{apart, live_push}
+use Rattle.lat_dir.proofs.Latest.{apart, live_push, live_avoid}
 
 -- those of other names
 abbrev apart_from : List ℕ → List Known → List Known
@@ -135,6 +134,16 @@ taken_in_stands now from a k h before met stands = by (is_full now (folded a.nod
 pub answer_is : (now : ℕ) (from : Addr) (a : notices.Announcement) (k : Kept) (h : List HeardAnnouncement) → k.moment ≤ now
     → meets k.groups (announcement_shown a) ≡ true → Stands k h → answer_met now (folded a.node) k.nodes ≡ answer_to k.groups now a h
 answer_is now from a k h before met stands = rw (refused_is now a from k h before stands met, met) refl
+
+-- an address that is avoided
+pub avoided_stands : (from : ℕ) (k : Kept) (h : List HeardAnnouncement) → Stands k h → Stands (avoided from k) (avoid from h)
+avoided_stands from k h stands now after =
+    let other : Known → Bool = λ n. not (nat_eq n.from from) in
+    ap (map known) (filter_swap (λ e. nat_lt now e.1.until) (λ e. not (nat_eq (address e.1.from.0) from)) k.nodes)
+    ∙ sym (filter_map_is other known (living now k.nodes))
+    ∙ ap (filter other) (stands now after)
+    ∙ filter_map_is other known_of (live k.groups now h)
+    ∙ ap (map known_of) (sym (live_avoid k.groups now from h))
 
 pub unless_map : {A P Q : Type 0} (r : Result A DirFault) → (P → Q) → UnlessMemory r P → UnlessMemory r Q
 unless_map (Ok x) f p = f p

@@ -1,10 +1,11 @@
 -- What is left of the nodes where what isn't live is forgotten.
-use Rattle.std.proofs.Common.{◌≡◌, ℕ, ◌≤◌, ◌<◌, Bool, true, false, not, List, [], ◌∷◌, ◌++◌, length, filter, nat_lt, nat_le, refl, sym, ap, subst, ◌∙◌, arith, true≢false, if◌then◌else◌}
+use Rattle.std.proofs.Common.{◌≡◌, ℕ, ◌≤◌, ◌<◌, Bool, true, false, not, nat_eq, List, [], ◌∷◌, ◌++◌, length, nat_lt, nat_le, refl, sym, ap, subst, ◌∙◌, arith, true≢false, if◌then◌else◌}
 use Rattle.std.specs.Prelude.{bytes_eq}
 use Rattle.std.proofs.lemmas.Bool.Decides.{nat_tests}
 use Rattle.indexmap.specs.IndexMap.{insert_entry}
+use Rattle.lat_machines.specs.values.Addresses.{address}
 use Rattle.lat_dir.specs.declared.node.Node.{Node}
-use Rattle.lat_dir.specs.Words.{Nodes, living, others}
+use Rattle.lat_dir.specs.Words.{Nodes, living, others, elsewhere}
 use Rattle.lat_dir.specs.Steps.{trimmed, is_full, with_node}
 use Rattle.lat_dir.proofs.Lists.{filter_weaker, filter_swap, filter_shorter, filter_whole, insert_other}
 
@@ -20,6 +21,9 @@ living_shorter now nodes = filter_shorter (λ e. nat_lt now e.1.until) nodes
 
 pub others_shorter : (name : List ℕ) (nodes : Nodes) → length (others name nodes) ≤ length nodes
 others_shorter name nodes = filter_shorter (λ e. not (bytes_eq e.0 name)) nodes
+
+pub elsewhere_shorter : (from : ℕ) (nodes : Nodes) → length (elsewhere from nodes) ≤ length nodes
+elsewhere_shorter from nodes = filter_shorter (λ e. not (nat_eq (address e.1.from.0) from)) nodes
 
 -- what lives later is left
 pub living_trimmed : (now next : ℕ) (nodes : Nodes) → now ≤ next → living next (trimmed now nodes) ≡ living next nodes

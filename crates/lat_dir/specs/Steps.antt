@@ -1,9 +1,9 @@
--- What hearing an announcement makes of a directory.
+-- What hearing an announcement and avoiding an address make of a directory.
 use Rattle.std.specs.Prelude.{ℕ, Bool, true, List, [], ◌∷◌, ◌++◌, length, Result, Ok, Err, nat_le, if◌then◌else◌}
 use Rattle.lat_dir.specs.declared.directory.DirFault.{DirFault}
 use Rattle.lat_dir.specs.declared.directory.DirFault.TheVariants.{Full}
 use Rattle.lat_dir.specs.declared.node.Node.{Node}
-use Rattle.lat_dir.specs.Words.{Nodes, living, others}
+use Rattle.lat_dir.specs.Words.{Nodes, living, others, elsewhere}
 use Rattle.lat_dir.specs.Stands.{Kept}
 
 -- nothing of this name is kept
@@ -28,3 +28,7 @@ with_node now name node nodes = if is_full now name nodes then living now nodes 
 
 abbrev pub taken_in : ℕ → List ℕ → Node → Kept → Kept
 taken_in now name node k = record { groups = k.groups; nodes = with_node now name node k.nodes; moment = now }
+
+-- nothing from this address is kept
+abbrev pub avoided : ℕ → Kept → Kept
+avoided from k = record { groups = k.groups; nodes = elsewhere from k.nodes; moment = k.moment }

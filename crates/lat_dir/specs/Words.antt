@@ -1,5 +1,5 @@
 -- What a directory keeps, and what it looks for in it.
-use Rattle.std.specs.Prelude.{ℕ, ◌+◌, ◌*◌, not, ◌||◌, List, map, filter, find, Option, Some, None, option_map, unwrap_or, if◌then◌else◌, nat_lt, bytes_eq, ◌==◌}
+use Rattle.std.specs.Prelude.{ℕ, ◌+◌, ◌*◌, not, ◌||◌, nat_eq, List, map, filter, find, Option, Some, None, option_map, unwrap_or, if◌then◌else◌, nat_lt, bytes_eq, ◌==◌}
 use Rattle.lat_base.specs.declared.addr.Addr.{Addr}
 use Rattle.lat_notices.specs.declared.services.Service.{Service}
 use Rattle.lat_notices.specs.declared.notice.Announcement.{Announcement}
@@ -49,3 +49,7 @@ living now nodes = filter (λ e. nat_lt now e.1.until) nodes
 -- those of other names
 abbrev pub others : List ℕ → Nodes → Nodes
 others name nodes = filter (λ e. not (bytes_eq e.0 name)) nodes
+
+-- those of other addresses
+abbrev pub elsewhere : ℕ → Nodes → Nodes
+elsewhere from nodes = filter (λ e. not (nat_eq (address e.1.from.0) from)) nodes

@@ -1,10 +1,11 @@
 //! The directory of services.
 
 ghost use Rattle.std.specs.Prelude.{◌≡◌, ◌≤◌, ◌<◌, List, [], Err, option_map, IfOk, IfSome};
-ghost use Rattle.lat_machines.specs.server.Directory.{HeardAnnouncement, best};
+ghost use Rattle.lat_machines.specs.values.Addresses.{address};
+ghost use Rattle.lat_machines.specs.server.Directory.{HeardAnnouncement, best, avoid};
 ghost use Rattle.lat_dir.specs.Words.{best_shown};
 ghost use Rattle.lat_dir.specs.Stands.{Stands, heard, answer_to, at_moment, UnlessMemory};
-ghost use Rattle.lat_dir.specs.Steps.{forgotten, answer_met, taken_in};
+ghost use Rattle.lat_dir.specs.Steps.{forgotten, answer_met, taken_in, avoided};
 
 use crate::best::Best;
 use crate::groups::are_met;
@@ -137,6 +138,15 @@ impl Directory {
         }
         let node = Node::heard(alloc, from, a, now)?;
         self.take_in(name, node, now)
+    }
+
+    /// Forgets all that is known from this address, under whatever name, until it is heard again. Takes no memory.
+    pub fn avoid(&mut self, from: Addr)
+        ensures stands { (h : List HeardAnnouncement) → Stands self.old h →
+            Stands self.new (avoid (address from.0) h) }
+        ensures kept { self.new ≡ avoided (address from.0) self.old }
+    {
+        self.nodes.avoid(from);
     }
 
     /// The best node for a service at the moment: of the live nodes that announced it with a rating above 0 the one with the

@@ -1,6 +1,7 @@
 //! What is kept of a node.
 
-ghost use Rattle.std.specs.Prelude.{◌≡◌, nat_lt, IfOk};
+ghost use Rattle.std.specs.Prelude.{◌≡◌, nat_lt, nat_eq, IfOk};
+ghost use Rattle.lat_machines.specs.values.Addresses.{address};
 ghost use Rattle.lat_dir.specs.Words.{node_of, better_in};
 
 use crate::best::Best;
@@ -32,6 +33,12 @@ impl Drop for Node {
 // How many milliseconds a node is live for each second of its timer: three times the timer.
 const LIVES: u128 = 3000;
 
+fn are_one(a: Addr, b: Addr) -> bool
+    ensures { result ≡ nat_eq (address a.0) (address b.0) }
+{
+    a == b
+}
+
 impl Node {
     /// What is kept of an announcement that is heard at the moment. Takes memory for the services.
     pub fn heard(alloc: Global, from: Addr, a: &Announcement, now: u64) -> Result<Node, Memory>
@@ -50,6 +57,13 @@ impl Node {
         ensures { result ≡ nat_lt now self.now.until }
     {
         (now as u128) < self.until
+    }
+
+    /// Whether its announcement came from this address.
+    pub fn is_from(&self, from: Addr) -> bool
+        ensures { result ≡ nat_eq (address self.now.from.0) (address from.0) }
+    {
+        are_one(self.from, from)
     }
 
     /// The best of this node and those before it, for a service whose name is given in upper case.

@@ -2,14 +2,15 @@
 
 ghost use Rattle.std.specs.Prelude.{◌≡◌, ◌≤◌, ◌-◌, ◌^◌, [], length, nat_le, not, false, Ok, None, reverse, map, fold, IfOk, OnOk, OnErr};
 ghost use Rattle.indexmap.specs.IndexMap.{spare};
-ghost use Rattle.lat_dir.specs.Words.{living, others, better_in};
+ghost use Rattle.lat_machines.specs.values.Addresses.{address};
+ghost use Rattle.lat_dir.specs.Words.{living, others, elsewhere, better_in};
 ghost use Rattle.lat_dir.specs.Steps.{is_full, trimmed, with_node};
 ghost use Rattle.lat_dir.specs.Expiry.{LiveUntil, soonest_of};
 
 use crate::best::Best;
 use crate::node::Node;
 use indexmap::IndexMap;
-use lat_base::{Memory, Name};
+use lat_base::{Addr, Memory, Name};
 use std::alloc::Global;
 use std::marker::Model;
 
@@ -28,6 +29,13 @@ fn forget(nodes: &mut IndexMap<Name, Node>, name: &Name)
     ensures room { spare nodes.old ≤ spare nodes.new }
 {
     let _ = nodes.shift_remove(name);
+}
+
+fn avoid(nodes: &mut IndexMap<Name, Node>, from: Addr)
+    ensures kept { nodes.new.entries ≡ elsewhere (address from.0) nodes.old.entries }
+    ensures room { spare nodes.old ≤ spare nodes.new }
+{
+    nodes.retain(|_, node| !node.is_from(from));
 }
 
 // The moment at which the first of them expires.
@@ -127,6 +135,13 @@ impl Nodes {
         ensures { self.new ≡ others name.now self.old }
     {
         forget(&mut self.nodes, name);
+    }
+
+    /// Forgets the nodes of this address, under whatever name.
+    pub fn avoid(&mut self, from: Addr)
+        ensures { self.new ≡ elsewhere (address from.0) self.old }
+    {
+        avoid(&mut self.nodes, from);
     }
 
     /// Keeps the node behind those of other names, and answers true. Where 256 of those are live it isn't kept, what isn't live

@@ -35,3 +35,4 @@ answer_back answers.Closed = refl
 answer_back answers.Full = refl
 answer_back answers.IdUsed = refl
 answer_back answers.NotHere = refl
+answer_back answers.Halted = refl

@@ -61,7 +61,7 @@ is_seat k line s e = by (line_exists k.lines line) refl (find (is_seat_of line) 
 
 -- a call that is refused leaves all as it is, but for the requests that are told
 
-freed_none : (c : Core) (ss : List Seat) → freed_from c c ss ≡ []
+pub freed_none : (c : Core) (ss : List Seat) → freed_from c c ss ≡ []
 freed_none c [] = refl
 freed_none c (s ∷ ss) = by (over c s) (freed_none c ss)
   where

@@ -5,19 +5,22 @@ use Rattle.lat_model.specs.Lists.{updated, upwards}
 use Rattle.lat_model.specs.sessions.Slots.{Slot}
 use Rattle.lat_model.specs.sessions.Calls.{Call}
 use Rattle.lat_model.specs.numbers.Link.{Frame}
-use Rattle.lat_model.specs.ends.End.{End, Step, still, lives, call_end}
+use Rattle.lat_model.specs.ends.End.{End, Step, still, lives, call_end, finish, lapse}
 use Rattle.lat_model.specs.ends.Timers.{note_empty, time_step}
 use Rattle.lat_model.specs.ends.Run.{run_end}
 use Rattle.lat_model.specs.ends.Starting.{Agreed, make_slave, hear_reply, hear_stop, again_start}
 use Rattle.lat_model.specs.circuits.World.{CircuitEntry, Table, first_end}
+use Rattle.lat_model.specs.Reasons as reasons
+use Rattle.lat_model.specs.sessions.EndOk.{EndOk}
+use Rattle.lat_session.specs.Stands.{AllBegun}
 use Rattle.lat_model.specs.circuits.Arriving.{is_of, living, slave_of}
 use Rattle.lat_machines.specs.values.Names.{Name}
 use Rattle.lat_machines.specs.values.Messages.{Head, Message, RunMessage, WideMessage, StartMessage, StopMessage}
 use Rattle.lat_machines.specs.values.Timing.{agreed_by}
 use Rattle.lat_machines.specs.values.Answers.{Running, Again, Ended}
-use Rattle.lat_machines.specs.cores.Acts.{Acted, idle, steps_at, time_at, called}
-use Rattle.lat_machines.specs.cores.Hearing.{HeardAct, foreign, names, fits_kind, numbers_at, run_frame, run_at, hear_run, hear_stop_at, hear_reply_at, StartFact, Repeats, Makes, Refuses, start_fact, start_at}
-use Rattle.lat_machines.specs.cores.Cores.{Core, Side, Doing, setup_of, with_circuits, acts, at_moment, then_doing, time_each, passes_time}
+use Rattle.lat_machines.specs.cores.Acts.{Acted, idle, steps_at, called}
+use Rattle.lat_machines.specs.cores.Hearing.{follows, is_outlived, HeardAct, foreign, names, fits_kind, numbers_at, run_frame, run_at, hear_run, hear_stop_at, hear_reply_at, StartFact, Repeats, Makes, Refuses, start_fact, start_at}
+use Rattle.lat_machines.specs.cores.Cores.{Core, Side, Doing, setup_of, with_circuits, acts, at_moment, rests, then_doing, passes_time, ends_all}
 use Rattle.lat_machines.specs.node.Node.{names_for}
 use Rattle.lat_machines.proofs.queue.Rooms.{least_true}
 use Rattle.lat_lines.specs.circuits.Kept as circuits
@@ -25,11 +28,15 @@ use Rattle.lat_lines.specs.circuits.Stands as stands
 use Rattle.lat_lines.specs.circuits.Stands.{calling}
 use Rattle.lat_lines.specs.circuits.Hears.{HeardCore, of_act, untouched, start_core, heard_core}
 use Rattle.lat_lines.specs.circuits.Opens.{called_core}
+use Rattle.lat_lines.specs.circuits.Times.{passes_one}
+use Rattle.lat_lines.specs.circuits.Ending.{ends_one, outlives_one, outlived_core}
 use Rattle.lat_lines.specs.Later.{EndLater, Unheard}
 use Rattle.lat_lines.specs.Cores.{CoreLater}
 use Rattle.lat_lines.proofs.later.Known.{end_later_refl}
 use Rattle.lat_lines.proofs.later.Calls.{call_later, call_unheard}
-use Rattle.lat_lines.proofs.later.Ends.{time_later, time_unheard, move_later, move_unheard, again_later, again_unheard, stop_later, stop_unheard, reply_later, reply_unheard, run_later, run_unheard}
+use Rattle.lat_lines.proofs.later.Ends.{time_later, time_unheard, finish_later, finish_unheard, move_later, move_unheard, again_later, again_unheard, stop_later, stop_unheard, reply_later, reply_unheard, run_later, run_unheard}
+use Rattle.lat_lines.proofs.circuits.Each.{does_each, steps_one}
+use Rattle.lat_lines.proofs.circuits.Passing.{times_are, ends_are, outlives_are}
 use Rattle.lat_lines.proofs.reaping.Held.{IsStood, stood_at}
 
 -- what is known of the circuits of a core that others stand for
@@ -119,44 +126,80 @@ called_later k address node c ok =
     let d : Core = record c { names = updated c.names (suc c.circuits.drawn) node } in
     touched_later c d (suc c.circuits.drawn) (suc c.circuits.drawn) address (called (setup_of k.timing) c.moment).end (circuits_still c c.moment d.names ok) (omega arith) (λ l. absurd (omega (arith, l))) (λ r y. refl)
 
--- the time of each circuit
+-- an act on each circuit
 
--- the circuits up to the n-th have had their time
+-- the circuits up to the n-th have had theirs
 record Passed (c d : Core) (n : ℕ) : Type 0 where
   later : CoreLater c d
   rest : (x : ℕ) → n < x → d.circuits.circuit_at x ≡ c.circuits.circuit_at x
 
-passed_one : (k : Side) (c d : Core) (n : ℕ) → CoreOk c → Passed c d n → Passed c (acts k d (time_at k.server d.circuits (suc n) d.moment)).core (suc n)
-passed_one k c d n ok p =
-    let x : ℕ = suc n in
-    cond_both (lives (d.circuits.circuit_at x).end) (steps_at k.server d.circuits x (time_step d.moment (d.circuits.circuit_at x).end)) (idle d.circuits) (λ a. Passed c (with_circuits d a.table) x) step
-    (λ h. record { later = p.later; rest = λ y l. p.rest y (omega arith) })
+-- a step of the next one, which lives
+passed_step : (b : Bool) (s : End → Step) (c d : Core) (n : ℕ) → CoreOk c → Passed c d n
+    → ((e : End) → EndOk e.half.sessions → AllBegun e.half.sessions → EndLater e (note_empty e (s e)).end) → ((e : End) → Unheard e → Unheard (note_empty e (s e)).end)
+    → lives (d.circuits.circuit_at (suc n)).end ≡ true → Passed c (with_circuits d (steps_at b d.circuits (suc n) (s (d.circuits.circuit_at (suc n)).end)).table) (suc n)
+passed_step b s c d n ok p is_later is_unheard h = record {
+  later = touched_later c d (suc n) d.circuits.drawn (d.circuits.circuit_at (suc n)).address (ends (d.circuits.circuit_at (suc n))) p.later (le_refl d.circuits.drawn)
+      (λ q. (ap (λ z. z.address) same, alive, subst (λ z. EndLater e (ends z)) (sym same) (is_later e (ok.stood (suc n) alive).good (ok.stood (suc n) alive).begun)))
+      (subst (λ z. Unheard (ends z)) (sym same) (is_unheard e (ok.unheard (suc n))));
+  rest = λ y m. updated_at (λ z. z ≡ c.circuits.circuit_at y) d.circuits.circuit_at (suc n) y (record { address = (d.circuits.circuit_at (suc n)).address; end = ends (d.circuits.circuit_at (suc n)) }) (λ q. absurd (omega (arith, m, q))) (p.rest y (omega arith));
+}
   where
     e : End
     e = (c.circuits.circuit_at (suc n)).end
 
     ends : CircuitEntry → End
-    ends z = (note_empty z.end (time_step d.moment z.end)).end
+    ends z = (note_empty z.end (s z.end)).end
 
     same : d.circuits.circuit_at (suc n) ≡ c.circuits.circuit_at (suc n)
     same = p.rest (suc n) (omega arith)
 
-    step : lives (d.circuits.circuit_at (suc n)).end ≡ true → Passed c (with_circuits d (steps_at k.server d.circuits (suc n) (time_step d.moment (d.circuits.circuit_at (suc n)).end)).table) (suc n)
-    step h =
-        let l : lives e ≡ true = subst (λ z. lives z.end ≡ true) same h in
-        record {
-          later = touched_later c d (suc n) d.circuits.drawn (d.circuits.circuit_at (suc n)).address (ends (d.circuits.circuit_at (suc n))) p.later (le_refl d.circuits.drawn)
-              (λ q. (ap (λ z. z.address) same, l, subst (λ z. EndLater e (ends z)) (sym same) (time_later d.moment e (ok.stood (suc n) l).good (ok.stood (suc n) l).begun)))
-              (subst (λ z. Unheard (ends z)) (sym same) (time_unheard d.moment e (ok.unheard (suc n))));
-          rest = λ y m. updated_at (λ z. z ≡ c.circuits.circuit_at y) d.circuits.circuit_at (suc n) y (record { address = (d.circuits.circuit_at (suc n)).address; end = ends (d.circuits.circuit_at (suc n)) }) (λ q. absurd (omega (arith, m, q))) (p.rest y (omega arith));
-        }
+    alive : lives e ≡ true
+    alive = subst (λ z. lives z.end ≡ true) same h
 
-passed_each : (k : Side) (c : Core) (n m : ℕ) (d : Doing) → CoreOk c → Passed c d.core n → CoreLater c (time_each k (upwards n m) d).core
-passed_each k c n zero d ok p = p.later
-passed_each k c n (suc m) d ok p = passed_each k c (suc n) m (then_doing d (λ z. acts k z (time_at k.server z.circuits (suc n) z.moment))) ok (passed_one k c d.core n ok p)
+passed_idle : (c d : Core) (n : ℕ) → Passed c d n → Passed c d (suc n)
+passed_idle c d n p = record { later = p.later; rest = λ y l. p.rest y (omega arith) }
+
+-- An act that a circuit has in its turn
+abbrev IsTurn : (ℕ → Core → Doing) → Type 0
+IsTurn f = (c d : Core) (n : ℕ) → CoreOk c → Passed c d n → Passed c (f (suc n) d).core (suc n)
+
+steps_turn : (k : Side) (s : Core → End → Step)
+    → ((d : Core) (e : End) → EndOk e.half.sessions → AllBegun e.half.sessions → EndLater e (note_empty e (s d e)).end) → ((d : Core) (e : End) → Unheard e → Unheard (note_empty e (s d e)).end)
+    → IsTurn (steps_one k s)
+steps_turn k s is_later is_unheard c d n ok p =
+    cond_both (lives (d.circuits.circuit_at (suc n)).end) (steps_at k.server d.circuits (suc n) (s d (d.circuits.circuit_at (suc n)).end)) (idle d.circuits) (λ a. Passed c (with_circuits d a.table) (suc n))
+    (passed_step k.server (s d) c d n ok p (is_later d) (is_unheard d))
+    (λ h. passed_idle c d n p)
+
+turn_each : (f : ℕ → Core → Doing) → IsTurn f → (c : Core) (n m : ℕ) (d : Doing) → CoreOk c → Passed c d.core n → CoreLater c (does_each f (upwards n m) d).core
+turn_each f turn c n zero d ok p = p.later
+turn_each f turn c n (suc m) d ok p = turn_each f turn c (suc n) m (then_doing d (f (suc n))) ok (turn c d.core n ok p)
+
+turns_later : (f : ℕ → Core → Doing) → IsTurn f → (c : Core) → CoreOk c → CoreLater c (does_each f (upwards 0 c.circuits.drawn) (rests c)).core
+turns_later f turn c ok = turn_each f turn c 0 c.circuits.drawn (rests c) ok (record { later = core_still c ok; rest = λ x l. refl })
 
 pub time_passes_later : (k : Side) (c : Core) → CoreOk c → CoreLater c (passes_time k c).core
-time_passes_later k c ok = passed_each k c 0 c.circuits.drawn (record { core = c; frames = [] }) ok (record { later = core_still c ok; rest = λ x l. refl })
+time_passes_later k c ok =
+    subst (λ (d : Doing). CoreLater c d.core) (sym (times_are k (upwards 0 c.circuits.drawn) (rests c)))
+    (turns_later (passes_one k) (steps_turn k (λ d e. time_step d.moment e) (λ d. time_later d.moment) (λ d. time_unheard d.moment)) c ok)
+
+pub ends_later : (k : Side) (reason : ℕ) (c : Core) → CoreOk c → CoreLater c (ends_all k reason c).core
+ends_later k reason c ok =
+    subst (λ (d : Doing). CoreLater c d.core) (sym (ends_are k reason (upwards 0 c.circuits.drawn) (rests c)))
+    (turns_later (ends_one k reason) (steps_turn k (λ d e. finish reason e) (λ d. finish_later reason) (λ d. finish_unheard reason)) c ok)
+
+outlives_turn : (from source : ℕ) → IsTurn (outlives_one from source)
+outlives_turn from source c d n ok p =
+    let z : CircuitEntry = d.circuits.circuit_at (suc n) in
+    cond_both (is_outlived z from source) (steps_at false d.circuits (suc n) (lapse reasons.no_circuit z.end)).table d.circuits (λ t. Passed c (with_circuits d t) (suc n))
+    (λ h. passed_step false (lapse reasons.no_circuit) c d n ok p (finish_later reasons.no_circuit) (finish_unheard reasons.no_circuit)
+    (and_parts (nat_eq z.address from && follows z.end.peer source) (lives z.end) h).1)
+    (λ h. passed_idle c d n p)
+
+pub outlived_later : (from source : ℕ) (c : Core) → CoreOk c → CoreLater c (outlived_core from source c)
+outlived_later from source c ok =
+    subst (λ (d : Doing). CoreLater c d.core) (outlives_are from source (upwards 0 c.circuits.drawn) c)
+    (turns_later (outlives_one from source) (outlives_turn from source) c ok)
 
 -- messages
 

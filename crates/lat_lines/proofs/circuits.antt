@@ -1,6 +1,7 @@
 pub mod Wires
 pub mod Places
 pub mod Ids
+pub mod Each
 pub mod Passing
 pub mod Begun
 pub mod Pushed
@@ -10,5 +11,6 @@ pub mod Cleared
 pub mod Heard
 pub mod Called
 pub mod Named
+pub mod Strays
 pub mod Answered
 pub mod Starts

@@ -2,7 +2,7 @@
 use Rattle.std.specs.Prelude.{map}
 use Rattle.lat_base.specs.declared.answer.Answer as base
 use Rattle.lat_base.specs.declared.answer.Answer.TheVariants as answers
-use Rattle.lat_machines.specs.values.Answers.{Answer, Circuit, Started, StartRefused, Announced, DirectoryFull, KeptIs, NotKept, Noted, Apart, Solicited, Ignored, Bad, Done, Connected, Accepted, Took, NoLine, Busy, NoService, SessionsFull, CircuitsFull, IdsOut, Closed, Full, IdUsed, NotHere}
+use Rattle.lat_machines.specs.values.Answers.{Answer, Circuit, Started, StartRefused, Announced, DirectoryFull, KeptIs, NotKept, Noted, Apart, Solicited, Ignored, Bad, Done, Connected, Accepted, Took, NoLine, Busy, NoService, SessionsFull, CircuitsFull, IdsOut, Closed, Full, IdUsed, NotHere, Halted}
 use Rattle.lat_stream.specs.Kept.{item_shown, item_of}
 use Rattle.lat_circuit.specs.Hears.{heard_shown, heard_of}
 use Rattle.lat_queue.specs.KeptValues.{kept_shown, kept_of}
@@ -35,6 +35,7 @@ answer_shown answers.Closed = Closed
 answer_shown answers.Full = Full
 answer_shown answers.IdUsed = IdUsed
 answer_shown answers.NotHere = NotHere
+answer_shown answers.Halted = Halted
 
 abbrev pub answer_of : Answer → base.Answer
 answer_of (Circuit heard) = answers.Circuit (heard_of heard)
@@ -63,3 +64,4 @@ answer_of Closed = answers.Closed
 answer_of Full = answers.Full
 answer_of IdUsed = answers.IdUsed
 answer_of NotHere = answers.NotHere
+answer_of Halted = answers.Halted

@@ -11,3 +11,5 @@ pub mod Calls
 pub mod Opens
 pub mod Shown
 pub mod Events
+pub mod Strangers
+pub mod Peers

@@ -6,3 +6,4 @@ pub mod Living
 pub mod Shown
 pub mod Opens
 pub mod Times
+pub mod Ending

@@ -1,22 +1,27 @@
-//! What lines and circuits do at a time event and at a circuit message.
+//! What lines and circuits do at a time event, at a circuit message, and when a core ends circuits by itself.
 
-ghost use Rattle.std.specs.Prelude.{◌≡◌, ◌≤◌, ◌+◌, ◌&&◌, ℕ, true, not, is_none, length, nat_eq};
+ghost use Rattle.std.specs.Prelude.{◌≡◌, ◌≤◌, ◌<◌, ◌+◌, ◌&&◌, ℕ, true, false, not, is_none, [], length, map, nat_eq};
 ghost use Rattle.std.specs.List.{list_any};
+ghost use Rattle.lat_frames.specs.Reasons.{end_bits};
 ghost use Rattle.lat_frames.specs.Written.{IsWritable};
 ghost use Rattle.lat_machines.specs.values.Addresses.{address};
-ghost use Rattle.lat_machines.specs.cores.Cores.{Core, passes_time};
+ghost use Rattle.lat_machines.specs.cores.Acts.{stray_at};
+ghost use Rattle.lat_machines.specs.cores.Cores.{Core, acts, passes_time, ends_all};
+ghost use Rattle.lat_queue.specs.Histories.{key_shown};
 ghost use Rattle.lat_circuit.specs.Messages.{message_shown};
 ghost use Rattle.lat_circuit.specs.Kept.{Kept};
 ghost use Rattle.lat_lines.specs.circuits.Kept.{IsClear, has_id};
 ghost use Rattle.lat_lines.specs.circuits.Hears.{heard_core, hearing_shown};
+ghost use Rattle.lat_lines.specs.circuits.Ending.{outlived_core};
 ghost use Rattle.lat_lines.specs.Calm.{takes_nothing};
 ghost use Rattle.lat_lines.specs.Kept.{side_of, SameLines};
-ghost use Rattle.lat_lines.specs.Stands.{Stands, Simulates};
+ghost use Rattle.lat_lines.specs.Stands.{Stands, Simulates, freed_between};
 
 use crate::circuits::Hearing;
 use crate::lines::Lines;
 use lat_base::{Addr, Heard, OutBox};
-use lat_frames::Message;
+use lat_circuit::stray_stop;
+use lat_frames::{CircuitEnd, Message};
 
 impl Lines {
     /// Gives each living circuit the core's moment, by rising id, and puts the frames that are due into `out`. See "What a time
@@ -58,6 +63,49 @@ impl Lines {
         let is_calm = is_quiet(&hearing, before, out);
         self.reap_unless(is_calm);
         hearing
+    }
+
+    /// Ends each living circuit for this reason, as `Circuits::end_all` does. `freed` tells then whose sessions became free.
+    pub fn end_all(&mut self, reason: CircuitEnd, out: &mut OutBox)
+        requires room { length out.old + 8 ≤ 256 }
+        ensures did { Simulates (ends_all (side_of self.old) (end_bits reason))
+            self.old self.new out.old out.new }
+        ensures same { SameLines self.old self.new }
+        ensures moment { self.new.circuits.moment ≡ self.old.circuits.moment }
+        ensures most { length out.new ≤ length out.old + 8 }
+    {
+        self.circuits.end_all(reason, out);
+        self.reap();
+    }
+
+    /// Ends the slaves to this station that a START with this id of the master follows, as `Circuits::outlive` does. A prompt
+    /// node calls it before it hears the START, and `clear` between the two, for the START may need the place of one of them:
+    /// `outlive`, `clear`, `heard`. `freed` tells, until `clear`, whose sessions became free.
+    pub fn outlive(&mut self, from: Addr, source: u16)
+        ensures state { (c : Core) → Stands self.old c →
+            Stands self.new (outlived_core (address from.0) source c) }
+        ensures freed { (c : Core) → Stands self.old c →
+            map key_shown self.new.freed ≡ freed_between c (outlived_core (address from.0) source c) }
+        ensures same { SameLines self.old self.new }
+        ensures moment { self.new.circuits.moment ≡ self.old.circuits.moment }
+    {
+        self.circuits.outlive(from, source);
+        self.reap();
+    }
+
+    /// Answers the START of a station with a STOP of no circuit, for this reason. Nothing else changes. The id that the START
+    /// states isn't 0. See "How a circuit ends" in docs/PROTOCOL.md.
+    pub fn turn_away(&mut self, from: Addr, source: u16, reason: CircuitEnd, out: &mut OutBox)
+        requires source { 0 < source }
+        requires room { length out.old < 256 }
+        ensures did { Simulates (λ c.
+            acts (side_of self.old) c (stray_at false c.circuits (address from.0) source 0 (end_bits reason)))
+            self.old self.new out.old out.new }
+        ensures kept { self.new ≡ record self.old { freed = [] } }
+        ensures most { length out.new ≤ length out.old + 1 }
+    {
+        self.rest();
+        out.push(stray_stop(false, from, source, 0, reason));
     }
 
     // Whether a time left each session as its line knows it: none formed a slot, and no circuit ended.

@@ -1,6 +1,7 @@
 //! The circuits of one core: at most eight that live, found by the peer's address and by ids.
 
 mod calls;
+mod ending;
 mod getters;
 mod hearing;
 mod info;

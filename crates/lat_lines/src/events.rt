@@ -21,6 +21,9 @@ pub fn line_call(event: &Event) -> Option<(u8, SessionCall<'_>)>
         | Event::Take { .. }
         | Event::Request { .. }
         | Event::Cancel { .. }
-        | Event::Announce => None,
+        | Event::Announce
+        | Event::Avoid { .. }
+        | Event::Ready { .. }
+        | Event::Halt => None,
     }
 }

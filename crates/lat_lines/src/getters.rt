@@ -2,6 +2,8 @@
 
 ghost use Rattle.std.specs.Prelude.{◌≡◌, ◌≤◌, ◌&&◌, true, false, not, cond, nat_eq};
 ghost use Rattle.std.specs.Prelude.{length, filter, find, Some, None, IfSome};
+ghost use Rattle.std.specs.Option.{option_map};
+ghost use Rattle.lat_base.specs.declared.addr.Addr.{Addr};
 ghost use Rattle.lat_model.specs.Lists.{least, upwards};
 ghost use Rattle.lat_model.specs.ends.End.{lives};
 ghost use Rattle.lat_model.specs.sessions.Session.{waits};
@@ -18,6 +20,7 @@ ghost use Rattle.lat_lines.specs.circuits.Opens.{id_or_zero};
 ghost use Rattle.lat_lines.specs.Kept.{side_of, IsLine};
 ghost use Rattle.lat_lines.specs.Answers.{ready};
 ghost use Rattle.lat_lines.specs.Stands.{Stands, book_shown, book_info};
+ghost use Rattle.lat_lines.specs.Peers.{newest_peer};
 ghost use Rattle.lat_lines.specs.declared.seat.Seat.{Seat};
 
 use crate::lines::Lines;
@@ -121,6 +124,16 @@ impl Lines {
             present: seat_of(self.seats.as_slice(), line).map(|seat| seat.session),
             last: self.last[line as usize - 1],
         }
+    }
+
+    /// The station that the newest session of a line is or was with, `None` where it never had one. The line must exist.
+    pub fn newest_peer(&self, line: u8) -> Option<Addr>
+        requires { IsLine self.now.lines line }
+        ensures { (c : Core) → Stands self.now c →
+            option_map (λ (a : Addr). address a.0) result ≡ newest_peer c line }
+    {
+        let LineBook { present, last } = self.book(line);
+        present.or(last).map(|session| session.peer)
     }
 
     /// The least line without a session, `None` where each has one.

@@ -11,6 +11,7 @@ mod lines;
 mod opening;
 mod reap;
 mod seat;
+mod strangers;
 
 pub use answers::hearing_answer;
 pub use circuits::{Circuits, Hearing, Info};

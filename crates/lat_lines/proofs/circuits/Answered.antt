@@ -3,26 +3,19 @@ use Rattle.std.proofs.Common.{◌≡◌, ℕ, suc, ◌+◌, ◌≤◌, Bool, tru
 use Rattle.std.proofs.lemmas.List.{length-map}
 use Rattle.lat_base.specs.declared.addr.Addr.{Addr}
 use Rattle.lat_base.specs.declared.outbox.OutFrame.{OutFrame}
-use Rattle.lat_base.specs.declared.outbox.Mark.TheVariants as marks
-use Rattle.lat_fields.specs.Payloads.{padded}
-use Rattle.lat_frames.specs.Written.{message_text}
 use Rattle.lat_model.specs.Lists.{Each, keep}
 use Rattle.lat_model.specs.ends.End.{Step, lives}
 use Rattle.lat_model.specs.ends.Starting.{make_slave}
 use Rattle.lat_model.specs.circuits.Arriving.{living}
 use Rattle.lat_model.specs.circuits.World.{first_end}
 use Rattle.lat_machines.specs.values.Addresses.{address}
-use Rattle.lat_machines.specs.values.Messages.{StartInfo, StopMessage}
-use Rattle.lat_machines.specs.values.Frames.{plain, OfCircuit}
+use Rattle.lat_machines.specs.values.Messages.{StartInfo}
 use Rattle.lat_machines.specs.values.Timing.{agreed_by}
 use Rattle.lat_machines.specs.cores.Acts.{put_at}
 use Rattle.lat_machines.specs.cores.Cores.{Core, Doing, acts, setup_of}
 use Rattle.lat_machines.specs.cores.Hearing.{Makes, Refuses}
-use Rattle.lat_circuit.specs.Messages.{message_of, IsFormed}
-use Rattle.lat_circuit.specs.Frames.{frame_view, timing_shown}
+use Rattle.lat_circuit.specs.Frames.{timing_shown}
 use Rattle.lat_payload.specs.Frames.{Emits}
-use Rattle.lat_payload.proofs.Frames.{adds_one}
-use Rattle.lat_payload.proofs.Readable.{message_readable}
 use Rattle.lat_circuit.specs.declared.config.CircuitConfig.{CircuitConfig}
 use Rattle.lat_circuit.specs.Kept as circuit
 use Rattle.lat_circuit.specs.Begins.{Begins, facts_answered}
@@ -30,6 +23,7 @@ use Rattle.lat_lines.specs.circuits.Kept.{Kept, Holds, IsClear, ids, side_of}
 use Rattle.lat_lines.specs.circuits.Stands.{Stands, Simulates}
 use Rattle.lat_lines.specs.circuits.Hears.{start_core, new_fact}
 use Rattle.lat_lines.proofs.CircuitsHeld.{each_with, each_pop}
+use Rattle.lat_lines.proofs.circuits.Strays.{IsStray, stray_adds}
 use Rattle.lat_lines.proofs.circuits.Places.{id_of, lives_at}
 use Rattle.lat_lines.proofs.circuits.Ids.{living_held}
 use Rattle.lat_lines.proofs.circuits.Called.{config_of}
@@ -117,12 +111,9 @@ answered_did k from source info own_id size rooms q before after b = λ c st.
 
 -- a START is refused: a STOP goes back
 pub refused_did : (k : Kept) (from : Addr) (source : ℕ) (info : StartInfo) (f : OutFrame) (before after : List OutFrame)
-    → f ≡ record { to = from; payload = padded (message_text (message_of (StopMessage false false source 0 7 []))); circuit = 0; mark = marks.Plain }
-    → IsFormed (StopMessage false false source 0 7 []) → after ≡ before ++ f ∷ [] → Simulates (λ c. (start_core (side_of k) c (address from.0) source info Refuses).doing) k k before after
-refused_did k from source info f before after frame formed is = λ c st.
-    let fs = (start_core (side_of k) c (address from.0) source info Refuses).doing.frames in
-    let stop = StopMessage false false source 0 7 [] in
-    (st, subst (λ z. Emits fs before z) (sym is) (adds_one (plain (address from.0) 0 (OfCircuit stop)) f before (record { same = ap frame_view frame; readable = message_readable stop formed.writable formed.shown })))
+    → IsStray false from source 0 7 f → after ≡ before ++ f ∷ [] → Simulates (λ c. (start_core (side_of k) c (address from.0) source info Refuses).doing) k k before after
+refused_did k from source info f before after stray is = λ c st.
+    (st, subst (λ z. Emits (start_core (side_of k) c (address from.0) source info Refuses).doing.frames before z) (sym is) (stray_adds (side_of k) c false from source 0 7 f before stray))
 
 -- what becomes of one that is new
 

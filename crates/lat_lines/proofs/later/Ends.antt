@@ -119,6 +119,19 @@ again_later now e ok b = noted_later e (again_start now e) (later_tended e (agai
 pub again_unheard : (now : ℕ) (e : End) → Unheard e → Unheard (note_empty e (again_start now e)).end
 again_unheard now e u = unheard_tended e (again_start now e).end (tended_again now e) u
 
+-- an end that ends by itself
+
+tended_ended : (r : ℕ) (e : End) → EndTended e (record e { ended = Some r })
+tended_ended r e = record { sessions = all_tended e.half.sessions; running = refl; peer = refl }
+
+pub finish_later : (r : ℕ) (e : End) → EndOk e.half.sessions → AllBegun e.half.sessions → EndLater e (note_empty e (finish r e)).end
+finish_later r e ok b = noted_later e (finish r e) (later_tended e (finish r e).end ok b (tended_ended r e))
+
+pub finish_unheard : (r : ℕ) (e : End) → Unheard e → Unheard (note_empty e (finish r e)).end
+finish_unheard r e u = u
+
+-- a STOP
+
 tended_stop : (now r : ℕ) (e : End) → EndTended e (hear_stop now r e).end
 tended_stop now r e = tended_cond e (lives e) (still (record e { ended = Some r; moment = now })) (still e) (record { sessions = all_tended e.half.sessions; running = refl; peer = refl }) (end_tended e)
 

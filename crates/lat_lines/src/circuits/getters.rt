@@ -10,7 +10,7 @@ ghost use Rattle.lat_model.specs.ends.End.{lives};
 ghost use Rattle.lat_model.specs.sessions.Session.{take_open, waits};
 ghost use Rattle.lat_model.specs.sessions.Slots.{items};
 ghost use Rattle.lat_machines.specs.values.Addresses.{address};
-ghost use Rattle.lat_machines.specs.cores.Cores.{Core, span};
+ghost use Rattle.lat_machines.specs.cores.Cores.{Core, span, is_stranger};
 ghost use Rattle.lat_machines.specs.cores.Hearing.{names};
 ghost use Rattle.lat_session.specs.States.{asked_at};
 ghost use Rattle.lat_circuit.specs.Kept.{Kept};
@@ -19,6 +19,7 @@ ghost use Rattle.lat_lines.specs.circuits.Kept.{has_id, IsOwn};
 ghost use Rattle.lat_lines.specs.circuits.Stands.{Stands, IsCircuit};
 ghost use Rattle.lat_lines.specs.circuits.Info.{sessions_at, session_at, held_circuit, is_of_circuit};
 ghost use Rattle.lat_lines.specs.circuits.Info.{telling, telling_of, ready, some_span, is_asked_at};
+ghost use Rattle.lat_lines.specs.Strangers.{head_with};
 
 use crate::circuits::Circuits;
 use crate::circuits::hearing::is_to;
@@ -41,6 +42,13 @@ impl Circuits {
         ensures { result ≡ self.now.name }
     {
         self.name
+    }
+
+    /// Whether it is a server's.
+    pub fn is_server(&self) -> bool
+        ensures { result ≡ self.now.server }
+    {
+        self.server
     }
 
     /// The present or last session of an id, `None` where the circuit isn't held.
@@ -128,6 +136,14 @@ impl Circuits {
     {
         self.circuit(to)
             .is_some_and(|held| is_named(held, from, source))
+    }
+
+    /// Whether a RUN from a station with these ids names no living circuit, though neither id is 0.
+    pub fn is_stranger(&self, from: Addr, to: u16, source: u16) -> bool
+        ensures { (c : Core) → Stands self.now c →
+            result ≡ is_stranger c.circuits (address from.0) (head_with to source) }
+    {
+        !self.names(from, to, source) && to != 0 && source != 0
     }
 
     /// How far the message numbers of a circuit count, `None` exactly where no circuit of this id lives.

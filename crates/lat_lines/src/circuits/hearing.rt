@@ -18,8 +18,8 @@ ghost use Rattle.lat_lines.specs.circuits.Hears.{heard_core, hears_named, hears_
 
 use crate::circuits::{CIRCUITS, Circuits};
 use lat_base::{Addr, Heard, Name, OutBox};
-use lat_circuit::{Circuit, CircuitConfig, refusal};
-use lat_frames::{Message, StartInfo};
+use lat_circuit::{Circuit, CircuitConfig, stray_stop};
+use lat_frames::{CircuitEnd, Message, StartInfo};
 
 /// What became of a circuit message.
 #[derive(Clone, Copy)]
@@ -164,7 +164,7 @@ impl Circuits {
         if self.has_place() {
             Hearing::Started(self.answer_start(from, source, info, out))
         } else {
-            out.push(refusal(from, source));
+            out.push(stray_stop(false, from, source, 0, CircuitEnd::NoResources));
             Hearing::Refused
         }
     }

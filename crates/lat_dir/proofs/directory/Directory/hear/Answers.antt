@@ -2,7 +2,7 @@ use Rattle.std.proofs.Common.{◌≡◌, true, false, ◌||◌, sym, ap, subst, 
 use Rattle.lat_model.specs.Lists.{is_empty}
 use Rattle.lat_machines.specs.server.Directory.{share_group, meets}
 use Rattle.lat_machines.specs.values.Names.{folded}
-use Rattle.lat_dir.specs.Words.{living, node_of}
+use Rattle.lat_dir.specs.Words.{node_of}
 use Rattle.lat_dir.specs.Stands.{Stands, heard}
 use Rattle.lat_dir.specs.Announcements.{announcement_shown}
 use Rattle.lat_dir.specs.Steps.{forgotten, taken_in, answer_met}

@@ -4,7 +4,7 @@ use Rattle.lat_machines.specs.values.Addresses.{address}
 use Rattle.lat_circuit.specs.Messages.{message_shown, info_shown}
 use Rattle.lat_lines.specs.circuits.Hears.{HeardCore, heard_core, hears_at, hears_named, start_core, new_fact}
 use Rattle.lat_lines.specs.circuits.Kept.{Kept, Holds, ids, side_of}
-use Rattle.lat_lines.proofs.circuits.Passing.{did_as}
+use Rattle.lat_lines.proofs.circuits.Each.{did_as}
 use Rattle.lat_lines.proofs.circuits.Starts.{run_read, wide_read, stop_read, reply_read, start_here, start_new}
 use Rattle.lat_lines.proofs.circuits.Circuits.heard.Goals as goal
 

@@ -6,7 +6,7 @@ use Rattle.lat_lines.specs.circuits.Hears.{HeardCore, hears_at, hears_named}
 use Rattle.lat_lines.specs.circuits.Kept.{side_of, ids}
 use Rattle.std.specs.Prelude.{slice_index}
 use Rattle.lat_lines.proofs.circuits.Named.{named_here, named_none}
-use Rattle.lat_lines.proofs.circuits.Passing.{did_as, did_nothing}
+use Rattle.lat_lines.proofs.circuits.Each.{did_as, did_nothing}
 use Rattle.lat_lines.proofs.circuits.Circuits.heard_by.Goals as goal
 
 pub returns-in-Some-clause-did : goal.returns-in-Some-clause-did

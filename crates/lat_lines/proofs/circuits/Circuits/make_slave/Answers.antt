@@ -7,7 +7,7 @@ use Rattle.lat_circuit.specs.Messages.{info_shown}
 use Rattle.lat_lines.specs.circuits.Hears.{start_core, new_fact}
 use Rattle.lat_lines.specs.circuits.Kept.{side_of}
 use Rattle.lat_lines.proofs.circuits.Answered.{refused_did}
-use Rattle.lat_lines.proofs.circuits.Passing.{did_as}
+use Rattle.lat_lines.proofs.circuits.Each.{did_as}
 use Rattle.lat_lines.proofs.circuits.Circuits.make_slave.Goals as goal
 
 pub returns-then-has_place-clause-did : goal.returns-then-has_place-clause-did
@@ -31,7 +31,7 @@ returns-else-has_place-clause-did c =
     let info = info_shown c.args.info.now in
     did_as (λ d. (start_core (side_of k) d from c.args.source info Refuses).doing) (λ d. (start_core (side_of k) d from c.args.source info (new_fact d.circuits)).doing) k k c.args.out.now c.push.new.self
     (λ d st. ap (λ (f : StartFact). (start_core (side_of k) d from c.args.source info f).doing) (c.has_place.ensures.model d st c.requires.clear ∙ ap (λ b. cond b (Makes (suc d.circuits.drawn)) Refuses) c.if-has_place.false))
-    (refused_did k c.args.from c.args.source info c.refusal.result c.args.out.now c.push.new.self c.refusal.ensures.value (c.refusal.ensures.formed c.requires.source) c.push.ensures)
+    (refused_did k c.args.from c.args.source info c.stray_stop.result c.args.out.now c.push.new.self (record { is = c.stray_stop.ensures.value; formed = c.stray_stop.ensures.formed c.requires.source }) c.push.ensures)
 
 pub returns-else-has_place-clause-answer : goal.returns-else-has_place-clause-answer
 returns-else-has_place-clause-answer c = λ d st.

@@ -1,7 +1,10 @@
-use Rattle.std.proofs.Common.{length, ap, subst, arith}
+use Rattle.std.proofs.Common.{length, slice_index, ap, subst, arith}
 use Rattle.std.proofs.lemmas.Grind.{common_steps}
-use Rattle.lat_lines.specs.circuits.Kept.{Kept, Holds}
-use Rattle.lat_lines.proofs.circuits.Passing.{did_nothing, same_none, same_then, times_more, times_all}
+use Rattle.lat_lines.specs.circuits.Kept.{Kept, Holds, ids, side_of}
+use Rattle.lat_lines.specs.circuits.Times.{passes_one}
+use Rattle.lat_lines.specs.circuits.Stands.{Simulates}
+use Rattle.lat_lines.proofs.circuits.Each.{did_nothing, done_more}
+use Rattle.lat_lines.proofs.circuits.Passing.{side_same, same_none, same_then, times_all}
 use Rattle.lat_lines.proofs.circuits.Circuits.time.Goals as goal
 
 pub loop-at-init : goal.loop-at-init
@@ -17,8 +20,9 @@ loop-at-preserved c = record {
   same = same_then c.args.self.now c.loop-at.self c.time_at.new.self c.loop-at.invariant.same c.time_at.ensures.same;
   end = c.loop-at.invariant.end;
   most = omega (arith, c.loop-at.invariant.most, c.time_at.ensures.most);
-  did = times_more c.args.self.now c.loop-at.self c.time_at.new.self c.loop-at.at c.args.out.now c.loop-at.out c.time_at.new.out
-      (omega (arith, c.loop-at.invariant.end)) c.loop-at.invariant.same c.loop-at.invariant.did c.time_at.ensures.did;
+  did = done_more (passes_one (side_of c.args.self.now)) c.args.self.now c.loop-at.self c.time_at.new.self c.loop-at.at c.args.out.now c.loop-at.out c.time_at.new.out
+      (omega (arith, c.loop-at.invariant.end)) c.loop-at.invariant.same c.loop-at.invariant.did
+      (subst (λ s. Simulates (passes_one s (slice_index (ids c.loop-at.self) c.loop-at.at)) c.loop-at.self c.time_at.new.self c.loop-at.out c.time_at.new.out) (side_same c.args.self.now c.loop-at.self c.loop-at.invariant.same.core) c.time_at.ensures.did);
 }
 
 pub returns-clause-did : goal.returns-clause-did

@@ -1,7 +1,7 @@
-use Rattle.std.proofs.Common.{◌≡◌, ◌+◌, ◌*◌, ◌≤◌, length, take}
-use Rattle.lat_machines.specs.cores.Cores.{time_each, rests}
-use Rattle.lat_lines.specs.circuits.Kept.{side_of, ids, SameCircuits}
-use Rattle.lat_lines.specs.circuits.Stands.{Simulates}
+use Rattle.std.proofs.Common.{◌≡◌, ◌+◌, ◌*◌, ◌≤◌, length}
+use Rattle.lat_lines.specs.circuits.Kept.{side_of, SameCircuits}
+use Rattle.lat_lines.specs.circuits.Times.{passes_one}
+use Rattle.lat_lines.proofs.circuits.Each.{Done}
 use Rattle.lat_lines.proofs.circuits.Circuits.time.Given as goal
 
 abbrev pub invariant-loop-at : goal.invariant-loop-at
@@ -9,5 +9,5 @@ invariant-loop-at l = record {
   same : SameCircuits l.initial.self l.self;
   end : l.at-end ≡ length l.initial.self.held;
   most : length l.out ≤ length l.initial.out + 16 * l.at;
-  did : Simulates (λ c. time_each (side_of l.initial.self) (take l.at (ids l.initial.self)) (rests c)) l.initial.self l.self l.initial.out l.out;
+  did : Done (passes_one (side_of l.initial.self)) l.at l.initial.self l.self l.initial.out l.out;
 }

@@ -1,6 +1,7 @@
 use Rattle.std.proofs.Common.{◌∙◌, ◌<◌, length, is_none, slice_index, refl, sym, ap, subst, arith}
 use Rattle.std.proofs.lemmas.Option.{same_Some}
 use Rattle.std.proofs.lemmas.Grind.{common_steps}
+use Rattle.lat_model.specs.ends.Timers.{time_step}
 use Rattle.lat_circuit.specs.Kept as circuit
 use Rattle.lat_lines.specs.circuits.Kept.{Kept, SameCircuits, IsOwn, side_of, ids}
 use Rattle.lat_lines.specs.circuits.Shown.{shown}
@@ -8,14 +9,15 @@ use Rattle.lat_lines.specs.circuits.Stands.{Simulates}
 use Rattle.lat_lines.specs.circuits.Times.{passes_one}
 use Rattle.lat_lines.proofs.CircuitsHeld.{each_at}
 use Rattle.lat_lines.proofs.circuits.Places.{became, with_at, read_at, own_after, holds_after, same_after}
-use Rattle.lat_lines.proofs.circuits.Passing.{one_ended, one_lives}
+use Rattle.lat_lines.proofs.circuits.Each.{steps_alone, one_ended}
+use Rattle.lat_lines.proofs.circuits.Passing.{time_lives}
 use Rattle.lat_lines.proofs.circuits.Circuits.time_at.Goals as goal
 
 pub returns-then-not-lives-clause-did : goal.returns-then-not-lives-clause-did
 returns-then-not-lives-clause-did c =
     let q = c.index.result.now in
     let here = read_at c.args.self.now c.self.inside.held.items c.args.at q (ap (λ (k : Kept). k.held) c.self.view_is) c.requires.at c.index.ensures in
-    one_ended c.args.self.now c.args.at q c.args.out.now here (sym c.lives.ensures.value ∙ c.if-not-lives.true)
+    one_ended (passes_one (side_of c.args.self.now)) (steps_alone (side_of c.args.self.now) (λ d e. time_step d.moment e)) c.args.self.now c.args.at q c.args.out.now here (sym c.lives.ensures.value ∙ c.if-not-lives.true)
 
 pub invariant_of-self : goal.invariant_of-self
 invariant_of-self c =
@@ -47,7 +49,7 @@ returns-clause-did c =
     let alive = ap (λ (z : circuit.Kept). is_none z.ended) one ∙ sym c.lives.ensures.value ∙ c.if-not-lives.false in
     let P : Kept → Type 0 = λ k. Simulates (passes_one (side_of k) (slice_index (ids k) c.args.at)) k (shown (with_at a c.args.at r)) c.args.out.now c.time.new.out in
     subst P c.self.view_is (
-    one_lives (shown a) c.args.at q r (shown (with_at a c.args.at r)) c.args.out.now c.time.new.out c.self.invariant.0 b after alive c.time.ensures.did
+    time_lives (shown a) c.args.at q r (shown (with_at a c.args.at r)) c.args.out.now c.time.new.out c.self.invariant.0 b after alive c.time.ensures.did
     )
 
 pub returns-clause-same : goal.returns-clause-same
