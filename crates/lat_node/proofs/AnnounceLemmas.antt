@@ -1,8 +1,10 @@
 -- What a node announces can be written, and goes out as the machine's announcement.
-use Rattle.std.proofs.Common.{◌≡◌, ℕ, suc, ◌*◌, ◌≤◌, refl, sym, ap, ◌∙◌, subst, Bool, List, [], ◌∷◌, ◌++◌, map, length, Option, Some, None, get_or, Result, Ok, Err, IfOk, arith}
+use Rattle.std.proofs.Common.{◌≡◌, ℕ, suc, ◌*◌, ◌≤◌, refl, sym, ap, ◌∙◌, subst, Bool, true, false, cond, List, [], ◌∷◌, ◌++◌, map, length, Option, Some, None, get_or, Result, Ok, Err, IfOk, arith}
 use Rattle.std.specs.List.{AllByRecursion, sum_by, find, position}
 use Rattle.std.proofs.lemmas.List.Sums.{sum_by-cons}
+use Rattle.std.proofs.lemmas.List.{append-nil}
 use Rattle.std.proofs.lemmas.Option.{slice_get-get_or}
+use Rattle.lat_base.specs.declared.memory.Memory.{Memory}
 use Rattle.lat_base.specs.declared.outbox.OutFrame.{OutFrame}
 use Rattle.lat_model.specs.Lists.{Each}
 use Rattle.lat_notices.specs.declared.services.Service as notices
@@ -16,15 +18,16 @@ use Rattle.lat_machines.specs.values.Names.{Name}
 use Rattle.lat_machines.specs.values.Notices.{Service, ResponseNotice}
 use Rattle.lat_machines.specs.values.Frames as machines
 use Rattle.lat_machines.specs.cores.Lines.{used}
-use Rattle.lat_machines.specs.node.Node.{Node, rated, announcement, response, solicited}
+use Rattle.lat_machines.specs.node.Node.{NodeConfig, Node, NodeStep, rated, announcement, response, solicited, farewell}
 use Rattle.lat_dir.specs.Announcements.{service_shown}
 use Rattle.lat_payload.specs.Notices.{notice_shown}
 use Rattle.lat_payload.specs.Frames.{GoesOutAs, Emits}
 use Rattle.lat_payload.proofs.Frames.{adds_none, adds_one, adds_then}
 use Rattle.lat_lines.proofs.CircuitFound.{finds_at}
-use Rattle.lat_node.specs.Announced.{ratings, IsAnnounced}
+use Rattle.lat_node.specs.Announced.{ratings, AnnouncesAs, IsAnnounced}
 use Rattle.lat_node.specs.Events.{Rated, announces, ratings_for}
 use Rattle.lat_node.specs.Kept.{Kept, config_of}
+use Rattle.lat_node.proofs.FrameLemmas.{none_for}
 
 -- services and their names
 
@@ -111,16 +114,17 @@ can_be_announced a ns timer groups bare few is = record {
     count = sym (length_map service_shown a.services) ∙ ap length is ∙ length_rated ns (ratings a.services)
 
 -- it is the machine's
-pub announced_as : {H : Type 0} (may : H → ℕ → ℕ → ℕ → Type 0) (k : Kept H) (held timer incarnation : ℕ) (groups : List ℕ) (node : Name) (bare : List ℕ) (ss : List notices.Service) →
-    timer ≡ k.timer → incarnation ≡ k.incarnation → groups ≡ k.groups → node ≡ k.lines.circuits.name → bare ≡ [] →
+pub announces_as : {H : Type 0} (k : Kept H) (timer incarnation : ℕ) (groups : List ℕ) (node : Name) (bare : List ℕ) (ss : List notices.Service) (ns : List Name) →
+    timer ≡ k.timer → incarnation ≡ k.incarnation → groups ≡ k.groups → node ≡ k.lines.circuits.name → bare ≡ [] → map service_shown ss ≡ rated ns (ratings ss) →
+    AnnouncesAs (record (config_of k) { services = ns }) (ratings ss) (variants.Announcement (record { timer = timer; incarnation = incarnation; groups = groups; node = node; description = bare; services = ss }))
+announces_as k timer incarnation groups node bare ss ns is_timer is_incarnation is_groups is_node is_bare is = cc
+
+-- that of all services
+pub announced_as : {H : Type 0} (may : H → ℕ → ℕ → ℕ → Type 0) (k : Kept H) (held : ℕ) (ss : List notices.Service) (result : Result Notice Memory) →
     map service_shown ss ≡ rated k.services (ratings ss) → Each (may k.rule held k.lines.lines) (ratings ss) →
-    IsAnnounced may k held (variants.Announcement (record { timer = timer; incarnation = incarnation; groups = groups; node = node; description = bare; services = ss }))
-announced_as may k held timer incarnation groups node bare ss is_timer is_incarnation is_groups is_node is_bare is each = record {
-  rates = ratings ss;
-  count = ratings_count k.services ss is;
-  each = each;
-  is = cc;
-}
+    IfOk result (AnnouncesAs (config_of k) (ratings ss)) → IfOk result (IsAnnounced may k held)
+announced_as may k held ss (Ok n) is each told = record { rates = ratings ss; count = ratings_count k.services ss is; each = each; is = told }
+announced_as may k held ss (Err m) is each told = tt
 
 pub response_as : {H : Type 0} (k : Kept H) (to id : ℕ) (service : Name) (rate : ℕ) (node : Name) (timer : ℕ) (f : OutFrame) → node ≡ k.lines.circuits.name → timer ≡ k.timer →
     GoesOutAs f (machines.plain to 0 (machines.OfNotice (ResponseNotice (record { id = id; node = node; service = service; rating = rate; timer = timer })))) → GoesOutAs f (response (config_of k) to id service rate)
@@ -130,29 +134,33 @@ response_as k to id service rate node timer f is_node is_timer goes =
 
 -- what goes out
 
-pub announced_rated : {H : Type 0} (may : H → ℕ → ℕ → ℕ → Type 0) (k : Kept H) (s : Node) (held : ℕ) (n : Notice) (f : OutFrame) (before after : List OutFrame) →
-    held ≡ used s.core → IsAnnounced may k held n → GoesOutAs f (machines.plain everyone 0 (machines.OfNotice (notice_shown n))) → after ≡ before ++ f ∷ [] →
-    Rated may k s (announces (config_of k) s) (length k.services) before after
-announced_rated may k s held n f before after lines a goes is = record {
-  rates = a.rates;
-  count = a.count;
-  each = subst (λ u. Each (may k.rule u k.lines.lines) a.rates) lines a.each;
-  frames = subst (Emits (announcement (config_of k) a.rates ∷ []) before) (sym is) (adds_one (announcement (config_of k) a.rates) f before (subst (GoesOutAs f) a.is goes));
-}
+-- where so many are asked for of a node that isn't halted
+not_halted : (halted : Bool) (n : ℕ) → halted ≡ false → cond halted 0 n ≡ n
+not_halted halted n unhalted = ap (λ b. cond b 0 n) unhalted
 
-pub response_rated : {H : Type 0} (may : H → ℕ → ℕ → ℕ → Type 0) (k : Kept H) (s : Node) (held to id : ℕ) (service : Name) (rate : ℕ) (n : Notice) (e f : OutFrame) (before between after : List OutFrame) →
+pub announced_rated : {H : Type 0} (may : H → ℕ → ℕ → ℕ → Type 0) (k : Kept H) (s : Node) (held : ℕ) (n : Notice) (f : OutFrame) (before after : List OutFrame) → s.halted ≡ false →
+    held ≡ used s.core → IsAnnounced may k held n → GoesOutAs f (machines.plain everyone 0 (machines.OfNotice (notice_shown n))) → after ≡ before ++ f ∷ [] →
+    Rated may k s (announces (config_of k) s) (cond s.halted 0 (length k.services)) before after
+announced_rated may k s held n f before after unhalted lines a goes is = record {
+  rates = a.rates;
+  count = a.count ∙ sym (not_halted s.halted (length k.services) unhalted);
+  each = subst (λ u. Each (may k.rule u k.lines.lines) a.rates) lines a.each;
+  frames = subst (λ b. Emits (cond b [] (announcement (config_of k) a.rates ∷ [])) before after) (sym unhalted) one;
+}
+  where
+    one : Emits (announcement (config_of k) a.rates ∷ []) before after
+    one = subst (Emits (announcement (config_of k) a.rates ∷ []) before) (sym is) (adds_one (announcement (config_of k) a.rates) f before (subst (GoesOutAs f) a.is goes))
+
+pub response_rated : {H : Type 0} (may : H → ℕ → ℕ → ℕ → Type 0) (k : Kept H) (s : Node) (held to id : ℕ) (service : Name) (rate : ℕ) (n : Notice) (e f : OutFrame) (before between after : List OutFrame) → s.halted ≡ false →
     held ≡ used s.core → IsAnnounced may k held n → may k.rule held k.lines.lines rate →
     GoesOutAs e (response (config_of k) to id service rate) → between ≡ before ++ e ∷ [] →
     GoesOutAs f (machines.plain everyone 0 (machines.OfNotice (notice_shown n))) → after ≡ between ++ f ∷ [] →
-    Rated may k s (λ rates. solicited (config_of k) rates s to id (Some service)) (suc (length k.services)) before after
-response_rated may k s held to id service rate n e f before between after lines a one goes_first first goes then = record {
+    Rated may k s (λ rates. solicited (config_of k) rates s to id (Some service)) (cond s.halted 0 (suc (length k.services))) before after
+response_rated may k s held to id service rate n e f before between after unhalted lines a one goes_first first goes then = record {
   rates = rate ∷ a.rates;
-  count = ap suc a.count;
+  count = ap suc a.count ∙ sym (not_halted s.halted (suc (length k.services)) unhalted);
   each = subst (λ u. Each (may k.rule u k.lines.lines) (rate ∷ a.rates)) lines (one, a.each);
-  frames =
-      adds_then (r ∷ []) (m ∷ []) before between after
-      (subst (Emits (r ∷ []) before) (sym first) (adds_one r e before goes_first))
-      (subst (Emits (m ∷ []) between) (sym then) (adds_one m f between (subst (GoesOutAs f) a.is goes)));
+  frames = subst (λ b. Emits (cond b [] (r ∷ m ∷ [])) before after) (sym unhalted) both;
 }
   where
     r : machines.OutFrame
@@ -161,11 +169,42 @@ response_rated may k s held to id service rate n e f before between after lines 
     m : machines.OutFrame
     m = announcement (config_of k) a.rates
 
+    both : Emits (r ∷ m ∷ []) before after
+    both =
+        adds_then (r ∷ []) (m ∷ []) before between after
+        (subst (Emits (r ∷ []) before) (sym first) (adds_one r e before goes_first))
+        (subst (Emits (m ∷ []) between) (sym then) (adds_one m f between (subst (GoesOutAs f) a.is goes)))
+
 pub ignored_rated : {H : Type 0} (may : H → ℕ → ℕ → ℕ → Type 0) (k : Kept H) (s : Node) (from id : ℕ) (o : Option Name) (before : List OutFrame) → o ≡ None →
-    Rated may k s (λ rates. solicited (config_of k) rates s from id o) (ratings_for (config_of k) o) before before
+    Rated may k s (λ rates. solicited (config_of k) rates s from id o) (cond s.halted 0 (ratings_for (config_of k) o)) before before
 ignored_rated may k s from id o before none =
-    subst (λ (x : Option Name). Rated may k s (λ rates. solicited (config_of k) rates s from id x) (ratings_for (config_of k) x) before before) (sym none)
-    (record { rates = []; count = refl; each = tt; frames = adds_none before })
+    subst (λ (x : Option Name). Rated may k s (λ rates. solicited (config_of k) rates s from id x) (cond s.halted 0 (ratings_for (config_of k) x)) before before) (sym none)
+    (record { rates = []; count = sym (none_for s.halted 0 refl); each = tt; frames = adds_none before })
+
+-- a halted node says nothing, and asks for no rating
+pub halted_rated : {H : Type 0} (may : H → ℕ → ℕ → ℕ → Type 0) (k : Kept H) (s : Node) (fs : List machines.OutFrame) (t : List ℕ → NodeStep) (n : ℕ) (before : List OutFrame) → s.halted ≡ true →
+    (t []).frames ≡ cond s.halted [] fs → Rated may k s t (cond s.halted 0 n) before before
+halted_rated may k s fs t n before stopped is = record {
+  rates = [];
+  count = sym (ap (λ b. cond b 0 n) stopped);
+  each = tt;
+  frames = subst (λ gs. Emits gs before before) (sym (is ∙ ap (λ b. cond b [] fs) stopped)) (adds_none before);
+}
+
+-- the last announcement of a node, and what is said of it once it went out
+
+pub farewell_said : (config : NodeConfig) (halted : Bool) (ss : List notices.Service) (n : Notice) (f : OutFrame) (before : List OutFrame) → halted ≡ false → ss ≡ [] →
+    ((names : List Name) → map service_shown ss ≡ rated names (ratings ss) → AnnouncesAs (record config { services = names }) (ratings ss) n) → GoesOutAs f (machines.plain everyone 0 (machines.OfNotice (notice_shown n))) →
+    Emits (farewell config halted) before (before ++ f ∷ [])
+farewell_said config halted ss n f before unhalted none announced goes =
+    let bare : AnnouncesAs (record config { services = [] }) [] n = subst (λ (xs : List notices.Service). AnnouncesAs (record config { services = [] }) (ratings xs) n) none (announced [] (ap (λ (xs : List notices.Service). map service_shown xs) none ∙ sym (ap (λ (xs : List notices.Service). rated [] (ratings xs)) none))) in
+    subst (λ b. Emits (farewell config b) before (before ++ f ∷ [])) (sym unhalted)
+    (adds_one (announcement (record config { services = [] }) []) f before (subst (GoesOutAs f) bare goes))
+
+pub farewell_known : (config : NodeConfig) (halted : Bool) (before : List OutFrame) → halted ≡ true → Emits (farewell config halted) before (before ++ [])
+farewell_known config halted before stopped =
+    subst (λ (after : List OutFrame). Emits (farewell config halted) before after) (sym (append-nil before))
+    (subst (λ b. Emits (farewell config b) before before) (sym stopped) (adds_none before))
 
 -- the service that a Solicit finds
 

@@ -1,5 +1,5 @@
 -- What an event does, from what its parts did.
-use Rattle.std.proofs.Common.{◌≡◌, ℕ, refl, sym, subst, false, List, [], length, Result, Ok, Err, IfOk, OnOk}
+use Rattle.std.proofs.Common.{◌≡◌, ℕ, refl, sym, subst, false, cond, List, [], length, Result, Ok, Err, IfOk, OnOk}
 use Rattle.lat_base.specs.declared.answer.Answer as base
 use Rattle.lat_base.specs.declared.answer.Answer.TheVariants as answers
 use Rattle.lat_base.specs.declared.event.Event as base_event
@@ -42,7 +42,7 @@ steps_take may k old l e line n (Err m) before same node is says = tt
 
 -- an announcement
 pub steps_announced : {H : Type 0} (may : H → ℕ → ℕ → ℕ → Type 0) (k : Kept H) (e : base_event.Event) (result : Result base.Answer Memory) (before after : List OutFrame) → event_shown e ≡ Announces →
-    IfOk result (λ a. a ≡ answers.Done) → ((s : Node) → Stands k s → OnOk result (Rated may k s (announces (config_of k) s) (length k.services) before after)) →
+    IfOk result (λ a. a ≡ answers.Done) → ((s : Node) → Stands k s → OnOk result (Rated may k s (announces (config_of k) s) (cond s.halted 0 (length k.services)) before after)) →
     IfOk result (λ a. SimulatesRated may (event_shown e) k k a before after)
 steps_announced may k e (Ok a) before after is done rated =
     subst (λ (y : Event). SimulatesRated may y k k a before after) (sym is)
@@ -51,15 +51,18 @@ steps_announced may k e (Err m) before after is done rated = tt
 
 -- the other events take no memory
 pub act_of : (e : base_event.Event) → ((from : _) (payload : _) (now : _) → e ≡ events.Heard from payload now → ⊥) → ((line : _) (n : _) → e ≡ events.Take line n → ⊥) → ((to : _) (id : _) (service : _) → e ≡ events.Request to id service → ⊥)
-    → (e ≡ events.Announce → ⊥) → TakesNoMemory e
-act_of (events.Heard from payload now) h t r a = absurd (h from payload now refl)
-act_of (events.Time now) h t r a = tt
-act_of (events.Connect line service) h t r a = tt
-act_of (events.Put line bytes) h t r a = tt
-act_of (events.Set line setting) h t r a = tt
-act_of (events.Take line n) h t r a = absurd (t line n refl)
-act_of (events.Attend line flag) h t r a = tt
-act_of (events.Close line) h t r a = tt
-act_of (events.Request to id service) h t r a = absurd (r to id service refl)
-act_of (events.Cancel id) h t r a = tt
-act_of events.Announce h t r a = absurd (a refl)
+    → (e ≡ events.Announce → ⊥) → (e ≡ events.Halt → ⊥) → TakesNoMemory e
+act_of (events.Heard from payload now) h t r a z = absurd (h from payload now refl)
+act_of (events.Time now) h t r a z = tt
+act_of (events.Connect line service) h t r a z = tt
+act_of (events.Put line bytes) h t r a z = tt
+act_of (events.Set line setting) h t r a z = tt
+act_of (events.Take line n) h t r a z = absurd (t line n refl)
+act_of (events.Attend line flag) h t r a z = tt
+act_of (events.Close line) h t r a z = tt
+act_of (events.Request to id service) h t r a z = absurd (r to id service refl)
+act_of (events.Cancel id) h t r a z = tt
+act_of events.Announce h t r a z = absurd (a refl)
+act_of (events.Avoid line) h t r a z = tt
+act_of (events.Ready line ready) h t r a z = tt
+act_of events.Halt h t r a z = absurd (z refl)

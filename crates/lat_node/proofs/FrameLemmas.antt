@@ -10,40 +10,45 @@ use Rattle.lat_model.specs.sessions.Session.{put_open, take_open, unframed}
 use Rattle.lat_machines.specs.values.Frames as machine
 use Rattle.lat_machines.specs.values.Names.{Name, same}
 use Rattle.lat_machines.specs.values.Notices.{Ask}
-use Rattle.lat_machines.specs.values.Events.{Numbers, Event, Hears, Time, Connects, Puts, Sets, Takes, Attends, Closes, Requests, Withdraws, Announces}
+use Rattle.lat_machines.specs.values.Events.{Numbers, Event, Hears, Time, Connects, Puts, Sets, Takes, Attends, Closes, Requests, Withdraws, Announces, Avoids, Readies, Halts}
 use Rattle.lat_machines.specs.values.Answers.{Answer, Done, Accepted, Took, Closed, NoLine, Full, IdUsed}
 use Rattle.lat_machines.specs.values.Messages.{Message, RunMessage, WideMessage, StartMessage, StopMessage}
 use Rattle.lat_machines.specs.cores.Cores.{Seat, Core}
 use Rattle.lat_machines.specs.cores.Lines.{sessions_of, session_of, seat_at, has_session, line_exists}
 use Rattle.lat_machines.specs.cores.LineCalls.{Said, says, calls_on, put_on, set_on, attend_on, take_on, close_on, on_line}
 use Rattle.lat_machines.specs.cores.Hearing.{StartFact, Repeats, Makes, Refuses, start_fact}
-use Rattle.lat_machines.specs.node.Node.{NodeConfig, Node, Requested, node_side, tells, command_frame, request_of, requests_again, withdraws, start_answer, solicited, hears_message, node_step, rates_of}
+use Rattle.lat_machines.specs.node.Node.{NodeConfig, Node, Requested, node_side, tells, command_frame, request_of, requests_again, withdraws, solicited, turns_away, makes_way, hears_start, hears_message, node_step, rates_of}
 use Rattle.lat_machines.proofs.events.Ratings.{same_but_frames}
 use Rattle.lat_payload.specs.Frames.{Emits}
 use Rattle.lat_lines.specs.Events.{event_shown}
 use Rattle.lat_node.specs.Kept.{Kept, config_of}
 use Rattle.lat_node.specs.Stands.{Stands, Machine, IsMachine, Frames}
-use Rattle.lat_node.specs.Events.{Simulates, SimulatesRated, Rated, ratings_for, TakesNoMemory}
+use Rattle.lat_node.specs.Events.{Simulates, SimulatesRated, Rated, asked_for, ratings_for, TakesNoMemory}
 
 -- as many ratings as are asked for give the frames of an event
 pub frames_rated : {H : Type 0} (may : H → ℕ → ℕ → ℕ → Type 0) (k : Kept H) (m : Machine H) (e : base.Event) (after : List OutFrame) → IsMachine k m →
-    Rated may k m.state (λ rates. node_step (config_of k) rates m.state (event_shown e)) (rates_of (config_of k) (node_step (config_of k) [] m.state (event_shown e)).answer (event_shown e)) [] after →
+    Rated may k m.state (λ rates. node_step (config_of k) rates m.state (event_shown e)) (asked_for (config_of k) m.state (event_shown e)) [] after →
     Frames may m e after
 frames_rated {H = H} may k m e after is r =
     subst (λ (c : NodeConfig). Frames may (record { config = c; rule = m.rule; state = m.state }) e after) (sym is.config)
     (subst (λ (f : H). Frames may (record { config = config_of k; rule = f; state = m.state }) e after) (sym is.rule) (record {
       made = (node_step (config_of k) r.rates m.state (event_shown e)).frames;
-      allowed = (r.rates, record { count = r.count ∙ ap (λ a. rates_of (config_of k) a (event_shown e)) (same_but_frames (config_of k) [] r.rates m.state (event_shown e)).answer; each = r.each }, refl);
+      allowed = (r.rates, record { count = r.count ∙ ap (λ a. cond m.state.halted 0 (rates_of (config_of k) a (event_shown e))) (same_but_frames (config_of k) [] r.rates m.state (event_shown e)).answer; each = r.each }, refl);
       same = r.frames.same;
       readable = r.frames.readable;
     }))
+
+-- where there are none to be asked for, a halted node asks for as many as another one
+pub none_for : (halted : Bool) (n : ℕ) → n ≡ 0 → cond halted 0 n ≡ 0
+none_for true n none = refl
+none_for false n none = none
 
 -- an event without ratings
 pub unrated : {H : Type 0} (may : H → ℕ → ℕ → ℕ → Type 0) (k : Kept H) (s : Node) (e : Event) (before after : List OutFrame) →
     rates_of (config_of k) (node_step (config_of k) [] s e).answer e ≡ 0 →
     Emits (node_step (config_of k) [] s e).frames before after →
-    Rated may k s (λ rates. node_step (config_of k) rates s e) (rates_of (config_of k) (node_step (config_of k) [] s e).answer e) before after
-unrated may k s e before after none adds = record { rates = []; count = sym none; each = tt; frames = adds }
+    Rated may k s (λ rates. node_step (config_of k) rates s e) (asked_for (config_of k) s e) before after
+unrated may k s e before after none adds = record { rates = []; count = sym (none_for s.halted (rates_of (config_of k) (node_step (config_of k) [] s e).answer e) none); each = tt; frames = adds }
 
 -- the answers that ask for none
 abbrev Quiet : NodeConfig → Event → Answer → Type 0
@@ -95,6 +100,9 @@ quiet config s (Closes line) q = quiet_on (Quiet config (Closes line)) config.li
     (λ t. quiet_cond (Quiet config (Closes line)) (take_open (session_of s.core t)) (says (calls_on (node_side config) s.core t (Close t.id)) Done) (says s.core Closed) refl refl) refl refl
 quiet config s (Requests to id service) q = quiet_request config s to id service (request_of id s)
 quiet config s (Withdraws id) q = quiet_withdraw config s id (request_of id s)
+quiet config s (Avoids line) q = refl
+quiet config s (Readies line ready) q = refl
+quiet config s Halts q = refl
 
 -- a circuit message asks for none
 pub quiet_message : (config : NodeConfig) (s : Node) (from : ℕ) (m : Message) (x : ℕ) (r : machine.Reading) (k : Option Numbers) (now : ℕ) → rates_of config (hears_message config s from m None).answer (Hears x r k now) ≡ 0
@@ -102,14 +110,15 @@ quiet_message config s from (RunMessage h slots) x r k now = refl
 quiet_message config s from (WideMessage h slots) x r k now = refl
 quiet_message config s from (StopMessage master ask to source reason text) x r k now = refl
 quiet_message config s from (StartMessage false ask to source info) x r k now = refl
-quiet_message config s from (StartMessage true ask to source info) x r k now = go (start_fact s.core.circuits from source)
+quiet_message config s from (StartMessage true ask to source info) x r k now = go s.halted (start_fact (makes_way config s from source).core.circuits from source)
   where
-    go : (f : StartFact) → rates_of config (start_answer f) (Hears x r k now) ≡ 0
-    go (Repeats i) = refl
-    go (Makes i) = refl
-    go Refuses = refl
+    go : (b : Bool) (f : StartFact) → rates_of config (cond b (turns_away config s from source) (hears_start config (makes_way config s from source) from source info f)).answer (Hears x r k now) ≡ 0
+    go true f = refl
+    go false (Repeats i) = refl
+    go false (Makes i) = refl
+    go false Refuses = refl
 
--- a Solicit asks for as many as its service does
+-- a Solicit asks for as many as its service does, at a node that isn't halted
 pub solicited_rates : (config : NodeConfig) (rates : List ℕ) (s : Node) (from id : ℕ) (o : Option Name) (x : ℕ) (r : machine.Reading) (k : Option Numbers) (now : ℕ) →
     ratings_for config o ≡ rates_of config (solicited config rates s from id o).answer (Hears x r k now)
 solicited_rates config rates s from id None x r k now = refl
@@ -124,7 +133,7 @@ steps_quiet may k l e answer before after q does = λ s st.
     (d.0, d.1, unrated may k s e before after (quiet (config_of k) s e q) d.2)
 
 pub steps_announce : {H : Type 0} (may : H → ℕ → ℕ → ℕ → Type 0) (k : Kept H) (before after : List OutFrame) →
-    ((s : Node) → Stands k s → Rated may k s (λ rates. node_step (config_of k) rates s Announces) (length k.services) before after) → SimulatesRated may Announces k k answers.Done before after
+    ((s : Node) → Stands k s → Rated may k s (λ rates. node_step (config_of k) rates s Announces) (cond s.halted 0 (length k.services)) before after) → SimulatesRated may Announces k k answers.Done before after
 steps_announce may k before after rated = λ s st. (st, refl, rated s st)
 
 pub act_quiet : (e : base.Event) → TakesNoMemory e → IsQuiet (event_shown e)
@@ -139,3 +148,6 @@ act_quiet (events.Close line) a = tt
 act_quiet (events.Request to id service) a = absurd a
 act_quiet (events.Cancel id) a = tt
 act_quiet events.Announce a = absurd a
+act_quiet (events.Avoid line) a = tt
+act_quiet (events.Ready line ready) a = tt
+act_quiet events.Halt a = absurd a

@@ -19,9 +19,9 @@ use Rattle.lat_payload.specs.Reads.{malformed}
 use Rattle.lat_lines.specs.AnswerValues.{answer_shown}
 use Rattle.lat_node.specs.Kept.{Kept, config_of}
 use Rattle.lat_node.specs.Stands.{Stands}
-use Rattle.lat_node.specs.Events.{Simulates, SimulatesRated, Rated, notice_ratings}
+use Rattle.lat_node.specs.Events.{Simulates, SimulatesRated, Rated, asked_for, notice_ratings}
 use Rattle.lat_payload.proofs.Frames.{adds_none}
-use Rattle.lat_node.proofs.FrameLemmas.{quiet_message, solicited_rates}
+use Rattle.lat_node.proofs.FrameLemmas.{none_for, quiet_message, solicited_rates}
 
 abbrev pub passed : ℕ → Node → Node
 passed now s = with_core s (at_moment now s.core)
@@ -35,7 +35,7 @@ abbrev Stepped : {H : Type 0} → (H → ℕ → ℕ → ℕ → Type 0) → Eve
 Stepped may e old new s answer before after =
     Stands new (node_step (config_of old) [] s e).state
     × (answer_shown answer ≡ (node_step (config_of old) [] s e).answer)
-    × Rated may old s (λ rates. node_step (config_of old) rates s e) (rates_of (config_of old) (node_step (config_of old) [] s e).answer e) before after
+    × Rated may old s (λ rates. node_step (config_of old) rates s e) (asked_for (config_of old) s e) before after
 
 -- one that is the same whatever the ratings, and asks for none
 stepped : {H : Type 0} (may : H → ℕ → ℕ → ℕ → Type 0) (e : Event) (k l : Kept H) (s : Node) (answer : base.Answer) (before after : List OutFrame) (t : NodeStep) →
@@ -46,7 +46,7 @@ stepped may e k l s answer before after t same none st told adds = (
   told ∙ ap (λ (x : NodeStep). x.answer) (sym (same [])),
   record {
     rates = [];
-    count = sym none ∙ ap (λ (x : NodeStep). rates_of (config_of k) x.answer e) (sym (same []));
+    count = sym (none_for s.halted (rates_of (config_of k) (node_step (config_of k) [] s e).answer e) (ap (λ (x : NodeStep). rates_of (config_of k) x.answer e) (same []) ∙ none));
     each = tt;
     frames = subst (λ (x : NodeStep). Emits x.frames before after) (sym (same [])) adds;
   },
@@ -101,54 +101,56 @@ answer_of : (config : NodeConfig) (s t : Node) (from id : ℕ) (o : Option Name)
 answer_of config s t from id None = refl
 answer_of config s t from id (Some service) = refl
 
-frames_of : (config : NodeConfig) (rates : List ℕ) (s t : Node) (from id : ℕ) (o : Option Name) → (solicited config rates s from id o).frames ≡ (solicited config rates t from id o).frames
-frames_of config rates s t from id None = refl
-frames_of config rates s t from id (Some service) = refl
+frames_of : (config : NodeConfig) (rates : List ℕ) (s : Node) (now from id : ℕ) (o : Option Name) → (solicited config rates s from id o).frames ≡ (solicited config rates (passed now s) from id o).frames
+frames_of config rates s now from id None = refl
+frames_of config rates s now from id (Some service) = refl
 
--- it changes nothing, and what it does depends on the configuration alone
-record OfNotices (config : NodeConfig) (rates : List ℕ) (s t : Node) (from : ℕ) (n : Notice) (e : Event) : Type 0 where
-  pub state : t ≡ (hears_notice config rates t from n).state
-  pub answer : (hears_notice config [] s from n).answer ≡ (hears_notice config [] t from n).answer
-  pub frames : (hears_notice config rates s from n).frames ≡ (hears_notice config rates t from n).frames
-  pub asked : notice_ratings config n ≡ rates_of config (hears_notice config [] t from n).answer e
+-- it changes nothing, and what it does doesn't depend on the moment
+record OfNotices (config : NodeConfig) (rates : List ℕ) (s : Node) (now from : ℕ) (n : Notice) (e : Event) : Type 0 where
+  pub state : passed now s ≡ (hears_notice config rates (passed now s) from n).state
+  pub answer : (hears_notice config [] s from n).answer ≡ (hears_notice config [] (passed now s) from n).answer
+  pub frames : (hears_notice config rates s from n).frames ≡ (hears_notice config rates (passed now s) from n).frames
+  pub asked : notice_ratings config n ≡ rates_of config (hears_notice config [] (passed now s) from n).answer e
 
-of_notices : (config : NodeConfig) (rates : List ℕ) (s t : Node) (from : ℕ) (n : Notice) (x now : ℕ) (r : Reading) → OfNotices config rates s t from n (Hears x r None now)
-of_notices config rates s t from (AnnouncementNotice n) x now r = record { state = refl; answer = refl; frames = refl; asked = refl }
-of_notices config rates s t from (CommandNotice n) x now r = record { state = refl; answer = refl; frames = refl; asked = refl }
-of_notices config rates s t from (StatusNotice n) x now r = record { state = refl; answer = refl; frames = refl; asked = refl }
-of_notices config rates s t from (ResponseNotice n) x now r = record { state = refl; answer = refl; frames = refl; asked = refl }
-of_notices config rates s t from (SolicitNotice n) x now r =
+of_notices : (config : NodeConfig) (rates : List ℕ) (s : Node) (now from : ℕ) (n : Notice) (x : ℕ) (r : Reading) → OfNotices config rates s now from n (Hears x r None now)
+of_notices config rates s now from (AnnouncementNotice n) x r = record { state = refl; answer = refl; frames = refl; asked = refl }
+of_notices config rates s now from (CommandNotice n) x r = record { state = refl; answer = refl; frames = refl; asked = refl }
+of_notices config rates s now from (StatusNotice n) x r = record { state = refl; answer = refl; frames = refl; asked = refl }
+of_notices config rates s now from (ResponseNotice n) x r = record { state = refl; answer = refl; frames = refl; asked = refl }
+of_notices config rates s now from (SolicitNotice n) x r =
     let o : Option Name = find (same n.service) config.services in
     record {
-      state = state_of config rates t from n.id o;
-      answer = answer_of config s t from n.id o;
-      frames = frames_of config rates s t from n.id o;
-      asked = solicited_rates config [] t from n.id o x r None now;
+      state = state_of config rates (passed now s) from n.id o;
+      answer = answer_of config s (passed now s) from n.id o;
+      frames = frames_of config rates s now from n.id o;
+      asked = solicited_rates config [] (passed now s) from n.id o x r None now;
     }
 
 -- what was answered to it and sent, and then the moment
 pub steps_notice : {H : Type 0} (may : H → ℕ → ℕ → ℕ → Type 0) (k l : Kept H) (from now : ℕ) (n : Notice) (answer : base.Answer) (before after : List OutFrame) →
     nat_eq from everyone ≡ false → Passed now k l →
     ((s : Node) → Stands k s → answer_shown answer ≡ (hears_notice (config_of k) [] s from n).answer) →
-    ((s : Node) → Stands k s → Rated may k s (λ rates. hears_notice (config_of k) rates s from n) (notice_ratings (config_of k) n) before after) →
+    ((s : Node) → Stands k s → Rated may k s (λ rates. hears_notice (config_of k) rates s from n) (cond s.halted 0 (notice_ratings (config_of k) n)) before after) →
     SimulatesRated may (Hears from (Whole (OfNotice n)) None now) k l answer before after
 steps_notice {H = H} may k l from now n answer before after e p told rated s st = (
-  subst (Stands l) ((of_notices (config_of k) [] s (passed now s) from n from now (Whole (OfNotice n))).state ∙ ap (λ (x : NodeStep). x.state) (sym (is []))) (p s st),
-  told s st ∙ (of_notices (config_of k) [] s (passed now s) from n from now (Whole (OfNotice n))).answer ∙ ap (λ (x : NodeStep). x.answer) (sym (is [])),
+  subst (Stands l) ((of_notices (config_of k) [] s now from n from (Whole (OfNotice n))).state ∙ ap (λ (x : NodeStep). x.state) (sym (is []))) (p s st),
+  told s st ∙ (of_notices (config_of k) [] s now from n from (Whole (OfNotice n))).answer ∙ ap (λ (x : NodeStep). x.answer) (sym (is [])),
   record {
     rates = r.rates;
-    count = r.count ∙ (of_notices (config_of k) [] s (passed now s) from n from now (Whole (OfNotice n))).asked ∙ ap (λ (x : NodeStep). rates_of (config_of k) x.answer (Hears from (Whole (OfNotice n)) None now)) (sym (is []));
+    count =
+        r.count
+        ∙ ap (cond s.halted 0) ((of_notices (config_of k) [] s now from n from (Whole (OfNotice n))).asked ∙ ap (λ (x : NodeStep). rates_of (config_of k) x.answer (Hears from (Whole (OfNotice n)) None now)) (sym (is [])));
     each = r.each;
-    frames = subst (λ fs. Emits fs before after) ((of_notices (config_of k) r.rates s (passed now s) from n from now (Whole (OfNotice n))).frames ∙ ap (λ (x : NodeStep). x.frames) (sym (is r.rates))) r.frames;
+    frames = subst (λ fs. Emits fs before after) ((of_notices (config_of k) r.rates s now from n from (Whole (OfNotice n))).frames ∙ ap (λ (x : NodeStep). x.frames) (sym (is r.rates))) r.frames;
   },
 )
   where
     is : (rates : List ℕ) → node_step (config_of k) rates s (Hears from (Whole (OfNotice n)) None now) ≡ hears_notice (config_of k) rates (passed now s) from n
     is = of_station (config_of k) s from now (OfNotice n) e
 
-    r : Rated may k s (λ rates. hears_notice (config_of k) rates s from n) (notice_ratings (config_of k) n) before after
+    r : Rated may k s (λ rates. hears_notice (config_of k) rates s from n) (cond s.halted 0 (notice_ratings (config_of k) n)) before after
     r = rated s st
 
 -- what asks for no ratings
-pub rated_none : {H : Type 0} (may : H → ℕ → ℕ → ℕ → Type 0) (k : Kept H) (s : Node) (t : List ℕ → NodeStep) (before : List OutFrame) → (t []).frames ≡ [] → Rated may k s t 0 before before
-rated_none may k s t before none = record { rates = []; count = refl; each = tt; frames = subst (λ fs. Emits fs before before) (sym none) (adds_none before) }
+pub rated_none : {H : Type 0} (may : H → ℕ → ℕ → ℕ → Type 0) (k : Kept H) (s : Node) (t : List ℕ → NodeStep) (before : List OutFrame) → (t []).frames ≡ [] → Rated may k s t (cond s.halted 0 0) before before
+rated_none may k s t before none = record { rates = []; count = sym (none_for s.halted 0 refl); each = tt; frames = subst (λ fs. Emits fs before before) (sym none) (adds_none before) }

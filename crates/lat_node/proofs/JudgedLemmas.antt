@@ -21,7 +21,7 @@ accepted k l s line x id node st y =
 
 -- more were turned away
 pub counted : {H : Type 0} (k : Kept H) (s : Node) (t n : ℕ) → Stands k s → t ≡ saturated_count (s.turned_away + n) → Stands (record k { turned_away = t }) (record s { turned_away = s.turned_away + n })
-counted k s t n st e = record { lines = st.lines; requests = st.requests; accepted = st.accepted; turned_away = e }
+counted k s t n st e = record { lines = st.lines; requests = st.requests; accepted = st.accepted; turned_away = e; halted = st.halted }
 
 pub told_more : (k a n m t : ℕ) → k ≡ saturated_count a → n ≡ m → t ≡ min (k + n) 4294967295 → t ≡ saturated_count (a + m)
 told_more k a n m t e f i = i ∙ omega (arith, e, f)
@@ -36,4 +36,4 @@ pub rejected : {H : Type 0} (k : Kept H) (l : lines.Kept) (s : Node) (x id reaso
 rejected k l s x id reason t request node st y e =
     let m = moved k l s (calling (node_side (config_of k)) x (RejectAsk id reason) s.core) st
     (subst (λ (side : Side). line_stands.Stands l (calling side x (RejectAsk id reason) s.core)) (side_is k node) y) in
-    record { lines = m.lines; requests = m.requests; accepted = m.accepted; turned_away = e }
+    record { lines = m.lines; requests = m.requests; accepted = m.accepted; turned_away = e; halted = m.halted }

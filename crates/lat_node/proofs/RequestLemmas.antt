@@ -127,6 +127,7 @@ stands_more k s id to service es st none is = record {
       ∙ sym (map-append (request_in s) s.requests (r ∷ []));
   accepted = each_weaker (λ i. was_made s i ≡ true) (λ i. was_made (asks_too s r) i ≡ true) s.accepted (still_made s r) st.accepted;
   turned_away = st.turned_away;
+  halted = st.halted;
 }
   where
     e : ℕ × Request
@@ -210,6 +211,7 @@ stands_accepted k s id v es st made there is apart = record {
       ∙ noted_in s id s.requests;
   accepted = each_push (λ i. was_made s i ≡ true) s.accepted id st.accepted made;
   turned_away = st.turned_away;
+  halted = st.halted;
 }
 
 -- of an id under which nothing is kept nothing was made

@@ -30,7 +30,7 @@ with_lines k l = record k { lines = l }
 
 -- the lines alone have gone on
 pub moved : {H : Type 0} (k : Kept H) (l : lines.Kept) (s : Node) (c : Core) → Stands k s → line_stands.Stands l c → Stands (with_lines k l) (with_core s c)
-moved k l s c st x = record { lines = x; requests = st.requests; accepted = st.accepted; turned_away = st.turned_away }
+moved k l s c st x = record { lines = x; requests = st.requests; accepted = st.accepted; turned_away = st.turned_away; halted = st.halted }
 
 pub same_lines : {H : Type 0} (k : Kept H) (l : lines.Kept) → lines.SameLines k.lines l → SameConfig k (with_lines k l)
 same_lines k l same = record { config = rw (same.core.own, same.core.name, same.core.timing, same.lines) refl; rule = refl }
@@ -96,6 +96,9 @@ at_nothing config s (events.Close line) a t w c = absurd c
 at_nothing config s (events.Request to id service) a t w c = absurd a
 at_nothing config s (events.Cancel id) a t w c = absurd (w id refl)
 at_nothing config s events.Announce a t w c = absurd a
+at_nothing config s (events.Avoid line) a t w c = refl
+at_nothing config s (events.Ready line ready) a t w c = refl
+at_nothing config s events.Halt a t w c = absurd a
 
 pub does_nothing : {H : Type 0} (k : Kept H) (e : Event) (before : List OutFrame) → TakesNoMemory e → ((now : _) → e ≡ events.Time now → ⊥) → ((id : _) → e ≡ events.Cancel id → ⊥) → IsNoCall e →
     Simulates (λ config s. node_step config [] s (event_shown e)) k k answers.NotHere before before
@@ -130,3 +133,4 @@ plain_fits ready answers.Closed e p = (tt, tt)
 plain_fits ready answers.Full e p = (tt, tt)
 plain_fits ready answers.IdUsed e p = (tt, tt)
 plain_fits ready answers.NotHere e p = (tt, tt)
+plain_fits ready answers.Halted e p = (tt, tt)

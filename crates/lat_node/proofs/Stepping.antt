@@ -4,13 +4,13 @@ use Rattle.lat_base.specs.declared.answer.Answer as base
 use Rattle.lat_base.specs.declared.event.Event as base_event
 use Rattle.lat_base.specs.declared.event.Event.TheVariants as events
 use Rattle.lat_base.specs.declared.outbox.OutFrame.{OutFrame}
-use Rattle.lat_machines.specs.node.Node.{NodeConfig, Node, open_node, node_step, rates_of}
+use Rattle.lat_machines.specs.node.Node.{NodeConfig, Node, open_node, node_step}
 use Rattle.lat_lines.specs.AnswerValues.{answer_shown, answer_of}
 use Rattle.lat_lines.specs.Events.{event_shown}
 use Rattle.lat_lines.proofs.AnswerValues.{answer_back}
 use Rattle.lat_node.specs.Kept.{Kept, SameConfig, config_of}
 use Rattle.lat_node.specs.Stands.{Stands, Machine, IsMachine, opening, next, answered, Frames}
-use Rattle.lat_node.specs.Events.{Simulates, SimulatesRated, Rated, IsLocal, TakesNoMemory}
+use Rattle.lat_node.specs.Events.{Simulates, SimulatesRated, Rated, asked_for, IsLocal, TakesNoMemory}
 use Rattle.lat_node.proofs.FrameLemmas.{frames_rated, steps_quiet, act_quiet}
 
 -- what a core promises of a step
@@ -30,7 +30,7 @@ pub stepped_frames : {H : Type 0} (may : H → ℕ → ℕ → ℕ → Type 0) (
     (m : Machine H) → IsMachine k m → Frames may m e after
 stepped_frames may k middle e a before after empty steps m is =
     frames_rated may k m e after is
-    (subst (λ (b : List OutFrame). Rated may k m.state (λ rates. node_step (config_of k) rates m.state (event_shown e)) (rates_of (config_of k) (node_step (config_of k) [] m.state (event_shown e)).answer (event_shown e)) b after) empty (steps m.state is.state).2)
+    (subst (λ (b : List OutFrame). Rated may k m.state (λ rates. node_step (config_of k) rates m.state (event_shown e)) (asked_for (config_of k) m.state (event_shown e)) b after) empty (steps m.state is.state).2)
 
 -- the events of `local` take no memory
 pub local_act : (e : base_event.Event) → IsLocal e → TakesNoMemory e
@@ -45,6 +45,9 @@ local_act (events.Close line) l = tt
 local_act (events.Request to id service) l = absurd l
 local_act (events.Cancel id) l = tt
 local_act events.Announce l = absurd l
+local_act (events.Avoid line) l = absurd l
+local_act (events.Ready line ready) l = absurd l
+local_act events.Halt l = absurd l
 
 pub acted_frames : {H : Type 0} (may : H → ℕ → ℕ → ℕ → Type 0) (k middle : Kept H) (e : base_event.Event) (a : base.Answer) (before after : List OutFrame) → IsLocal e → before ≡ [] → Simulates (λ config s. node_step config [] s (event_shown e)) k middle a before after →
     (m : Machine H) → IsMachine k m → Frames may m e after

@@ -16,6 +16,7 @@ config_shown config = record {
   timer = config.timer;
   groups = config.groups;
   timing = timing_shown config.timing;
+  prompt = config.prompt;
 }
 
 pub record IsConfig (config : NodeConfig) : Type 0 where

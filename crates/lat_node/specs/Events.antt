@@ -1,5 +1,5 @@
 -- Parts of an event of the node machine.
-use Rattle.std.specs.Prelude.{◌≡◌, ℕ, suc, List, [], length, find, Option, Some, None}
+use Rattle.std.specs.Prelude.{◌≡◌, ℕ, suc, cond, List, [], length, find, Option, Some, None}
 use Rattle.lat_base.specs.declared.answer.Answer.{Answer}
 use Rattle.lat_base.specs.declared.event.Event.{Event}
 use Rattle.lat_base.specs.declared.event.Event.TheVariants as events
@@ -23,6 +23,10 @@ Simulates event old new answer before after =
     × (answer_shown answer ≡ (event (config_of old) s).answer)
     × Emits (event (config_of old) s).frames before after
 
+-- how many ratings a node asks for at an event: none once it is halted
+abbrev pub asked_for : NodeConfig → Node → machine.Event → ℕ
+asked_for config s e = cond s.halted 0 (rates_of config (node_step config [] s e).answer e)
+
 -- Ratings, as many as are asked for, each one that the rule may give at the lines held, with which the frames of such an
 -- event went out
 pub record Rated {H : Type 0} (may : H → ℕ → ℕ → ℕ → Type 0) (k : Kept H) (s : Node)
@@ -39,7 +43,7 @@ SimulatesRated may e old new answer before after =
     (s : Node) → Stands old s →
     Stands new (node_step (config_of old) [] s e).state
     × (answer_shown answer ≡ (node_step (config_of old) [] s e).answer)
-    × Rated may old s (λ rates. node_step (config_of old) rates s e) (rates_of (config_of old) (node_step (config_of old) [] s e).answer e) before after
+    × Rated may old s (λ rates. node_step (config_of old) rates s e) (asked_for (config_of old) s e) before after
 
 -- an event that asks for no ratings
 abbrev pub at_event : machine.Event → NodeConfig → Node → NodeStep
@@ -49,12 +53,12 @@ at_event e config s = node_step config [] s e
 abbrev pub announces : NodeConfig → Node → List ℕ → NodeStep
 announces config s rates = node_step config rates s machine.Announces
 
--- how many ratings are asked for where a Solicit was for this service of the node
+-- how many ratings a node asks for that isn't halted, where a Solicit was for this service of its own
 abbrev pub ratings_for : NodeConfig → Option Name → ℕ
 ratings_for config None = 0
 ratings_for config (Some service) = suc (length config.services)
 
--- how many ratings a notice asks for
+-- and how many for a notice
 abbrev pub notice_ratings : NodeConfig → Notice → ℕ
 notice_ratings config (SolicitNotice n) = ratings_for config (find (same n.service) config.services)
 notice_ratings config (StatusNotice n) = 0
@@ -77,4 +81,5 @@ TakesNoMemory (events.Heard from payload now) = ⊥
 TakesNoMemory (events.Take line n) = ⊥
 TakesNoMemory (events.Request to id service) = ⊥
 TakesNoMemory events.Announce = ⊥
+TakesNoMemory events.Halt = ⊥
 TakesNoMemory e = Unit {0}

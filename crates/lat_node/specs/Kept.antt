@@ -1,5 +1,5 @@
 -- What is kept of a node.
-use Rattle.std.specs.Prelude.{◌≡◌, ℕ, ◌≤◌, false, List, [], length}
+use Rattle.std.specs.Prelude.{◌≡◌, ℕ, ◌≤◌, Bool, false, List, [], length}
 use Rattle.lat_machines.specs.values.Addresses.{address}
 use Rattle.lat_machines.specs.node.Node as machine
 use Rattle.lat_circuit.specs.Frames.{timing_shown}
@@ -14,8 +14,10 @@ pub record Kept (H : Type 0) : Type 0 where
   pub incarnation : ℕ
   pub timer : ℕ
   pub groups : List ℕ
+  pub prompt : Bool
   pub requests : List (ℕ × Request)  -- by their ids, in the order in which they were first made
   pub turned_away : ℕ
+  pub halted : Bool
   pub rule : H
 
 abbrev pub config_of : {H : Type 0} → Kept H → machine.NodeConfig
@@ -28,6 +30,7 @@ config_of k = record {
   timer = k.timer;
   groups = k.groups;
   timing = timing_shown k.lines.circuits.timing;
+  prompt = k.prompt;
 }
 
 -- what holds of every node

@@ -9,7 +9,9 @@ shown a = record {
   incarnation = a.incarnation;
   timer = a.timer;
   groups = a.groups;
+  prompt = a.prompt;
   requests = a.requests.entries;
   turned_away = a.turned_away;
+  halted = a.halted;
   rule = a.rule;
 }

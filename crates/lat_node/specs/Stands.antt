@@ -43,6 +43,7 @@ pub record Stands {H : Type 0} (k : Kept H) (s : Node) : Type 0 where
   pub requests : map request_shown k.requests ≡ map (request_in s) s.requests
   pub accepted : Each (λ id. was_made s id ≡ true) s.accepted
   pub turned_away : k.turned_away ≡ saturated_count s.turned_away
+  pub halted : k.halted ≡ s.halted
 
 -- the machine of a configuration with a rule, and its state
 pub record Machine (H : Type 0) : Type 0 where

@@ -1,6 +1,6 @@
 //! What a node announces.
 
-ghost use Rattle.std.specs.Prelude.{◌≡◌, ◌≤◌, ◌+◌, suc, [], find, map, length, Some, IfOk, OnOk, OnErr};
+ghost use Rattle.std.specs.Prelude.{◌≡◌, ℕ, ◌≤◌, ◌+◌, suc, cond, List, [], find, map, length, Some, IfOk, OnOk, OnErr};
 ghost use Rattle.lat_base.specs.declared.answer.Answer.TheVariants as answers;
 ghost use Rattle.lat_notices.specs.Writing.{CanBeWritten};
 ghost use Rattle.lat_model.specs.Lists.{Each};
@@ -10,7 +10,7 @@ ghost use Rattle.lat_machines.specs.values.Names.{same};
 ghost use Rattle.lat_dir.specs.Announcements.{service_shown};
 ghost use Rattle.lat_lines.specs.Answers.{IsPlain};
 ghost use Rattle.lat_lines.specs.AnswerValues.{answer_shown};
-ghost use Rattle.lat_node.specs.Announced.{ratings, IsAnnounced};
+ghost use Rattle.lat_node.specs.Announced.{ratings, AnnouncesAs, IsAnnounced};
 ghost use Rattle.lat_node.specs.Events.{announces, Rated, ratings_for};
 ghost use Rattle.lat_node.specs.Kept.{config_of};
 ghost use Rattle.lat_node.specs.Stands.{Stands};
@@ -23,7 +23,8 @@ use lat_payload::{notice_frame, response_frame};
 use std::alloc::Global;
 
 impl<H: RatingRule> NodeCore<H> {
-    /// Announces all services to everyone, each with the rating that the rule gives at the lines held. Takes its memory first.
+    /// Announces all services to everyone, each with the rating that the rule gives at the lines held; once it is halted, nothing
+    /// more. Takes its memory first.
     pub(crate) fn announce(&self, alloc: Global, out: &mut OutBox) -> Result<Answer, Memory>
         requires fact { H.fact self.now.rule }
         requires room { length out.old + 16 ≤ 256 }
@@ -31,16 +32,20 @@ impl<H: RatingRule> NodeCore<H> {
         ensures frames { (s : machine.Node) →
             Stands self.now s →
             OnOk result (Rated H.may self.now s (announces (config_of self.now) s)
-            (length self.now.services) out.old out.new) }
+            (cond s.halted 0 (length self.now.services)) out.old out.new) }
         ensures most { length out.new ≤ length out.old + 1 }
         ensures err { OnErr result (out.new ≡ out.old) }
     {
+        if self.halted {
+            return Ok(Answer::Done);
+        }
         let announcement = self.announcement(alloc, self.lines.used())?;
         out.push(notice_frame(EVERYONE, &announcement));
         Ok(Answer::Done)
     }
 
-    /// Answers a Solicit for a service that is offered with a Response, and announces all services. Takes its memory first.
+    /// Answers a Solicit for a service that is offered with a Response, and announces all services; once it is halted, with
+    /// nothing. Takes its memory first.
     pub(crate) fn solicited(
         &self,
         alloc: Global,
@@ -62,7 +67,7 @@ impl<H: RatingRule> NodeCore<H> {
             (Rated H.may self.now s
             (λ rates. machine.solicited (config_of self.now) rates s (address from.0) solicit.now.id
             (find (same solicit.now.service) self.now.services))
-            (ratings_for (config_of self.now) (find (same solicit.now.service) self.now.services))
+            (cond s.halted 0 (ratings_for (config_of self.now) (find (same solicit.now.service) self.now.services)))
             out.old out.new) }
         ensures plain { IfOk result IsPlain }
         ensures most { length out.new ≤ length out.old + 2 }
@@ -94,11 +99,14 @@ impl<H: RatingRule> NodeCore<H> {
             OnOk result
             (Rated H.may self.now s
             (λ rates. machine.solicited (config_of self.now) rates s (address from.0) id (Some service.now))
-            (suc (length self.now.services))
+            (cond s.halted 0 (suc (length self.now.services)))
             out.old out.new) }
         ensures most { length out.new ≤ length out.old + 2 }
         ensures err { OnErr result (out.new ≡ out.old) }
     {
+        if self.halted {
+            return Ok(Answer::Solicited);
+        }
         let used = self.lines.used();
         let rating = self.rating(used);
         let announcement = self.announcement(alloc, used)?;
@@ -124,13 +132,27 @@ impl<H: RatingRule> NodeCore<H> {
         ensures written { IfOk result CanBeWritten }
         ensures announced { IfOk result (IsAnnounced H.may self.now used) }
     {
+        let services = self.rated(alloc, used)?;
+        self.announced(alloc, services)
+    }
+
+    /// The announcement of these services, each with its rating and no description.
+    pub(crate) fn announced(&self, alloc: Global, services: Services) -> Result<Notice, Memory>
+        ensures written { (names : List (List ℕ)) →
+            length names ≤ 32 →
+            map service_shown services ≡ machine.rated names (ratings services) →
+            IfOk result CanBeWritten }
+        ensures announced { (names : List (List ℕ)) →
+            map service_shown services ≡ machine.rated names (ratings services) →
+            IfOk result (AnnouncesAs (record (config_of self.now) { services = names }) (ratings services)) }
+    {
         Ok(Notice::Announcement(Announcement {
             timer: self.timer,
             incarnation: self.incarnation,
             groups: Bytes::copy(alloc, self.groups.as_slice())?,
             node: self.lines.name(),
             description: Bytes::copy(alloc, &[])?,
-            services: self.rated(alloc, used)?,
+            services,
         }))
     }
 
@@ -142,6 +164,7 @@ impl<H: RatingRule> NodeCore<H> {
             map service_shown ss ≡ machine.rated self.now.services (ratings ss)) }
         ensures ratings { IfOk result (λ ss.
             Each (H.may self.now.rule used self.now.lines.lines) (ratings ss)) }
+        ensures few { length self.now.services ≤ 32 }
     {
         let mut services = Services::new(alloc);
         for name in self.services.as_slice() {

@@ -21,6 +21,9 @@ pub struct NodeConfig {
     /// The mask of its announcements: bit g mod 8 of byte g / 8 is that of group g. An empty one is for every server.
     pub groups: Bytes,
     pub timing: Timing,
+    /// Whether it tells a stranger at once that his circuit doesn't live here, and takes a START that follows for the end of the
+    /// slaves before it. See "How a circuit ends" in docs/PROTOCOL.md.
+    pub prompt: bool,
 }
 
 impl Drop for NodeConfig {
@@ -34,6 +37,7 @@ impl Drop for NodeConfig {
             timer,
             groups,
             timing,
+            prompt,
         } = self;
     }
 }

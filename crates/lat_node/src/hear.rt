@@ -1,22 +1,19 @@
 //! What the node does at a frame that it hears.
 
-ghost use Rattle.std.specs.Prelude.{◌≡◌, ℕ, ◌≤◌, ◌+◌, false, List, [], length, Err, None, nat_eq, IfOk, OnOk, OnErr};
+ghost use Rattle.std.specs.Prelude.{◌≡◌, ℕ, ◌≤◌, ◌+◌, false, cond, List, [], length, Err, None, nat_eq, IfOk, OnOk, OnErr};
 ghost use Rattle.lat_base.specs.declared.outbox.OutFrame.{OutFrame};
-ghost use Rattle.lat_frames.specs.Written.{IsWritable};
 ghost use Rattle.lat_machines.specs.cores.Cores.{at_moment};
-ghost use Rattle.lat_machines.specs.node.Node.{Node, with_core, hears_message, hears_notice};
+ghost use Rattle.lat_machines.specs.node.Node.{Node, with_core, hears_notice};
 ghost use Rattle.lat_machines.specs.values.Addresses.{address, everyone};
 ghost use Rattle.lat_machines.specs.values.Events.{Hears};
 ghost use Rattle.lat_machines.specs.values.Frames.{Reading, Whole, OfNotice};
-ghost use Rattle.lat_circuit.specs.Messages.{message_shown};
 ghost use Rattle.lat_lines.specs.Answers.{IsPlain};
 ghost use Rattle.lat_lines.specs.AnswerValues.{answer_shown};
 ghost use Rattle.lat_payload.specs.Reads as reads;
 ghost use Rattle.lat_value.specs.Texts as texts;
 ghost use Rattle.lat_payload.specs.Reads.{value_shown};
 ghost use Rattle.lat_payload.specs.Notices.{notice_shown};
-ghost use Rattle.lat_node.specs.Events.{Simulates, SimulatesRated, Rated, notice_ratings};
-ghost use Rattle.lat_node.specs.Hearing.{named_by, AskedThen};
+ghost use Rattle.lat_node.specs.Events.{SimulatesRated, Rated, notice_ratings};
 ghost use Rattle.lat_node.specs.Kept.{config_of, AtRest, SameConfig};
 ghost use Rattle.lat_node.specs.Stands.{Stands};
 
@@ -24,8 +21,6 @@ use crate::hook::RatingRule;
 use crate::node::NodeCore;
 use lat_base::{Addr, Answer, Memory, OutBox};
 use lat_fields::LayoutFault;
-use lat_frames::Message;
-use lat_lines::hearing_answer;
 use lat_notices::Notice;
 use lat_value::{Value, read_value};
 use std::alloc::Global;
@@ -76,8 +71,8 @@ impl<H: RatingRule> NodeCore<H> {
         }
     }
 
-    // Its moment goes on.
-    fn pass(&mut self, now: u64)
+    /// Its moment goes on.
+    pub(crate) fn pass(&mut self, now: u64)
         ensures state { (s : Node) → Stands self.old s →
             Stands self.new (with_core s (at_moment now s.core)) }
         ensures same { SameConfig self.old self.new }
@@ -113,51 +108,6 @@ impl<H: RatingRule> NodeCore<H> {
         match value {
             Value::Circuit(message) => Ok(self.hear_message(from, message, now, out)),
             Value::Notice(notice) => self.hear_notice(alloc, from, notice, now, out),
-        }
-    }
-
-    // The asked sessions of a circuit are answered behind all that a RUN of it did.
-    fn hear_message(&mut self, from: Addr, message: &Message, now: u64, out: &mut OutBox) -> Answer
-        requires rest { AtRest self.old }
-        requires ok { IsWritable message.now }
-        requires room { length out.old + 16 ≤ 256 }
-        ensures does { Simulates
-            (λ config s. hears_message config (with_core s (at_moment now s.core)) (address from.0)
-            (message_shown message.now) None)
-            self.old self.new result out.old out.new }
-        ensures same { SameConfig self.old self.new }
-        ensures plain { IsPlain result }
-        ensures most { length out.new ≤ length out.old + 1 }
-    {
-        self.lines.pass(now);
-        let named = self.named(from, message);
-        let hearing = self.lines.heard(from, message, out);
-        self.answer_named(named);
-        hearing_answer(hearing)
-    }
-
-    fn answer_named(&mut self, circuit: Option<u16>)
-        ensures asked { AskedThen circuit self.old self.new }
-        ensures same { SameConfig self.old self.new }
-    {
-        if let Some(circuit) = circuit {
-            self.answer_asked(circuit);
-        }
-    }
-
-    // The living circuit that a RUN names.
-    fn named(&self, from: Addr, message: &Message) -> Option<u16>
-        ensures { (s : Node) → Stands self.now s →
-            result ≡ named_by s.core.circuits (address from.0) (message_shown message.now) }
-    {
-        match message {
-            Message::Run { head, .. } if self.lines.names(from, head.to, head.from) => {
-                Some(head.to)
-            }
-            Message::Wide { head, .. } if self.lines.names(from, head.to, head.from) => {
-                Some(head.to)
-            }
-            _ => None,
         }
     }
 
@@ -209,7 +159,7 @@ impl<H: RatingRule> NodeCore<H> {
             (Rated H.may self.now s
             (λ rates. hears_notice (config_of self.now) rates s (address from.0)
             (notice_shown notice.now))
-            (notice_ratings (config_of self.now) (notice_shown notice.now))
+            (cond s.halted 0 (notice_ratings (config_of self.now) (notice_shown notice.now)))
             out.old out.new) }
         ensures plain { IfOk result IsPlain }
         ensures most { length out.new ≤ length out.old + 2 }

@@ -4,12 +4,15 @@
 mod announce;
 mod answering;
 mod config;
+mod halt;
 mod hear;
 mod hook;
 pub mod laws;
+mod message;
 mod node;
 mod requests;
 mod step;
+mod told;
 
 pub use config::NodeConfig;
 pub use hook::{FreeLines, RateHook, RatingRule};

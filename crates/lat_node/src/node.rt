@@ -36,10 +36,13 @@ pub struct NodeCore<H> {
     /// In seconds.
     pub(crate) timer: u8,
     pub(crate) groups: Bytes,
+    pub(crate) prompt: bool,
     /// By their ids, in the order in which they were first made.
     pub(crate) requests: IndexMap<u16, Request>,
     /// How many asked sessions became free without a line.
     pub(crate) turned_away: u32,
+    /// Whether it makes no circuit any more.
+    pub(crate) halted: bool,
     pub(crate) rule: H,
 }
 
@@ -51,8 +54,10 @@ impl<H: Drop> Drop for NodeCore<H> {
             incarnation,
             timer,
             groups,
+            prompt,
             requests,
             turned_away,
+            halted,
             rule,
         } = self;
     }
@@ -105,8 +110,10 @@ impl<H: RatingRule> NodeCore<H> {
             incarnation: config.incarnation,
             timer: config.timer,
             groups: Bytes::copy(alloc, config.groups.as_slice())?,
+            prompt: config.prompt,
             requests: IndexMap::new(alloc),
             turned_away: 0,
+            halted: false,
             rule,
         })
     }
@@ -147,6 +154,13 @@ impl<H: RatingRule> NodeCore<H> {
         ensures { (s : Node) → Stands self.now s → result ≡ some_span (span s.core circuit) }
     {
         self.lines.span(circuit)
+    }
+
+    /// Whether it was halted: it makes no circuit any more, and announces nothing.
+    pub fn is_halted(&self) -> bool
+        ensures { result ≡ self.now.halted }
+    {
+        self.halted
     }
 
     /// How many lines have a session.

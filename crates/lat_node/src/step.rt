@@ -112,6 +112,7 @@ impl<H: RatingRule> NodeCore<H> {
             Event::Take { line, n } => self.lines.take(alloc, *line, *n),
             Event::Request { to, id, service } => self.request(*to, *id, service, out),
             Event::Announce => self.announce(alloc, out),
+            Event::Halt => self.halt(alloc, out),
             other => Ok(self.act(other, out)),
         }
     }

@@ -11,13 +11,14 @@ use Rattle.lat_machines.specs.values.Names.{Name}
 use Rattle.lat_machines.specs.values.Messages.{Message, RunMessage, WideMessage, StartMessage, StopMessage}
 use Rattle.lat_machines.specs.values.Notices.{Kept, KeptAs, Unknown, Action, Ask, Cancel, Command, AnnouncementNotice, CommandNotice, StatusNotice, SolicitNotice, ResponseNotice}
 use Rattle.lat_machines.specs.values.Frames.{Value, OfCircuit, OfNotice, Reading, Whole, Malformed}
-use Rattle.lat_machines.specs.values.Events.{Numbers, Event, Hears, Time, Connects, Puts, Sets, Takes, Attends, Closes, Requests, Withdraws, Announces}
-use Rattle.lat_machines.specs.values.Answers.{Accepted, Took, Done, Full, Closed, NoLine, Busy, SessionsFull, CircuitsFull, IdsOut, Connected, NotKept, KeptIs, Ignored}
+use Rattle.lat_machines.specs.values.Events.{Numbers, Event, Hears, Time, Connects, Puts, Sets, Takes, Attends, Closes, Requests, Withdraws, Announces, Avoids, Readies, Halts}
+use Rattle.lat_machines.specs.values.Answers.{Accepted, Took, Done, Full, Closed, NoLine, Busy, SessionsFull, CircuitsFull, IdsOut, Connected, NotKept, KeptIs, Ignored, Halted}
 use Rattle.lat_machines.specs.server.Directory.{Best, best}
 use Rattle.lat_machines.specs.server.Queue.{QueueEvent, Cancels}
 use Rattle.lat_machines.specs.server.Records.{kept_for}
-use Rattle.lat_machines.specs.cores.Acts.{time_at}
-use Rattle.lat_machines.specs.cores.Cores.{Seat, Core, Side, Doing, rests, then_doing, acts, at_moment, time_each, circuit_to}
+use Rattle.lat_model.specs.Reasons as reasons
+use Rattle.lat_machines.specs.cores.Acts.{time_at, end_at}
+use Rattle.lat_machines.specs.cores.Cores.{Seat, Core, Side, Doing, rests, then_doing, acts, at_moment, time_each, end_each, circuit_to}
 use Rattle.lat_machines.specs.cores.Lines.{sessions_of, session_of, seat_at, has_session, line_exists}
 use Rattle.lat_machines.specs.cores.LineCalls.{Said, says, calls_on, put_on, set_on, attend_on, take_on, close_on, on_line}
 use Rattle.lat_machines.specs.server.Server.{ServerConfig, Server, ServerStep, server_side, tells, does, has_room, opens, connects_to, solicits_for, connect_event, status_frame, key_of, hears_message, hears_command, hears_value, hears, server_event}
@@ -63,6 +64,10 @@ close_same k c s = said_cond c (take_open (session_of c s)) (says (calls_on k c 
 times_same : (k : Side) (xs : List ℕ) (d : Doing) → (time_each k xs d).core.seats ≡ d.core.seats
 times_same k [] d = refl
 times_same k (x ∷ xs) d = times_same k xs (then_doing d (λ c. acts k c (time_at k.server c.circuits x c.moment)))
+
+ends_same : (k : Side) (r : ℕ) (xs : List ℕ) (d : Doing) → (end_each k r xs d).core.seats ≡ d.core.seats
+ends_same k r [] d = refl
+ends_same k r (x ∷ xs) d = ends_same k r xs (then_doing d (λ c. acts k c (end_at k.server c.circuits x r)))
 
 -- what is heard
 
@@ -137,7 +142,11 @@ connect_seats config st line service = by (line_exists config.lines line) (has_s
 pub event_seats : (config : ServerConfig) (st : Server) (e : Event) → concluded.Connects st.core (server_event config st e).state.core
 event_seats config st (Hears from payload k now) = same st.core (hears config (record st { core = at_moment now st.core }) from payload k).state.core (hears_same config (record st { core = at_moment now st.core }) from payload k)
 event_seats config st (Time now) = same st.core (time_each (server_side config) (upwards 0 st.core.circuits.drawn) (rests (at_moment now st.core))).core (times_same (server_side config) (upwards 0 st.core.circuits.drawn) (rests (at_moment now st.core)))
-event_seats config st (Connects line service) = connect_seats config st line service
+event_seats config st (Connects line service) = by st.halted
+  where
+    by : (b : Bool) → concluded.Connects st.core (cond b (tells st Halted) (connect_event config st line service)).state.core
+    by true = same st.core st.core refl
+    by false = connect_seats config st line service
 event_seats config st (Puts line bytes) = same st.core (on_line config.lines st.core line (λ s. put_on (server_side config) st.core s bytes)).core (line_same config.lines st.core line (λ s. put_on (server_side config) st.core s bytes) (λ s. put_same (server_side config) st.core bytes s))
 event_seats config st (Sets line setting) = same st.core (on_line config.lines st.core line (λ s. set_on (server_side config) st.core s setting)).core (line_same config.lines st.core line (λ s. set_on (server_side config) st.core s setting) (λ s. set_same (server_side config) st.core setting s))
 event_seats config st (Takes line n) = same st.core (on_line config.lines st.core line (λ s. take_on (server_side config) st.core s n)).core (line_same config.lines st.core line (λ s. take_on (server_side config) st.core s n) (λ s. take_same (server_side config) st.core n s))
@@ -146,3 +155,7 @@ event_seats config st (Closes line) = same st.core (on_line config.lines st.core
 event_seats config st (Requests to id service) = same st.core st.core refl
 event_seats config st (Withdraws id) = same st.core st.core refl
 event_seats config st Announces = same st.core st.core refl
+event_seats config st (Avoids line) = same st.core st.core refl
+event_seats config st (Readies line ready) = same st.core st.core refl
+event_seats config st Halts =
+    same st.core (end_each (server_side config) reasons.halted (upwards 0 st.core.circuits.drawn) (rests st.core)).core (ends_same (server_side config) reasons.halted (upwards 0 st.core.circuits.drawn) (rests st.core))

@@ -31,7 +31,7 @@ followed k r l new s t before middle after u n f g e p =
     let z : Finished s.core d q = finished s.core d q n (firsts_of k.queue q u.waiting) u.concluded in
     let same : finish_each (map key_shown k.lines.freed) q ≡ finish_all d d.seats q = ap (λ ks. finish_each ks q) u.freed ∙ sym z.same in
     let start : Passing = record { state = finished_requests t.state; frames = [] } in
-    let st : Stands m (finished_requests t.state) = record { lines = g d u.core; directory = u.directory; queue = subst (queue.Stands r) same (f q u.waiting); solicits = u.solicits; concluded = z.concluded } in
+    let st : Stands m (finished_requests t.state) = record { lines = g d u.core; directory = u.directory; queue = subst (queue.Stands r) same (f q u.waiting); solicits = u.solicits; gate = u.gate; concluded = z.concluded } in
     let done : HasPassed (all_lines (config_of m) start) new middle after = p start middle (record { state = st; frames = adds_none middle }) in
     let there : HasPassed (all_lines (config_of k) start) new middle after = subst (λ (c : ServerConfig). HasPassed (all_lines c start) new middle after) e done in
     record { state = there.state; frames = adds_then t.frames (all_lines (config_of k) start).frames before middle after u.frames there.frames }

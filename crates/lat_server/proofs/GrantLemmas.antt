@@ -53,7 +53,7 @@ first_found test (x ∷ xs) r d q = by (test x) refl (first_found test xs r d.1)
 
 -- it waits, and is granted by the event
 
-not_true : (b : Bool) → not b ≡ true → b ≡ false
+pub not_true : (b : Bool) → not b ≡ true → b ≡ false
 not_true true q = absurd (true≢false (sym q))
 not_true false q = refl
 

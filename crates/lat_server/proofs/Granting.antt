@@ -1,6 +1,7 @@
 -- What a grant makes of a server.
-use Rattle.std.proofs.Common.{◌≡◌, ℕ, suc, refl, sym, ap, ◌∙◌, subst, Bool, true, false, cond, ◌&&◌, List, [], ◌∷◌, ◌++◌, map, zero, ◌+◌, ◌-◌, ◌≤◌, arith, Option, Some, None, find, option_map, nat_eq, nat_lt, true≢false}
+use Rattle.std.proofs.Common.{◌≡◌, ℕ, suc, refl, sym, ap, ◌∙◌, subst, Bool, true, false, not, cond, ◌&&◌, List, [], ◌∷◌, ◌++◌, map, zero, ◌+◌, ◌-◌, ◌≤◌, arith, Option, Some, None, find, option_map, nat_eq, nat_lt, true≢false}
 use Rattle.std.specs.Prelude.{Result, Ok, Err, OnOk, IfSome}
+use Rattle.std.proofs.lemmas.Bool.{and_parts}
 use Rattle.lat_base.specs.declared.addr.Addr.{Addr}
 use Rattle.lat_base.specs.declared.outbox.OutFrame.{OutFrame}
 use Rattle.lat_model.specs.sessions.Sessions.{least_free}
@@ -12,7 +13,7 @@ use Rattle.lat_machines.specs.values.Keys.{Key}
 use Rattle.lat_machines.specs.cores.Cores.{Core, Doing, circuit_to}
 use Rattle.lat_machines.specs.cores.Lines.{has_session}
 use Rattle.lat_machines.specs.server.Queue.{QueueEvent, Grants, Request, next_request}
-use Rattle.lat_machines.specs.server.Server.{ServerConfig, Passing, has_room, can_open, opens, offer_on, grant_frame, granting, fitting, grants_by, grant_line, grant_lines}
+use Rattle.lat_machines.specs.server.Server.{ServerConfig, Passing, may_grant, grantable, has_room, can_open, opens, offer_on, grant_frame, granting, fitting, grants_by, grant_line, grant_lines}
 use Rattle.lat_payload.specs.Frames.{GoesOutAs, Emits}
 use Rattle.lat_payload.proofs.Frames.{adds_one, adds_then}
 use Rattle.lat_queue.specs.declared.key.Key as own
@@ -29,7 +30,7 @@ use Rattle.lat_server.specs.declared.config.Offer.{Offer}
 use Rattle.lat_server.specs.Kept.{Kept, config_of}
 use Rattle.lat_server.specs.Events.{HasPassed, IsShut}
 use Rattle.lat_server.proofs.Openings.{opening_of}
-use Rattle.lat_server.proofs.GrantLemmas.{granted_then, grant_concluded}
+use Rattle.lat_server.proofs.GrantLemmas.{not_true, granted_then, grant_concluded}
 
 -- where a session can be had, one is opened
 opening_ok : (c : Core) (x : ℕ) → can_open c x ≡ true → (ids : ℕ × ℕ) × (opening c x ≡ Ok ids)
@@ -74,6 +75,7 @@ has_granted k p start before middle after line service r m x l t g f o h n key f
         directory = h.state.directory;
         queue = queue_granted t p.state.queue service r.key g (answer ∙ ap request_key n) gives;
         solicits = h.state.solicits;
+        gate = h.state.gate;
         concluded = grant_concluded k.lines.lines l.lines c d.core p.state.queue r.key service (opening_of (config_of k) line r.from r.key.node service (Some r.key) (Some r.key.request) c) h.state.lines.seated.each core.seated.each (granted_then k.queue p.state.queue service r h.state.queue n) h.state.concluded;
       };
       frames = adds_then p.frames (grant_frame r ∷ d.frames) start before after h.frames (adds_then (grant_frame r ∷ []) d.frames before middle after told sent);
@@ -127,11 +129,25 @@ lines_more config n p =
     let e : 0 + n ≡ n = omega arith in
     ap (λ z. grant_lines config z p) (upwards_more 0 n ∙ ap (λ z. upwards 0 n ++ suc z ∷ []) e) ∙ lines_then config (upwards 0 n) (suc n) p
 
-pub at_offer : (config : ServerConfig) (p : Passing) (line : ℕ) (service : Name) → offer_on line config.offers ≡ Some service → has_session p.state.core line ≡ false → grant_line config p line ≡ grants_by config line (Some service) (fitting p.state.core (next_request service p.state.queue)) p
-at_offer config p line service e h = rw (e, h)
+pub free_of : (p : Passing) (line : ℕ) → may_grant p.state line && not (has_session p.state.core line) ≡ true → has_session p.state.core line ≡ false
+free_of p line h = not_true (has_session p.state.core line) (and_parts (may_grant p.state line) (not (has_session p.state.core line)) h).1
 
-pub at_held : (config : ServerConfig) (p : Passing) (line : ℕ) (service : Name) → offer_on line config.offers ≡ Some service → has_session p.state.core line ≡ true → grant_line config p line ≡ p
-at_held config p line service e h = rw (e, h)
+pub at_offer : (config : ServerConfig) (p : Passing) (line : ℕ) (service : Name) → offer_on line config.offers ≡ Some service → may_grant p.state line && not (has_session p.state.core line) ≡ true
+    → grant_line config p line ≡ grants_by config line (Some service) (fitting p.state.core (next_request service p.state.queue)) p
+at_offer config p line service e h =
+    let may : may_grant p.state line ≡ true = (and_parts (may_grant p.state line) (not (has_session p.state.core line)) h).0 in
+    let free : has_session p.state.core line ≡ false = free_of p line h in
+    rw (e, may, free) refl
+
+pub at_held : (config : ServerConfig) (p : Passing) (line : ℕ) (service : Name) → offer_on line config.offers ≡ Some service → may_grant p.state line && not (has_session p.state.core line) ≡ false → grant_line config p line ≡ p
+at_held config p line service e h =
+    ap (λ o. grants_by config line o (grantable p.state line o) p) e
+    ∙ by (may_grant p.state line) (has_session p.state.core line) (fitting p.state.core (next_request service p.state.queue)) h
+  where
+    by : (a b : Bool) (r : Option Request) → a && not b ≡ false → grants_by config line (Some service) (cond a (cond b None r) None) p ≡ p
+    by true true r q = refl
+    by true false r q = absurd (true≢false q)
+    by false b r q = refl
 
 pub at_no_offer : (config : ServerConfig) (p : Passing) (line : ℕ) → offer_on line config.offers ≡ None → grant_line config p line ≡ p
 at_no_offer config p line e = rw e

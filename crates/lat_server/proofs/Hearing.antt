@@ -1,6 +1,7 @@
 -- What a server makes of what it hears, and of time.
 use Rattle.std.proofs.Common.{◌≡◌, ◌≢◌, ℕ, refl, sym, ap, ◌∙◌, subst, Bool, true, false, cond, List, [], ◌∷◌, ◌++◌, map, Option, Some, None, max}
 use Rattle.std.specs.Prelude.{Result, Ok, Err, if◌then◌else◌, IfOk, IfSome}
+use Rattle.std.proofs.lemmas.List.{append-nil}
 use Rattle.lat_base.specs.declared.answer.Answer as base
 use Rattle.lat_base.specs.declared.answer.Answer.TheVariants as answers
 use Rattle.lat_base.specs.declared.kept.Kept as base_kept
@@ -18,7 +19,7 @@ use Rattle.lat_machines.specs.cores.LineCalls.{Said}
 use Rattle.lat_machines.specs.server.Server.{ServerConfig, Server, ServerStep, server_side, offered, tells, with_core, does, said, hears_message, hears_announcement, status_frame, key_of, hears_command}
 use Rattle.lat_payload.specs.Frames.{GoesOutAs, Emits}
 use Rattle.lat_payload.specs.Notices.{IsSendable, outcome_shown}
-use Rattle.lat_payload.proofs.Frames.{adds_none, adds_one}
+use Rattle.lat_payload.proofs.Frames.{adds_none, adds_one, adds_then}
 use Rattle.lat_dir.specs.declared.directory.DirFault.{DirFault}
 use Rattle.lat_dir.specs.declared.directory.DirFault.TheVariants as faults
 use Rattle.lat_dir.specs.Stands as dir
@@ -28,6 +29,7 @@ use Rattle.lat_queue.specs.Histories.{key_shown, some_kept}
 use Rattle.lat_queue.proofs.RecordLemmas.{map_twice}
 use Rattle.lat_circuit.specs.Frames.{timing_shown}
 use Rattle.lat_lines.specs.circuits.Hears.{HeardCore, heard_core}
+use Rattle.lat_lines.specs.Strangers.{strangers_stop}
 use Rattle.lat_lines.specs.Answers.{HasAnswered}
 use Rattle.lat_lines.specs.AnswerValues.{answer_shown}
 use Rattle.lat_lines.specs.Kept as lines
@@ -67,7 +69,7 @@ at now s = with_core s (at_moment now s.core)
 -- nothing but the moment moves on
 pub did_pass : (k : Kept) (s : Server) (now : ℕ) (l : lines.Kept) (a : base.Answer) (out : List OutFrame) → AtRest k → Stands k s → stands.Stands l (at_moment now s.core) → l.freed ≡ k.lines.freed → HasDone s (tells (at now s) (answer_shown a)) (record k { lines = l }) a out out
 did_pass k s now l a out rest st m f = record {
-  state = record { core = m; directory = st.directory; waiting = st.queue; solicits = st.solicits; concluded = st.concluded; freed = ap (map key_shown) (f ∙ rest.freed) ∙ sym (none_moved now s.core s.core.seats); frames = adds_none out };
+  state = record { core = m; directory = st.directory; waiting = st.queue; solicits = st.solicits; gate = st.gate; concluded = st.concluded; freed = ap (map key_shown) (f ∙ rest.freed) ∙ sym (none_moved now s.core s.core.seats); frames = adds_none out };
   answered = refl;
 }
 
@@ -75,33 +77,54 @@ did_pass k s now l a out rest st m f = record {
 pub did_time : (k : Kept) (s : Server) (now : ℕ) (l : lines.Kept) (d : dir.Kept) (before after : List OutFrame) → Stands k s → stands.HasStepped (at_moment now s.core) (passes_time (server_side (config_of k)) (at_moment now s.core)) l before after → dir.Stands d s.heard
     → HasDone s (does s Done (passes_time (server_side (config_of k)) (at_moment now s.core))) (record k { lines = l; directory = d }) answers.Done before after
 did_time k s now l d before after st t h = record {
-  state = record { core = t.state; directory = h; waiting = st.queue; solicits = st.solicits; concluded = st.concluded; freed = t.freed ∙ moved_freed now s.core (passes_time (server_side (config_of k)) (at_moment now s.core)).core s.core.seats; frames = t.frames };
+  state = record { core = t.state; directory = h; waiting = st.queue; solicits = st.solicits; gate = st.gate; concluded = st.concluded; freed = t.freed ∙ moved_freed now s.core (passes_time (server_side (config_of k)) (at_moment now s.core)).core s.core.seats; frames = t.frames };
   answered = refl;
 }
 
 -- a call on a line
 pub did_call : (k : Kept) (s : Server) (l : lines.Kept) (a : base.Answer) (x : Said) (out : List OutFrame) → Stands k s → HasAnswered s.core x l a → HasDone s (said s x) (record k { lines = l }) a out out
 did_call k s l a x out st t = record {
-  state = record { core = t.state; directory = st.directory; waiting = st.queue; solicits = st.solicits; concluded = st.concluded; freed = t.freed; frames = adds_none out };
+  state = record { core = t.state; directory = st.directory; waiting = st.queue; solicits = st.solicits; gate = st.gate; concluded = st.concluded; freed = t.freed; frames = adds_none out };
   answered = t.answered;
 }
 
 -- circuit messages
 
-message_is : (config : ServerConfig) (s : Server) (from : ℕ) (m : Message) → hears_message config s from m None ≡ does s (heard_core (server_side config) from m s.core).answer (heard_core (server_side config) from m s.core).doing
+-- what the circuits do, and then the STOP for a stranger
+abbrev heard_by : ServerConfig → Server → ℕ → Message → ServerStep
+heard_by config s from m =
+    let h : HeardCore = heard_core (server_side config) from m s.core in
+    record { state = with_core s h.doing.core; answer = h.answer; frames = h.doing.frames ++ strangers_stop (server_side config) config.prompt s.core from m }
+
+-- no frame more
+none_more : (t : ServerStep) → t ≡ record t { frames = t.frames ++ [] }
+none_more t = ap (λ fs. record t { frames = fs }) (sym (append-nil t.frames))
+
+message_is : (config : ServerConfig) (s : Server) (from : ℕ) (m : Message) → hears_message config s from m None ≡ heard_by config s from m
 message_is config s from (RunMessage h slots) = refl
 message_is config s from (WideMessage h slots) = refl
 message_is config s from (StartMessage true ask to source info) = refl
-message_is config s from (StartMessage false ask to source info) = refl
-message_is config s from (StopMessage master ask to source reason text) = refl
+message_is config s from (StartMessage false ask to source info) = none_more (hears_message config s from (StartMessage false ask to source info) None)
+message_is config s from (StopMessage master ask to source reason text) = none_more (hears_message config s from (StopMessage master ask to source reason text) None)
 
-pub did_message : (k : Kept) (s : Server) (now from : ℕ) (m : Message) (l : lines.Kept) (a : base.Answer) (before after : List OutFrame) → Stands k s → stands.HasStepped (at_moment now s.core) (heard_core (server_side (config_of k)) from m (at_moment now s.core)).doing l before after
-    → answer_shown a ≡ (heard_core (server_side (config_of k)) from m (at_moment now s.core)).answer → HasDone s (hears_message (config_of k) (at now s) from m None) (record k { lines = l }) a before after
-did_message k s now from m l a before after st t e =
+pub did_message : (k : Kept) (s : Server) (now from : ℕ) (m : Message) (l : lines.Kept) (a : base.Answer) (before middle after : List OutFrame) → Stands k s
+    → stands.HasStepped (at_moment now s.core) (heard_core (server_side (config_of k)) from m (at_moment now s.core)).doing l before middle
+    → answer_shown a ≡ (heard_core (server_side (config_of k)) from m (at_moment now s.core)).answer → Emits (strangers_stop (server_side (config_of k)) k.prompt (at_moment now s.core) from m) middle after
+    → HasDone s (hears_message (config_of k) (at now s) from m None) (record k { lines = l }) a before after
+did_message k s now from m l a before middle after st t e stop =
     let h : HeardCore = heard_core (server_side (config_of k)) from m (at_moment now s.core) in
     subst (λ z. HasDone s z (record k { lines = l }) a before after) (sym (message_is (config_of k) (at now s) from m))
     (record {
-      state = record { core = t.state; directory = st.directory; waiting = st.queue; solicits = st.solicits; concluded = st.concluded; freed = t.freed ∙ moved_freed now s.core h.doing.core s.core.seats; frames = t.frames };
+      state = record {
+        core = t.state;
+        directory = st.directory;
+        waiting = st.queue;
+        solicits = st.solicits;
+        gate = st.gate;
+        concluded = st.concluded;
+        freed = t.freed ∙ moved_freed now s.core h.doing.core s.core.seats;
+        frames = adds_then h.doing.frames (strangers_stop (server_side (config_of k)) k.prompt (at_moment now s.core) from m) before middle after t.frames stop;
+      };
       answered = e;
     })
 
@@ -122,7 +145,7 @@ pub did_announce : (k : Kept) (s : Server) (now from : ℕ) (m : Announcement) (
     → answer_shown a ≡ announced_answer (if refuses k.directory.groups (max s.core.moment now) m s.heard then Err faults.Full else Ok (meets k.directory.groups m))
     → HasDone s (hears_announcement (config_of k) (at now s) from m) (record k { lines = l; directory = d }) a out out
 did_announce k s now from m l d a out rest st c f h e = record {
-  state = record { core = c; directory = h; waiting = st.queue; solicits = st.solicits; concluded = st.concluded; freed = ap (map key_shown) (f ∙ rest.freed) ∙ sym (none_moved now s.core s.core.seats); frames = adds_none out };
+  state = record { core = c; directory = h; waiting = st.queue; solicits = st.solicits; gate = st.gate; concluded = st.concluded; freed = ap (map key_shown) (f ∙ rest.freed) ∙ sym (none_moved now s.core s.core.seats); frames = adds_none out };
   answered = e ∙ announced_is (refuses k.directory.groups (max s.core.moment now) m s.heard) (meets k.directory.groups m);
 }
 
@@ -187,6 +210,7 @@ did_command k s now from m a l t o f before after rest st same n e p c g =
         directory = st.directory;
         waiting = n.state;
         solicits = st.solicits;
+        gate = st.gate;
         concluded = noted_concluded s.core k.queue.offered from m a s.queue st.concluded;
         freed = ap (map key_shown) (g ∙ rest.freed) ∙ sym (none_moved now s.core s.core.seats);
         frames = subst (Emits (status_frame from m (outcome_of x.kept) ∷ []) before) (sym p) (adds_one (status_frame from m (outcome_of x.kept)) f before (subst (λ y. GoesOutAs f (status_frame from m y)) told e));

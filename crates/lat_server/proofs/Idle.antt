@@ -5,7 +5,7 @@ use Rattle.std.specs.List.{list_any}
 use Rattle.lat_machines.specs.values.Names.{Name, same}
 use Rattle.lat_machines.specs.cores.Lines.{has_session}
 use Rattle.lat_machines.specs.server.Queue.{QueueEvent, Request, first, records, waits, next_request}
-use Rattle.lat_machines.specs.server.Server.{ServerConfig, Passing, offer_on, fitting, grantable, grants_by, grant_line, grant_lines}
+use Rattle.lat_machines.specs.server.Server.{ServerConfig, Passing, offer_on, may_grant, fitting, grantable, grants_by, grant_line, grant_lines}
 use Rattle.lat_queue.specs.Histories.{is_any_waiting}
 use Rattle.lat_server.specs.Config.{offer_shown}
 use Rattle.lat_server.specs.declared.config.Offer.{Offer}
@@ -31,15 +31,17 @@ no_offers (o ∷ os) e line = absurd (omega (arith, eqb-true (length (o ∷ os))
 line_nothing : (offers : List Offer) (config : ServerConfig) (p : Passing) (line : ℕ) → map offer_shown offers ≡ config.offers → nat_eq (length offers) 0 || not (is_any_waiting p.state.queue) ≡ true → grant_line config p line ≡ p
 line_nothing offers config p line are none = by (offer_on line config.offers) refl
   where
-    either : (b : Bool) (service : Name) → grants_by config line (Some service) (cond b None None) p ≡ p
-    either true service = refl
-    either false service = refl
+    either : (a b : Bool) (service : Name) → grants_by config line (Some service) (cond a (cond b None None) None) p ≡ p
+    either true true service = refl
+    either true false service = refl
+    either false b service = refl
 
     by : (o : Option Name) → offer_on line config.offers ≡ o → grants_by config line o (grantable p.state line o) p ≡ p
     by None e = refl
     by (Some service) e =
         let next : next_request service p.state.queue ≡ None = waited (nat_eq (length offers) 0) refl none in
-        ap (λ r. grants_by config line (Some service) (cond (has_session p.state.core line) None (fitting p.state.core r)) p) next ∙ either (has_session p.state.core line) service
+        ap (λ r. grants_by config line (Some service) (cond (may_grant p.state line) (cond (has_session p.state.core line) None (fitting p.state.core r)) None) p) next
+        ∙ either (may_grant p.state line) (has_session p.state.core line) service
       where
         none_some : None ≡ Some service → ⊥
         none_some z = true≢false (ap is_none z)

@@ -1,11 +1,14 @@
 pub mod Connecting
 pub mod EventSeats
 pub mod Following
+pub mod Gates
+pub mod Halting
 pub mod Granting
 pub mod Idle
 pub mod GrantLemmas
 pub mod Hearing
 pub mod KeptLemmas
 pub mod Openings
+pub mod Making
 pub mod ConcludedLemmas
 pub mod Stepping

@@ -56,24 +56,27 @@ does_call k old l e line call a out same server is says s st =
 
 -- an event that is nothing to a server
 
-at_nothing : (config : ServerConfig) (s : Server) (e : base_event.Event) → TakesNoMemory e → ((now : _) → e ≡ events.Time now → ⊥) → ((line : _) (service : _) → e ≡ events.Connect line service → ⊥) → IsNoCall e
+at_nothing : (config : ServerConfig) (s : Server) (e : base_event.Event) → TakesNoMemory e → ((now : _) → e ≡ events.Time now → ⊥) → ((line : _) (service : _) → e ≡ events.Connect line service → ⊥) → ((line : _) → e ≡ events.Avoid line → ⊥) → ((line : _) (ready : _) → e ≡ events.Ready line ready → ⊥) → (e ≡ events.Halt → ⊥) → IsNoCall e
     → server_event config s (event_shown e) ≡ tells s NotHere
-at_nothing config s (events.Heard from payload now) l t n c = absurd l
-at_nothing config s (events.Time now) l t n c = absurd (t now refl)
-at_nothing config s (events.Connect line service) l t n c = absurd (n line service refl)
-at_nothing config s (events.Put line bytes) l t n c = absurd c
-at_nothing config s (events.Set line setting) l t n c = absurd c
-at_nothing config s (events.Take line count) l t n c = absurd l
-at_nothing config s (events.Attend line flag) l t n c = absurd c
-at_nothing config s (events.Close line) l t n c = absurd c
-at_nothing config s (events.Request to id service) l t n c = refl
-at_nothing config s (events.Cancel id) l t n c = refl
-at_nothing config s events.Announce l t n c = refl
+at_nothing config s (events.Heard from payload now) l t n a r h c = absurd l
+at_nothing config s (events.Time now) l t n a r h c = absurd (t now refl)
+at_nothing config s (events.Connect line service) l t n a r h c = absurd (n line service refl)
+at_nothing config s (events.Put line bytes) l t n a r h c = absurd c
+at_nothing config s (events.Set line setting) l t n a r h c = absurd c
+at_nothing config s (events.Take line count) l t n a r h c = absurd l
+at_nothing config s (events.Attend line flag) l t n a r h c = absurd c
+at_nothing config s (events.Close line) l t n a r h c = absurd c
+at_nothing config s (events.Request to id service) l t n a r h c = refl
+at_nothing config s (events.Cancel id) l t n a r h c = refl
+at_nothing config s events.Announce l t n a r h c = refl
+at_nothing config s (events.Avoid line) l t n a r h c = absurd (a line refl)
+at_nothing config s (events.Ready line ready) l t n a r h c = absurd (r line ready refl)
+at_nothing config s events.Halt l t n a r h c = absurd (h refl)
 
-pub does_nothing : (k : Kept) (e : base_event.Event) (before : List OutFrame) → AtRest k → TakesNoMemory e → ((now : _) → e ≡ events.Time now → ⊥) → ((line : _) (service : _) → e ≡ events.Connect line service → ⊥) → IsNoCall e
+pub does_nothing : (k : Kept) (e : base_event.Event) (before : List OutFrame) → AtRest k → TakesNoMemory e → ((now : _) → e ≡ events.Time now → ⊥) → ((line : _) (service : _) → e ≡ events.Connect line service → ⊥) → ((line : _) → e ≡ events.Avoid line → ⊥) → ((line : _) (ready : _) → e ≡ events.Ready line ready → ⊥) → (e ≡ events.Halt → ⊥) → IsNoCall e
     → Simulates (λ config s. server_event config s (event_shown e)) k k answers.NotHere before before
-does_nothing k e before rest l t n c = λ s st.
-    subst (λ (step : ServerStep). HasDone s step k answers.NotHere before before) (sym (at_nothing (config_of k) s e l t n c))
+does_nothing k e before rest l t n a r h c = λ s st.
+    subst (λ (step : ServerStep). HasDone s step k answers.NotHere before before) (sym (at_nothing (config_of k) s e l t n a r h c))
     (record { state = idle k s NotHere before rest st; answered = refl })
 
 -- what a core promises of a step

@@ -20,6 +20,7 @@ config_shown config = record {
   offers = map offer_shown config.offers;
   groups = config.groups;
   timing = timing_shown config.timing;
+  prompt = config.prompt;
 }
 
 -- each offer names a line, and no line is in two

@@ -16,6 +16,7 @@ use Rattle.lat_queue.specs.Histories.{key_shown}
 use Rattle.lat_lines.specs.AnswerValues.{answer_shown}
 use Rattle.lat_lines.specs.Stands as lines
 use Rattle.lat_lines.specs.Stands.{freed_between}
+use Rattle.lat_server.specs.Gates as gates
 use Rattle.lat_server.specs.Kept.{Kept, config_of}
 use Rattle.lat_server.specs.Concluded.{Concluded, Connects}
 use Rattle.lat_server.specs.Stands.{Stands}
@@ -27,6 +28,7 @@ pub record Underway (s : Server) (t : ServerStep) (new : Kept) (before after : L
   pub directory : dir.Stands new.directory t.state.heard
   pub waiting : queue.Stands new.queue t.state.queue
   pub solicits : new.solicits ≡ t.state.solicits
+  pub gate : gates.StandsFor new.gate t.state.halted t.state.ready
   pub concluded : Concluded s.core t.state.queue
   pub freed : map key_shown new.lines.freed ≡ freed_between s.core t.state.core
   pub frames : Emits t.frames before after
@@ -83,6 +85,9 @@ IsLocal (events.Put line bytes) = Unit {0}
 IsLocal (events.Set line setting) = Unit {0}
 IsLocal (events.Attend line flag) = Unit {0}
 IsLocal (events.Close line) = Unit {0}
+IsLocal (events.Avoid line) = Unit {0}
+IsLocal (events.Ready line ready) = Unit {0}
+IsLocal events.Halt = Unit {0}
 IsLocal e = ⊥
 
 -- and those that are nothing to a server

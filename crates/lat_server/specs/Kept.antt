@@ -1,5 +1,5 @@
 -- What is kept of a server.
-use Rattle.std.specs.Prelude.{◌≡◌, ℕ, ◌≤◌, true, List, [], map, length}
+use Rattle.std.specs.Prelude.{◌≡◌, ℕ, ◌≤◌, Bool, true, List, [], map, length}
 use Rattle.lat_machines.specs.values.Addresses.{address}
 use Rattle.lat_machines.specs.server.Server as machine
 use Rattle.lat_circuit.specs.Frames.{timing_shown}
@@ -8,6 +8,7 @@ use Rattle.lat_dir.specs.Stands as dir
 use Rattle.lat_queue.specs.Tables as queue
 use Rattle.lat_lines.specs.Kept as lines
 use Rattle.lat_server.specs.declared.config.Offer.{Offer}
+use Rattle.lat_server.specs.declared.gate.Gate.{Gate}
 use Rattle.lat_server.specs.Config.{offer_shown, AreOffers}
 
 pub record Kept : Type 0 where
@@ -16,6 +17,8 @@ pub record Kept : Type 0 where
   pub directory : dir.Kept
   pub queue : queue.Table
   pub solicits : ℕ
+  pub gate : Gate
+  pub prompt : Bool
 
 abbrev pub config_of : Kept → machine.ServerConfig
 config_of k = record {
@@ -25,6 +28,7 @@ config_of k = record {
   offers = map offer_shown k.offers;
   groups = k.directory.groups;
   timing = timing_shown k.lines.circuits.timing;
+  prompt = k.prompt;
 }
 
 -- what holds of every server

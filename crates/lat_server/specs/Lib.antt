@@ -1,4 +1,5 @@
 pub mod Config
+pub mod Gates
 pub mod Kept
 pub mod Concluded
 pub mod Stands

@@ -15,6 +15,7 @@ use Rattle.lat_stream.specs.Kept.{state_of}
 use Rattle.lat_lines.specs.AnswerValues.{answer_of}
 use Rattle.lat_lines.specs.Events.{event_shown}
 use Rattle.lat_lines.specs.Stands as lines
+use Rattle.lat_server.specs.Gates as gates
 use Rattle.lat_server.specs.Kept.{Kept, config_of}
 use Rattle.lat_server.specs.Concluded.{Concluded}
 
@@ -24,6 +25,7 @@ pub record Stands (k : Kept) (s : Server) : Type 0 where
   pub directory : dir.Stands k.directory s.heard
   pub queue : queue.Stands k.queue s.queue
   pub solicits : k.solicits ≡ s.solicits
+  pub gate : gates.StandsFor k.gate s.halted s.ready
   pub concluded : Concluded s.core s.queue
 
 -- the machine of a configuration, and its state

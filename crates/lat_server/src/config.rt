@@ -74,6 +74,9 @@ pub struct ServerConfig {
     /// The mask of the groups that it listens to: bit g mod 8 of byte g / 8 is that of group g.
     pub groups: [u8; 32],
     pub timing: Timing,
+    /// Whether it tells a station at once that its RUN names no circuit that lives here. See "How a circuit ends" in
+    /// docs/PROTOCOL.md.
+    pub prompt: bool,
 }
 
 impl Drop for ServerConfig {
@@ -85,6 +88,7 @@ impl Drop for ServerConfig {
             offers,
             groups,
             timing,
+            prompt,
         } = self;
     }
 }

@@ -1,8 +1,9 @@
 //! Connecting a line to a service.
 
-ghost use Rattle.std.specs.Prelude.{◌≡◌, ◌≤◌, ◌+◌, false, length};
+ghost use Rattle.std.specs.Prelude.{◌≡◌, ◌≤◌, ◌+◌, false, cond, length};
 ghost use Rattle.lat_machines.specs.cores.Lines.{has_session};
-ghost use Rattle.lat_machines.specs.server.Server.{Server, connect_event, connects_to, solicits_for};
+ghost use Rattle.lat_machines.specs.server.Server.{Server, tells, connect_event, connects_to, solicits_for};
+ghost use Rattle.lat_machines.specs.values.Answers.{Halted};
 ghost use Rattle.lat_dir.specs.Words.{best_shown};
 ghost use Rattle.lat_lines.specs.Kept.{IsLine};
 ghost use Rattle.lat_lines.specs.Answers.{IsPlain};
@@ -30,8 +31,25 @@ fn answer_opened(opened: Result<(u16, u8), OpenFault>) -> Answer
 }
 
 impl ServerCore {
-    /// Connects a line to the best node for a service. See "Connect" in docs/PROTOCOL.md.
+    /// Connects a line to the best node for a service, unless the server is halted. See "Connect" in docs/PROTOCOL.md.
     pub(crate) fn connect(&mut self, line: u8, service: &Name, out: &mut OutBox) -> Answer
+        requires rest { AtRest self.old }
+        requires room { length out.old + 16 ≤ 256 }
+        ensures does { Simulates (λ config s.
+            cond s.halted (tells s Halted) (connect_event config s line service.now))
+            self.old self.new result out.old out.new }
+        ensures same { SameConfig self.old self.new }
+        ensures plain { IsPlain result }
+        ensures most { length out.new ≤ length out.old + 1 }
+    {
+        if self.gate.halted {
+            Answer::Halted
+        } else {
+            self.connect_line(line, service, out)
+        }
+    }
+
+    fn connect_line(&mut self, line: u8, service: &Name, out: &mut OutBox) -> Answer
         requires rest { AtRest self.old }
         requires room { length out.old + 16 ≤ 256 }
         ensures does { Simulates (λ config s.

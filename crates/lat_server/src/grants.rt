@@ -1,12 +1,12 @@
 //! Granting requests, and finishing them.
 
-ghost use Rattle.std.specs.Prelude.{◌≡◌, ◌≤◌, ◌+◌, ◌||◌, not, length, map, false, true, List, Some, find, option_map, nat_eq};
+ghost use Rattle.std.specs.Prelude.{◌≡◌, ◌≤◌, ◌+◌, ◌||◌, ◌&&◌, not, length, map, false, true, List, Some, find, option_map, nat_eq};
 ghost use Rattle.lat_base.specs.declared.addr.Addr.{Addr};
 ghost use Rattle.lat_base.specs.declared.outbox.OutFrame.{OutFrame};
 ghost use Rattle.lat_machines.specs.cores.Cores.{Core};
 ghost use Rattle.lat_machines.specs.cores.Lines.{has_session};
 ghost use Rattle.lat_machines.specs.server.Queue.{QueueEvent, Request, next_request};
-ghost use Rattle.lat_machines.specs.server.Server.{Passing, can_open, fitting, grants_by, granting, grant_line};
+ghost use Rattle.lat_machines.specs.server.Server.{Server, Passing, may_grant, can_open, fitting, grants_by, granting, grant_line};
 ghost use Rattle.lat_machines.specs.values.Addresses.{address};
 ghost use Rattle.lat_queue.specs.Histories as queue;
 ghost use Rattle.lat_queue.specs.Histories.{key_shown, is_any_waiting};
@@ -16,6 +16,7 @@ ghost use Rattle.lat_server.specs.declared.config.Offer.{Offer};
 ghost use Rattle.lat_server.specs.Events.{HasPassed, Passes, IsShut, all_lines};
 ghost use Rattle.lat_server.specs.Kept.{config_of, AtRest, SameConfig, with_queue};
 ghost use Rattle.lat_server.specs.Concluded.{finish_each};
+ghost use Rattle.lat_server.specs.Stands.{Stands};
 
 use crate::server::ServerCore;
 use lat_base::{Addr, Kept, Name, OutBox};
@@ -47,8 +48,8 @@ impl ServerCore {
         finish_keys(queue, lines.freed());
     }
 
-    /// Goes over the lines by rising number: one without a session that offers a service grants the first that waits for it,
-    /// where a session to that station can be had. Nothing but a grant changes whether one can, so the station that was last
+    /// Goes over the lines by rising number, where the server isn't halted: one that is ready, has no session and offers a
+    /// service grants the first that waits for it, where a session to that station can be had. Nothing but a grant changes whether one can, so the station that was last
     /// found to have none isn't looked for again until something is granted.
     pub(crate) fn grant_pass(&mut self, out: &mut OutBox)
         requires rest { AtRest self.old }
@@ -88,6 +89,15 @@ impl ServerCore {
             .map(|offer| offer.service)
     }
 
+    // Whether a line may grant, and has no session.
+    fn may_grant(&self, line: u8) -> bool
+        requires { IsLine self.now.lines.lines line }
+        ensures { (s : Server) → Stands self.now s →
+            result ≡ (may_grant s line && not (has_session s.core line)) }
+    {
+        self.gate.is_open(line) && !self.lines.has_session(line)
+    }
+
     // A line grants what it can. It is told a station to which no session can be had, and tells one.
     fn grant_line(&mut self, line: u8, shut: Option<Addr>, out: &mut OutBox) -> Option<Addr>
         requires rest { AtRest self.old }
@@ -102,7 +112,7 @@ impl ServerCore {
         ensures most { length out.new ≤ length out.old + 2 }
     {
         if let Some(service) = self.offer_on(line) {
-            if !self.lines.has_session(line) {
+            if self.may_grant(line) {
                 return self.grant_first(line, &service, shut, out);
             }
         }

@@ -1,10 +1,11 @@
 //! What the server does at a frame that it hears.
 
-ghost use Rattle.std.specs.Prelude.{◌≡◌, ◌≢◌, ◌≤◌, ◌+◌, List, length, Err, IfOk, OnErr, None};
+ghost use Rattle.std.specs.Prelude.{◌≡◌, ◌≢◌, ◌≤◌, ◌<◌, ◌+◌, ◌++◌, List, length, Err, IfOk, OnErr, None};
 ghost use Rattle.lat_frames.specs.Written.{IsWritable};
 ghost use Rattle.lat_machines.specs.values.Addresses.{address};
 ghost use Rattle.lat_machines.specs.server.Server.{tells, hears_message, hears_announcement, hears_notice, hears};
 ghost use Rattle.lat_base.specs.declared.outbox.OutFrame.{OutFrame};
+ghost use Rattle.lat_lines.specs.Strangers.{frame_in};
 ghost use Rattle.lat_lines.specs.Answers.{IsPlain};
 ghost use Rattle.lat_lines.specs.AnswerValues.{answer_shown};
 ghost use Rattle.lat_machines.specs.values.Frames.{Whole};
@@ -20,7 +21,7 @@ ghost use Rattle.lat_server.specs.Events.{SimulatesAt};
 ghost use Rattle.lat_server.specs.Kept.{AtRest, SameConfig};
 
 use crate::server::ServerCore;
-use lat_base::{Addr, Answer, Memory, OutBox};
+use lat_base::{Addr, Answer, Memory, OutBox, OutFrame};
 use lat_dir::DirFault;
 use lat_fields::LayoutFault;
 use lat_frames::Message;
@@ -45,6 +46,16 @@ fn answer_announced(heard: Result<bool, DirFault>) -> Result<Answer, Memory>
     }
 }
 
+// Puts the frame behind the others, where there is one.
+fn push_if_any(frame: Option<OutFrame>, out: &mut OutBox)
+    requires { length out.old < 256 }
+    ensures { out.new ≡ out.old ++ frame_in frame }
+{
+    if let Some(frame) = frame {
+        out.push(frame);
+    }
+}
+
 impl ServerCore {
     /// Hears a payload from a station. Takes its memory first: after `Memory` nothing has changed.
     pub(crate) fn hear(
@@ -62,7 +73,7 @@ impl ServerCore {
             self.old self.new a out.old out.new) }
         ensures same { SameConfig self.old self.new }
         ensures plain { IfOk result IsPlain }
-        ensures most { length out.new ≤ length out.old + 1 }
+        ensures most { length out.new ≤ length out.old + 2 }
         ensures err { OnErr result ((self.new ≡ self.old) × (out.new ≡ out.old)) }
     {
         match read_value(alloc, payload) {
@@ -102,7 +113,7 @@ impl ServerCore {
             self.old self.new a out.old out.new) }
         ensures same { SameConfig self.old self.new }
         ensures plain { IfOk result IsPlain }
-        ensures most { length out.new ≤ length out.old + 1 }
+        ensures most { length out.new ≤ length out.old + 2 }
         ensures err { OnErr result ((self.new ≡ self.old) × (out.new ≡ out.old)) }
     {
         if from.is_everyone() {
@@ -123,10 +134,13 @@ impl ServerCore {
             self.old self.new result out.old out.new }
         ensures same { SameConfig self.old self.new }
         ensures plain { IsPlain result }
-        ensures most { length out.new ≤ length out.old + 1 }
+        ensures most { length out.new ≤ length out.old + 2 }
     {
         self.lines.pass(now);
-        hearing_answer(self.lines.heard(from, message, out))
+        let stop = self.lines.stranger_stop(self.prompt, from, message);
+        let hearing = self.lines.heard(from, message, out);
+        push_if_any(stop, out);
+        hearing_answer(hearing)
     }
 
     fn hear_notice(

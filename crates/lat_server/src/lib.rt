@@ -4,7 +4,9 @@
 mod commands;
 mod config;
 mod connect;
+mod gate;
 mod grants;
+mod halt;
 mod hear;
 pub mod laws;
 mod server;

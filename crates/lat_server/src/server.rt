@@ -17,6 +17,7 @@ ghost use Rattle.lat_server.specs.Kept.{config_of, AtRest};
 ghost use Rattle.lat_server.specs.Stands.{Stands, opening, IsMachine};
 
 use crate::config::{Offer, Offers, ServerConfig};
+use crate::gate::Gate;
 use lat_base::{Addr, LineBook, Memory};
 use lat_dir::Directory;
 use lat_lines::Lines;
@@ -35,6 +36,8 @@ pub struct ServerCore {
     pub(crate) queue: Queue,
     /// The last Solicit id drawn.
     pub(crate) solicits: u16,
+    pub(crate) gate: Gate,
+    pub(crate) prompt: bool,
 }
 
 impl Drop for ServerCore {
@@ -45,6 +48,8 @@ impl Drop for ServerCore {
             directory,
             queue,
             solicits,
+            gate,
+            prompt,
         } = self;
     }
 }
@@ -107,6 +112,8 @@ impl ServerCore {
             directory: Directory::make(alloc, &config.groups)?,
             queue: Queue::make(alloc, services)?,
             solicits: 0,
+            gate: Gate::open(),
+            prompt: config.prompt,
         })
     }
 

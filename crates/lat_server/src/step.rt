@@ -71,7 +71,8 @@ impl Core for ServerCore {
 }
 
 impl ServerCore {
-    /// Does what `step` does at an event that is `Time`, `Connect`, `Put`, `Set`, `Attend` or `Close`, and takes no memory.
+    /// Does what `step` does at an event that is `Time`, `Connect`, `Put`, `Set`, `Attend`, `Close`, `Avoid`, `Ready` or `Halt`,
+    /// and takes no memory.
     pub fn local(&mut self, event: &Event, out: &mut OutBox) -> Answer
         requires rest { AtRest self.old }
         requires local { IsLocal event.now }
@@ -127,6 +128,9 @@ impl ServerCore {
         match event {
             Event::Time { now } => self.time(*now, out),
             Event::Connect { line, service } => self.connect(*line, service, out),
+            Event::Avoid { line } => self.avoid(*line),
+            Event::Ready { line, ready } => self.set_ready(*line, *ready),
+            Event::Halt => self.halt(out),
             other => match line_call(other) {
                 Some((line, call)) => self.lines.call(line, &call),
                 None => Answer::NotHere,

@@ -106,6 +106,9 @@ course_does m c (events.Close k) h = course_line m c (closes k c) _ (there c k) 
 course_does m c (events.Request to id service) h = h
 course_does m c (events.Cancel id) h = h
 course_does m c events.Announce h = h
+course_does m c (events.Avoid k) h = course_line m c _ _ (there c k) (course_tells m (events.Avoid (line_on k c.state).shown) c h) h
+course_does m c (events.Ready k ready) h = course_line m c _ _ (there c k) (course_tells m (events.Ready (line_on k c.state).shown ready) c h) h
+course_does m c events.Halt h = course_tells m events.Halt c h
 
 pub inner_run : (s : Switch) (es : List Event) → IsRun s es
 inner_run s [] = record { state = refl; frames = refl }

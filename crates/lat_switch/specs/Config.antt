@@ -21,6 +21,7 @@ inner_config config = record {
   offers = [];
   groups = config.groups;
   timing = timing_shown config.timing;
+  prompt = config.prompt;
 }
 
 abbrev pub open_switch : SwitchConfig → Switch

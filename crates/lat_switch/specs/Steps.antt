@@ -27,6 +27,9 @@ does (events.Close k) c = on_line k (closes k) c
 does (events.Request to id service) c = refuses answers.NotHere c
 does (events.Cancel id) c = refuses answers.NotHere c
 does events.Announce c = refuses answers.NotHere c
+does (events.Avoid k) c = on_shown k (λ x. events.Avoid x) c
+does (events.Ready k ready) c = on_shown k (λ x. events.Ready x ready) c
+does events.Halt c = relays events.Halt c
 
 abbrev pub switch_step : Switch → Event → Step
 switch_step s e = does e (begins s)

@@ -14,4 +14,6 @@ pub struct SwitchConfig {
     /// The mask of the groups that it listens to: bit g mod 8 of byte g / 8 is that of group g.
     pub groups: [u8; 32],
     pub timing: Timing,
+    /// Whether it tells a station at once that its RUN names no circuit that lives here.
+    pub prompt: bool,
 }

@@ -40,6 +40,9 @@ impl SwitchCore {
             Event::Take { line, n } => self.take(alloc, *line, *n, out),
             Event::Attend { line, flag } => Ok(self.attend(*line, *flag, out)),
             Event::Close { line } => Ok(self.close_event(*line, out)),
+            Event::Avoid { line } => Ok(self.avoid(*line, out)),
+            Event::Ready { line, ready } => Ok(self.set_ready(*line, *ready, out)),
+            Event::Halt => Ok(self.halt(out)),
         }
     }
 
@@ -161,5 +164,57 @@ impl SwitchCore {
             return Answer::NoLine;
         }
         self.close(line, out)
+    }
+
+    // `Avoid`: of the shown inner line.
+    fn avoid(&mut self, line: u8, out: &mut OutBox) -> Answer
+        requires valid { IsValid self.old }
+        requires empty { out.old ≡ [] }
+        ensures valid { IsValid self.new }
+        ensures same { IsSame self.old self.new }
+        ensures does { Simulates (does (events.Avoid line)) self.old self.new result out.old out.new }
+        ensures put { PutFits result (events.Avoid line) }
+        ensures took { TookFits (ready self.old) result (events.Avoid line) }
+    {
+        if !self.exists(line) {
+            return Answer::NoLine;
+        }
+        let event = Event::Avoid {
+            line: self.line_at(line).shown(),
+        };
+        self.tell(&event, out)
+    }
+
+    // `Ready`: of the shown inner line, though none of them offers a service.
+    fn set_ready(&mut self, line: u8, is_ready: bool, out: &mut OutBox) -> Answer
+        requires valid { IsValid self.old }
+        requires empty { out.old ≡ [] }
+        ensures valid { IsValid self.new }
+        ensures same { IsSame self.old self.new }
+        ensures does { Simulates (does (events.Ready line is_ready)) self.old self.new result out.old out.new }
+        ensures put { PutFits result (events.Ready line is_ready) }
+        ensures took { TookFits (ready self.old) result (events.Ready line is_ready) }
+    {
+        if !self.exists(line) {
+            return Answer::NoLine;
+        }
+        let event = Event::Ready {
+            line: self.line_at(line).shown(),
+            ready: is_ready,
+        };
+        self.tell(&event, out)
+    }
+
+    // `Halt`: of the server.
+    fn halt(&mut self, out: &mut OutBox) -> Answer
+        requires valid { IsValid self.old }
+        requires empty { out.old ≡ [] }
+        ensures valid { IsValid self.new }
+        ensures same { IsSame self.old self.new }
+        ensures does { Simulates (does events.Halt) self.old self.new result out.old out.new }
+        ensures put { PutFits result events.Halt }
+        ensures took { TookFits (ready self.old) result events.Halt }
+    {
+        self.tell(&Event::Halt, out)
     }
 }

@@ -43,6 +43,7 @@ impl SwitchCore {
             offers: Offers::new(alloc),
             groups: config.groups,
             timing: config.timing,
+            prompt: config.prompt,
         };
         let inner = ServerCore::make(alloc, &server)?;
         let lines = opened_lines(alloc, config.lines)?;

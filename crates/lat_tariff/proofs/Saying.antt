@@ -29,7 +29,7 @@ use Rattle.lat_node.specs.Stands as stands
 use Rattle.lat_tariff.specs.declared.tariff.Rule.{Rule}
 use Rattle.lat_tariff.specs.declared.said.Said.{Said}
 use Rattle.lat_tariff.specs.declared.said.Said.TheVariants as says
-use Rattle.lat_tariff.specs.Kept.{Kept, Machine, IsMachine, Frames, asked, rule_of, with_first}
+use Rattle.lat_tariff.specs.Kept.{Kept, Machine, IsMachine, Frames, asked, asked_at, rule_of, with_first}
 use Rattle.lat_tariff.specs.Said.{IsSilent, Says, SaysAt, SaysTo, AnnouncedBy, in_place}
 use Rattle.lat_tariff.specs.Tariffs.{names, AreOwn}
 use Rattle.lat_tariff.proofs.Silence.{silent_solicit}
@@ -38,15 +38,23 @@ use Rattle.lat_tariff.proofs.Silence.{silent_solicit}
 abbrev pub Held : {H R : Type 0} → Kept H R → ℕ → Type 0
 Held k held = (s : Node) → stands.Stands k.node s → held ≡ used s.core
 
+-- the node isn't halted, in any state
+abbrev pub Unhalted : {H R : Type 0} → Kept H R → Type 0
+Unhalted k = (s : Node) → stands.Stands k.node s → s.halted ≡ false
+
 -- an announcement
 pub says_announced : {H R : Type 0} (may : R → ℕ → ℕ → ℕ → Type 0) (k : Kept H R) (e : base.Event) (held : ℕ) (f : OutFrame) →
-    e ≡ events.Announce → Held k held → AnnouncedBy may k held f → SaysAt may k (event_shown e) (says.Announcement f)
-says_announced may k e held f is model a =
+    e ≡ events.Announce → Unhalted k → Held k held → AnnouncedBy may k held f → SaysAt may k (event_shown e) (says.Announcement f)
+says_announced {R = R} may k e held f is unhalted model a =
     subst (λ (x : base.Event). SaysAt may k (event_shown x) (says.Announcement f)) (sym is)
     (λ s st. record {
       rates = a.rates;
-      own = subst (λ u. AreOwn may u k.node.lines.lines k.rules a.rates) (model s st) a.own;
-      adds = adds_one (announcement (config_of k.node) a.rates) f [] a.goes;
+      own =
+          subst (λ (b : Bool). AreOwn may (used s.core) k.node.lines.lines (cond b [] k.rules) a.rates) (sym (unhalted s st))
+          (subst (λ u. AreOwn may u k.node.lines.lines k.rules a.rates) (model s st) a.own);
+      adds =
+          subst (λ (b : Bool). Emits (cond b [] (announcement (config_of k.node) a.rates ∷ [])) [] (f ∷ [])) (sym (unhalted s st))
+          (adds_one (announcement (config_of k.node) a.rates) f [] a.goes);
     })
 
 -- a frame that is heard
@@ -97,18 +105,20 @@ offered config s from n now service rates apart found =
     ∙ ap (solicited config rates t from n.id) found
 
 pub says_response : {H R : Type 0} (may : R → ℕ → ℕ → ℕ → Type 0) (k : Kept H R) (from held rate : ℕ) (n : Solicit) (r : Rule R) (f g : OutFrame) →
-    rule_of k.rules (Some n.service) ≡ Some r → nat_eq from everyone ≡ false → names k.rules ≡ (config_of k.node).services → Held k held →
+    rule_of k.rules (Some n.service) ≡ Some r → nat_eq from everyone ≡ false → names k.rules ≡ (config_of k.node).services → Unhalted k → Held k held →
     may r.rule held k.node.lines.lines rate → GoesOutAs f (response (config_of k.node) from n.id r.name rate) → AnnouncedBy may k held g →
     SaysTo may k from (Whole (OfNotice (SolicitNotice n))) (says.Response f g)
-says_response {H = H} {R = R} may k from held rate n r f g rule apart services model one goes a now s st = record {
+says_response {H = H} {R = R} may k from held rate n r f g rule apart services unhalted model one goes a now s st = record {
   rates = rate ∷ a.rates;
   own =
-      subst (λ (x : NodeStep). AreOwn may (used s.core) k.node.lines.lines (asked k.rules e x.answer) (rate ∷ a.rates)) (sym (is []))
+      subst (λ (b : Bool). AreOwn may (used s.core) k.node.lines.lines (cond b [] (asked k.rules e (node_step (config_of k.node) [] s e).answer)) (rate ∷ a.rates)) (sym (unhalted s st))
+      (subst (λ (x : NodeStep). AreOwn may (used s.core) k.node.lines.lines (asked k.rules e x.answer) (rate ∷ a.rates)) (sym (is []))
       (subst (λ (o : Option (Rule R)). AreOwn may (used s.core) k.node.lines.lines (with_first o k.rules) (rate ∷ a.rates)) (sym rule)
-      (subst (λ u. AreOwn may u k.node.lines.lines (r ∷ k.rules) (rate ∷ a.rates)) (model s st) (one, a.own)));
+      (subst (λ u. AreOwn may u k.node.lines.lines (r ∷ k.rules) (rate ∷ a.rates)) (model s st) (one, a.own))));
   adds =
       subst (λ (x : NodeStep). Emits x.frames [] (f ∷ g ∷ [])) (sym (is (rate ∷ a.rates)))
-      (adds_then (p ∷ []) (q ∷ []) [] (f ∷ []) (f ∷ g ∷ []) (adds_one p f [] goes) (adds_one q g (f ∷ []) a.goes));
+      (subst (λ (b : Bool). Emits (cond b [] (p ∷ q ∷ [])) [] (f ∷ g ∷ [])) (sym (unhalted s st))
+      (adds_then (p ∷ []) (q ∷ []) [] (f ∷ []) (f ∷ g ∷ []) (adds_one p f [] goes) (adds_one q g (f ∷ []) a.goes)));
 }
   where
     e : Event
@@ -128,7 +138,7 @@ says_response {H = H} {R = R} may k from held rate n r f g rule apart services m
 -- ratings of a configuration's rules, with which these are the frames of an event
 record FramesAt {R : Type 0} (may : R → ℕ → ℕ → ℕ → Type 0) (config : NodeConfig) (rules : List (Rule R)) (s : Node) (e : Event) (frames : List OutFrame) : Type 0 where
   pub rates : List ℕ
-  pub own : AreOwn may (used s.core) config.lines (asked rules e (node_step config [] s e).answer) rates
+  pub own : AreOwn may (used s.core) config.lines (asked_at rules config s e) rates
   pub adds : Emits (node_step config rates s e).frames [] frames
 
 none_left : {A : Type 0} (xs : List A) → length xs ≡ 0 → xs ≡ []
@@ -137,7 +147,7 @@ none_left (x ∷ xs) h = absurd (omega (arith, h))
 
 -- an event without ratings
 quiet_frames : {H R : Type 0} (mine : H → ℕ → ℕ → ℕ → Type 0) (may : R → ℕ → ℕ → ℕ → Type 0) (m : stands.Machine H) (rules : List (Rule R)) (e : base.Event) (frames : List OutFrame) →
-    IsSilent rules m.config (event_shown e) (node_step m.config [] m.state (event_shown e)).answer → stands.Frames mine m e frames → FramesAt may m.config rules m.state (event_shown e) frames
+    IsSilent rules m.config m.state (event_shown e) → stands.Frames mine m e frames → FramesAt may m.config rules m.state (event_shown e) frames
 quiet_frames {H = H} {R = R} mine may m rules e frames silent made = record {
   rates = [];
   own = subst (λ (rs : List (Rule R)). AreOwn may (used m.state.core) m.config.lines rs []) (sym silent.quiet) tt;
@@ -148,7 +158,7 @@ quiet_frames {H = H} {R = R} mine may m rules e frames silent made = record {
     rates = made.allowed.0
 
     empty : rates ≡ []
-    empty = none_left rates (made.allowed.1.count ∙ ap (λ a. rates_of m.config a (event_shown e)) (same_but_frames m.config rates [] m.state (event_shown e)).answer ∙ silent.none)
+    empty = none_left rates (made.allowed.1.count ∙ ap (λ a. cond m.state.halted 0 (rates_of m.config a (event_shown e))) (same_but_frames m.config rates [] m.state (event_shown e)).answer ∙ silent.none)
 
     is : made.made ≡ (node_step m.config [] m.state (event_shown e)).frames
     is = made.allowed.2 ∙ ap (λ rs. (node_step m.config rs m.state (event_shown e)).frames) empty

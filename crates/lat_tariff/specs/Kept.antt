@@ -1,11 +1,11 @@
 -- What is kept of a node with a tariff, and its machine.
-use Rattle.std.specs.Prelude.{◌≡◌, ℕ, ◌≤◌, List, [], ◌∷◌, length, Option, Some, None, find}
+use Rattle.std.specs.Prelude.{◌≡◌, ℕ, ◌≤◌, cond, List, [], ◌∷◌, length, Option, Some, None, find}
 use Rattle.lat_base.specs.declared.answer.Answer as base
 use Rattle.lat_base.specs.declared.event.Event.{Event}
 use Rattle.lat_base.specs.declared.outbox.OutFrame.{OutFrame}
 use Rattle.lat_base.specs.declared.state.SessionState.{SessionState}
 use Rattle.lat_machines.specs.cores.Lines.{used}
-use Rattle.lat_machines.specs.node.Node.{NodeConfig, node_step}
+use Rattle.lat_machines.specs.node.Node.{NodeConfig, Node, node_step}
 use Rattle.lat_machines.specs.values.Answers.{Answer, Solicited}
 use Rattle.lat_machines.specs.values.Events as machine
 use Rattle.lat_machines.specs.values.Frames.{Reading, Whole, OfNotice}
@@ -82,11 +82,15 @@ asked rules machine.Announces a = rules
 asked rules (machine.Hears from payload numbers now) a = asked_by rules payload a
 asked rules e a = []
 
+-- the rules that are asked at an event: none once the node is halted
+abbrev pub asked_at : {R : Type 0} → List (Rule R) → NodeConfig → Node → machine.Event → List (Rule R)
+asked_at rules config s e = cond s.halted [] (asked rules e (node_step config [] s e).answer)
+
 -- the frames that may go out: the node machine's with these ratings, each of them an answer of its service's own rule at the
 -- lines then held; and each frame is readable
 pub record Frames {H R : Type 0} (may : R → ℕ → ℕ → ℕ → Type 0) (m : Machine H R) (e : Event) (frames : List OutFrame) : Type 0 where
   pub rates : List ℕ
-  pub own : AreOwn may (used m.node.state.core) m.node.config.lines (asked m.rules (event_shown e) (stands.stepped m.node e).answer) rates
+  pub own : AreOwn may (used m.node.state.core) m.node.config.lines (asked_at m.rules m.node.config m.node.state (event_shown e)) rates
   pub adds : Emits (node_step m.node.config rates m.node.state (event_shown e)).frames [] frames
 
 abbrev pub line_of : {H R : Type 0} → Machine H R → ℕ → SessionState

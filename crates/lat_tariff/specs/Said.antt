@@ -6,21 +6,21 @@ use Rattle.lat_notices.specs.declared.notice.Notice.{Notice}
 use Rattle.lat_notices.specs.declared.notice.Solicit.{Solicit}
 use Rattle.lat_notices.specs.Kinds.{bits_of}
 use Rattle.lat_machines.specs.cores.Lines.{used}
-use Rattle.lat_machines.specs.node.Node.{Node, NodeConfig, announcement, node_step, rates_of}
+use Rattle.lat_machines.specs.node.Node.{Node, NodeConfig, announcement, node_step}
 use Rattle.lat_machines.specs.values.Addresses.{everyone}
-use Rattle.lat_machines.specs.values.Answers.{Answer}
 use Rattle.lat_machines.specs.values.Events as machine
 use Rattle.lat_machines.specs.values.Frames.{plain, OfNotice, Reading, Whole}
 use Rattle.lat_machines.specs.values.Notices.{SolicitNotice}
 use Rattle.lat_payload.specs.Frames.{Emits, GoesOutAs}
 use Rattle.lat_payload.specs.Notices.{notice_shown, solicit_shown}
+use Rattle.lat_node.specs.Events.{asked_for}
 use Rattle.lat_node.specs.Kept.{config_of}
 use Rattle.lat_node.specs.Stands.{Stands}
 use Rattle.lat_tariff.specs.declared.tariff.Rule.{Rule}
 use Rattle.lat_tariff.specs.declared.said.Said.{Said}
 use Rattle.lat_tariff.specs.declared.said.Said.TheVariants as says
 use Rattle.lat_tariff.specs.Tariffs.{AreOwn}
-use Rattle.lat_tariff.specs.Kept.{Kept, asked}
+use Rattle.lat_tariff.specs.Kept.{Kept, asked_at}
 
 -- a notice is the announcement of all services, each with a rating that its own rule may give where so many lines are held
 pub record IsAnnounced {H R : Type 0} (may : R → ℕ → ℕ → ℕ → Type 0) (k : Kept H R) (held : ℕ) (n : Notice) : Type 0 where
@@ -28,20 +28,20 @@ pub record IsAnnounced {H R : Type 0} (may : R → ℕ → ℕ → ℕ → Type 
   pub own : AreOwn may held k.node.lines.lines k.rules rates
   pub is : plain everyone 0 (OfNotice (notice_shown n)) ≡ announcement (config_of k.node) rates
 
--- no rating goes out at an event that is so answered
-pub record IsSilent {R : Type 0} (rules : List (Rule R)) (config : NodeConfig) (e : machine.Event) (a : Answer) : Type 0 where
-  pub quiet : asked rules e a ≡ []
-  pub none : rates_of config a e ≡ 0
+-- no rating goes out at an event of a state
+pub record IsSilent {R : Type 0} (rules : List (Rule R)) (config : NodeConfig) (s : Node) (e : machine.Event) : Type 0 where
+  pub quiet : asked_at rules config s e ≡ []
+  pub none : asked_for config s e ≡ 0
 
 -- ratings of the services' own rules, with which these are the frames of an event
 pub record Rated {H R : Type 0} (may : R → ℕ → ℕ → ℕ → Type 0) (k : Kept H R) (s : Node) (e : machine.Event) (frames : List OutFrame) : Type 0 where
   pub rates : List ℕ
-  pub own : AreOwn may (used s.core) k.node.lines.lines (asked k.rules e (node_step (config_of k.node) [] s e).answer) rates
+  pub own : AreOwn may (used s.core) k.node.lines.lines (asked_at k.rules (config_of k.node) s e) rates
   pub adds : Emits (node_step (config_of k.node) rates s e).frames [] frames
 
 -- what goes out at an event of a state: no frame with ratings, or these frames
 abbrev pub Says : {H R : Type 0} → (R → ℕ → ℕ → ℕ → Type 0) → Kept H R → Node → machine.Event → Said → Type 0
-Says may k s e says.Nothing = IsSilent k.rules (config_of k.node) e (node_step (config_of k.node) [] s e).answer
+Says may k s e says.Nothing = IsSilent k.rules (config_of k.node) s e
 Says may k s e (says.Announcement f) = Rated may k s e (f ∷ [])
 Says may k s e (says.Response f g) = Rated may k s e (f ∷ g ∷ [])
 

@@ -34,11 +34,14 @@ pub(crate) enum Said {
 }
 
 impl<H: RatingRule, R: SteadyRule> TariffCore<H, R> {
-    /// What is to go out with ratings at an event. It changes nothing.
+    /// What is to go out with ratings at an event; nothing once the node is halted. It changes nothing.
     pub(crate) fn said(&self, alloc: Global, event: &Event) -> Result<Said, Memory>
         requires rules { AreKnown R.fact self.now.rules }
         ensures { IfOk result (SaysAt R.may self.now (event_shown event.now)) }
     {
+        if self.node.is_halted() {
+            return Ok(Said::Nothing);
+        }
         match event {
             Event::Heard { from, payload, .. } => self.said_to(alloc, *from, payload.as_slice()),
             Event::Announce => { Ok(Said::Announcement(self.announced(alloc, self.node.used())?)) }
@@ -46,9 +49,10 @@ impl<H: RatingRule, R: SteadyRule> TariffCore<H, R> {
         }
     }
 
-    // What is to go out at a payload from a station.
+    // What is to go out at a payload from a station, where the node isn't halted.
     fn said_to(&self, alloc: Global, from: Addr, payload: &[u8]) -> Result<Said, Memory>
         requires rules { AreKnown R.fact self.now.rules }
+        requires halted { self.now.node.halted ≡ false }
         ensures { IfOk result (SaysTo R.may self.now (address from.0) (reading_of payload.now)) }
     {
         if from.is_everyone() {
@@ -64,6 +68,7 @@ impl<H: RatingRule, R: SteadyRule> TariffCore<H, R> {
     fn said_to_solicit(&self, alloc: Global, from: Addr, solicit: &Solicit) -> Result<Said, Memory>
         requires rules { AreKnown R.fact self.now.rules }
         requires apart { nat_eq (address from.0) everyone ≡ false }
+        requires halted { self.now.node.halted ≡ false }
         ensures { IfOk result (SaysTo R.may self.now (address from.0)
             (Whole (OfNotice (SolicitNotice (solicit_shown solicit.now))))) }
     {
@@ -85,6 +90,7 @@ impl<H: RatingRule, R: SteadyRule> TariffCore<H, R> {
         requires fact { R.fact rule.now.rule }
         requires rule { rule_of self.now.rules (Some solicit.now.service) ≡ Some rule.now }
         requires apart { nat_eq (address from.0) everyone ≡ false }
+        requires halted { self.now.node.halted ≡ false }
         ensures { IfOk result (SaysTo R.may self.now (address from.0)
             (Whole (OfNotice (SolicitNotice (solicit_shown solicit.now))))) }
     {

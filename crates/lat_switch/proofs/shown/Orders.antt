@@ -384,6 +384,15 @@ event_told x s (events.Close k) t = line_told x s (closes k (begins s)) (there s
 event_told x s (events.Request to id service) t = t
 event_told x s (events.Cancel id) t = t
 event_told x s events.Announce t = t
+event_told x s (events.Avoid k) t =
+    line_told x s (relays (events.Avoid (line_on k s).shown) (begins s)) (there s k)
+    (told_nothing x s.inner (events.Avoid (line_on k s).shown) (begins s) [] [] t refl refl)
+    t
+event_told x s (events.Ready k ready) t =
+    line_told x s (relays (events.Ready (line_on k s).shown ready) (begins s)) (there s k)
+    (told_nothing x s.inner (events.Ready (line_on k s).shown ready) (begins s) [] [] t refl refl)
+    t
+event_told x s events.Halt t = told_nothing x s.inner events.Halt (begins s) [] [] t refl refl
 
 -- many events
 

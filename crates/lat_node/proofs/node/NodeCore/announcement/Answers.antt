@@ -1,21 +1,9 @@
-use Rattle.std.proofs.Common.{◌≤◌, sym, ap, ◌∙◌, subst, length, List, ℕ}
-use Rattle.lat_node.specs.Kept.{Kept}
-use Rattle.lat_node.proofs.AnnounceLemmas.{can_be_announced, announced_as}
+use Rattle.lat_node.proofs.AnnounceLemmas.{announced_as}
 use Rattle.lat_node.proofs.node.NodeCore.announcement.Goals as goal
 
 pub returns-clause-written : goal.returns-clause-written
-returns-clause-written g c =
-    can_be_announced _ c.args.self.now.services c.self.invariant.timer
-    (subst (λ (xs : List ℕ). length xs ≤ 32) (sym (c.in_ok-copy.ensures ∙ c.as_slice.ensures)) c.self.invariant.groups)
-    c.in_ok-copy-2.ensures
-    (subst (λ (k : Kept g.row.H.Denot). length k.services ≤ 32) c.self.view_is c.self.invariant.services)
-    c.in_ok-rated.ensures.names
+returns-clause-written g c = c.announced.ensures.written c.args.self.now.services c.in_ok-services.ensures.few c.in_ok-services.ensures.names
 
 pub returns-clause-announced : goal.returns-clause-announced
 returns-clause-announced g c =
-    announced_as _ c.args.self.now c.args.used c.self.inside.timer c.self.inside.incarnation c.in_ok-copy.field-0 c.name.result c.in_ok-copy-2.field-0 c.in_ok-rated.field-0
-    (ap (λ (k : Kept g.row.H.Denot). k.timer) c.self.view_is)
-    (ap (λ (k : Kept g.row.H.Denot). k.incarnation) c.self.view_is)
-    (c.in_ok-copy.ensures ∙ c.as_slice.ensures ∙ ap (λ (k : Kept g.row.H.Denot). k.groups) c.self.view_is)
-    (c.name.ensures ∙ ap (λ (k : Kept g.row.H.Denot). k.lines.circuits.name) c.self.view_is)
-    c.in_ok-copy-2.ensures c.in_ok-rated.ensures.names c.in_ok-rated.ensures.ratings
+    announced_as _ c.args.self.now c.args.used c.in_ok-services.services c.announced.result c.in_ok-services.ensures.names c.in_ok-services.ensures.ratings (c.announced.ensures.announced c.args.self.now.services c.in_ok-services.ensures.names)

@@ -1,6 +1,6 @@
 use Rattle.std.proofs.Common.{◌∙◌, None, ap, sym}
 use Rattle.lat_machines.specs.values.Addresses.{address}
-use Rattle.lat_machines.specs.values.Events.{Hears, Requests}
+use Rattle.lat_machines.specs.values.Events.{Hears, Requests, Halts}
 use Rattle.lat_payload.specs.Reads.{reading_of}
 use Rattle.lat_lines.specs.Events.{event_shown}
 use Rattle.lat_node.specs.Shown.{shown}
@@ -25,10 +25,14 @@ pub returns-in-Announce-clause-steps : goal.returns-in-Announce-clause-steps
 returns-in-Announce-clause-steps g c =
     steps_announced _ c.args.self.now c.args.event.now c.announce.result c.args.out.now c.announce.new.out (ap event_shown c.in-Announce.is) c.announce.ensures.answer c.announce.ensures.frames
 
+pub returns-in-Halt-clause-steps : goal.returns-in-Halt-clause-steps
+returns-in-Halt-clause-steps g c =
+    steps_does _ c.args.self.now c.halt.new.self c.args.event.now Halts c.halt.result c.args.out.now c.halt.new.out (ap event_shown c.in-Halt.is) tt c.halt.ensures.does
+
 pub act-requires-clause-act : goal.act-requires-clause-act
-act-requires-clause-act g c = act_of c.args.event.now c.in_default.not-Heard c.in_default.not-Take c.in_default.not-Request c.in_default.not-Announce
+act-requires-clause-act g c = act_of c.args.event.now c.in_default.not-Heard c.in_default.not-Take c.in_default.not-Request c.in_default.not-Announce c.in_default.not-Halt
 
 pub returns-in_default-clause-steps : goal.returns-in_default-clause-steps
 returns-in_default-clause-steps g c =
     steps_quiet _ c.args.self.now c.act.new.self (event_shown c.args.event.now) c.act.result c.args.out.now c.act.new.out
-    (act_quiet c.args.event.now (act_of c.args.event.now c.in_default.not-Heard c.in_default.not-Take c.in_default.not-Request c.in_default.not-Announce)) c.act.ensures.does
+    (act_quiet c.args.event.now (act_of c.args.event.now c.in_default.not-Heard c.in_default.not-Take c.in_default.not-Request c.in_default.not-Announce c.in_default.not-Halt)) c.act.ensures.does

@@ -1,4 +1,4 @@
-use Rattle.std.proofs.Common.{◌≡◌, sym, ap, ◌∙◌, subst, [], position, get_or, Option, Some, None, IfOk, OnOk}
+use Rattle.std.proofs.Common.{◌≡◌, cond, sym, ap, ◌∙◌, subst, [], position, get_or, Option, Some, None, IfOk, OnOk}
 use Rattle.lat_machines.specs.values.Addresses.{address}
 use Rattle.lat_machines.specs.values.Names.{Name, same}
 use Rattle.lat_machines.specs.node.Node as machine
@@ -26,7 +26,7 @@ returns-in-Some-clause-frames g c = λ s st.
     let n = c.index-as_slice-place.result in
     let inside = ap (λ (k : Kept g.row.H.Denot). k.services) c.self.view_is in
     let is = offered_at p k.services c.in-Some.place n (subst (λ ns. position p ns ≡ Some c.in-Some.place) inside (sym c.in-Some.ensures)) (subst (λ ns. n ≡ get_or ns c.in-Some.place n) (c.as_slice.ensures.value ∙ inside) c.index-as_slice-place.is) in
-    subst (λ (o : Option Name). OnOk c.respond.result (Rated (g.H.RatingRule.may) k s (λ rates. machine.solicited (config_of k) rates s (address c.args.from.0) c.args.solicit.now.id o) (ratings_for (config_of k) o) c.args.out.now c.respond.new.out)) (sym is)
+    subst (λ (o : Option Name). OnOk c.respond.result (Rated (g.H.RatingRule.may) k s (λ rates. machine.solicited (config_of k) rates s (address c.args.from.0) c.args.solicit.now.id o) (cond s.halted 0 (ratings_for (config_of k) o)) c.args.out.now c.respond.new.out)) (sym is)
     (c.respond.ensures.frames s st)
 
 pub returns-in-None-clause-answer : goal.returns-in-None-clause-answer

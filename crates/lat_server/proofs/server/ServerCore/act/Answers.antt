@@ -1,4 +1,8 @@
-use Rattle.std.proofs.Common.{rules}
+use Rattle.std.proofs.Common.{rules, sym, subst}
+use Rattle.lat_base.specs.declared.event.Event as base
+use Rattle.lat_machines.specs.server.Server.{server_event}
+use Rattle.lat_lines.specs.Events.{event_shown}
+use Rattle.lat_server.specs.Events.{Simulates}
 use Rattle.lat_server.specs.Shown.{shown}
 use Rattle.lat_server.proofs.Stepping.{does_call, does_nothing}
 use Rattle.lat_server.proofs.server.ServerCore.act.Goals as goal
@@ -16,9 +20,17 @@ returns-in-Some c = record {
 pub returns-in-None : goal.returns-in-None
 returns-in-None c = record {
   does =
-      does_nothing c.args.self.now c.args.event.now c.args.out.now c.requires.rest c.requires.local c.in_default.not-Time c.in_default.not-Connect c.in-None.ensures;
+      does_nothing c.args.self.now c.args.event.now c.args.out.now c.requires.rest c.requires.local c.in_default.not-Time c.in_default.not-Connect c.in_default.not-Avoid c.in_default.not-Ready c.in_default.not-Halt c.in-None.ensures;
   same = search rules;
   put = search rules;
   took = search rules;
   most = search rules;
 }
+
+pub returns-in-Avoid-clause-does : goal.returns-in-Avoid-clause-does
+returns-in-Avoid-clause-does c =
+    subst (λ (e : base.Event). Simulates (λ config s. server_event config s (event_shown e)) c.args.self.now c.avoid.new.self c.avoid.result c.args.out.now c.args.out.now) (sym c.in-Avoid.is) (c.avoid.ensures.does c.args.out.now)
+
+pub returns-in-Ready-clause-does : goal.returns-in-Ready-clause-does
+returns-in-Ready-clause-does c =
+    subst (λ (e : base.Event). Simulates (λ config s. server_event config s (event_shown e)) c.args.self.now c.set_ready.new.self c.set_ready.result c.args.out.now c.args.out.now) (sym c.in-Ready.is) (c.set_ready.ensures.does c.args.out.now)

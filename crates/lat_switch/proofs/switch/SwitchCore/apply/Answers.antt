@@ -79,3 +79,30 @@ returns-in-Request-clause-same c = same_itself c.args.self.now
 
 pub returns-in-Request-clause-does : goal.returns-in-Request-clause-does
 returns-in-Request-clause-does c = as_refusal c.args.event.now (λ f. Simulates f c.args.self.now c.args.self.now answers.NotHere c.args.out.now c.args.out.now) c.in-Request.is (λ course h. record { course = h; answered = refl })
+
+pub returns-in-Avoid-clause-does : goal.returns-in-Avoid-clause-does
+returns-in-Avoid-clause-does c = subst (λ (e : Event). Simulates (does e) c.args.self.now c.avoid.new.self c.avoid.result c.args.out.now c.avoid.new.out) (sym c.in-Avoid.is) c.avoid.ensures.does
+
+pub returns-in-Avoid-clause-put : goal.returns-in-Avoid-clause-put
+returns-in-Avoid-clause-put c = subst (λ (e : Event). PutFits c.avoid.result e) (sym c.in-Avoid.is) c.avoid.ensures.put
+
+pub returns-in-Avoid-clause-took : goal.returns-in-Avoid-clause-took
+returns-in-Avoid-clause-took c = subst (λ (e : Event). TookFits (ready c.args.self.now) c.avoid.result e) (sym c.in-Avoid.is) c.avoid.ensures.took
+
+pub returns-in-Ready-clause-does : goal.returns-in-Ready-clause-does
+returns-in-Ready-clause-does c = subst (λ (e : Event). Simulates (does e) c.args.self.now c.set_ready.new.self c.set_ready.result c.args.out.now c.set_ready.new.out) (sym c.in-Ready.is) c.set_ready.ensures.does
+
+pub returns-in-Ready-clause-put : goal.returns-in-Ready-clause-put
+returns-in-Ready-clause-put c = subst (λ (e : Event). PutFits c.set_ready.result e) (sym c.in-Ready.is) c.set_ready.ensures.put
+
+pub returns-in-Ready-clause-took : goal.returns-in-Ready-clause-took
+returns-in-Ready-clause-took c = subst (λ (e : Event). TookFits (ready c.args.self.now) c.set_ready.result e) (sym c.in-Ready.is) c.set_ready.ensures.took
+
+pub returns-in-Halt-clause-does : goal.returns-in-Halt-clause-does
+returns-in-Halt-clause-does c = subst (λ (e : Event). Simulates (does e) c.args.self.now c.halt.new.self c.halt.result c.args.out.now c.halt.new.out) (sym c.in-Halt.is) c.halt.ensures.does
+
+pub returns-in-Halt-clause-put : goal.returns-in-Halt-clause-put
+returns-in-Halt-clause-put c = subst (λ (e : Event). PutFits c.halt.result e) (sym c.in-Halt.is) c.halt.ensures.put
+
+pub returns-in-Halt-clause-took : goal.returns-in-Halt-clause-took
+returns-in-Halt-clause-took c = subst (λ (e : Event). TookFits (ready c.args.self.now) c.halt.result e) (sym c.in-Halt.is) c.halt.ensures.took

@@ -14,6 +14,7 @@ returns g c =
     says_response _ c.args.self.now (address c.args.from.0) c.used-used.result c.rate-rating.result (solicit_shown c.args.solicit.now) c.args.rule.now c.response_frame-response.result c.in_ok-announcement.announcement
     c.requires.rule c.requires.apart
     (subst (λ (k : Kept g.row.H.Denot g.row.R.Denot). names k.rules ≡ (config_of k.node).services) c.self.view_is c.self.invariant.services)
+    (λ s st. sym st.halted ∙ c.requires.halted)
     (λ s st. c.used-used.ensures.model s (subst (λ (k : Kept g.row.H.Denot g.row.R.Denot). Stands k.node s) (sym c.self.view_is) st))
     (subst (λ (l : ℕ). g.R.SteadyRule.may c.args.rule.now.rule c.used-used.result l c.rate-rating.result)
     (c.self.invariant.lines ∙ ap (λ (k : Kept g.row.H.Denot g.row.R.Denot). k.node.lines.lines) c.self.view_is) c.rate-rating.ensures.answer)
