@@ -1,3 +1,3 @@
 pub mod Many
-pub mod Over
+pub mod Passing
 pub mod Pushed

@@ -1,53 +1,46 @@
--- Lines that go on with those before them.
-use Rattle.std.proofs.Common.{◌≡◌, ℕ, ◌+◌, List, [], ◌∷◌, ◌++◌, refl, sym, ap, ◌∙◌}
+-- Lines that go on with what those before them have made.
+use Rattle.std.proofs.Common.{◌≡◌, ℕ, List, refl, sym, ap, ◌∙◌}
 use Rattle.std.specs.Prelude.{Option, Some, None, Ok, Err}
-use Rattle.lat_text.specs.Lines.{Lines, End, Cut, Line}
-use Rattle.lat_schedule.specs.Places.{Place, line_in, many_in}
+use Rattle.lat_schedule.specs.Places.{Place, Over, Unended, Numbered, line_at, many}
 
--- what a line says that goes on
-said_more : {A : Type 0} (read : List A → List ℕ → Option A) (before : List A) (number : ℕ) (line : List ℕ) (more : Lines) (said : A)
-    → read before line ≡ Some said → many_in read before number (Line line more) ≡ many_in read (before ++ said ∷ []) (number + 1) more
-unfolding many_in
-said_more read before number line more said is = rw (is, many_in) refl
+-- a line that goes on
+said_more : {S : Type 0} (more : S → ℕ → List ℕ → Option S) (before after : S) (number : ℕ) (line : List ℕ) (rest : Place)
+    → more before number line ≡ Some after → many more before (Numbered number line rest) ≡ many more after rest
+unfolding many
+said_more more before after number line rest is = rw (is, many) refl
 
--- a line that says nothing of the kind
-said_none : {A : Type 0} (read : List A → List ℕ → Option A) (before : List A) (number : ℕ) (line : List ℕ) (more : Lines)
-    → read before line ≡ None → many_in read before number (Line line more) ≡ (before, record { number = number; lines = Line line more })
-unfolding many_in
-said_none read before number line more is = rw (is, many_in) refl
+-- a line that doesn't
+said_none : {S : Type 0} (more : S → ℕ → List ℕ → Option S) (before : S) (number : ℕ) (line : List ℕ) (rest : Place)
+    → more before number line ≡ None → many more before (Numbered number line rest) ≡ (before, Numbered number line rest)
+unfolding many
+said_none more before number line rest is = rw (is, many) refl
 
 -- no line is left
-no_line_more : {A : Type 0} (read : List A → List ℕ → Option A) (before : List A) (number n : ℕ) (lines : Lines)
-    → Err n ≡ line_in number lines → many_in read before number lines ≡ (before, record { number = number; lines = lines })
-unfolding many_in
-no_line_more read before number n End h = refl
-no_line_more read before number n Cut h = refl
-no_line_more read before number n (Line line more) h = absurd (cc)
+no_line_more : {S : Type 0} (more : S → ℕ → List ℕ → Option S) (before : S) (n : ℕ) (at : Place) → Err n ≡ line_at at → many more before at ≡ (before, at)
+unfolding many
+no_line_more more before n (Over number) h = refl
+no_line_more more before n (Unended number) h = refl
+no_line_more more before n (Numbered number line rest) h = absurd (cc)
 
 -- the next line goes on
-pub goes_on : {A : Type 0} (read : List A → List ℕ → Option A) (before after : List A) (number : ℕ) (lines : Lines) (behind : Place) (line : List ℕ) (said : A)
-    → Ok (line, behind) ≡ line_in number lines → Some said ≡ read before line → after ≡ before ++ said ∷ []
-    → many_in read before number lines ≡ many_in read after behind.number behind.lines
-goes_on read before after number End behind line said next is more = absurd (cc)
-goes_on read before after number Cut behind line said next is more = absurd (cc)
-goes_on read before after number (Line l rest) behind line said next is more =
-    let e : (line, behind) ≡ (l, record { number = number + 1; lines = rest }) = cc in
-    let found : read before l ≡ Some said = ap (λ (p : List ℕ × Place). read before p.0) (sym e) ∙ sym is in
-    said_more read before number l rest said found
-    ∙ ap (λ (p : List ℕ × Place). many_in read (before ++ said ∷ []) p.1.number p.1.lines) (sym e)
-    ∙ ap (λ xs. many_in read xs behind.number behind.lines) (sym more)
+pub goes_on : {S : Type 0} (more : S → ℕ → List ℕ → Option S) (before after : S) (at : Place) (number : ℕ) (line : List ℕ) (behind : Place)
+    → Ok (number, line, behind) ≡ line_at at → Some after ≡ more before number line → many more before at ≡ many more after behind
+goes_on more before after (Over n) number line behind next is = absurd (cc)
+goes_on more before after (Unended n) number line behind next is = absurd (cc)
+goes_on more before after (Numbered n l rest) number line behind next is =
+    let e : (number, line, behind) ≡ (n, l, rest) = cc in
+    let found : more before n l ≡ Some after = ap (λ (p : ℕ × List ℕ × Place). more before p.0 p.1) (sym e) ∙ sym is in
+    said_more more before after n l rest found ∙ ap (λ (p : ℕ × List ℕ × Place). many more after p.2) (sym e)
 
 -- the next line doesn't
-pub stops : {A : Type 0} (read : List A → List ℕ → Option A) (before : List A) (number : ℕ) (lines : Lines) (behind : Place) (line : List ℕ)
-    → Ok (line, behind) ≡ line_in number lines → None ≡ read before line
-    → (before, record { number = number; lines = lines }) ≡ many_in read before number lines
-stops read before number End behind line next is = absurd (cc)
-stops read before number Cut behind line next is = absurd (cc)
-stops read before number (Line l rest) behind line next is =
-    let e : (line, behind) ≡ (l, record { number = number + 1; lines = rest }) = cc in
-    sym (said_none read before number l rest (ap (λ (p : List ℕ × Place). read before p.0) (sym e) ∙ sym is))
+pub stops : {S : Type 0} (more : S → ℕ → List ℕ → Option S) (before : S) (at : Place) (number : ℕ) (line : List ℕ) (behind : Place)
+    → Ok (number, line, behind) ≡ line_at at → None ≡ more before number line → (before, at) ≡ many more before at
+stops more before (Over n) number line behind next is = absurd (cc)
+stops more before (Unended n) number line behind next is = absurd (cc)
+stops more before (Numbered n l rest) number line behind next is =
+    let e : (number, line, behind) ≡ (n, l, rest) = cc in
+    sym (said_none more before n l rest (ap (λ (p : ℕ × List ℕ × Place). more before p.0 p.1) (sym e) ∙ sym is))
 
 -- there is none
-pub ends : {A : Type 0} (read : List A → List ℕ → Option A) (before : List A) (number n : ℕ) (lines : Lines)
-    → Err n ≡ line_in number lines → (before, record { number = number; lines = lines }) ≡ many_in read before number lines
-ends read before number n lines h = sym (no_line_more read before number n lines h)
+pub ends : {S : Type 0} (more : S → ℕ → List ℕ → Option S) (before : S) (n : ℕ) (at : Place) → Err n ≡ line_at at → (before, at) ≡ many more before at
+ends more before n at h = sym (no_line_more more before n at h)

@@ -11,9 +11,10 @@ use Rattle.lat_text.specs.Digits.{address_of, byte_of, bytes_of, payload_of}
 use Rattle.lat_text.specs.NameWritten.{name_of}
 use Rattle.lat_schedule.specs.declared.event.WorldEvent.{WorldEvent}
 use Rattle.lat_schedule.specs.declared.event.WorldEvent.TheVariants.{Local, Deliver, Inject}
+use Rattle.lat_schedule.specs.declared.setup_line.Version.{Version}
 use Rattle.lat_schedule.specs.declared.verb.Verb.{Verb}
-use Rattle.lat_schedule.specs.declared.verb.Verb.TheVariants.{Connect, Put, Set, Take, Attend, Close, Time, Request, Cancel}
-use Rattle.lat_schedule.specs.Verbs.{verb_of, may_say}
+use Rattle.lat_schedule.specs.declared.verb.Verb.TheVariants.{Connect, Put, Set, Take, Attend, Close, Time, Request, Cancel, Avoid, Ready}
+use Rattle.lat_schedule.specs.Verbs.{verb_of, is_third, may_say}
 
 -- what stands behind is read where this is right
 infixl 10 ◌>>=◌
@@ -97,6 +98,22 @@ request_of to text = do
   service ← name_of first.1
   Some (events.Request to id service)
 
+-- `LINE`
+abbrev pub avoid_of : List ℕ → Option Event
+avoid_of text = option_map events.Avoid (line_of text)
+
+-- a flag as it is printed
+abbrev pub bit_of : List ℕ → Option Bool
+bit_of word = if bytes_eq word (codes "1") then Some true else if bytes_eq word (codes "0") then Some false else None
+
+-- `LINE FLAG`
+abbrev pub ready_of : List ℕ → Option Event
+ready_of text = do
+  first ← first_word text
+  line ← line_of first.0
+  ready ← bit_of first.1
+  Some (events.Ready line ready)
+
 -- what stands behind a verb
 abbrev pub told_of : Addr → Verb → List ℕ → Option Event
 told_of to Connect text = connect_of text
@@ -108,17 +125,19 @@ told_of to Close text = close_of text
 told_of to Time text = time_of text
 told_of to Request text = request_of to text
 told_of to Cancel text = cancel_of text
+told_of to Avoid text = avoid_of text
+told_of to Ready text = ready_of text
 
 -- the letter of an end: `s` for the server, `n` for the node
 abbrev pub end_of : List ℕ → Option Bool
 end_of word = if bytes_eq word (codes "s") then Some true else if bytes_eq word (codes "n") then Some false else None
 
 -- behind the letter of an end: a verb that it may be told, and what goes with it
-abbrev pub local_of : Addr → Bool → List ℕ → Option WorldEvent
-local_of to server text = do
+abbrev pub local_of : Version → Addr → Bool → List ℕ → Option WorldEvent
+local_of version to server text = do
   first ← first_word text
   verb ← verb_of first.0
-  event ← if may_say server verb then told_of to verb first.1 else None
+  event ← if may_say version server verb then told_of to verb first.1 else None
   Some (Local server event)
 
 -- behind `deliver `: the number of a frame, below 10^9
@@ -136,18 +155,37 @@ inject_of text = do
   Some (Inject server from payload)
 
 -- behind a first word: what it says of a frame that comes, or of an end
-abbrev pub behind_of : Addr → (word rest : List ℕ) → Option WorldEvent
-behind_of to word rest =
+abbrev pub behind_of : Version → Addr → (word rest : List ℕ) → Option WorldEvent
+behind_of version to word rest =
     if bytes_eq word (codes "deliver") then deliver_of rest
     else if bytes_eq word (codes "inject") then inject_of rest
-    else end_of word >>= λ server. local_of to server rest
+    else end_of word >>= λ server. local_of version to server rest
 
 -- every other event line
-abbrev pub worded_of : Addr → List ℕ → Option WorldEvent
-worded_of to line = do
+abbrev pub worded_of : Version → Addr → List ℕ → Option WorldEvent
+worded_of version to line = do
   first ← first_word line
-  behind_of to first.0 first.1
+  behind_of version to first.0 first.1
 
--- An event: `n announce`, or a line of several words. Requests go to the server at this address
-abbrev pub event_of : Addr → List ℕ → Option WorldEvent
-event_of to line = if bytes_eq line (codes "n announce") then Some (Local false events.Announce) else worded_of to line
+-- a halt of the server or of the node, which the third version has
+abbrev pub halt_of : List ℕ → Option WorldEvent
+halt_of line =
+    if bytes_eq line (codes "s halt") then Some (Local true events.Halt)
+    else if bytes_eq line (codes "n halt") then Some (Local false events.Halt)
+    else None
+
+-- a line that says all without a further word
+abbrev pub plain_of : Version → List ℕ → Option WorldEvent
+plain_of version line =
+    if bytes_eq line (codes "n announce") then Some (Local false events.Announce)
+    else if is_third version then halt_of line
+    else None
+
+-- the other where there is none
+abbrev pub or_else : Option WorldEvent → Option WorldEvent → Option WorldEvent
+or_else None other = other
+or_else (Some event) other = Some event
+
+-- An event: a line that says all by itself, or one of several words. Requests go to the server at this address
+abbrev pub event_of : Version → Addr → List ℕ → Option WorldEvent
+event_of version to line = or_else (plain_of version line) (worded_of version to line)

@@ -4,13 +4,14 @@ use Rattle.lat_base.specs.declared.addr.Addr.{Addr}
 use Rattle.lat_base.specs.declared.event.Event.{Event}
 use Rattle.lat_base.specs.declared.event.Event.TheVariants as events
 use Rattle.lat_text.specs.AddressText.{address_text}
+use Rattle.lat_text.specs.FlagText.{flag_text}
 use Rattle.lat_text.specs.HexText.{byte_text, hex_text}
 use Rattle.lat_text.specs.Line.{line}
 use Rattle.lat_text.specs.NameText.{name_text}
 use Rattle.lat_schedule.specs.declared.event.WorldEvent.{WorldEvent}
 use Rattle.lat_schedule.specs.declared.event.WorldEvent.TheVariants.{Local, Deliver, Inject}
 use Rattle.lat_schedule.specs.declared.verb.Verb.{Verb}
-use Rattle.lat_schedule.specs.declared.verb.Verb.TheVariants.{Connect, Put, Set, Take, Attend, Close, Time, Request, Cancel}
+use Rattle.lat_schedule.specs.declared.verb.Verb.TheVariants.{Connect, Put, Set, Take, Attend, Close, Time, Request, Cancel, Avoid, Ready}
 use Rattle.lat_schedule.specs.Verbs.{verb_word}
 
 abbrev pub letter : (server : Bool) → List ℕ
@@ -37,6 +38,9 @@ told_text (events.Close place) = numbered Close place
 told_text (events.Request to id service) = worded Request id (name_text service)
 told_text (events.Cancel id) = numbered Cancel id
 told_text events.Announce = codes "announce"
+told_text (events.Avoid place) = numbered Avoid place
+told_text (events.Ready place ready) = worded Ready place (flag_text ready)
+told_text events.Halt = codes "halt"
 
 abbrev pub local_text : (server : Bool) → Event → List ℕ
 local_text server event = line (letter server ∷ codes " " ∷ told_text event ∷ [])

@@ -3,7 +3,7 @@ use Rattle.std.specs.Prelude.{◌≡◌, ◌^◌, ◌<◌, ◌≤◌, Bool, true
 use Rattle.lat_base.specs.Names.{IsName}
 use Rattle.lat_base.specs.declared.addr.Addr.{Addr}
 use Rattle.lat_base.specs.declared.event.Event.{Event}
-use Rattle.lat_base.specs.declared.event.Event.TheVariants.{Heard, Time, Connect, Put, Set, Take, Attend, Close, Request, Cancel, Announce}
+use Rattle.lat_base.specs.declared.event.Event.TheVariants.{Heard, Time, Connect, Put, Set, Take, Attend, Close, Request, Cancel, Announce, Avoid, Ready, Halt}
 use Rattle.lat_schedule.specs.declared.event.WorldEvent.{WorldEvent}
 use Rattle.lat_schedule.specs.declared.event.WorldEvent.TheVariants.{Local, Deliver, Inject}
 
@@ -20,6 +20,9 @@ IsTold to server (Close line) = line ≤ 255
 IsTold to server (Request at id service) = (server ≡ false) × (at ≡ to) × (id ≤ 65535) × IsName service
 IsTold to server (Cancel id) = (server ≡ false) × (id ≤ 65535)
 IsTold to server Announce = server ≡ false
+IsTold to server (Avoid line) = (server ≡ true) × (line ≤ 255)
+IsTold to server (Ready line ready) = (server ≡ true) × (line ≤ 255)
+IsTold to server Halt = Unit {0}
 
 -- what an event of a schedule is
 abbrev pub IsEvent : Addr → WorldEvent → Type 0

@@ -9,8 +9,8 @@ use Rattle.lat_schedule.specs.Setups.{IsServerLine, IsNodeLine, IsCircuitLine}
 abbrev pub front_at : Place → Result (Front × Place) ℕ
 front_at at = do
   version ← must version_of at
-  server ← must server_of version.1
-  node ← must (node_of server.0.own) server.1
+  server ← must (server_of version.0) version.1
+  node ← must (node_of version.0 server.0.own) server.1
   circuit ← must (circuit_of version.0) node.1
   Ok (record { version = version.0; server = server.0; node = node.0; circuit = circuit.0 }, circuit.1)
 

@@ -2,7 +2,7 @@
 use Rattle.std.specs.Prelude.{ℕ, List, [], replicate, Option, unwrap_or}
 use Rattle.lat_schedule.specs.declared.groups.Groups.{Groups}
 use Rattle.lat_schedule.specs.declared.setup_line.Version.{Version}
-use Rattle.lat_schedule.specs.declared.setup_line.Version.TheVariants.{One, Two}
+use Rattle.lat_schedule.specs.declared.setup_line.Version.TheVariants.{One, Two, Three}
 use Rattle.lat_schedule.specs.Places.{Place, may}
 use Rattle.lat_schedule.specs.SetupLines.{server_groups_of, node_groups_of}
 
@@ -24,3 +24,4 @@ both_groups server = let node = node_groups_at server.1 in (record { server = se
 abbrev pub groups_at : Version → Place → Groups × Place
 groups_at One at = (record { server = replicate 32 255; node = [] }, at)
 groups_at Two at = both_groups (server_groups_at at)
+groups_at Three at = both_groups (server_groups_at at)

@@ -4,8 +4,10 @@ pub mod Events
 pub mod SetupLines
 pub mod Setups
 pub mod Places
+pub mod Rests
 pub mod Front
 pub mod Groups
+pub mod Listed
 pub mod ScheduleText
 pub mod EventText
 pub mod ReadsAll

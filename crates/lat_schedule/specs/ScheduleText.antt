@@ -1,20 +1,18 @@
 -- The text of a schedule: its lines in order, and the first one that is wrong or missing.
-use Rattle.std.specs.Prelude.{◌≡◌, ℕ, ◌+◌, ◌-◌, ◌^◌, min, List, length, Option, Some, None, Result, Ok, Err, nat_lt, bytes_eq, codes, if◌then◌else◌}
+use Rattle.std.specs.Prelude.{◌≡◌, ℕ, List, length, get_or, Option, Some, None, Result, Ok, Err, nat_lt, bytes_eq, codes, if◌then◌else◌}
 use Rattle.lat_node.specs.declared.config.NodeConfig.{NodeConfig}
 use Rattle.lat_server.specs.declared.config.Offer.{Offer}
 use Rattle.lat_server.specs.declared.config.ServerConfig.{ServerConfig}
-use Rattle.lat_text.specs.Lines.{lines_of}
 use Rattle.lat_schedule.specs.declared.front.Front.{Front}
 use Rattle.lat_schedule.specs.declared.groups.Groups.{Groups}
 use Rattle.lat_schedule.specs.declared.schedule.Schedule.{Schedule}
 use Rattle.lat_schedule.specs.declared.schedule.ScheduleFault.{ScheduleFault}
 use Rattle.lat_schedule.specs.declared.schedule.ScheduleFault.TheVariants.{Form, Events, Memory}
 use Rattle.lat_schedule.specs.declared.setup.Setup.{Setup}
-use Rattle.lat_schedule.specs.EventLines.{event_of}
 use Rattle.lat_schedule.specs.Front.{front_at}
 use Rattle.lat_schedule.specs.Groups.{groups_at}
-use Rattle.lat_schedule.specs.Places.{Place, must, many, nothing_at, ◌>>=◌}
-use Rattle.lat_schedule.specs.SetupLines.{service_of, offer_of}
+use Rattle.lat_schedule.specs.Listed.{services_at, offers_at, events_at, saturated_number}
+use Rattle.lat_schedule.specs.Places.{Place, must, nothing_at, opening, ◌>>=◌}
 
 -- what the server is made of
 abbrev pub server_made : Front → (groups : List ℕ) → List Offer → ServerConfig
@@ -25,6 +23,7 @@ server_made front groups offers = record {
   offers = offers;
   groups = groups;
   timing = front.circuit.server;
+  prompt = front.server.prompt;
 }
 
 -- what the node is made of
@@ -38,6 +37,7 @@ node_made front groups services = record {
   timer = front.node.timer;
   groups = groups;
   timing = front.circuit.node;
+  prompt = front.node.prompt;
 }
 
 abbrev pub setup_of : Front → Groups → List (List ℕ) → List Offer → Setup
@@ -48,8 +48,8 @@ setup_of front groups services offers = record { server = server_made front grou
 abbrev pub setup_at : Front → Place → Setup × Place
 setup_at front at =
     let groups = groups_at front.version at in
-    let services = many service_of groups.1 in
-    let offers = many (offer_of front.server.lines) services.1 in
+    let services = services_at groups.1 in
+    let offers = offers_at front.server.lines services.1 in
     (setup_of front groups.0 services.0 offers.0, offers.1)
 
 -- a line of one word
@@ -68,10 +68,6 @@ ending_at at = do
   behind ← word_at (codes "end") at
   nothing_at behind
 
--- a line number as it is told
-abbrev pub saturated_number : ℕ → ℕ
-saturated_number number = min number (2 ^ 32 - 1)
-
 -- The schedule that lines say: the first four, the groups, the services, the offers, `go`, the events, and `end` with
 -- nothing behind it. Or the number of the first line that is wrong or missing
 abbrev pub schedule_at : Place → Result Schedule ℕ
@@ -79,16 +75,16 @@ schedule_at at = do
   front ← front_at at
   made ← Ok (setup_at front.0 front.1)
   began ← word_at (codes "go") made.1
-  events ← Ok (many (λ before. event_of front.0.server.own) began)
-  ended ← ending_at events.1
-  Ok (record { setup = made.0; first = saturated_number began.number; events = events.0 })
+  listed ← Ok (events_at front.0.version front.0.server.own began)
+  ended ← ending_at listed.1
+  Ok (record { setup = made.0; lines = listed.0.lines; events = listed.0.events })
 
 abbrev pub form_at : ℕ → ScheduleFault
 form_at number = Form (saturated_number number)
 
 -- a schedule has 100,000 events at most
 abbrev pub within_limit : Schedule → Result Schedule ScheduleFault
-within_limit s = if nat_lt 100000 (length s.events) then Err (Events (saturated_number (s.first + 100000))) else Ok s
+within_limit s = if nat_lt 100000 (length s.events) then Err (Events (get_or s.lines 100000 0)) else Ok s
 
 abbrev pub answer_of : Result Schedule ℕ → Result Schedule ScheduleFault
 answer_of (Ok schedule) = within_limit schedule
@@ -96,7 +92,7 @@ answer_of (Err number) = Err (form_at number)
 
 -- the schedule that a text is, or why it is none
 abbrev pub schedule_of : List ℕ → Result Schedule ScheduleFault
-schedule_of text = answer_of (schedule_at (record { number = 1; lines = lines_of text }))
+schedule_of text = answer_of (schedule_at (opening text))
 
 -- what a call that reads a schedule answers; want of memory may stand in place of any answer
 abbrev pub ReadsSchedule : Result Schedule ScheduleFault → List ℕ → Type 0

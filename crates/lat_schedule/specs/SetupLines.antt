@@ -11,16 +11,30 @@ use Rattle.lat_text.specs.Numbers.{number_within}
 use Rattle.lat_text.specs.Digits.{address_of, bytes_of, mask_of}
 use Rattle.lat_text.specs.NameWritten.{name_of}
 use Rattle.lat_schedule.specs.declared.setup_line.Version.{Version}
-use Rattle.lat_schedule.specs.declared.setup_line.Version.TheVariants.{One, Two}
+use Rattle.lat_schedule.specs.declared.setup_line.Version.TheVariants.{One, Two, Three}
 use Rattle.lat_schedule.specs.declared.setup_line.ServerLine.{ServerLine}
 use Rattle.lat_schedule.specs.declared.setup_line.NodeLine.{NodeLine}
 use Rattle.lat_schedule.specs.declared.setup_line.CircuitLine.{CircuitLine}
 use Rattle.lat_schedule.specs.declared.setup_line.Numbers.{Numbers}
 use Rattle.lat_schedule.specs.EventLines.{◌>>=◌}
 
--- `lat 1` or `lat 2`
+-- `lat 1`, `lat 2` or `lat 3`
 abbrev pub version_of : List ℕ → Option Version
-version_of line = if bytes_eq line (codes "lat 1") then Some One else if bytes_eq line (codes "lat 2") then Some Two else None
+version_of line =
+    if bytes_eq line (codes "lat 1") then Some One
+    else if bytes_eq line (codes "lat 2") then Some Two
+    else if bytes_eq line (codes "lat 3") then Some Three
+    else None
+
+abbrev pub if_prompt : List ℕ → Option (List ℕ × List ℕ) → List ℕ × Bool
+if_prompt text None = (text, false)
+if_prompt text (Some first) = if bytes_eq first.1 (codes "prompt") then (first.0, true) else (text, false)
+
+-- what stands in front of a last word `prompt`, which the third version alone has, and whether it stands there
+abbrev pub before_prompt : Version → List ℕ → List ℕ × Bool
+before_prompt One text = (text, false)
+before_prompt Two text = (text, false)
+before_prompt Three text = if_prompt text (first_word text)
 
 -- the address of a station, which isn't that of everyone
 abbrev pub station_of : List ℕ → Option Addr
@@ -28,20 +42,20 @@ station_of text = do
   own ← address_of text
   if nat_eq (address own.0) everyone then None else Some own
 
--- `server ADDR NAME LINES`, 1 to 32 lines
-abbrev pub server_of : List ℕ → Option ServerLine
-server_of line = do
+-- `server ADDR NAME LINES`, 1 to 32 lines, and `prompt` or not
+abbrev pub server_of : Version → List ℕ → Option ServerLine
+server_of version line = do
   text ← behind_word (codes "server") line
   first ← first_word text
   second ← first_word first.1
   own ← station_of first.0
   name ← name_of second.0
-  lines ← number_within 1 32 second.1
-  Some (record { own = own; name = name; lines = lines })
+  lines ← number_within 1 32 (before_prompt version second.1).0
+  Some (record { own = own; name = name; lines = lines; prompt = (before_prompt version second.1).1 })
 
--- `node ADDR NAME LINES INCARNATION TIMER`, 1 to 64 lines, not at the server's address
-abbrev pub node_of : Addr → List ℕ → Option NodeLine
-node_of server line = do
+-- `node ADDR NAME LINES INCARNATION TIMER`, 1 to 64 lines, and `prompt` or not, not at the server's address
+abbrev pub node_of : Version → Addr → List ℕ → Option NodeLine
+node_of version server line = do
   text ← behind_word (codes "node") line
   first ← first_word text
   second ← first_word first.1
@@ -51,8 +65,15 @@ node_of server line = do
   name ← name_of second.0
   lines ← number_within 1 64 third.0
   incarnation ← number_within 0 65535 fourth.0
-  timer ← number_within 1 255 fourth.1
-  if nat_eq (address own.0) (address server.0) then None else Some (record { own = own; name = name; lines = lines; incarnation = incarnation; timer = timer })
+  timer ← number_within 1 255 (before_prompt version fourth.1).0
+  if nat_eq (address own.0) (address server.0) then None else Some (record {
+    own = own;
+    name = name;
+    lines = lines;
+    incarnation = incarnation;
+    timer = timer;
+    prompt = (before_prompt version fourth.1).1;
+  })
 
 -- whether the circuits' numbers have two bytes
 abbrev pub span_of : List ℕ → Option Bool
@@ -88,7 +109,7 @@ narrow_of text = do
   ceiling ← number_within 1 15 numbers.1
   Some (record { server = timing_of numbers.0 ceiling false; node = timing_of numbers.0 ceiling false })
 
--- in the second: the four numbers and `CEILING SPAN SPAN`, the server's span first
+-- in the others: the four numbers and `CEILING SPAN SPAN`, the server's span first
 abbrev pub wide_of : List ℕ → Option CircuitLine
 wide_of text = do
   numbers ← numbers_of text
@@ -102,6 +123,7 @@ wide_of text = do
 abbrev pub circuit_text : Version → List ℕ → Option CircuitLine
 circuit_text One text = narrow_of text
 circuit_text Two text = wide_of text
+circuit_text Three text = wide_of text
 
 -- the timing of both ends
 abbrev pub circuit_of : Version → List ℕ → Option CircuitLine

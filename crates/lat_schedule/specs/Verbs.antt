@@ -1,7 +1,9 @@
 -- The words for what an end is told.
-use Rattle.std.specs.Prelude.{ℕ, Bool, true, not, List, Option, Some, None, codes, bytes_eq, if◌then◌else◌}
+use Rattle.std.specs.Prelude.{ℕ, Bool, true, false, not, ◌&&◌, List, Option, Some, None, codes, bytes_eq, if◌then◌else◌}
+use Rattle.lat_schedule.specs.declared.setup_line.Version.{Version}
+use Rattle.lat_schedule.specs.declared.setup_line.Version.TheVariants.{One, Two, Three}
 use Rattle.lat_schedule.specs.declared.verb.Verb.{Verb}
-use Rattle.lat_schedule.specs.declared.verb.Verb.TheVariants.{Connect, Put, Set, Take, Attend, Close, Time, Request, Cancel}
+use Rattle.lat_schedule.specs.declared.verb.Verb.TheVariants.{Connect, Put, Set, Take, Attend, Close, Time, Request, Cancel, Avoid, Ready}
 
 abbrev pub verb_word : Verb → List ℕ
 verb_word Connect = codes "connect"
@@ -13,6 +15,8 @@ verb_word Close = codes "close"
 verb_word Time = codes "time"
 verb_word Request = codes "request"
 verb_word Cancel = codes "cancel"
+verb_word Avoid = codes "avoid"
+verb_word Ready = codes "ready"
 
 -- the verb of a word
 abbrev pub verb_of : List ℕ → Option Verb
@@ -26,11 +30,21 @@ verb_of word =
     else if bytes_eq word (codes "close") then Some Close
     else if bytes_eq word (codes "request") then Some Request
     else if bytes_eq word (codes "cancel") then Some Cancel
+    else if bytes_eq word (codes "avoid") then Some Avoid
+    else if bytes_eq word (codes "ready") then Some Ready
     else None
 
--- a server alone connects, a node alone requests and cancels
-abbrev pub may_say : (server : Bool) → Verb → Bool
-may_say server Connect = server
-may_say server Request = not server
-may_say server Cancel = not server
-may_say server verb = true
+-- the version of the halt, of the avoid and of the lines that get or aren't ready
+abbrev pub is_third : Version → Bool
+is_third One = false
+is_third Two = false
+is_third Three = true
+
+-- A server alone connects, and avoids and readies in the third version; a node alone requests and cancels
+abbrev pub may_say : Version → (server : Bool) → Verb → Bool
+may_say version server Connect = server
+may_say version server Avoid = is_third version && server
+may_say version server Ready = is_third version && server
+may_say version server Request = not server
+may_say version server Cancel = not server
+may_say version server verb = true

@@ -16,21 +16,28 @@ ghost use Rattle.lat_schedule.specs.EventLines.{
   close_of,
   time_of,
   cancel_of,
+  avoid_of,
+  bit_of,
+  ready_of,
   request_of,
   told_of,
   local_of,
   deliver_of,
   inject_of,
   worded_of,
+  halt_of,
+  plain_of,
   event_of,
 };
 ghost use Rattle.lat_schedule.specs.Verbs.{may_say};
+ghost use Rattle.lat_schedule.specs.declared.setup_line.Version.TheVariants.{Three};
 ghost use Rattle.lat_base.specs.declared.addr.Addr.{Addr};
 ghost use Rattle.lat_schedule.specs.Events.{IsTold, IsEvent};
 
 use crate::event::WorldEvent;
 use crate::numbers::{byte_within, short_up_to};
-use crate::verb::Verb;
+use crate::setup_line::Version;
+use crate::verb::{Verb, is_third};
 use hex::FromHex;
 use lat_base::{Addr, Bytes, Event};
 use lat_text::{
@@ -176,6 +183,39 @@ fn cancel_of(text: &[u8]) -> Option<Event>
     Some(Event::Cancel { id })
 }
 
+// `LINE`
+fn avoid_of(text: &[u8]) -> Option<Event>
+    ensures reads { result ≡ avoid_of text.now }
+    ensures told { IfSome result (λ event. (to : Addr) → IsTold to true event) }
+{
+    let line = line_of(text)?;
+    Some(Event::Avoid { line })
+}
+
+// `0` or `1`
+fn bit_of(word: &[u8]) -> Option<bool>
+    ensures { result ≡ bit_of word.now }
+{
+    if word == "1".as_bytes() {
+        Some(true)
+    } else if word == "0".as_bytes() {
+        Some(false)
+    } else {
+        None
+    }
+}
+
+// `LINE FLAG`
+fn ready_of(text: &[u8]) -> Option<Event>
+    ensures reads { result ≡ ready_of text.now }
+    ensures told { IfSome result (λ event. (to : Addr) → IsTold to true event) }
+{
+    let (line, ready) = first_word(text)?;
+    let line = line_of(line)?;
+    let ready = bit_of(ready)?;
+    Some(Event::Ready { line, ready })
+}
+
 // What stands behind a verb that this end may be told.
 fn told_of(
     alloc: Global,
@@ -184,7 +224,7 @@ fn told_of(
     verb: Verb,
     text: &[u8],
 ) -> Result<Event, LineFault>
-    requires { IsTrue (may_say server verb) }
+    requires { IsTrue (may_say Three server verb) }
     ensures reads { Reads (λ event. event) result (told_of to verb text.now) }
     ensures told { IfOk result (IsTold to server) }
 {
@@ -198,17 +238,25 @@ fn told_of(
         Verb::Time => time_of(text).ok_or(LineFault::Form),
         Verb::Request => request_of(to, text).ok_or(LineFault::Form),
         Verb::Cancel => cancel_of(text).ok_or(LineFault::Form),
+        Verb::Avoid => avoid_of(text).ok_or(LineFault::Form),
+        Verb::Ready => ready_of(text).ok_or(LineFault::Form),
     }
 }
 
 // Behind the letter of an end: a verb that it may be told, and what goes with it.
-fn local_of(alloc: Global, to: Addr, server: bool, text: &[u8]) -> Result<WorldEvent, LineFault>
-    ensures reads { Reads (λ event. event) result (local_of to server text.now) }
+fn local_of(
+    alloc: Global,
+    version: Version,
+    to: Addr,
+    server: bool,
+    text: &[u8],
+) -> Result<WorldEvent, LineFault>
+    ensures reads { Reads (λ event. event) result (local_of version to server text.now) }
     ensures event { IfOk result (IsEvent to) }
 {
     let (word, rest) = first_word(text).ok_or(LineFault::Form)?;
     let verb = Verb::of(word).ok_or(LineFault::Form)?;
-    if !verb.may_be_told(server) {
+    if !verb.may_be_told(version, server) {
         return Err(LineFault::Form);
     }
     let event = told_of(alloc, to, server, verb, rest)?;
@@ -242,9 +290,14 @@ fn inject_of(alloc: Global, text: &[u8]) -> Result<WorldEvent, LineFault>
     })
 }
 
-// An event line but `n announce`.
-fn worded_of(alloc: Global, to: Addr, line: &[u8]) -> Result<WorldEvent, LineFault>
-    ensures reads { Reads (λ event. event) result (worded_of to line.now) }
+// An event line of several words that isn't said by itself.
+fn worded_of(
+    alloc: Global,
+    version: Version,
+    to: Addr,
+    line: &[u8],
+) -> Result<WorldEvent, LineFault>
+    ensures reads { Reads (λ event. event) result (worded_of version to line.now) }
     ensures event { IfOk result (IsEvent to) }
 {
     let (word, rest) = first_word(line).ok_or(LineFault::Form)?;
@@ -255,19 +308,56 @@ fn worded_of(alloc: Global, to: Addr, line: &[u8]) -> Result<WorldEvent, LineFau
         return inject_of(alloc, rest);
     }
     let server = end_of(word).ok_or(LineFault::Form)?;
-    local_of(alloc, to, server, rest)
+    local_of(alloc, version, to, server, rest)
 }
 
-/// The event that a line says. Requests go to the server at this address. Takes memory for its bytes.
-pub fn event_of(alloc: Global, to: Addr, line: &[u8]) -> Result<WorldEvent, LineFault>
-    ensures reads { Reads (λ event. event) result (event_of to line.now) }
-    ensures event { IfOk result (IsEvent to) }
+// `s halt` or `n halt`
+fn halt_of(line: &[u8]) -> Option<WorldEvent>
+    ensures reads { result ≡ halt_of line.now }
+    ensures event { IfSome result (λ event. (to : Addr) → IsEvent to event) }
+{
+    let event = Event::Halt;
+    if line == "s halt".as_bytes() {
+        let server = true;
+        Some(WorldEvent::Local { server, event })
+    } else if line == "n halt".as_bytes() {
+        let server = false;
+        Some(WorldEvent::Local { server, event })
+    } else {
+        None
+    }
+}
+
+// A line that says all without a further word.
+fn plain_of(version: Version, line: &[u8]) -> Option<WorldEvent>
+    ensures reads { result ≡ plain_of version line.now }
+    ensures event { IfSome result (λ event. (to : Addr) → IsEvent to event) }
 {
     if line == "n announce".as_bytes() {
-        return Ok(WorldEvent::Local {
+        Some(WorldEvent::Local {
             server: false,
             event: Event::Announce,
-        });
+        })
+    } else if is_third(version) {
+        halt_of(line)
+    } else {
+        None
     }
-    worded_of(alloc, to, line)
+}
+
+/// The event that a line says in a text of this version. Requests go to the server at this address. Takes memory for its
+/// bytes.
+pub fn event_of(
+    alloc: Global,
+    version: Version,
+    to: Addr,
+    line: &[u8],
+) -> Result<WorldEvent, LineFault>
+    ensures reads { Reads (λ event. event) result (event_of version to line.now) }
+    ensures event { IfOk result (IsEvent to) }
+{
+    match plain_of(version, line) {
+        Some(event) => Ok(event),
+        None => worded_of(alloc, version, to, line),
+    }
 }

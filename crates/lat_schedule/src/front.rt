@@ -25,19 +25,19 @@ pub fn front_of<'a>(at: &Rest<'a>) -> Result<(Front, Rest<'a>), usize>
         ≡ front_at (place at.now) }
     ensures fits { IfOk result (λ r. FitsFront r.0) }
 {
-    let (line, second) = at.line()?;
-    let version = version_of(line).ok_or(at.number)?;
-    let (line, third) = second.line()?;
-    let server = server_of(line).ok_or(second.number)?;
-    let (line, fourth) = third.line()?;
-    let node = node_of(server.own, line).ok_or(third.number)?;
-    let (line, behind) = fourth.line()?;
-    let circuit = circuit_of(version, line).ok_or(fourth.number)?;
+    let first = at.line()?;
+    let version = version_of(first.line).ok_or(first.number)?;
+    let second = first.behind.line()?;
+    let server = server_of(version, second.line).ok_or(second.number)?;
+    let third = second.behind.line()?;
+    let node = node_of(version, server.own, third.line).ok_or(third.number)?;
+    let fourth = third.behind.line()?;
+    let circuit = circuit_of(version, fourth.line).ok_or(fourth.number)?;
     let front = Front {
         version,
         server,
         node,
         circuit,
     };
-    Ok((front, behind))
+    Ok((front, fourth.behind))
 }

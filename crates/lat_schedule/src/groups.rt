@@ -24,9 +24,9 @@ pub struct Groups {
 fn server_groups_at(at: Rest<'_>) -> ([u8; 32], Rest<'_>)
     ensures { (result.0, place result.1) ≡ server_groups_at (place at.entry) }
 {
-    if let Ok((line, behind)) = at.line() {
-        if let Some(mask) = server_groups_of(line) {
-            return (mask, behind);
+    if let Ok(next) = at.line() {
+        if let Some(mask) = server_groups_of(next.line) {
+            return (mask, next.behind);
         }
     }
     (ALL, at)
@@ -37,9 +37,9 @@ fn node_groups_at(alloc: Global, at: Rest<'_>) -> Result<(Bytes, Rest<'_>), Memo
     ensures value { IfOk result (λ r. (r.0, place r.1) ≡ node_groups_at (place at.entry)) }
     ensures fits { IfOk result (λ r. length r.0 ≤ 32) }
 {
-    if let Ok((line, behind)) = at.line() {
-        match node_groups_of(alloc, line) {
-            Ok(mask) => return Ok((Bytes::copy(alloc, &mask)?, behind)),
+    if let Ok(next) = at.line() {
+        match node_groups_of(alloc, next.line) {
+            Ok(mask) => return Ok((Bytes::copy(alloc, &mask)?, next.behind)),
             Err(LineFault::Memory) => return Err(Memory),
             Err(LineFault::Form) => {}
         }

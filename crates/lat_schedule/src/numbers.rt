@@ -1,7 +1,8 @@
-//! Numbers of one and two bytes as they are written.
+//! Numbers of one and two bytes as they are written, and numbers of lines.
 
 ghost use Rattle.std.specs.Prelude.{◌≡◌, ◌≤◌, IfSome};
 ghost use Rattle.lat_text.specs.Numbers.{number_within};
+ghost use Rattle.lat_schedule.specs.Listed.{saturated_number};
 
 use lat_text::number_within;
 
@@ -21,4 +22,11 @@ pub fn short_up_to(most: u16, text: &[u8]) -> Option<u16>
 {
     let number = number_within(0, u64::from(most), text)?;
     Some(number as u16)
+}
+
+/// A line number, saturated at the greatest of 32 bits.
+pub fn saturated_number(number: usize) -> u32
+    ensures { result ≡ saturated_number number }
+{
+    number.min(u32::MAX as usize) as u32
 }

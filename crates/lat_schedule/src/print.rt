@@ -6,7 +6,7 @@ ghost use Rattle.lat_schedule.specs.EventText.{letter, numbered, told_text, loca
 use crate::event::WorldEvent;
 use crate::verb::Verb;
 use lat_base::{Addr, Event};
-use lat_text::{address_onto, byte_onto, hex_onto, name_onto};
+use lat_text::{address_onto, byte_onto, flag_text, hex_onto, name_onto};
 use std::alloc::{AllocError, Global};
 
 fn letter(server: bool) -> &'static str
@@ -41,7 +41,7 @@ fn told_onto(alloc: Global, text: &mut String, event: &Event) -> Result<(), Allo
         Event::Time { now } => numbered_onto(text, Verb::Time, *now),
         Event::Connect { line, service } => {
             line_onto(text, Verb::Connect, *line)?;
-            name_onto(alloc, text, service)
+            name_onto(text, service)
         }
         Event::Put { line, bytes } => {
             line_onto(text, Verb::Put, *line)?;
@@ -57,16 +57,22 @@ fn told_onto(alloc: Global, text: &mut String, event: &Event) -> Result<(), Allo
         }
         Event::Attend { line, flag } => {
             line_onto(text, Verb::Attend, *line)?;
-            byte_onto(alloc, text, *flag)
+            byte_onto(text, *flag)
         }
         Event::Close { line } => numbered_onto(text, Verb::Close, u64::from(*line)),
         Event::Request { id, service, .. } => {
             numbered_onto(text, Verb::Request, u64::from(*id))?;
             text.push_str(" ")?;
-            name_onto(alloc, text, service)
+            name_onto(text, service)
         }
         Event::Cancel { id } => numbered_onto(text, Verb::Cancel, u64::from(*id)),
         Event::Announce => text.push_str("announce"),
+        Event::Avoid { line } => numbered_onto(text, Verb::Avoid, u64::from(*line)),
+        Event::Ready { line, ready } => {
+            line_onto(text, Verb::Ready, *line)?;
+            text.push_str(flag_text(*ready))
+        }
+        Event::Halt => text.push_str("halt"),
     }
 }
 
@@ -82,7 +88,7 @@ fn inject_onto(
 {
     let end = letter(server);
     write!(text, "inject {end} ")?;
-    address_onto(alloc, text, from)?;
+    address_onto(text, from)?;
     text.push_str(" ")?;
     hex_onto(alloc, text, payload)?;
     text.push_str("\n")

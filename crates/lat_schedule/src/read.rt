@@ -6,17 +6,17 @@ ghost use Rattle.lat_model.specs.Lists.{Each};
 ghost use Rattle.lat_node.specs.Config as nodes;
 ghost use Rattle.lat_server.specs.Config as servers;
 ghost use Rattle.lat_server.specs.Config.{AreOffers};
-ghost use Rattle.lat_text.specs.Lines.{lines_of};
 ghost use Rattle.lat_schedule.specs.Events.{IsEvent};
 ghost use Rattle.lat_schedule.specs.Front.{FitsFront};
-ghost use Rattle.lat_schedule.specs.Places.{place};
+ghost use Rattle.lat_schedule.specs.Places.{place, opening};
 ghost use Rattle.lat_schedule.specs.Setups.{IsSetup};
-ghost use Rattle.lat_schedule.specs.ScheduleText.{ReadsSchedule, saturated_number, form_at, word_at, ending_at, server_made, node_made, setup_at, schedule_at, within_limit};
+ghost use Rattle.lat_schedule.specs.ScheduleText.{ReadsSchedule, form_at, word_at, ending_at, server_made, node_made, setup_at, schedule_at, within_limit};
 ghost use Rattle.lat_schedule.specs.ReadsAll.{ReadsAll};
 
 use crate::front::{Front, front_of};
 use crate::groups::groups_of;
-use crate::listed::{events_of, offers_of, services_of};
+use crate::listed::{Listed, events_of, offers_of, services_of};
+use crate::numbers::saturated_number;
 use crate::rest::Rest;
 use crate::schedule::{Schedule, ScheduleFault};
 use crate::setup::Setup;
@@ -28,13 +28,6 @@ use std::alloc::Global;
 
 /// The greatest number of events.
 const EVENTS: usize = 100_000;
-
-// A line number, saturated at the greatest of 32 bits.
-fn saturated_number(number: usize) -> u32
-    ensures { result ≡ saturated_number number }
-{
-    number.min(u32::MAX as usize) as u32
-}
 
 // The first wrong line.
 fn form_at(number: usize) -> ScheduleFault
@@ -49,11 +42,11 @@ fn form_at(number: usize) -> ScheduleFault
 fn word_at<'a>(word: &str, at: Rest<'a>) -> Result<Rest<'a>, usize>
     ensures { result_map_both place (λ number. number) result ≡ word_at word.now (place at.entry) }
 {
-    let (line, behind) = at.line()?;
-    if line == word.as_bytes() {
-        Ok(behind)
+    let next = at.line()?;
+    if next.line == word.as_bytes() {
+        Ok(next.behind)
     } else {
-        Err(at.number)
+        Err(next.number)
     }
 }
 
@@ -62,11 +55,7 @@ fn ending_at(at: Rest<'_>) -> Result<(), usize>
     ensures { result_map_both (λ done. tt) (λ number. number) result ≡ ending_at (place at.entry) }
 {
     let behind = word_at("end", at)?;
-    if behind.text.is_empty() {
-        Ok(())
-    } else {
-        Err(behind.number)
-    }
+    behind.nothing()
 }
 
 fn server_made(front: &Front, groups: [u8; 32], offers: Offers) -> ServerConfig
@@ -82,6 +71,7 @@ fn server_made(front: &Front, groups: [u8; 32], offers: Offers) -> ServerConfig
         offers,
         groups,
         timing: front.circuit.server,
+        prompt: front.server.prompt,
     }
 }
 
@@ -100,6 +90,7 @@ fn node_made(front: &Front, groups: Bytes, services: Services16) -> NodeConfig
         timer: front.node.timer,
         groups,
         timing: front.circuit.node,
+        prompt: front.node.prompt,
     }
 }
 
@@ -125,7 +116,7 @@ fn within_limit(schedule: Schedule) -> Result<Schedule, ScheduleFault>
 {
     if schedule.events.as_slice().len() > EVENTS {
         return Err(ScheduleFault::Events {
-            line: schedule.first.saturating_add(EVENTS as u32),
+            line: schedule.lines.at(EVENTS),
         });
     }
     Ok(schedule)
@@ -161,10 +152,7 @@ impl From<Memory> for Stop {
 
 // The schedule that a text is, whatever the number of its events.
 fn schedule_at(alloc: Global, text: &[u8]) -> Result<Schedule, Stop>
-    ensures value { ReadsAll result (schedule_at (record {
-      number = 1;
-      lines = lines_of text.now;
-    })) }
+    ensures value { ReadsAll result (schedule_at (opening text.now)) }
     ensures setup { IfOk result (λ schedule. IsSetup schedule.setup) }
     ensures events { IfOk result (λ schedule.
         Each (IsEvent schedule.setup.server.own) schedule.events) }
@@ -175,12 +163,12 @@ fn schedule_at(alloc: Global, text: &[u8]) -> Result<Schedule, Stop>
     };
     let (setup, at) = setup_at(alloc, &front, at)?;
     let at = word_at("go", at)?;
-    let first = saturated_number(at.number);
-    let (events, at) = events_of(alloc, front.server.own, at)?;
+    let (listed, at) = events_of(alloc, front.version, front.server.own, at)?;
     ending_at(at)?;
+    let Listed { lines, events } = listed;
     Ok(Schedule {
         setup,
-        first,
+        lines,
         events,
     })
 }

@@ -1,6 +1,7 @@
 //! A schedule, and why a text is none.
 
 use crate::event::WorldEvents;
+use crate::line_numbers::LineNumbers;
 use crate::setup::Setup;
 use lat_base::Memory;
 use thiserror::Error;
@@ -10,8 +11,8 @@ use thiserror::Error;
 pub struct Schedule {
     /// What both cores are made of.
     pub setup: Setup,
-    /// The number of the line of the first event, the one behind `go`. Lines are counted from 1.
-    pub first: u32,
+    /// The numbers of the events' lines, counted from 1; one past the greatest number is told as that.
+    pub lines: LineNumbers,
     /// The events, in the order of their lines.
     pub events: WorldEvents,
 }

@@ -9,8 +9,11 @@ ghost use Rattle.lat_machines.specs.values.Addresses.{address, everyone};
 ghost use Rattle.lat_machines.specs.values.Names.{same};
 ghost use Rattle.lat_server.specs.declared.config.Offer.{Offer};
 ghost use Rattle.lat_text.specs.Reads.{Reads};
+ghost use Rattle.lat_text.specs.Words.{first_word};
 ghost use Rattle.lat_schedule.specs.SetupLines.{
   version_of,
+  if_prompt,
+  before_prompt,
   station_of,
   server_of,
   node_of,
@@ -39,6 +42,9 @@ pub enum Version {
     One,
     /// Spans and groups may be told.
     Two,
+    /// And silent lines stand anywhere, ends may be prompt, and the events of a halt, of an avoid and of a line that gets or
+    /// isn't ready may be told.
+    Three,
 }
 
 /// What the line of the server says.
@@ -47,6 +53,7 @@ pub struct ServerLine {
     pub own: Addr,
     pub name: Name,
     pub lines: u8,
+    pub prompt: bool,
 }
 
 /// What the line of the node says.
@@ -57,6 +64,7 @@ pub struct NodeLine {
     pub lines: u8,
     pub incarnation: u16,
     pub timer: u8,
+    pub prompt: bool,
 }
 
 /// What the line of the circuits says.
@@ -75,7 +83,7 @@ pub struct Numbers {
     pub extra: u8,
 }
 
-/// `lat 1` or `lat 2`.
+/// `lat 1`, `lat 2` or `lat 3`.
 pub fn version_of(line: &[u8]) -> Option<Version>
     ensures { result ≡ version_of line.now }
 {
@@ -83,8 +91,29 @@ pub fn version_of(line: &[u8]) -> Option<Version>
         Some(Version::One)
     } else if line == "lat 2".as_bytes() {
         Some(Version::Two)
+    } else if line == "lat 3".as_bytes() {
+        Some(Version::Three)
     } else {
         None
+    }
+}
+
+fn if_prompt(text: &[u8]) -> (&[u8], bool)
+    ensures { (result.0.now, result.1) ≡ if_prompt text.now (first_word text.now) }
+{
+    match first_word(text) {
+        Some((before, last)) if last == "prompt".as_bytes() => (before, true),
+        _ => (text, false),
+    }
+}
+
+// What stands in front of a last word `prompt`, and whether it stands there. The first two versions don't have it.
+fn before_prompt(version: Version, text: &[u8]) -> (&[u8], bool)
+    ensures { (result.0.now, result.1) ≡ before_prompt version text.now }
+{
+    match version {
+        Version::One | Version::Two => (text, false),
+        Version::Three => if_prompt(text),
     }
 }
 
@@ -97,30 +126,37 @@ fn station_of(text: &[u8]) -> Option<Addr>
     if own.is_everyone() { None } else { Some(own) }
 }
 
-/// `server ADDR NAME LINES`
-pub fn server_of(line: &[u8]) -> Option<ServerLine>
-    ensures value { result ≡ server_of line.now }
+/// `server ADDR NAME LINES`, and `prompt` or not.
+pub fn server_of(version: Version, line: &[u8]) -> Option<ServerLine>
+    ensures value { result ≡ server_of version line.now }
     ensures fits { IfSome result IsServerLine }
 {
     let text = behind_word("server", line)?;
     let (address, text) = first_word(text)?;
-    let (name, lines) = first_word(text)?;
+    let (name, text) = first_word(text)?;
+    let (lines, prompt) = before_prompt(version, text);
     let own = station_of(address)?;
     let name = name_of(name)?;
     let lines = byte_within(1, 32, lines)?;
-    Some(ServerLine { own, name, lines })
+    Some(ServerLine {
+        own,
+        name,
+        lines,
+        prompt,
+    })
 }
 
-/// `node ADDR NAME LINES INCARNATION TIMER`, not at the server's address.
-pub fn node_of(server: Addr, line: &[u8]) -> Option<NodeLine>
-    ensures value { result ≡ node_of server line.now }
+/// `node ADDR NAME LINES INCARNATION TIMER`, and `prompt` or not, not at the server's address.
+pub fn node_of(version: Version, server: Addr, line: &[u8]) -> Option<NodeLine>
+    ensures value { result ≡ node_of version server line.now }
     ensures fits { IfSome result (IsNodeLine server) }
 {
     let text = behind_word("node", line)?;
     let (address, text) = first_word(text)?;
     let (name, text) = first_word(text)?;
     let (lines, text) = first_word(text)?;
-    let (incarnation, timer) = first_word(text)?;
+    let (incarnation, text) = first_word(text)?;
+    let (timer, prompt) = before_prompt(version, text);
     let own = station_of(address)?;
     let name = name_of(name)?;
     let lines = byte_within(1, 64, lines)?;
@@ -135,6 +171,7 @@ pub fn node_of(server: Addr, line: &[u8]) -> Option<NodeLine>
         lines,
         incarnation,
         timer,
+        prompt,
     })
 }
 
@@ -202,7 +239,7 @@ fn narrow_of(text: &[u8]) -> Option<CircuitLine>
     })
 }
 
-// In the second.
+// In the others.
 fn wide_of(text: &[u8]) -> Option<CircuitLine>
     ensures value { result ≡ wide_of text.now }
     ensures fits { IfSome result IsCircuitLine }
@@ -227,7 +264,7 @@ pub fn circuit_of(version: Version, line: &[u8]) -> Option<CircuitLine>
     let text = behind_word("circuit", line)?;
     match version {
         Version::One => narrow_of(text),
-        Version::Two => wide_of(text),
+        Version::Two | Version::Three => wide_of(text),
     }
 }
 

@@ -1,7 +1,10 @@
 //! The words for what an end is told.
 
-ghost use Rattle.std.specs.Prelude.{◌≡◌};
-ghost use Rattle.lat_schedule.specs.Verbs.{verb_of, may_say, verb_word};
+ghost use Rattle.std.specs.Prelude.{◌≡◌, true, IsTrue};
+ghost use Rattle.lat_schedule.specs.declared.setup_line.Version.TheVariants.{Three};
+ghost use Rattle.lat_schedule.specs.Verbs.{verb_of, is_third, may_say, verb_word};
+
+use crate::setup_line::Version;
 
 /// What an end is told: the word behind its letter, where something stands behind that word.
 #[derive(Clone, Copy)]
@@ -15,6 +18,8 @@ pub enum Verb {
     Time,
     Request,
     Cancel,
+    Avoid,
+    Ready,
 }
 
 impl Verb {
@@ -40,6 +45,10 @@ impl Verb {
             Some(Verb::Request)
         } else if word == "cancel".as_bytes() {
             Some(Verb::Cancel)
+        } else if word == "avoid".as_bytes() {
+            Some(Verb::Avoid)
+        } else if word == "ready".as_bytes() {
+            Some(Verb::Ready)
         } else {
             None
         }
@@ -59,17 +68,32 @@ impl Verb {
             Verb::Time => "time",
             Verb::Request => "request",
             Verb::Cancel => "cancel",
+            Verb::Avoid => "avoid",
+            Verb::Ready => "ready",
         }
     }
 
-    /// Whether this end may be told it: a server alone connects, a node alone requests and cancels.
-    pub fn may_be_told(self, server: bool) -> bool
-        ensures { result ≡ may_say server self }
+    /// Whether this end may be told it in a text of this version: a server alone connects, and avoids and readies in the
+    /// third; a node alone requests and cancels.
+    pub fn may_be_told(self, version: Version, server: bool) -> bool
+        ensures value { result ≡ may_say version server self }
+        ensures third { result ≡ true → IsTrue (may_say Three server self) }
     {
         match self {
             Verb::Connect => server,
+            Verb::Avoid | Verb::Ready => is_third(version) && server,
             Verb::Request | Verb::Cancel => !server,
             _ => true,
         }
+    }
+}
+
+/// Whether a text of this version tells of a halt, of an avoid and of lines that get or aren't ready.
+pub fn is_third(version: Version) -> bool
+    ensures { result ≡ is_third version }
+{
+    match version {
+        Version::One | Version::Two => false,
+        Version::Three => true,
     }
 }

@@ -1,16 +1,16 @@
 use Rattle.std.proofs.Common.{◌≡◌, length}
 use Rattle.lat_model.specs.Lists.{Each}
-use Rattle.lat_schedule.specs.EventLines.{event_of}
 use Rattle.lat_schedule.specs.Events.{IsEvent}
-use Rattle.lat_schedule.specs.Places.{many, many_in, place}
+use Rattle.lat_schedule.specs.Listed.{goes_on, events_at}
+use Rattle.lat_schedule.specs.Places.{many, place}
 use Rattle.lat_schedule.proofs.listed.events_of.Given as goal
 
-abbrev pub invariant-loop-line : goal.invariant-loop-line
-invariant-loop-line l =
+abbrev pub invariant-loop-next : goal.invariant-loop-next
+invariant-loop-next l =
     record {
-      value : many (λ before. event_of l.fn.to) (place l.at) ≡ many_in (λ before. event_of l.fn.to) l.events (place l.rest).number (place l.rest).lines;
+      value : events_at l.fn.version l.fn.to (place l.at) ≡ many (goes_on l.fn.version l.fn.to) (record { lines = l.lines; events = l.events }) (place l.rest);
       events : Each (IsEvent l.fn.to) l.events;
     }
 
-abbrev pub decreases-loop-line : goal.decreases-loop-line
-decreases-loop-line l = length l.rest.text.now
+abbrev pub decreases-loop-next : goal.decreases-loop-next
+decreases-loop-next l = length l.rest.text.now
