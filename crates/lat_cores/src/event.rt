@@ -2,7 +2,8 @@
 
 use lat_base::{Addr, Bytes, Event};
 use lat_script::{
-    ScriptFault, address, byte, bytes, filling, name, no_command, number, setting, short, word,
+    ScriptFault, address, byte, byte_within, bytes, filling, name, no_command, number, setting,
+    short, word,
 };
 use std::alloc::Global;
 
@@ -14,6 +15,7 @@ pub fn event_of(alloc: Global, line: &str, server: Addr) -> Result<Event, Script
         }),
         "put" | "fill" => put_of(alloc, line),
         "connect" | "set" | "take" | "attend" | "close" => call_of(line),
+        "avoid" | "ready" | "halt" => told_of(line),
         _ => asked_of(line, server),
     }
 }
@@ -59,6 +61,21 @@ fn call_of(line: &str) -> Result<Event, ScriptFault> {
         "close" => Event::Close { line: place },
         _ => return Err(no_command(1)),
     })
+}
+
+// What a core is told of the nodes that it knows, of a line, and of its own end.
+fn told_of(line: &str) -> Result<Event, ScriptFault> {
+    match word(line, 1) {
+        "avoid" => Ok(Event::Avoid {
+            line: byte(line, 2)?,
+        }),
+        "ready" => Ok(Event::Ready {
+            line: byte(line, 2)?,
+            ready: byte_within(0, 1, line, 3)? == 1,
+        }),
+        "halt" => Ok(Event::Halt),
+        _ => Err(no_command(1)),
+    }
 }
 
 // The events that are for no line.

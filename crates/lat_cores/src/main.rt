@@ -22,13 +22,14 @@
 //! | `server ADDRESS NAME LINES` | the server, without an offer |
 //! | `node ADDRESS NAME LINES INCARNATION TIMER` | the node |
 //! | `circuit TIMER KEEPALIVE SESSIONS EXTRA CEILING` (and perhaps `word`, or `byte`, which is the same as nothing) | the timing of both |
+//! | `prompt E` | this core's end is prompt |
 //! | `groups SERVER NODE` | the groups that the server listens to, and the mask of the node's announcements, in hex; without it all groups, and the empty mask |
 //! | `service NAME` | the node offers it; 32 at most |
 //! | `offer LINE NAME` | the server's line offers it; a line offers once |
 //!
 //! | Event | Does |
 //! |---|---|
-//! | `s EVENT`, `n EVENT` | tells the core: `time T`, `connect LINE NAME`, `put LINE HEX`, `fill LINE N` (N bytes 61 hex), `set LINE HEX`, `take LINE N`, `attend LINE FLAG`, `close LINE`, `request ID NAME` (of this server, or of the one whose address stands behind), `cancel ID`, `announce` |
+//! | `s EVENT`, `n EVENT` | tells the core: `time T`, `connect LINE NAME`, `put LINE HEX`, `fill LINE N` (N bytes 61 hex), `set LINE HEX`, `take LINE N`, `attend LINE FLAG`, `close LINE`, `request ID NAME` (of this server, or of the one whose address stands behind), `cancel ID`, `announce`, `avoid LINE`, `ready LINE R` (1 where it is ready, 0 where it isn't), `halt` |
 //! | `deliver I [T]` | hands frame I to the core that it was sent to, as from its sender's address, at T or at the latest moment so far |
 //! | `inject E ADDRESS HEX [T]` | hands a payload to core E as from this address |
 //! | `announcers N` | hands the server the announcements of N nodes, and prints the last answer |

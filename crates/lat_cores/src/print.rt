@@ -17,7 +17,7 @@ pub fn frame_onto(
 ) -> Result<(), Memory> {
     lat_script::frame_onto(text, number as u64, frame.mark)?;
     text.push_str(" to ")?;
-    address_onto(alloc, text, frame.to)?;
+    address_onto(text, frame.to)?;
     let circuit = frame.circuit;
     write!(text, " circuit {circuit}\n")?;
     payload_onto(alloc, text, frame.payload.bytes())
@@ -45,10 +45,10 @@ fn ids_onto(text: &mut String, session: &LineSession) -> Result<(), AllocError> 
     write!(text, " at the peer {circuit} {id}")
 }
 
-fn session_onto(alloc: Global, text: &mut String, session: &LineSession) -> Result<(), Memory> {
+fn session_onto(text: &mut String, session: &LineSession) -> Result<(), Memory> {
     let number = session.number;
     write!(text, "number {number} peer ")?;
-    address_onto(alloc, text, session.peer)?;
+    address_onto(text, session.peer)?;
     ids_onto(text, session)?;
     text.push_str(" ")?;
     totals_onto(text, u64::from(session.given), u64::from(session.used))?;
@@ -59,37 +59,33 @@ fn session_onto(alloc: Global, text: &mut String, session: &LineSession) -> Resu
     }
 }
 
-fn maybe_session_onto(
-    alloc: Global,
-    text: &mut String,
-    session: Option<LineSession>,
-) -> Result<(), Memory> {
+fn maybe_session_onto(text: &mut String, session: Option<LineSession>) -> Result<(), Memory> {
     match session {
-        Some(session) => session_onto(alloc, text, &session),
+        Some(session) => session_onto(text, &session),
         None => Ok(text.push_str("none\n")?),
     }
 }
 
 /// Adds the last two sessions of a line to the text.
-pub fn book_onto(alloc: Global, text: &mut String, book: Option<LineBook>) -> Result<(), Memory> {
+pub fn book_onto(text: &mut String, book: Option<LineBook>) -> Result<(), Memory> {
     let Some(book) = book else {
         return Ok(text.push_str("no-line\n")?);
     };
     text.push_str("present ")?;
-    maybe_session_onto(alloc, text, book.present)?;
+    maybe_session_onto(text, book.present)?;
     text.push_str("last ")?;
-    maybe_session_onto(alloc, text, book.last)
+    maybe_session_onto(text, book.last)
 }
 
 /// Adds a request's record to the text.
-pub fn record_onto(alloc: Global, text: &mut String, record: Option<Record>) -> Result<(), Memory> {
+pub fn record_onto(text: &mut String, record: Option<Record>) -> Result<(), Memory> {
     let Some(record) = record else {
         return Ok(text.push_str("none\n")?);
     };
-    name_onto(alloc, text, &record.key.node)?;
+    name_onto(text, &record.key.node)?;
     let (incarnation, request) = (record.key.incarnation, record.key.request);
     write!(text, " {incarnation} {request} ")?;
-    name_onto(alloc, text, &record.service)?;
+    name_onto(text, &record.service)?;
     text.push_str(" ")?;
     kept_onto(text, record.kept)?;
     match record.grant {

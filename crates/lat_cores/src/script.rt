@@ -24,7 +24,7 @@ impl<S: Station, N: Station> Play<S, N> {
             "askers" => self.askers(alloc, line, text),
             "draw" => self.draw(alloc, line, text),
             "pump" => self.pump(alloc, line, text),
-            _ => self.tell(alloc, line, text),
+            _ => self.tell(line, text),
         }
     }
 

@@ -10,8 +10,8 @@ use lat_base::{Addr, Bytes, Memory};
 use lat_node::NodeConfig;
 use lat_queue::Services16;
 use lat_script::{
-    ScriptFault, Wanted, address, byte_within, bytes, known_name, name, no_command, short, timing,
-    word,
+    Pair, ScriptFault, Wanted, address, byte_within, bytes, choice, known_name, name, no_command,
+    short, timing, word,
 };
 use lat_server::{Offer, Offers, ServerConfig, Timing};
 use std::alloc::Global;
@@ -57,6 +57,7 @@ impl Setup {
                 offers: Offers::new(alloc),
                 groups: [0xff; 32],
                 timing: USUAL,
+                prompt: false,
             },
             node: NodeConfig {
                 own: Addr([0xaa, 0x00, 0x04, 0x00, 0x02, 0x04]),
@@ -67,6 +68,7 @@ impl Setup {
                 timer: 30,
                 groups: Bytes::copy(alloc, &[])?,
                 timing: USUAL,
+                prompt: false,
             },
         })
     }
@@ -81,6 +83,7 @@ impl Setup {
                 self.server.timing = timing;
                 self.node.timing = timing;
             }
+            "prompt" => self.tell_prompt(line)?,
             "groups" => self.tell_groups(alloc, line)?,
             "service" => self.tell_service(line)?,
             "offer" => self.tell_offer(line)?,
@@ -108,6 +111,15 @@ impl Setup {
         self.node.lines = lines;
         self.node.incarnation = incarnation;
         self.node.timer = timer;
+        Ok(())
+    }
+
+    fn tell_prompt(&mut self, line: &str) -> Result<(), ScriptFault> {
+        if choice(Pair::Cores, line, 1)? {
+            self.server.prompt = true;
+        } else {
+            self.node.prompt = true;
+        }
         Ok(())
     }
 

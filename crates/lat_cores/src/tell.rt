@@ -7,15 +7,14 @@ use crate::station::Station;
 use lat_script::{
     ScriptFault, address, byte, no_command, number, number_onto, short, state_onto, word,
 };
-use std::alloc::Global;
 
 impl<S: Station, N: Station> Play<S, N> {
     /// What is told at a question.
-    pub fn tell(&self, alloc: Global, line: &str, text: &mut String) -> Result<(), ScriptFault> {
+    pub fn tell(&self, line: &str, text: &mut String) -> Result<(), ScriptFault> {
         match word(line, 0) {
             "record" => {
                 let record = self.server.record_at(number(line, 1)? as usize);
-                Ok(record_onto(alloc, text, record)?)
+                Ok(record_onto(text, record)?)
             }
             "used" => {
                 let used = self.node.used().ok_or(no_command(0))?;
@@ -23,8 +22,8 @@ impl<S: Station, N: Station> Play<S, N> {
             }
             "moment" | "finished" | "span" | "names" | "book" | "state" | "waiting" => {
                 match side_at(line, 1)? {
-                    Side::Server => tell_onto(alloc, &self.server, line, text),
-                    Side::Node => tell_onto(alloc, &self.node, line, text),
+                    Side::Server => tell_onto(&self.server, line, text),
+                    Side::Node => tell_onto(&self.node, line, text),
                 }
             }
             _ => Err(no_command(0)),
@@ -33,30 +32,24 @@ impl<S: Station, N: Station> Play<S, N> {
 }
 
 // What a core tells.
-fn tell_onto<C: Station>(
-    alloc: Global,
-    post: &Post<C>,
-    line: &str,
-    text: &mut String,
-) -> Result<(), ScriptFault> {
+fn tell_onto<C: Station>(post: &Post<C>, line: &str, text: &mut String) -> Result<(), ScriptFault> {
     match word(line, 0) {
         "moment" => Ok(number_onto(text, post.moment())?),
         "finished" => Ok(number_onto(text, u64::from(post.finished()))?),
         "span" => Ok(text.push_str(span_word(post.span(short(line, 2)?)))?),
         "names" => Ok(text.push_str(yes_word(names(post, line)?))?),
-        _ => tell_line_onto(alloc, post, line, text),
+        _ => tell_line_onto(post, line, text),
     }
 }
 
 // What a core tells of a line.
 fn tell_line_onto<C: Station>(
-    alloc: Global,
     post: &Post<C>,
     line: &str,
     text: &mut String,
 ) -> Result<(), ScriptFault> {
     match word(line, 0) {
-        "book" => Ok(book_onto(alloc, text, post.book(byte(line, 2)?))?),
+        "book" => Ok(book_onto(text, post.book(byte(line, 2)?))?),
         "state" => Ok(state_onto(text, post.state(byte(line, 2)?))?),
         "waiting" => Ok(number_onto(text, u64::from(post.waiting(byte(line, 2)?)))?),
         _ => Err(no_command(0)),

@@ -3,7 +3,7 @@ use Rattle.std.proofs.Common.{◌≡◌, ℕ, refl, sym, ap, ap₂, ◌∙◌, L
 use Rattle.std.specs.Prelude.{codes, decimal}
 use Rattle.std.specs.List.{flat_map}
 use Rattle.lat_machines.specs.values.Notices as notices
-use Rattle.lat_machines.specs.values.Answers.{Heard, Running, Taken, Again, AckOnly, Foreign, Broke, Ended, Answer, Circuit, Started, StartRefused, Announced, DirectoryFull, KeptIs, NotKept, Noted, Apart, Solicited, Ignored, Bad, Done, Connected, Accepted, Took, NoLine, Busy, NoService, SessionsFull, CircuitsFull, IdsOut, Closed, Full, IdUsed, NotHere}
+use Rattle.lat_machines.specs.values.Answers.{Heard, Running, Taken, Again, AckOnly, Foreign, Broke, Ended, Answer, Circuit, Started, StartRefused, Announced, DirectoryFull, KeptIs, NotKept, Noted, Apart, Solicited, Ignored, Bad, Done, Connected, Accepted, Took, NoLine, Busy, NoService, SessionsFull, CircuitsFull, IdsOut, Closed, Full, IdUsed, NotHere, Halted}
 use Rattle.lat_machines.specs.world.Machines.{NotedEvent}
 use Rattle.lat_lines.specs.AnswerValues.{answer_shown, answer_of}
 use Rattle.lat_payload.specs.FieldNumbers.{field_of}
@@ -61,6 +61,7 @@ note_back Closed = refl
 note_back Full = refl
 note_back IdUsed = refl
 note_back NotHere = refl
+note_back Halted = refl
 
 abbrev info_line : NoteInfo → List ℕ
 info_line t = event_text (record { event = t.event; answer = answer_shown t.answer })

@@ -23,6 +23,9 @@ told_local to server (events.Close line) t = refl
 told_local to server (events.Request at id service) t = refl
 told_local to server (events.Cancel id) t = refl
 told_local to server events.Announce t = refl
+told_local to server (events.Avoid line) t = refl
+told_local to server (events.Ready line ready) t = refl
+told_local to server events.Halt t = refl
 
 pub event_plays : (to : Addr) (e : WorldEvent) → IsEvent to e → IsPlayable e
 event_plays to (Local server event) t = told_local to server event t

@@ -70,13 +70,13 @@ fn places_of(alloc: Global, server: &ServerCore) -> Result<Vec<Option<Key>>, Mem
 }
 
 // Appends the grants of these places, in order.
-fn places_onto(alloc: Global, places: &[Option<Key>], out: &mut String) -> Result<(), Memory>
+fn places_onto(places: &[Option<Key>], out: &mut String) -> Result<(), Memory>
     ensures { OnOk result (string_bytes out.new
         ≡ string_bytes out.old ++ flat_map place_text places.now) }
 {
     for place in places {
         if let Some(key) = place {
-            grant_onto(alloc, out, key)?;
+            grant_onto(out, key)?;
         }
     }
     Ok(())
@@ -93,6 +93,6 @@ pub(crate) fn grants_onto(
         string_bytes out.new ≡ string_bytes out.old ++ flat_map grant_text (grants_of s.queue)) }
 {
     let places = places_of(alloc, server)?;
-    places_onto(alloc, places.as_slice(), out)?;
+    places_onto(places.as_slice(), out)?;
     Ok(())
 }

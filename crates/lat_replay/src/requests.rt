@@ -10,14 +10,9 @@ ghost use Rattle.lat_replay.specs.Requests.{request_rows};
 use lat_base::Memory;
 use lat_server::ServerCore;
 use lat_wire::request_onto;
-use std::alloc::Global;
 
 /// Appends what became of each request, in the order of their first commands.
-pub(crate) fn requests_onto(
-    alloc: Global,
-    server: &ServerCore,
-    out: &mut String,
-) -> Result<(), Memory>
+pub(crate) fn requests_onto(server: &ServerCore, out: &mut String) -> Result<(), Memory>
     ensures { OnOk result ((s : Server) →
         Stands server.now s →
         string_bytes out.new
@@ -25,7 +20,7 @@ pub(crate) fn requests_onto(
 {
     let mut place = 0;
     while let Some(request) = server.record_at(place) {
-        request_onto(alloc, out, &request)?;
+        request_onto(out, &request)?;
         place += 1;
     }
     Ok(())

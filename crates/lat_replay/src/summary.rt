@@ -32,7 +32,7 @@ fn queue_onto(alloc: Global, server: &ServerCore, out: &mut String) -> Result<()
         ≡ string_bytes out.old ++ flat_map request_text (request_rows s.queue)
         ++ flat_map grant_text (grants_of s.queue)) }
 {
-    requests_onto(alloc, server, out)?;
+    requests_onto(server, out)?;
     grants_onto(alloc, server, out)?;
     Ok(())
 }

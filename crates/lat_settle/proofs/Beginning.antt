@@ -12,6 +12,7 @@ use Rattle.lat_model.specs.Lists.{Each}
 use Rattle.lat_replay.specs.Moves.{move_of, moment_behind}
 use Rattle.lat_replay.specs.Played.{State, open_state, next, refusal}
 use Rattle.lat_replay.specs.Setups.{setups_shown}
+use Rattle.lat_laws.specs.rounds.Calm.{CalmMove}
 use Rattle.lat_laws.specs.rounds.Settles.{Usual, ShortMove}
 use Rattle.lat_laws.proofs.rounds.ready.Moments.{BothUntil, tell_until}
 use Rattle.lat_payload.specs.Reads.{reading_of}
@@ -29,7 +30,7 @@ use Rattle.lat_wire.specs.Rates.{rates}
 use Rattle.lat_wire.specs.Refusals.{first_of, full}
 use Rattle.lat_settle.specs.Events.{behind}
 use Rattle.lat_settle.specs.Told.{NoneRefused}
-use Rattle.lat_settle.specs.Laws.{SchedulesBegin, SchedulesLeaveRoom}
+use Rattle.lat_settle.specs.Laws.{HaltsNobody, SchedulesBegin, SchedulesLeaveRoom}
 use Rattle.lat_settle.proofs.Passing.{passed}
 use Rattle.lat_settle.proofs.Running.{times_more}
 
@@ -81,6 +82,9 @@ short_move u w moment to (Local server (events.Close line)) t = tt
 short_move u w moment to (Local server (events.Request at id service)) t = tt
 short_move u w moment to (Local server (events.Cancel id)) t = tt
 short_move u w moment to (Local server events.Announce) t = tt
+short_move u w moment to (Local server (events.Avoid line)) t = tt
+short_move u w moment to (Local server (events.Ready line ready)) t = tt
+short_move u w moment to (Local server events.Halt) t = tt
 short_move u w moment to (Deliver index) t = tt
 short_move u w moment to (Inject server from payload) t = tt
 
@@ -88,6 +92,30 @@ short_moves : (u : Setups) (to : Addr) (s : State) (es : List WorldEvent) → Ea
 unfolding moves_of
 short_moves u to s [] h = tt
 short_moves u to s (e ∷ es) h = (short_move u s.machines s.moment to e h.0, short_moves u to (next u s e) es h.1)
+
+-- an event that halts nobody is a calm move
+calm_move : (u : Setups) (w : Machines) (moment : ℕ) (e : WorldEvent) → HaltsNobody e → CalmMove (move_of u w moment e)
+calm_move u w moment (Local server (events.Heard from payload now)) h = tt
+calm_move u w moment (Local server (events.Time now)) h = tt
+calm_move u w moment (Local server (events.Connect line service)) h = tt
+calm_move u w moment (Local server (events.Put line bytes)) h = tt
+calm_move u w moment (Local server (events.Set line setting)) h = tt
+calm_move u w moment (Local server (events.Take line n)) h = tt
+calm_move u w moment (Local server (events.Attend line flag)) h = tt
+calm_move u w moment (Local server (events.Close line)) h = tt
+calm_move u w moment (Local server (events.Request at id service)) h = tt
+calm_move u w moment (Local server (events.Cancel id)) h = tt
+calm_move u w moment (Local server events.Announce) h = tt
+calm_move u w moment (Local server (events.Avoid line)) h = tt
+calm_move u w moment (Local server (events.Ready line ready)) h = tt
+calm_move u w moment (Local server events.Halt) h = absurd h
+calm_move u w moment (Deliver index) h = tt
+calm_move u w moment (Inject server from payload) h = tt
+
+calm_moves : (u : Setups) (s : State) (es : List WorldEvent) → Each HaltsNobody es → Each CalmMove (moves_of u s es)
+unfolding moves_of
+calm_moves u s [] h = tt
+calm_moves u s (e ∷ es) h = (calm_move u s.machines s.moment e h.0, calm_moves u (next u s e) es h.1)
 
 -- no core's moment is past that of the schedule
 
@@ -132,6 +160,9 @@ until_next u s (Local b (events.Close line)) q h = tell_until u s.moment s.machi
 until_next u s (Local b (events.Request to id service)) q h = tell_until u s.moment s.machines b (event_shown (events.Request to id service)) (rates u s.machines) tt h
 until_next u s (Local b (events.Cancel id)) q h = tell_until u s.moment s.machines b (event_shown (events.Cancel id)) (rates u s.machines) tt h
 until_next u s (Local b events.Announce) q h = tell_until u s.moment s.machines b (event_shown events.Announce) (rates u s.machines) tt h
+until_next u s (Local b (events.Avoid line)) q h = tell_until u s.moment s.machines b (event_shown (events.Avoid line)) (rates u s.machines) tt h
+until_next u s (Local b (events.Ready line ready)) q h = tell_until u s.moment s.machines b (event_shown (events.Ready line ready)) (rates u s.machines) tt h
+until_next u s (Local b events.Halt) q h = tell_until u s.moment s.machines b (event_shown events.Halt) (rates u s.machines) tt h
 until_next u s (Deliver i) q h = until_come u s.moment i (rates u s.machines) s.machines h
 until_next u s (Inject b from payload) q h =
     until_cond s.moment (is_own u (address from.0)) s.machines (tell u s.machines b (Hears (address from.0) (reading_of payload) None s.moment) (rates u s.machines)) h
@@ -146,11 +177,12 @@ until_open : (u : Setups) → Until (open_state u)
 until_open u = record { server = omega arith; node = omega arith }
 
 pub schedules_begin : SchedulesBegin
-schedules_begin setup es t h each q lossless = record {
+schedules_begin setup es t h calm each q lossless = record {
   fit = fit_of setup h;
   usual = usual_of setup h;
   moves = moves_of u s es;
   short = short_moves u setup.server.own s es each;
+  calm = record { patient = record { server = calm.server; node = calm.node }; calm = calm_moves u s es calm.events };
   reached = ap (λ z. z.machines) p.1 ∙ moved_behind u s es;
   lossless = lossless;
   server = until.server;
@@ -183,6 +215,9 @@ early_next m to (Local server (events.Close line)) t l = l
 early_next m to (Local server (events.Request at id service)) t l = l
 early_next m to (Local server (events.Cancel id)) t l = l
 early_next m to (Local server events.Announce) t l = l
+early_next m to (Local server (events.Avoid line)) t l = l
+early_next m to (Local server (events.Ready line ready)) t l = l
+early_next m to (Local server events.Halt) t l = l
 early_next m to (Deliver index) t l = l
 early_next m to (Inject server from payload) t l = l
 

@@ -153,6 +153,7 @@ begins_next u s b = record {
   usual = b.usual;
   moves = r.moves;
   short = r.short;
+  calm = r.calm;
   reached = d.machines ∙ r.there;
   lossless = subst (Lossless u) (sym d.machines) r.lossless;
   server = subst (λ z. z.server.core.moment ≤ t.moment) (sym d.machines) (subst (λ z. here.server.core.moment ≤ z) (sym d.moment) until.server);

@@ -1,5 +1,6 @@
 -- What rounds bring where nothing was lost.
-use Rattle.std.specs.Prelude.{◌≡◌, ℕ, ◌<◌, ◌≤◌, ◌^◌, ◌⊎◌, List, length}
+use Rattle.std.specs.Prelude.{◌≡◌, ℕ, ◌<◌, ◌≤◌, ◌^◌, ◌⊎◌, false, List, length}
+use Rattle.lat_base.specs.declared.event.Event.TheVariants.{Halt}
 use Rattle.lat_machines.specs.world.Machines.{Setups}
 use Rattle.lat_machines.specs.world.Reports.{report}
 use Rattle.lat_model.specs.Lists.{Each}
@@ -12,6 +13,7 @@ use Rattle.lat_laws.specs.rounds.Settles.{Begins, Enough, Settled}
 use Rattle.lat_schedule.specs.Events.{IsEvent}
 use Rattle.lat_schedule.specs.Setups.{IsSetup}
 use Rattle.lat_schedule.specs.declared.event.WorldEvent.{WorldEvent}
+use Rattle.lat_schedule.specs.declared.event.WorldEvent.TheVariants.{Local}
 use Rattle.lat_schedule.specs.declared.setup.Setup.{Setup}
 use Rattle.lat_wire.specs.declared.fault.EventFault.{EventFault}
 use Rattle.lat_wire.specs.declared.fault.EventFault.TheVariants.{FramesFull, Memory}
@@ -54,11 +56,23 @@ EnoughSettle =
     Enough n (report u t.machines) →
     Settled u t.machines
 
--- a schedule that loses nothing leads to a state at which rounds may begin
+-- an event that halts nobody
+abbrev pub HaltsNobody : WorldEvent → Type 0
+HaltsNobody (Local server Halt) = ⊥
+HaltsNobody event = Unit {0}
+
+-- neither end is prompt, and nobody is halted
+pub record IsCalm (setup : Setup) (es : List WorldEvent) : Type 0 where
+  pub server : setup.server.prompt ≡ false
+  pub node : setup.node.prompt ≡ false
+  pub events : Each HaltsNobody es
+
+-- a calm schedule that loses nothing leads to a state at which rounds may begin
 abbrev pub SchedulesBegin : Type 0
 SchedulesBegin =
     (setup : Setup) (es : List WorldEvent) (t : State) →
     IsSetup setup →
+    IsCalm setup es →
     Each (IsEvent setup.server.own) es →
     played (setups_shown setup) (open_state (setups_shown setup)) es ≡ Through t →
     Lossless (setups_shown setup) t.machines →

@@ -14,7 +14,8 @@ pub fn enough_settle()
     ensures { EnoughSettle }
 {}
 
-/// A schedule's text grants all that this asks for: where a schedule loses nothing, rounds may begin behind it.
+/// A schedule's text grants all that this asks for: where a schedule loses nothing, halts nobody and has no prompt end, rounds
+/// may begin behind it.
 pub fn schedules_begin()
     ensures { SchedulesBegin }
 {}

@@ -1,7 +1,7 @@
 -- The answers that are noted.
 use Rattle.std.proofs.Common.{◌≡◌, refl}
 use Rattle.lat_machines.specs.values.Notices as kepts
-use Rattle.lat_machines.specs.values.Answers.{Running, Taken, Again, AckOnly, Foreign, Broke, Ended, Answer, Circuit, Started, StartRefused, Announced, DirectoryFull, KeptIs, NotKept, Noted, Apart, Solicited, Ignored, Bad, Done, Connected, Accepted, Took, NoLine, Busy, NoService, SessionsFull, CircuitsFull, IdsOut, Closed, Full, IdUsed, NotHere}
+use Rattle.lat_machines.specs.values.Answers.{Running, Taken, Again, AckOnly, Foreign, Broke, Ended, Answer, Circuit, Started, StartRefused, Announced, DirectoryFull, KeptIs, NotKept, Noted, Apart, Solicited, Ignored, Bad, Done, Connected, Accepted, Took, NoLine, Busy, NoService, SessionsFull, CircuitsFull, IdsOut, Closed, Full, IdUsed, NotHere, Halted}
 use Rattle.lat_machines.specs.world.Machines.{is_noted}
 use Rattle.lat_lines.specs.AnswerValues.{answer_shown, answer_of}
 
@@ -45,3 +45,4 @@ noted_same Closed = refl
 noted_same Full = refl
 noted_same IdUsed = refl
 noted_same NotHere = refl
+noted_same Halted = refl

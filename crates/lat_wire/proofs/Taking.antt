@@ -5,8 +5,8 @@ use Rattle.lat_base.specs.declared.event.Event.TheVariants as events
 use Rattle.lat_model.specs.sessions.Slots.{Slot}
 use Rattle.lat_machines.specs.values.Messages.{Head, RunMessage, WideMessage, StartMessage, StopMessage}
 use Rattle.lat_machines.specs.values.Frames.{Reading, Value, OfCircuit, OfNotice, Whole, Malformed}
-use Rattle.lat_machines.specs.values.Events.{Event, Numbers, Hears, Time, Connects, Puts, Sets, Takes, Attends, Closes, Requests, Withdraws, Announces}
-use Rattle.lat_machines.specs.values.Answers.{Running, Taken, Again, AckOnly, Foreign, Broke, Ended, Answer, Circuit, Started, StartRefused, Announced, DirectoryFull, KeptIs, NotKept, Noted, Apart, Solicited, Ignored, Bad, Done, Connected, Accepted, Took, NoLine, Busy, NoService, SessionsFull, CircuitsFull, IdsOut, Closed, Full, IdUsed, NotHere}
+use Rattle.lat_machines.specs.values.Events.{Event, Numbers, Hears, Time, Connects, Puts, Sets, Takes, Attends, Closes, Requests, Withdraws, Announces, Avoids, Readies, Halts}
+use Rattle.lat_machines.specs.values.Answers.{Running, Taken, Again, AckOnly, Foreign, Broke, Ended, Answer, Circuit, Started, StartRefused, Announced, DirectoryFull, KeptIs, NotKept, Noted, Apart, Solicited, Ignored, Bad, Done, Connected, Accepted, Took, NoLine, Busy, NoService, SessionsFull, CircuitsFull, IdsOut, Closed, Full, IdUsed, NotHere, Halted}
 use Rattle.lat_machines.specs.values.Addresses.{address}
 use Rattle.lat_machines.specs.world.Machines.{Setups, Machines}
 use Rattle.lat_machines.specs.world.Safe.{answer_by}
@@ -56,6 +56,7 @@ meaning Closed = Other Closed refl (λ f h s k n x. refl) (λ f h s k n x. refl)
 meaning Full = Other Full refl (λ f h s k n x. refl) (λ f h s k n x. refl)
 meaning IdUsed = Other IdUsed refl (λ f h s k n x. refl) (λ f h s k n x. refl)
 meaning NotHere = Other NotHere refl (λ f h s k n x. refl) (λ f h s k n x. refl)
+meaning Halted = Other Halted refl (λ f h s k n x. refl) (λ f h s k n x. refl)
 
 -- another answer counts for no circuit
 none_taken : (a : Answer) (e : Event) (x : ℕ) → ((from : ℕ) (h : Head) (slots : List Slot) (k : Option Numbers) (now x : ℕ) → taken_by (Hears from (Whole (OfCircuit (RunMessage h slots))) k now) a x ≡ 0) → ((from : ℕ) (h : Head) (slots : List Slot) (k : Option Numbers) (now x : ℕ) → taken_by (Hears from (Whole (OfCircuit (WideMessage h slots))) k now) a x ≡ 0) → taken_by e a x ≡ 0
@@ -75,6 +76,9 @@ none_taken a (Closes line) x r w = refl
 none_taken a (Requests to id service) x r w = refl
 none_taken a (Withdraws id) x r w = refl
 none_taken a Announces x r w = refl
+none_taken a (Avoids line) x r w = refl
+none_taken a (Readies line ready) x r w = refl
+none_taken a Halts x r w = refl
 
 value_taken : (from now n x : ℕ) (k : Option Numbers) (v : Value) → taken_by (Hears from (Whole v) k now) (Circuit (Taken n)) x ≡ counted_at (option_map (λ (h : Heading). h.to) (heading_of v)) x
 value_taken from now n x k (OfCircuit (RunMessage h slots)) = refl
@@ -104,6 +108,9 @@ event_taken u w b (events.Close line) n x i a = refl
 event_taken u w b (events.Request to id service) n x i a = refl
 event_taken u w b (events.Cancel id) n x i a = refl
 event_taken u w b events.Announce n x i a = refl
+event_taken u w b (events.Avoid line) n x i a = refl
+event_taken u w b (events.Ready line ready) n x i a = refl
+event_taken u w b events.Halt n x i a = refl
 
 -- what is counted of an event is what the machine counts
 pub taken_told : (u : Setups) (w : Machines) (b : Bool) (e : base.Event) (x : ℕ) → (is_taken (answer_of (answer_by u w b (event_shown e))) ≡ true → HeadsRead e) → taken_by (event_shown e) (answer_by u w b (event_shown e)) x ≡ counted_at (taker_of e (answer_of (answer_by u w b (event_shown e)))) x

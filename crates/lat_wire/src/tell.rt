@@ -84,7 +84,10 @@ impl<H: RatingRule> Wire<H> {
             | Event::Close { .. }
             | Event::Request { .. }
             | Event::Cancel { .. }
-            | Event::Announce => Ok(last),
+            | Event::Announce
+            | Event::Avoid { .. }
+            | Event::Ready { .. }
+            | Event::Halt => Ok(last),
         }
     }
 
@@ -333,7 +336,10 @@ fn named_by(event: &Event) -> Option<u16>
         | Event::Close { .. }
         | Event::Request { .. }
         | Event::Cancel { .. }
-        | Event::Announce => None,
+        | Event::Announce
+        | Event::Avoid { .. }
+        | Event::Ready { .. }
+        | Event::Halt => None,
     }
 }
 

@@ -119,3 +119,6 @@ asked_most k w b (events.Close line) h = omega arith
 asked_most k w b (events.Request to id service) h = omega arith
 asked_most k w b (events.Cancel id) h = omega arith
 asked_most k w b events.Announce h = omega arith
+asked_most k w b (events.Avoid line) h = omega arith
+asked_most k w b (events.Ready line ready) h = omega arith
+asked_most k w b events.Halt h = omega arith

@@ -82,7 +82,10 @@ fn line_in(event: &Event) -> u8
         | Event::Close { .. }
         | Event::Request { .. }
         | Event::Cancel { .. }
-        | Event::Announce => 0,
+        | Event::Announce
+        | Event::Avoid { .. }
+        | Event::Ready { .. }
+        | Event::Halt => 0,
     }
 }
 
@@ -101,7 +104,10 @@ fn put_most(event: &Event) -> usize
         | Event::Close { .. }
         | Event::Request { .. }
         | Event::Cancel { .. }
-        | Event::Announce => 0,
+        | Event::Announce
+        | Event::Avoid { .. }
+        | Event::Ready { .. }
+        | Event::Halt => 0,
     }
 }
 

@@ -1,7 +1,7 @@
 -- What is printed of an answer that a report notes.
 use Rattle.std.specs.Prelude.{ℕ, List, [], ◌++◌, codes, decimal}
 use Rattle.lat_base.specs.FieldWords.{field_word}
-use Rattle.lat_machines.specs.values.Answers.{Broke, Answer, Circuit, StartRefused, DirectoryFull, KeptIs, Bad, NoLine, Busy, NoService, SessionsFull, CircuitsFull, IdsOut, Closed, Full, IdUsed}
+use Rattle.lat_machines.specs.values.Answers.{Broke, Answer, Circuit, StartRefused, DirectoryFull, KeptIs, Bad, NoLine, Busy, NoService, SessionsFull, CircuitsFull, IdsOut, Closed, Full, IdUsed, Halted}
 use Rattle.lat_machines.specs.values.Notices.{RecordsFull}
 use Rattle.lat_payload.specs.FieldNumbers.{field_of}
 
@@ -20,6 +20,7 @@ refusal_word IdsOut = codes "ids-out"
 refusal_word Closed = codes "closed"
 refusal_word Full = codes "full"
 refusal_word IdUsed = codes "id-used"
+refusal_word Halted = codes "halted"
 refusal_word DirectoryFull = codes "directory-full"
 refusal_word StartRefused = codes "start-refused"
 refusal_word (KeptIs RecordsFull) = codes "records-full"

@@ -22,6 +22,7 @@ refusal_answer refusals.IdsOut = answers.IdsOut
 refusal_answer refusals.Closed = answers.Closed
 refusal_answer refusals.Full = answers.Full
 refusal_answer refusals.IdUsed = answers.IdUsed
+refusal_answer refusals.Halted = answers.Halted
 refusal_answer refusals.DirectoryFull = answers.DirectoryFull
 refusal_answer refusals.StartRefused = answers.StartRefused
 refusal_answer refusals.RecordsFull = answers.Kept kepts.RecordsFull

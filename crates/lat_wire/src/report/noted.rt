@@ -22,6 +22,7 @@ pub enum Refusal {
     Closed,
     Full,
     IdUsed,
+    Halted,
     DirectoryFull,
     StartRefused,
     /// A command that found as many records as are kept.
@@ -53,6 +54,7 @@ impl Refusal {
             Refusal::Closed => "closed",
             Refusal::Full => "full",
             Refusal::IdUsed => "id-used",
+            Refusal::Halted => "halted",
             Refusal::DirectoryFull => "directory-full",
             Refusal::StartRefused => "start-refused",
             Refusal::RecordsFull => "records-full",
@@ -110,6 +112,7 @@ impl Noted {
             Answer::Closed => Some(Noted::Refused(Refusal::Closed)),
             Answer::Full => Some(Noted::Refused(Refusal::Full)),
             Answer::IdUsed => Some(Noted::Refused(Refusal::IdUsed)),
+            Answer::Halted => Some(Noted::Refused(Refusal::Halted)),
             Answer::Started(_)
             | Answer::Announced
             | Answer::NotKept

@@ -68,7 +68,7 @@ fn item_onto(alloc: Global, text: &mut String, item: Item) -> Result<(), AllocEr
         ≡ string_bytes text.old ++ item_text (item_shown item)) }
 {
     match item {
-        Item::Byte(byte) => byte_onto(alloc, text, byte),
+        Item::Byte(byte) => byte_onto(text, byte),
         Item::Set(setting) => {
             text.push_str("(")?;
             hex_onto(alloc, text, &setting)?;
@@ -181,12 +181,12 @@ pub fn session_onto(
 }
 
 #[tactic(auto, unfolding(crate::specs::report::ReportText::key_text))]
-fn key_onto(alloc: Global, text: &mut String, key: &Key) -> Result<(), AllocError>
+fn key_onto(text: &mut String, key: &Key) -> Result<(), AllocError>
     ensures { OnOk result (string_bytes text.new
         ≡ string_bytes text.old ++ key_text (key_shown key.now)) }
 {
     let (incarnation, request) = (key.incarnation, key.request);
-    name_onto(alloc, text, &key.node)?;
+    name_onto(text, &key.node)?;
     write!(text, " {incarnation} {request}")
 }
 
@@ -206,26 +206,26 @@ fn kept_word(kept: Kept) -> &'static str
 }
 
 /// Adds the line of a request. After want of memory a part of it may stand in the text.
-pub fn request_onto(alloc: Global, text: &mut String, request: &Record) -> Result<(), AllocError>
+pub fn request_onto(text: &mut String, request: &Record) -> Result<(), AllocError>
     ensures { OnOk result (string_bytes text.new
         ≡ string_bytes text.old ++ request_text (record_shown request.now)) }
 {
     text.push_str("request ")?;
-    key_onto(alloc, text, &request.key)?;
+    key_onto(text, &request.key)?;
     text.push_str(" ")?;
-    name_onto(alloc, text, &request.service)?;
+    name_onto(text, &request.service)?;
     text.push_str(" ")?;
     text.push_str(kept_word(request.kept))?;
     text.push_str("\n")
 }
 
 /// Adds the line of a grant. After want of memory a part of it may stand in the text.
-pub fn grant_onto(alloc: Global, text: &mut String, key: &Key) -> Result<(), AllocError>
+pub fn grant_onto(text: &mut String, key: &Key) -> Result<(), AllocError>
     ensures { OnOk result (string_bytes text.new
         ≡ string_bytes text.old ++ grant_text (key_shown key.now)) }
 {
     text.push_str("grant ")?;
-    key_onto(alloc, text, key)?;
+    key_onto(text, key)?;
     text.push_str("\n")
 }
 
