@@ -1,41 +1,33 @@
 -- What is printed at the end.
-use Rattle.std.specs.Prelude.{◌≡◌, ℕ, ◌+◌, ◌==◌, ◌⊎◌, List, [], ◌∷◌, ◌++◌, length, take, codes, decimal, sum_by, if◌then◌else◌, Option, Some, None}
+use Rattle.std.specs.Prelude.{◌≡◌, ℕ, ◌+◌, ◌⊎◌, List, [], ◌∷◌, ◌++◌, length, take, codes, decimal, Option, Some, None}
 use Rattle.std.specs.Io.KnownBytes.{Appends}
-use Rattle.lat_base.specs.Answers.{items_given}
 use Rattle.lat_outside.specs.Causes.{Rose}
-use Rattle.lat_history.specs.declared.past.Past.{Past}
-use Rattle.lat_history.specs.declared.fault.FullAt.{FullAt}
+use Rattle.lat_past.specs.declared.past.Past.{Past}
+use Rattle.lat_past.specs.Counts.{past_bytes, past_items}
 use Rattle.lat_history.specs.declared.fault.SeatFault.{SeatFault}
 use Rattle.lat_history.specs.CellView.{SeatView}
-use Rattle.lat_history.specs.Counts.{seat_of}
-use Rattle.lat_history.specs.Audits.{past_bytes, audit_of}
+use Rattle.lat_history.specs.Audits.{audit_of}
 use Rattle.lat_cell.specs.declared.seat.LineDone.{LineDone}
 use Rattle.lat_cell.specs.declared.seat.LineDone.TheVariants as done
 
 abbrev pub word_of : LineDone → List ℕ
 word_of done.End = codes "end"
 word_of done.Fault = codes "fault"
-word_of done.Full = codes "full"
+word_of done.CountsOut = codes "counts-out"
 word_of done.Memory = codes "memory"
 
-abbrev pub took_at : ℕ → Past → ℕ
-took_at line p = if seat_of p.event == line then items_given p.answer else 0
-
--- how many items a line took
-abbrev pub took_items : ℕ → List Past → ℕ
-took_items line h = sum_by (took_at line) h
-
-abbrev pub line_text : ℕ → List Past → LineDone → List ℕ
-line_text k h d =
+-- of a line that put so many bytes and took so many items
+abbrev pub line_text : ℕ → ℕ → ℕ → LineDone → List ℕ
+line_text k put took d =
     codes "line " ++ (decimal k
-    ++ (codes " put " ++ (decimal (past_bytes k h)
-    ++ (codes " took " ++ (decimal (took_items k h)
+    ++ (codes " put " ++ (decimal put
+    ++ (codes " took " ++ (decimal took
     ++ (codes " end " ++ (word_of d ++ codes "\n")))))))
 
--- the lines from this number on
+-- the lines from this number on, by the whole history
 abbrev pub lines_text : ℕ → List Past → List LineDone → List ℕ
 lines_text k h [] = []
-lines_text k h (d ∷ ds) = line_text k h d ++ lines_text (k + 1) h ds
+lines_text k h (d ∷ ds) = line_text k (past_bytes k h) (past_items k h) d ++ lines_text (k + 1) h ds
 
 abbrev pub end_text : List Past → List LineDone → List ℕ
 end_text h ends = codes "events " ++ (decimal (length h) ++ (codes "\n" ++ lines_text 1 h ends))
@@ -48,18 +40,17 @@ abbrev pub shown_of : Option SeatFault → List Past → List LineDone → List 
 shown_of (Some f) h ends = fault_text f
 shown_of None h ends = end_text h ends
 
-abbrev pub status_of : Option SeatFault → Option FullAt → ℕ
-status_of (Some f) full = 7
-status_of None (Some at) = 6
-status_of None None = 0
+abbrev pub status_of : Option SeatFault → ℕ
+status_of (Some f) = 7
+status_of None = 0
 
 -- What was written and answered at the end of a cell with these shares and ends: the whole text; or status 5, where the sink's
 -- count of faults rose and a prefix was written; or status 9, want of memory, where nothing was
 pub record Ended (written_before written_now : Option (List ℕ)) (faults_before faults_now : ℕ) (h : List Past)
-    (full : Option FullAt) (shares : List SeatView) (ends : List LineDone) (status : ℕ) : Type 0 where
+    (shares : List SeatView) (ends : List LineDone) (status : ℕ) : Type 0 where
   pub written : (status ≡ 5) ⊎ ((status ≡ 9)
       ⊎ (Appends written_before written_now (shown_of (audit_of h shares) h ends)
-      × (status ≡ status_of (audit_of h shares) full)))
+      × (status ≡ status_of (audit_of h shares))))
   pub fault : status ≡ 5 → Rose faults_before faults_now
   pub part : status ≡ 5 → (n : ℕ) × Appends written_before written_now (take n (shown_of (audit_of h shares) h ends))
   pub silent : status ≡ 9 → written_now ≡ written_before

@@ -1,46 +1,55 @@
 //! The wire's worker.
 
-ghost use Rattle.std.specs.Prelude.{◌≡◌, ◌||◌, is_some};
+ghost use Rattle.std.specs.Prelude.{◌≡◌, ◌≤◌, IfOk, OnErr};
+ghost use Rattle.lat_cell.specs.Wires.{heard_event};
+ghost use Rattle.lat_history.specs.Asked.{Tried};
+ghost use Rattle.lat_history.specs.History.{state_of};
+ghost use Rattle.lat_outside.specs.Carriers.{frame_bytes};
 
-use lat_base::{Addr, Bytes, Core, Event, PAYLOAD_BYTES};
-use lat_history::{Cell, LineShare};
+use lat_base::{Bytes, Core, Event, PAYLOAD_BYTES};
+use lat_history::{Cell, CellFault, LineShare};
 use lat_outside::{Failed, Got, Rx, Tx};
 use std::alloc::Global;
 use std::sync::ledger::Ledger;
 use std::sync::{Mutex, Wait};
 
-fn over<C: Core, T: Tx, E: Ledger, B: Ledger, F: Ledger>(cell: &Cell<C, T, E, B, F>) -> bool
-    ensures { result ≡ (cell.now.stopping || is_some cell.now.full) }
-{
-    cell.stopping() || cell.full().is_some()
-}
-
-// Applies what was heard, with the cell's moment. An event for which no memory is found is left out.
-fn hear<C: Core, T: Tx, E: Ledger, B: Ledger, F: Ledger>(
+/// Applies what the wire brought, with the cell's moment: a frame whole, and nothing where none came or the read failed. It
+/// tells the event's place.
+pub fn hear<C: Core, T: Tx, E: Ledger, B: Ledger>(
     alloc: Global,
-    cell: &mut Cell<C, T, E, B, F>,
-    share: &mut LineShare<E, B, F>,
-    from: Addr,
-    payload: Bytes,
-)
-    requires { share.old.seat ≡ 0 }
-    ensures { (share.new.seat ≡ share.old.seat) × (share.new.parts ≡ share.old.parts) }
+    cell: &mut Cell<C, T, E, B>,
+    share: &mut LineShare<E, B>,
+    got: Result<Got, Failed>,
+    buf: &[u8; PAYLOAD_BYTES],
+) -> Result<Option<u64>, CellFault>
+    requires seat { share.old.seat ≡ 0 }
+    requires bound { IfOk got (λ g. frame_bytes g ≤ 1500) }
+    ensures tried { Tried C.opening C.next C.answer cell.old cell.new
+        (heard_event got buf.now (C.moment_of (state_of C.opening C.next cell.old))) result }
+    ensures refused { OnErr result (share.new ≡ share.old) }
+    ensures seat { (share.new.seat ≡ share.old.seat) × (share.new.parts ≡ share.old.parts) }
 {
-    let now = cell.moment();
-    let event = Event::Heard { from, payload, now };
-    let _ = cell.apply(alloc, event, share);
+    match got {
+        Ok(Got::Frame { from, len }) => {
+            let payload = Bytes::copy(alloc, &buf[..len as usize])?;
+            let now = cell.moment();
+            let event = Event::Heard { from, payload, now };
+            Ok(Some(cell.apply(alloc, event, share)?.place))
+        }
+        Ok(Got::Quiet) | Err(Failed) => Ok(None),
+    }
 }
 
-/// Applies what the wire brings, until the cell stops or is full. A frame for which no memory is found is left out. A read that
-/// fails is counted by the carrier alone: it brings nothing, as a quiet one, and the next follows at once. The worker itself
-/// never pauses, so a carrier whose every read fails without waiting is read without rest until the cell stops.
-pub fn wire_worker<C: Core, T: Tx, X: Rx, E: Ledger, B: Ledger, F: Ledger, R: Wait>(
+/// Applies what the wire brings, until the cell stops. A frame whose event is refused is left out. A read that fails is counted by
+/// the carrier alone: it brings nothing, as a quiet one, and the next follows at once. The worker itself never pauses, so a carrier
+/// whose every read fails without waiting is read without rest until the cell stops.
+pub fn wire_worker<C: Core, T: Tx, X: Rx, E: Ledger, B: Ledger, R: Wait>(
     rt: &R,
     alloc: Global,
-    cell: &Mutex<Cell<C, T, E, B, F>>,
-    share: LineShare<E, B, F>,
+    cell: &Mutex<Cell<C, T, E, B>>,
+    share: LineShare<E, B>,
     rx: X,
-) -> LineShare<E, B, F>
+) -> LineShare<E, B>
     requires { share.seat ≡ 0 }
     ensures { (result.seat ≡ share.seat) × (result.parts ≡ share.parts) }
 {
@@ -48,17 +57,11 @@ pub fn wire_worker<C: Core, T: Tx, X: Rx, E: Ledger, B: Ledger, F: Ledger, R: Wa
     let mut rx = rx;
     let mut buf = [0; PAYLOAD_BYTES];
     for _ in rt.forever() {
-        if over(&cell.lock(rt)) {
+        if cell.lock(rt).stopping() {
             return share;
         }
-        match rx.recv(&mut buf) {
-            Ok(Got::Frame { from, len }) => {
-                if let Ok(payload) = Bytes::copy(alloc, &buf[..len as usize]) {
-                    hear(alloc, &mut cell.lock(rt), &mut share, from, payload);
-                }
-            }
-            Ok(Got::Quiet) | Err(Failed) => {}
-        }
+        let got = rx.recv(&mut buf);
+        let _ = hear(alloc, &mut cell.lock(rt), &mut share, got, &buf);
     }
     unreachable!()
 }

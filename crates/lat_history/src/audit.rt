@@ -1,47 +1,19 @@
 //! Each seat's counts in the history against its share.
 
-ghost use Rattle.std.specs.Prelude.{◌≡◌, ◌+◌, ◌<◌, ◌≤◌, ◌*◌, ℕ, Ok, Err, Some, None, IfSome, IsOk, OnOk, length};
-ghost use Rattle.lat_history.specs.Audits.{past_events, past_bytes, share_events, share_bytes, share_at, differs, seat_fault, audit_of};
+ghost use Rattle.std.specs.Prelude.{◌≡◌, ◌<◌, ℕ, Err, Some, None, IsOk, OnOk};
+ghost use Rattle.lat_history.specs.Audits.{share_events, share_bytes, differs, seat_fault, audit_of};
 ghost use Rattle.lat_history.specs.Audits.{SeatAgrees, IsFirstToDiffer};
 
 use crate::cell::Cell;
 use crate::fault::SeatFault;
-use crate::past::{Past, SEATS, put, seat};
 use crate::share::LineShare;
 use lat_base::Core;
 use lat_outside::Tx;
+use lat_past::{History, SEATS};
 use std::sync::ledger::Ledger;
 
-/// How many of the history's events are of this seat.
-pub fn past_events(at: u8, history: &[Past]) -> u64
-    requires { length history.now ≤ 1000000 }
-    ensures { result ≡ past_events at history.now }
-{
-    let mut n = 0;
-    for p in history {
-        if seat(&p.event) == at {
-            n += 1;
-        }
-    }
-    n
-}
-
-/// How many bytes of this seat were put.
-pub fn past_bytes(at: u8, history: &[Past]) -> u64
-    requires { length history.now ≤ 1000000 }
-    ensures { result ≡ past_bytes at history.now }
-{
-    let mut n = 0;
-    for p in history {
-        if seat(&p.event) == at {
-            n += put(&p.answer) as u64;
-        }
-    }
-    n
-}
-
 // The share of this seat.
-fn counts_of<E: Ledger, B: Ledger, F: Ledger>(at: u8, shares: &[LineShare<E, B, F>]) -> (u64, u64)
+fn counts_of<E: Ledger, B: Ledger>(at: u8, shares: &[LineShare<E, B>]) -> (u64, u64)
     ensures events { result.0 ≡ share_events at shares.now }
     ensures bytes { result.1 ≡ share_bytes at shares.now }
 {
@@ -62,27 +34,23 @@ fn differs(seat: u8, kept: u64, share: u64) -> Option<SeatFault>
     Some(SeatFault { seat, kept, share })
 }
 
-fn seat_fault<E: Ledger, B: Ledger, F: Ledger>(
+fn seat_fault<E: Ledger, B: Ledger>(
     seat: u8,
-    history: &[Past],
-    shares: &[LineShare<E, B, F>],
+    history: &History,
+    shares: &[LineShare<E, B>],
 ) -> Option<SeatFault>
-    requires { length history.now ≤ 1000000 }
-    ensures { result ≡ seat_fault seat history.now shares.now }
+    ensures { result ≡ seat_fault seat history.now.items shares.now }
 {
+    let kept = history.of_seat(seat);
     let (events, bytes) = counts_of(seat, shares);
-    match differs(seat, past_events(seat, history), events) {
+    match differs(seat, kept.events, events) {
         Some(fault) => Some(fault),
-        None => differs(seat, past_bytes(seat, history), bytes),
+        None => differs(seat, kept.bytes, bytes),
     }
 }
 
-fn audited<E: Ledger, B: Ledger, F: Ledger>(
-    history: &[Past],
-    shares: &[LineShare<E, B, F>],
-) -> Option<SeatFault>
-    requires { length history.now ≤ 1000000 }
-    ensures { result ≡ audit_of history.now shares.now }
+fn audited<E: Ledger, B: Ledger>(history: &History, shares: &[LineShare<E, B>]) -> Option<SeatFault>
+    ensures { result ≡ audit_of history.now.items shares.now }
 {
     for seat in 0..SEATS {
         if let Some(fault) = seat_fault(seat, history, shares) {
@@ -92,10 +60,11 @@ fn audited<E: Ledger, B: Ledger, F: Ledger>(
     None
 }
 
-impl<C: Core, T: Tx, E: Ledger, B: Ledger, F: Ledger> Cell<C, T, E, B, F> {
+impl<C: Core, T: Tx, E: Ledger, B: Ledger> Cell<C, T, E, B> {
     /// Whether each seat did in the history just what its share says: the events, and the bytes put, of each seat from 0 to 65
-    /// are those of the entry with this seat, 0 where there is none. Else the first pair that differs, events before bytes.
-    pub fn audit(&self, shares: &[LineShare<E, B, F>]) -> Result<(), SeatFault>
+    /// are those of the entry with this seat, 0 where there is none. Else the first pair that differs, events before bytes. It
+    /// walks over no history.
+    pub fn audit(&self, shares: &[LineShare<E, B>]) -> Result<(), SeatFault>
         ensures fault { (f : SeatFault) → result ≡ Err f →
             audit_of self.now.history shares.now ≡ Some f }
         ensures ok { OnOk result (audit_of self.now.history shares.now ≡ None) }
@@ -106,7 +75,7 @@ impl<C: Core, T: Tx, E: Ledger, B: Ledger, F: Ledger> Cell<C, T, E, B, F> {
         ensures first { (f : SeatFault) → result ≡ Err f →
             IsFirstToDiffer self.now.history shares.now f }
     {
-        match audited(self.history(), shares) {
+        match audited(&self.history, shares) {
             Some(fault) => Err(fault),
             None => Ok(()),
         }

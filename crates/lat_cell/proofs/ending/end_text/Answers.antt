@@ -3,10 +3,10 @@ use Rattle.std.proofs.lemmas.Grind.{common_steps}
 use Rattle.lat_cell.proofs.ending.end_text.Goals as goal
 
 pub loop-done-init : goal.loop-done-init
-loop-done-init c = grind (arith, common_steps)
+loop-done-init g c = grind (arith, common_steps)
 
 pub loop-done-preserved : goal.loop-done-preserved
-loop-done-preserved c = grind (arith, common_steps)
+loop-done-preserved g c = grind (arith, common_steps)
 
 pub returns : goal.returns
-returns c = grind (arith, common_steps)
+returns g c = grind (arith, common_steps)
