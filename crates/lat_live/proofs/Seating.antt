@@ -8,7 +8,7 @@ use Rattle.lat_history.specs.CellView.{SeatView}
 use Rattle.lat_history.specs.Seats.{all_seats, fresh, seats_from}
 use Rattle.lat_cell.specs.declared.seat.Seat.{Seat}
 use Rattle.lat_cell.specs.declared.seat.LineDone.{LineDone}
-use Rattle.lat_live.specs.Seating.{EachPair, share_of, done_of, line_of, SamePlace, IsWorked, AreAllSeats, FaultsCounted, FullByShare}
+use Rattle.lat_live.specs.Seating.{EachPair, share_of, done_of, line_of, SamePlace, IsWorked, AreAllSeats, FaultsCounted}
 
 pub length_seats : (k seat : ℕ) → length (seats_from k seat) ≡ k
 unfolding seats_from
@@ -90,13 +90,13 @@ parts_from (suc k) seat =
     sum_by-cons parts (fresh seat 1) (seats_from k (seat + 1)) ∙ ap (λ n. 1 + n) (parts_from k (seat + 1)) ∙ omega arith
 
 -- the seats of the lines' shares, and their parts of the books, stay where workers have worked
-kept_seats : {L E B F : Type 0} (faults : L → ℕ) (old new : List (Seat L E B F)) → EachPair (IsWorked faults) old new → map (λ (s : SeatView). s.seat) (map share_of new) ≡ map (λ (s : SeatView). s.seat) (map share_of old)
+kept_seats : {L E B : Type 0} (faults : L → ℕ) (old new : List (Seat L E B)) → EachPair (IsWorked faults) old new → map (λ (s : SeatView). s.seat) (map share_of new) ≡ map (λ (s : SeatView). s.seat) (map share_of old)
 kept_seats faults [] (y ∷ ys) worked = elim worked [ ]
 kept_seats faults (x ∷ xs) [] worked = elim worked [ ]
 kept_seats faults [] [] worked = refl
 kept_seats faults (x ∷ xs) (y ∷ ys) worked = ap₂ (λ (a : ℕ) (l : List ℕ). a ∷ l) worked.0.place.seat (kept_seats faults xs ys worked.1)
 
-kept_parts : {L E B F : Type 0} (faults : L → ℕ) (old new : List (Seat L E B F)) → EachPair (IsWorked faults) old new → sum_by (λ (s : SeatView). s.parts) (map share_of new) ≡ sum_by (λ (s : SeatView). s.parts) (map share_of old)
+kept_parts : {L E B : Type 0} (faults : L → ℕ) (old new : List (Seat L E B)) → EachPair (IsWorked faults) old new → sum_by (λ (s : SeatView). s.parts) (map share_of new) ≡ sum_by (λ (s : SeatView). s.parts) (map share_of old)
 kept_parts faults [] (y ∷ ys) worked = elim worked [ ]
 kept_parts faults (x ∷ xs) [] worked = elim worked [ ]
 kept_parts faults [] [] worked = refl
@@ -104,7 +104,7 @@ kept_parts faults (x ∷ xs) (y ∷ ys) worked =
     let parts : SeatView → ℕ = λ s. s.parts in
     sum_by-cons parts y.share (map share_of ys) ∙ ap₂ (λ (a b : ℕ). a + b) worked.0.place.parts (kept_parts faults xs ys worked.1) ∙ sym (sum_by-cons parts x.share (map share_of xs))
 
-pub faults_counted : {L E B F : Type 0} (faults : L → ℕ) (old new : List (Seat L E B F)) → EachPair (IsWorked faults) old new → FaultsCounted faults (map done_of new) (map line_of new)
+pub faults_counted : {L E B : Type 0} (faults : L → ℕ) (old new : List (Seat L E B)) → EachPair (IsWorked faults) old new → FaultsCounted faults (map done_of new) (map line_of new)
 faults_counted faults [] (y ∷ ys) worked = elim worked [ ]
 faults_counted faults (x ∷ xs) [] worked = elim worked [ ]
 faults_counted faults [] [] worked = tt
@@ -120,7 +120,7 @@ all_split : (lines : ℕ) → all_seats lines ≡ fresh 0 1 ∷ seats_from lines
 all_split lines = ap (λ l. l ++ fresh 65 (65 - lines) ∷ []) (seats_split lines (lines + 1) refl)
 
 -- what the workers give back are the shares of all seats
-pub all_back : {L E B F : Type 0} (faults : L → ℕ) (lines : ℕ) (old new : List (Seat L E B F)) (wire clock wire_back clock_back : SeatView) (shares : List SeatView) →
+pub all_back : {L E B : Type 0} (faults : L → ℕ) (lines : ℕ) (old new : List (Seat L E B)) (wire clock wire_back clock_back : SeatView) (shares : List SeatView) →
     lines ≤ 64 → wire ≡ fresh 0 1 → clock ≡ fresh 65 (65 - lines) → map share_of old ≡ seats_from lines 1 →
     SamePlace wire wire_back → SamePlace clock clock_back → EachPair (IsWorked faults) old new →
     shares ≡ wire_back ∷ map share_of new ++ clock_back ∷ [] → AreAllSeats lines shares
@@ -148,7 +148,7 @@ pair_length R [] [] holds = refl
 pair_length R (x ∷ xs) (y ∷ ys) holds = ap suc (pair_length R xs ys holds.1)
 
 -- there is one for each line of what the seats give back
-pub many_back : {L E B F G : Type 0} (faults : L → ℕ) (lines : ℕ) (f : Seat L E B F → G) (old new : List (Seat L E B F)) (given : List G) →
+pub many_back : {L E B G : Type 0} (faults : L → ℕ) (lines : ℕ) (f : Seat L E B → G) (old new : List (Seat L E B)) (given : List G) →
     map share_of old ≡ seats_from lines 1 → EachPair (IsWorked faults) old new → given ≡ map f new → length given ≡ lines
 many_back faults lines f old new given told worked is =
     let long : length given ≡ length new = ap length is ∙ length-map new f in
@@ -156,20 +156,8 @@ many_back faults lines f old new given told worked is =
     let count : length old ≡ lines = sym (length-map old share_of) ∙ ap length told ∙ length_seats lines 1 in
     long ∙ same ∙ count
 
-full_by_share : {L E B F : Type 0} (faults : L → ℕ) (old new : List (Seat L E B F)) (more : List SeatView) → EachPair (IsWorked faults) old new → FullByShare (map done_of new) (map share_of new ++ more)
-full_by_share faults [] (y ∷ ys) more worked = elim worked [ ]
-full_by_share faults (x ∷ xs) [] more worked = elim worked [ ]
-full_by_share faults [] [] more worked = tt
-full_by_share faults (x ∷ xs) (y ∷ ys) more worked = (worked.0.full, full_by_share faults xs ys more worked.1)
-
--- each that ended for want of room has a share that says so
-pub full_back : {L E B F : Type 0} (faults : L → ℕ) (old new : List (Seat L E B F)) (wire clock : SeatView) (ends : List LineDone) (shares : List SeatView) →
-    EachPair (IsWorked faults) old new → ends ≡ map done_of new → shares ≡ wire ∷ map share_of new ++ clock ∷ [] → FullByShare ends (drop 1 shares)
-full_back faults old new wire clock ends shares worked e s =
-    subst₂ (λ a b. FullByShare a (drop 1 b)) (sym e) (sym s) (full_by_share faults old new (clock ∷ []) worked)
-
--- and each that ended with a fault has counted one
-pub counted_back : {L E B F : Type 0} (faults : L → ℕ) (old new : List (Seat L E B F)) (ends : List LineDone) (lines : List L) →
+-- each that ended with a fault has counted one
+pub counted_back : {L E B : Type 0} (faults : L → ℕ) (old new : List (Seat L E B)) (ends : List LineDone) (lines : List L) →
     EachPair (IsWorked faults) old new → ends ≡ map done_of new → lines ≡ map line_of new → FaultsCounted faults ends lines
 counted_back faults old new ends lines worked e l =
     subst₂ (λ a b. FaultsCounted faults a b) (sym e) (sym l) (faults_counted faults old new worked)

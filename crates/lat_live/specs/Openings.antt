@@ -12,7 +12,7 @@ use Rattle.lat_switch.specs.declared.config.SwitchConfig.{SwitchConfig}
 abbrev pub usual_wide : Timing
 usual_wide = record { timer = 8; keepalive = 20; sessions = 64; extra = 7; ceiling = 4; wide = true }
 
--- a server that listens to all groups, and no line of which offers a service
+-- a prompt server that listens to all groups, and no line of which offers a service
 abbrev pub server_config : Config → ServerConfig
 server_config c = record {
   own = address c.station.address.0;
@@ -21,9 +21,10 @@ server_config c = record {
   offers = [];
   groups = replicate 32 255;
   timing = usual_wide;
+  prompt = true;
 }
 
--- a switch whose server listens to all groups
+-- a switch whose server is prompt and listens to all groups
 abbrev pub switch_config : Config → SwitchConfig
 switch_config c = record {
   own = c.station.address;
@@ -31,9 +32,10 @@ switch_config c = record {
   lines = c.lines.count;
   groups = replicate 32 255;
   timing = record { timer = 8; keepalive = 20; sessions = 64; extra = 7; ceiling = 4; wide = true };
+  prompt = true;
 }
 
--- a node in its first incarnation, for every server, with these services, announced each 30 seconds
+-- a prompt node in its first incarnation, for every server, with these services, announced each 30 seconds
 abbrev pub node_config : Config → List Name → NodeConfig
 node_config c services = record {
   own = address c.station.address.0;
@@ -44,4 +46,5 @@ node_config c services = record {
   timer = 30;
   groups = [];
   timing = usual_wide;
+  prompt = true;
 }

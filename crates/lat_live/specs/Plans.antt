@@ -13,7 +13,8 @@ by_role roles.Node server node = node
 by_role roles.Tariff server node = node
 
 -- A server and a switch connect each line, and end when all lines have ended. A node's lines wait for sessions; it announces
--- its services at the start and each 30 seconds, and ends after so many sessions
+-- its services at the start and each 30 seconds, and ends after so many sessions. Each
+-- keeps the last 10,000 entries of its history
 pub record IsPlanOf (config : Config) (plan : Plan) : Type 0 where
   pub own : plan.own ≡ config.station.address
   pub port : plan.port ≡ config.station.port
@@ -22,4 +23,5 @@ pub record IsPlanOf (config : Config) (plan : Plan) : Type 0 where
   pub line_port : plan.line_port ≡ config.lines.port
   pub service : plan.service ≡ by_role config.role (Some config.lines.service) None
   pub announce : plan.announce ≡ by_role config.role None (Some 30)
+  pub kept : plan.kept ≡ 10000
   pub sessions : plan.sessions ≡ by_role config.role None (Some config.lines.sessions)

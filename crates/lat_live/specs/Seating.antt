@@ -1,5 +1,5 @@
 -- What the seats of a daemon have, and what their workers leave of them.
-use Rattle.std.specs.Prelude.{◌≡◌, ℕ, ◌+◌, ◌-◌, ◌<◌, ◌≤◌, List, [], ◌∷◌, length, map, drop, sum_by, vec_len, vec_capacity, true}
+use Rattle.std.specs.Prelude.{◌≡◌, ℕ, ◌+◌, ◌-◌, ◌<◌, ◌≤◌, List, [], ◌∷◌, length, map, sum_by, vec_len, vec_capacity}
 use Rattle.lat_outside.specs.Causes.{Rose}
 use Rattle.lat_history.specs.CellView.{SeatView}
 use Rattle.lat_history.specs.Seats.{all_seats, fresh, seats_from}
@@ -10,15 +10,15 @@ use Rattle.lat_live.specs.declared.seats.Seated.{Seated}
 use Rattle.lat_live.specs.declared.seats.Given.{Given}
 
 -- nothing is done yet at the wire and at the clock, which has all parts of the books but those of the wire and of so many lines
-abbrev pub IsFreshAround : {L E B F : Type 0} → ℕ → Seated L E B F → Type 0
+abbrev pub IsFreshAround : {L E B : Type 0} → ℕ → Seated L E B → Type 0
 IsFreshAround lines seated = (seated.wire ≡ fresh 0 1) × (seated.clock ≡ fresh 65 (65 - lines))
 
 -- no seat has given anything back
-abbrev pub IsNothing : {L E B F : Type 0} → Given L E B F → Type 0
+abbrev pub IsNothing : {L E B : Type 0} → Given L E B → Type 0
 IsNothing given = (given.shares.items ≡ []) × (given.ends.items ≡ []) × (given.lines.items ≡ [])
 
 -- there is room for the ends of so many lines, and for the lines
-abbrev pub HasRoom : {L E B F : Type 0} → ℕ → Given L E B F → Type 0
+abbrev pub HasRoom : {L E B : Type 0} → ℕ → Given L E B → Type 0
 HasRoom lines given = (lines ≤ vec_capacity given.ends) × (lines ≤ vec_capacity given.lines)
 
 -- R holds of two lists, place by place, and one is as long as the other
@@ -28,17 +28,17 @@ EachPair R [] (y ∷ ys) = ⊥
 EachPair R (x ∷ xs) [] = ⊥
 EachPair R (x ∷ xs) (y ∷ ys) = R x y × EachPair R xs ys
 
-abbrev pub share_of : {L E B F : Type 0} → Seat L E B F → SeatView
+abbrev pub share_of : {L E B : Type 0} → Seat L E B → SeatView
 share_of s = s.share
 
-abbrev pub done_of : {L E B F : Type 0} → Seat L E B F → LineDone
+abbrev pub done_of : {L E B : Type 0} → Seat L E B → LineDone
 done_of s = s.done
 
-abbrev pub line_of : {L E B F : Type 0} → Seat L E B F → L
+abbrev pub line_of : {L E B : Type 0} → Seat L E B → L
 line_of s = s.line
 
 -- nothing is done yet at any seat of so many lines, and there is room for all that the seats give back
-pub record AreFresh {L E B F : Type 0} (lines : ℕ) (seated : Seated L E B F) (given : Given L E B F) : Type 0 where
+pub record AreFresh {L E B : Type 0} (lines : ℕ) (seated : Seated L E B) (given : Given L E B) : Type 0 where
   pub around : IsFreshAround lines seated
   pub shares : map share_of seated.lines.items ≡ seats_from lines 1
   pub count : vec_len seated.lines ≡ lines
@@ -51,12 +51,10 @@ pub record SamePlace (old new : SeatView) : Type 0 where
   pub seat : new.seat ≡ old.seat
   pub parts : new.parts ≡ old.parts
 
--- a line's worker gives back the share of its seat; it ended with a fault only where its line's count of faults rose, and for
--- want of room only where the share says so
-pub record IsWorked {L E B F : Type 0} (faults : L → ℕ) (old new : Seat L E B F) : Type 0 where
+-- a line's worker gives back the share of its seat; it ended with a fault only where its line's count of faults rose
+pub record IsWorked {L E B : Type 0} (faults : L → ℕ) (old new : Seat L E B) : Type 0 where
   pub place : SamePlace old.share new.share
   pub fault : new.done ≡ done.Fault → Rose (faults old.line) (faults new.line)
-  pub full : new.done ≡ done.Full → new.share.full ≡ true
 
 -- the shares of all seats, by rising seat: the wire's, those of so many lines, the clock's. Together they have all parts of the books
 pub record AreAllSeats (lines : ℕ) (shares : List SeatView) : Type 0 where
@@ -67,18 +65,10 @@ pub record AreAllSeats (lines : ℕ) (shares : List SeatView) : Type 0 where
 abbrev pub FaultsCounted : {L : Type 0} → (L → ℕ) → List LineDone → List L → Type 0
 FaultsCounted faults ends lines = EachPair (λ d line. d ≡ done.Fault → 0 < faults line) ends lines
 
--- each of these ended for want of room only where the share at its place says so; there may be more shares
-abbrev pub FullByShare : List LineDone → List SeatView → Type 0
-FullByShare [] shares = Unit {0}
-FullByShare (d ∷ ds) [] = ⊥
-FullByShare (d ∷ ds) (share ∷ shares) = (d ≡ done.Full → share.full ≡ true) × FullByShare ds shares
-
--- what is handed back of a cell with so many lines: the shares of all seats, and of each line how its worker ended, and the line.
--- The share of line 1 stands behind the wire's
+-- what is handed back of a cell with so many lines: the shares of all seats, and of each line how its worker ended, and the line
 pub record GivenBack {L : Type 0} (faults : L → ℕ) (count : ℕ) (shares : List SeatView) (ends : List LineDone)
     (lines : List L) : Type 0 where
   pub seats : AreAllSeats count shares
   pub each_ended : length ends ≡ count
   pub each_line : length lines ≡ count
   pub counted : FaultsCounted faults ends lines
-  pub full : FullByShare ends (drop 1 shares)

@@ -4,7 +4,8 @@ use Rattle.lat_words.specs.Configs.{config_of}
 use Rattle.lat_words.specs.declared.config.Config.{Config}
 use Rattle.lat_words.specs.declared.config.Role.{Role}
 use Rattle.lat_words.specs.declared.config.Role.TheVariants as roles
-use Rattle.lat_live.specs.Printed.{Printed, printed, printed_in, IsPrinted}
+use Rattle.lat_past.specs.declared.past.Past.{Past}
+use Rattle.lat_live.specs.Printed.{printed, printed_in, IsPrinted}
 use Rattle.lat_live.specs.Seating.{GivenBack}
 use Rattle.lat_live.specs.declared.ran.Ran.{Ran}
 use Rattle.lat_live.specs.declared.ran.Ran.TheVariants as ran
@@ -12,7 +13,7 @@ use Rattle.lat_live.specs.declared.ran.Served.{Served}
 use Rattle.lat_live.specs.declared.serving.CoreServed.{CoreServed}
 
 -- what is printed of the cell that ran, whatever its core
-abbrev pub printed_of : {H P T E B F : Type 0} → Ran H P T E B F → Option Printed
+abbrev pub printed_of : {H P T E B : Type 0} → Ran H P T E B → Option (List Past)
 printed_of (ran.Server cell) = Some (printed cell)
 printed_of (ran.Switch cell) = Some (printed cell)
 printed_of (ran.Node cell) = Some (printed cell)
@@ -20,7 +21,7 @@ printed_of (ran.Tariff cell) = Some (printed cell)
 printed_of ran.Not = None
 
 -- the role that ran
-abbrev pub role_of : {H P T E B F : Type 0} → Ran H P T E B F → Option Role
+abbrev pub role_of : {H P T E B : Type 0} → Ran H P T E B → Option Role
 role_of (ran.Server cell) = Some roles.Server
 role_of (ran.Switch cell) = Some roles.Switch
 role_of (ran.Node cell) = Some roles.Node
@@ -28,29 +29,29 @@ role_of (ran.Tariff cell) = Some roles.Tariff
 role_of ran.Not = None
 
 -- what is written, and the status, are those of the last text of the cell that is handed back
-abbrev pub HasPrinted : {H P T L E B F S : Type 0} → (S → Option (List ℕ)) → (S → ℕ) → S → S
-    → Served H P T L E B F → Type 0
+abbrev pub HasPrinted : {H P T L E B S : Type 0} → (S → Option (List ℕ)) → (S → ℕ) → S → S
+    → Served H P T L E B → Type 0
 HasPrinted written_by faults old new served =
     IfSome (printed_of served.ran) (λ t. IsPrinted written_by faults old new t served.shares served.ends served.status)
 
-abbrev pub CoreHasPrinted : {C T L E B F S : Type 0} → (S → Option (List ℕ)) → (S → ℕ) → S → S
-    → CoreServed C T L E B F → Type 0
+abbrev pub CoreHasPrinted : {C T L E B S : Type 0} → (S → Option (List ℕ)) → (S → ℕ) → S → S
+    → CoreServed C T L E B → Type 0
 CoreHasPrinted written_by faults old new done =
     IfSome (printed_in done.ran)
     (λ t. IsPrinted written_by faults old new t done.given.shares.items done.given.ends.items done.status)
 
 -- where a cell is handed back: the shares of all seats, and of each of so many lines how its worker ended, and the line
-abbrev pub IsBack : {H P T L E B F : Type 0} → (L → ℕ) → ℕ → Served H P T L E B F → Type 0
+abbrev pub IsBack : {H P T L E B : Type 0} → (L → ℕ) → ℕ → Served H P T L E B → Type 0
 IsBack faults count served =
     IfSome (printed_of served.ran) (λ t. GivenBack faults count served.shares served.ends served.lines)
 
-abbrev pub CoreIsBack : {C T L E B F : Type 0} → (L → ℕ) → ℕ → CoreServed C T L E B F → Type 0
+abbrev pub CoreIsBack : {C T L E B : Type 0} → (L → ℕ) → ℕ → CoreServed C T L E B → Type 0
 CoreIsBack faults count done =
     IfSome (printed_in done.ran)
     (λ t. GivenBack faults count done.given.shares.items done.given.ends.items done.given.lines.items)
 
 -- what a daemon of this role hands back is what came of its core
-pub record CameOf {H P C T L E B F : Type 0} (its_role : Role) (done : CoreServed C T L E B F) (served : Served H P T L E B F) : Type 0 where
+pub record CameOf {H P C T L E B : Type 0} (its_role : Role) (done : CoreServed C T L E B) (served : Served H P T L E B) : Type 0 where
   pub status : served.status ≡ done.status
   pub printed : printed_of served.ran ≡ printed_in done.ran
   pub role : IfSome (role_of served.ran) (λ role. role ≡ its_role)
@@ -71,11 +72,11 @@ count_in (Some c) = c.lines.count
 count_in None = 0
 
 -- the same for the lines that the words tell of
-abbrev pub BackOf : {H P T L E B F : Type 0} → (L → ℕ) → List (List ℕ) → Served H P T L E B F → Type 0
+abbrev pub BackOf : {H P T L E B : Type 0} → (L → ℕ) → List (List ℕ) → Served H P T L E B → Type 0
 BackOf faults words served = IsBack faults (count_in (config_of words)) served
 
 -- the role that ran is that of the words
-abbrev pub IsRoleOf : {H P T E B F : Type 0} → List (List ℕ) → Ran H P T E B F → Type 0
+abbrev pub IsRoleOf : {H P T E B : Type 0} → List (List ℕ) → Ran H P T E B → Type 0
 IsRoleOf words ran = IfSome (role_of ran) (λ role. option_map (λ c. c.role) (config_of words) ≡ Some role)
 
 -- what is written where they aren't right

@@ -36,7 +36,8 @@ const TIMING: Timing = Timing {
 /// Each node announces its services after so many seconds again.
 pub const ANNOUNCE_SECONDS: u8 = 30;
 
-/// The server that the words tell of: it listens to all groups, and no line offers a service. `Memory` where none is found.
+/// The server that the words tell of: it listens to all groups, no line offers a service, and it is prompt. `Memory` where
+/// none is found.
 pub fn server_core(alloc: Global, config: &Config) -> Result<ServerCore, Memory>
     requires { (1 ≤ config.now.lines.count) × (config.now.lines.count ≤ 32) }
     ensures made { IfOk result (λ k. servers.IsMade (servers.opening k)) }
@@ -51,11 +52,12 @@ pub fn server_core(alloc: Global, config: &Config) -> Result<ServerCore, Memory>
         offers: Offers::new(alloc),
         groups: [0xff; 32],
         timing: TIMING,
+        prompt: true,
     };
     ServerCore::make(alloc, &config)
 }
 
-/// The switch that the words tell of: its server listens to all groups. `Memory` where none is found.
+/// The switch that the words tell of: its server listens to all groups and is prompt. `Memory` where none is found.
 pub fn switch_core(alloc: Global, config: &Config) -> Result<SwitchCore, Memory>
     requires { (1 ≤ config.now.lines.count) × (config.now.lines.count ≤ 8) }
     ensures made { IfOk result (λ k. switch.IsMade (switch.opening k)) }
@@ -69,6 +71,7 @@ pub fn switch_core(alloc: Global, config: &Config) -> Result<SwitchCore, Memory>
         lines: config.lines.count,
         groups: [0xff; 32],
         timing: TIMING,
+        prompt: true,
     };
     SwitchCore::make(alloc, &config)
 }
@@ -82,7 +85,7 @@ fn offering(alloc: Global, service: &Name) -> Result<Services16, Memory>
     Ok(services)
 }
 
-// What a node of these services is made of, in its first incarnation: it offers them to every server.
+// What a node of these services is made of, in its first incarnation: it offers them to every server, and is prompt.
 fn node_config(alloc: Global, config: &Config, services: Services16) -> Result<NodeConfig, Memory>
     requires { (1 ≤ config.now.lines.count) × (config.now.lines.count ≤ 64) }
     ensures valid { IfOk result IsConfig }
@@ -98,6 +101,7 @@ fn node_config(alloc: Global, config: &Config, services: Services16) -> Result<N
         timer: ANNOUNCE_SECONDS,
         groups: Bytes::copy(alloc, &[])?,
         timing: TIMING,
+        prompt: true,
     })
 }
 

@@ -52,7 +52,6 @@ pub fn serve<
     S: Sink,
     E: Ledger + Sync,
     B: Ledger + Sync,
-    F: Ledger + Sync,
     R: Threads + Wait + Sync,
 >(
     rt: &R,
@@ -65,10 +64,10 @@ pub fn serve<
     rule: H,
     tariff: Tariff<P>,
     out: &mut S,
-) -> Served<H, P, O::T, O::L, E, B, F>
+) -> Served<H, P, O::T, O::L, E, B>
     requires fact { H.fact rule }
     requires rules { AreKnown P.fact tariff }
-    requires blanks { AreBlanks blanks E.name E.parts B.name B.parts F.name F.parts }
+    requires blanks { AreBlanks blanks E.name E.parts B.name B.parts }
     ensures wrong { result.status ≡ 1 → AreWrong (map string_bytes words.now) }
     ensures refused { AreWrong (map string_bytes words.now) → IsRefusal result.status }
     ensures written { result.status ≡ 1 → Appends (S.written out.old) (S.written out.new) refusal }

@@ -19,40 +19,32 @@ use std::sync::ledger::Ledger;
 
 /// The cell of a daemon, by its role.
 #[derive(Drop)]
-pub enum Ran<H: RatingRule, P: SteadyRule, T: Tx, E: Ledger, B: Ledger, F: Ledger> {
+pub enum Ran<H: RatingRule, P: SteadyRule, T: Tx, E: Ledger, B: Ledger> {
     /// No worker was started.
     Not,
-    Server(Cell<ServerCore, T, E, B, F>),
-    Switch(Cell<SwitchCore, T, E, B, F>),
-    Node(Cell<NodeCore<H>, T, E, B, F>),
-    Tariff(Cell<TariffCore<H, P>, T, E, B, F>),
+    Server(Cell<ServerCore, T, E, B>),
+    Switch(Cell<SwitchCore, T, E, B>),
+    Node(Cell<NodeCore<H>, T, E, B>),
+    Tariff(Cell<TariffCore<H, P>, T, E, B>),
 }
 
 /// What a daemon hands back: the status to end with, its cell, the shares of all seats (the wire, the lines by rising number, the
 /// clock), and of each line how its worker ended, and the line.
 #[derive(Drop)]
-pub struct Served<
-    H: RatingRule,
-    P: SteadyRule,
-    T: Tx,
-    L: LineEnd,
-    E: Ledger,
-    B: Ledger,
-    F: Ledger,
-> {
+pub struct Served<H: RatingRule, P: SteadyRule, T: Tx, L: LineEnd, E: Ledger, B: Ledger> {
     pub status: u8,
-    pub ran: Ran<H, P, T, E, B, F>,
-    pub shares: Shares<E, B, F>,
+    pub ran: Ran<H, P, T, E, B>,
+    pub shares: Shares<E, B>,
     pub ends: Ends,
     pub lines: Lines<L>,
 }
 
 // What ran, with this status, and what its seats gave back.
-fn handed_back<H: RatingRule, P: SteadyRule, T: Tx, L: LineEnd, E: Ledger, B: Ledger, F: Ledger>(
+fn handed_back<H: RatingRule, P: SteadyRule, T: Tx, L: LineEnd, E: Ledger, B: Ledger>(
     status: u8,
-    ran: Ran<H, P, T, E, B, F>,
-    given: Given<L, E, B, F>,
-) -> Served<H, P, T, L, E, B, F>
+    ran: Ran<H, P, T, E, B>,
+    given: Given<L, E, B>,
+) -> Served<H, P, T, L, E, B>
     ensures status { result.status ≡ status }
     ensures ran { result.ran ≡ ran }
     ensures shares { result.shares ≡ given.shares.items }
@@ -73,17 +65,16 @@ fn handed_back<H: RatingRule, P: SteadyRule, T: Tx, L: LineEnd, E: Ledger, B: Le
     }
 }
 
-impl<H: RatingRule, P: SteadyRule, T: Tx, L: LineEnd, E: Ledger, B: Ledger, F: Ledger> Served<
+impl<H: RatingRule, P: SteadyRule, T: Tx, L: LineEnd, E: Ledger, B: Ledger> Served<
     H,
     P,
     T,
     L,
     E,
     B,
-    F,
 > {
     /// No worker was started.
-    pub(crate) fn nothing(alloc: Global, status: u8) -> Served<H, P, T, L, E, B, F>
+    pub(crate) fn nothing(alloc: Global, status: u8) -> Served<H, P, T, L, E, B>
         ensures status { result.status ≡ status }
         ensures none { result.ran ≡ rans.Not }
         ensures empty { (result.shares ≡ []) × (result.ends ≡ []) × (result.lines ≡ []) }
@@ -92,9 +83,7 @@ impl<H: RatingRule, P: SteadyRule, T: Tx, L: LineEnd, E: Ledger, B: Ledger, F: L
     }
 
     /// What came of a server.
-    pub(crate) fn of_server(
-        done: CoreServed<ServerCore, T, L, E, B, F>,
-    ) -> Served<H, P, T, L, E, B, F>
+    pub(crate) fn of_server(done: CoreServed<ServerCore, T, L, E, B>) -> Served<H, P, T, L, E, B>
         ensures { CameOf roles.Server done result }
     {
         let CoreServed { status, ran, given } = done;
@@ -105,9 +94,7 @@ impl<H: RatingRule, P: SteadyRule, T: Tx, L: LineEnd, E: Ledger, B: Ledger, F: L
     }
 
     /// What came of a server with several sessions on each line.
-    pub(crate) fn of_switch(
-        done: CoreServed<SwitchCore, T, L, E, B, F>,
-    ) -> Served<H, P, T, L, E, B, F>
+    pub(crate) fn of_switch(done: CoreServed<SwitchCore, T, L, E, B>) -> Served<H, P, T, L, E, B>
         ensures { CameOf roles.Switch done result }
     {
         let CoreServed { status, ran, given } = done;
@@ -118,9 +105,7 @@ impl<H: RatingRule, P: SteadyRule, T: Tx, L: LineEnd, E: Ledger, B: Ledger, F: L
     }
 
     /// What came of a node.
-    pub(crate) fn of_node(
-        done: CoreServed<NodeCore<H>, T, L, E, B, F>,
-    ) -> Served<H, P, T, L, E, B, F>
+    pub(crate) fn of_node(done: CoreServed<NodeCore<H>, T, L, E, B>) -> Served<H, P, T, L, E, B>
         ensures { CameOf roles.Node done result }
     {
         let CoreServed { status, ran, given } = done;
@@ -132,8 +117,8 @@ impl<H: RatingRule, P: SteadyRule, T: Tx, L: LineEnd, E: Ledger, B: Ledger, F: L
 
     /// What came of a node with a tariff.
     pub(crate) fn of_tariff(
-        done: CoreServed<TariffCore<H, P>, T, L, E, B, F>,
-    ) -> Served<H, P, T, L, E, B, F>
+        done: CoreServed<TariffCore<H, P>, T, L, E, B>,
+    ) -> Served<H, P, T, L, E, B>
         ensures { CameOf roles.Tariff done result }
     {
         let CoreServed { status, ran, given } = done;

@@ -22,6 +22,9 @@ use std::sync::Wait;
 use std::sync::ledger::Ledger;
 use std::thread::Threads;
 
+// How many entries of its history a daemon keeps.
+const KEPT_ENTRIES: usize = 10_000;
+
 // What a daemon of these words is to do. A server and a switch connect each line, and end when all lines have
 // ended. A node's lines wait for sessions; it announces its services, and ends after so many sessions.
 fn plan_of<'a>(config: &'a Config) -> Plan<'a>
@@ -40,6 +43,7 @@ fn plan_of<'a>(config: &'a Config) -> Plan<'a>
         service,
         announce,
         sessions,
+        kept: KEPT_ENTRIES,
     }
 }
 
@@ -53,7 +57,6 @@ pub fn serve_in_role<
     S: Sink,
     E: Ledger + Sync,
     B: Ledger + Sync,
-    F: Ledger + Sync,
     R: Threads + Wait + Sync,
 >(
     rt: &R,
@@ -66,11 +69,11 @@ pub fn serve_in_role<
     rule: H,
     tariff: Tariff<P>,
     out: &mut S,
-) -> Served<H, P, O::T, O::L, E, B, F>
+) -> Served<H, P, O::T, O::L, E, B>
     requires within { Within config.now.role config.now.lines }
     requires fact { H.fact rule }
     requires rules { AreKnown P.fact tariff }
-    requires blanks { AreBlanks blanks E.name E.parts B.name B.parts F.name F.parts }
+    requires blanks { AreBlanks blanks E.name E.parts B.name B.parts }
     ensures role { IfSome (role_of result.ran) (λ role. role ≡ config.now.role) }
     ensures ended { HasPrinted S.written S.faults out.old out.new result }
     ensures back { IsBack O.L.faults config.now.lines.count result }

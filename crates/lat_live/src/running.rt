@@ -30,15 +30,14 @@ fn crew<
     G: Gate + Sync,
     E: Ledger + Sync,
     B: Ledger + Sync,
-    F: Ledger + Sync,
     R: Threads + Wait + Sync,
 >(
     rt: &R,
     alloc: Global,
-    cell: &Mutex<Cell<C, T, E, B, F>>,
-    seats: Vec<Seat<L, E, B, F>>,
+    cell: &Mutex<Cell<C, T, E, B>>,
+    seats: Vec<Seat<L, E, B>>,
     gate: &G,
-) -> Vec<Seat<L, E, B, F>>
+) -> Vec<Seat<L, E, B>>
     requires { 0 < vec_len seats }
     ensures count { vec_len result ≡ vec_len seats }
     ensures worked { EachPair (IsWorked L.faults) seats.items result.items }
@@ -64,16 +63,15 @@ fn crew_then_stop<
     G: Gate + Sync,
     E: Ledger + Sync,
     B: Ledger + Sync,
-    F: Ledger + Sync,
     R: Threads + Wait + Sync,
 >(
     rt: &R,
     alloc: Global,
-    cell: &Mutex<Cell<C, T, E, B, F>>,
-    seats: Vec<Seat<L, E, B, F>>,
+    cell: &Mutex<Cell<C, T, E, B>>,
+    seats: Vec<Seat<L, E, B>>,
     gate: &G,
     stops: bool,
-) -> Vec<Seat<L, E, B, F>>
+) -> Vec<Seat<L, E, B>>
     requires { 0 < vec_len seats }
     ensures count { vec_len result ≡ vec_len seats }
     ensures worked { EachPair (IsWorked L.faults) seats.items result.items }
@@ -93,18 +91,17 @@ fn outside<
     K: Clock + Send,
     E: Ledger + Sync,
     B: Ledger + Sync,
-    F: Ledger + Sync,
     R: Threads + Wait + Sync,
 >(
     rt: &R,
     alloc: Global,
-    cell: &Mutex<Cell<C, T, E, B, F>>,
-    wire: LineShare<E, B, F>,
+    cell: &Mutex<Cell<C, T, E, B>>,
+    wire: LineShare<E, B>,
     rx: X,
-    time: LineShare<E, B, F>,
+    time: LineShare<E, B>,
     clock: K,
     ending: Ending,
-) -> (LineShare<E, B, F>, LineShare<E, B, F>)
+) -> (LineShare<E, B>, LineShare<E, B>)
     requires { (wire.seat ≡ 0) × (time.seat ≡ 65) }
     ensures { SamePlace wire result.0 × SamePlace time result.1 }
 {
@@ -139,18 +136,17 @@ pub fn run_all<
     G: Gate + Sync,
     E: Ledger + Sync,
     B: Ledger + Sync,
-    F: Ledger + Sync,
     R: Threads + Wait + Sync,
 >(
     rt: &R,
     alloc: Global,
-    cell: Cell<C, T, E, B, F>,
+    cell: Cell<C, T, E, B>,
     rx: X,
-    seated: Seated<L, E, B, F>,
+    seated: Seated<L, E, B>,
     clock: K,
     gate: &G,
     ending: Ending,
-) -> (Cell<C, T, E, B, F>, Seated<L, E, B, F>)
+) -> (Cell<C, T, E, B>, Seated<L, E, B>)
     requires some { 0 < vec_len seated.lines }
     requires seats { (seated.wire.seat ≡ 0) × (seated.clock.seat ≡ 65) }
     ensures around { SamePlace seated.wire result.1.wire × SamePlace seated.clock result.1.clock }

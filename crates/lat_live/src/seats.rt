@@ -12,19 +12,19 @@ use std::sync::ledger::Ledger;
 
 /// The shares of the wire and of the clock, and the lines with theirs, by rising number.
 #[derive(Drop)]
-pub struct Seated<L: LineEnd, E: Ledger, B: Ledger, F: Ledger> {
-    pub wire: LineShare<E, B, F>,
-    pub lines: Vec<Seat<L, E, B, F>>,
-    pub clock: LineShare<E, B, F>,
+pub struct Seated<L: LineEnd, E: Ledger, B: Ledger> {
+    pub wire: LineShare<E, B>,
+    pub lines: Vec<Seat<L, E, B>>,
+    pub clock: LineShare<E, B>,
 }
 
 /// Gives each line its share.
-pub fn take_seats<L: LineEnd, E: Ledger, B: Ledger, F: Ledger>(
+pub fn take_seats<L: LineEnd, E: Ledger, B: Ledger>(
     alloc: Global,
-    shares: Shares<E, B, F>,
+    shares: Shares<E, B>,
     lines: Vec<L>,
     service: &Option<Name>,
-) -> Result<Seated<L, E, B, F>, AllocError>
+) -> Result<Seated<L, E, B>, AllocError>
     requires shares { shares ≡ all_seats (vec_len lines) }
     ensures around { IfOk result (IsFreshAround (vec_len lines)) }
     ensures shares { IfOk result (λ s. map share_of s.lines.items ≡ seats_from (vec_len lines) 1) }
@@ -56,15 +56,15 @@ pub fn take_seats<L: LineEnd, E: Ledger, B: Ledger, F: Ledger>(
 
 /// What the seats give back: all shares in the order of the seats, and of each line how its worker ended, and the line.
 #[derive(Drop)]
-pub struct Given<L: LineEnd, E: Ledger, B: Ledger, F: Ledger> {
-    pub shares: Vec<LineShare<E, B, F>>,
+pub struct Given<L: LineEnd, E: Ledger, B: Ledger> {
+    pub shares: Vec<LineShare<E, B>>,
     pub ends: Vec<LineDone>,
     pub lines: Vec<L>,
 }
 
-impl<L: LineEnd, E: Ledger, B: Ledger, F: Ledger> Given<L, E, B, F> {
+impl<L: LineEnd, E: Ledger, B: Ledger> Given<L, E, B> {
     /// Nothing. It takes no memory.
-    pub fn none(alloc: Global) -> Given<L, E, B, F>
+    pub fn none(alloc: Global) -> Given<L, E, B>
         ensures { IsNothing result }
     {
         Given {
@@ -75,7 +75,7 @@ impl<L: LineEnd, E: Ledger, B: Ledger, F: Ledger> Given<L, E, B, F> {
     }
 
     /// Memory for so many lines.
-    pub fn reserved(alloc: Global, lines: usize) -> Result<Given<L, E, B, F>, AllocError>
+    pub fn reserved(alloc: Global, lines: usize) -> Result<Given<L, E, B>, AllocError>
         requires { lines ≤ 64 }
         ensures empty { IfOk result IsNothing }
         ensures room { IfOk result (λ g. lines + 2 ≤ vec_capacity g.shares) }
@@ -89,7 +89,7 @@ impl<L: LineEnd, E: Ledger, B: Ledger, F: Ledger> Given<L, E, B, F> {
     }
 
     /// What the seats have, in the memory that was taken before.
-    pub fn filled(self, seated: Seated<L, E, B, F>) -> Given<L, E, B, F>
+    pub fn filled(self, seated: Seated<L, E, B>) -> Given<L, E, B>
         requires empty { IsNothing self }
         requires room { vec_len seated.lines + 2 ≤ vec_capacity self.shares }
         requires lines { HasRoom (vec_len seated.lines) self }

@@ -37,23 +37,25 @@ pub struct Plan<'a> {
     pub announce: Option<u8>,
     /// The cell is stopped once so many sessions have become free, or else when all lines have ended.
     pub sessions: Option<u32>,
+    /// How many entries of its history the cell keeps, 1,000,000 at most.
+    pub kept: usize,
 }
 
 /// What came of it: the status, the cell, and what the seats gave back.
 #[derive(Drop)]
-pub struct CoreServed<C: Core, T: Tx, L: LineEnd, E: Ledger, B: Ledger, F: Ledger> {
+pub struct CoreServed<C: Core, T: Tx, L: LineEnd, E: Ledger, B: Ledger> {
     pub status: u8,
-    pub ran: Option<Cell<C, T, E, B, F>>,
-    pub given: Given<L, E, B, F>,
+    pub ran: Option<Cell<C, T, E, B>>,
+    pub given: Given<L, E, B>,
 }
 
 // All that the workers need, and the memory for what they give back.
 #[derive(Drop)]
-struct Start<C: Core, T: Tx, X: Rx, L: LineEnd, E: Ledger, B: Ledger, F: Ledger> {
-    cell: Cell<C, T, E, B, F>,
+struct Start<C: Core, T: Tx, X: Rx, L: LineEnd, E: Ledger, B: Ledger> {
+    cell: Cell<C, T, E, B>,
     rx: X,
-    seated: Seated<L, E, B, F>,
-    given: Given<L, E, B, F>,
+    seated: Seated<L, E, B>,
+    given: Given<L, E, B>,
 }
 
 // The carrier's two halves, and the lines by rising number.
@@ -81,24 +83,25 @@ fn open_outside<O: Opener>(
 }
 
 // Takes all memory for a core and what was opened for it.
-fn started<C: Core, T: Tx, X: Rx, L: LineEnd, E: Ledger, B: Ledger, F: Ledger>(
+fn started<C: Core, T: Tx, X: Rx, L: LineEnd, E: Ledger, B: Ledger>(
     alloc: Global,
     plan: &Plan,
     core: C,
     blanks: Blanks,
     outside: Outside<T, X, L>,
-) -> Result<Start<C, T, X, L, E, B, F>, Memory>
+) -> Result<Start<C, T, X, L, E, B>, Memory>
     requires made { C.made (C.opening core) }
     requires stands { C.stands core (C.opening core) }
     requires valid { C.valid core }
     requires lines { (1 ≤ plan.now.lines) × (plan.now.lines ≤ 64) }
     requires count { vec_len outside.lines ≡ plan.now.lines }
-    requires blanks { AreBlanks blanks E.name E.parts B.name B.parts F.name F.parts }
+    requires kept { plan.now.kept ≤ 1000000 }
+    requires blanks { AreBlanks blanks E.name E.parts B.name B.parts }
     ensures { IfOk result (λ s. AreFresh plan.now.lines s.seated s.given) }
 {
     let Outside { tx, rx, lines } = outside;
     let given = Given::reserved(alloc, lines.len())?;
-    let (cell, shares) = Cell::make(alloc, core, tx, plan.lines, blanks)?;
+    let (cell, shares) = Cell::make(alloc, core, tx, plan.lines, plan.kept, blanks)?;
     let seated = take_seats(alloc, shares, lines, &plan.service)?;
     Ok(Start {
         cell,
@@ -109,19 +112,20 @@ fn started<C: Core, T: Tx, X: Rx, L: LineEnd, E: Ledger, B: Ledger, F: Ledger>(
 }
 
 // Opens all, and takes all memory, where it was found for the core.
-fn opened<O: Opener, C: Core, E: Ledger, B: Ledger, F: Ledger>(
+fn opened<O: Opener, C: Core, E: Ledger, B: Ledger>(
     alloc: Global,
     plan: &Plan,
     core: Result<C, Memory>,
     blanks: Blanks,
     opener: &mut O,
-) -> Result<Start<C, O::T, O::R, O::L, E, B, F>, StartFault>
+) -> Result<Start<C, O::T, O::R, O::L, E, B>, StartFault>
     requires made { IfOk core (λ c. C.made (C.opening c)) }
     requires stands { IfOk core (λ c. C.stands c (C.opening c)) }
     requires valid { IfOk core C.valid }
     requires lines { (1 ≤ plan.now.lines) × (plan.now.lines ≤ 64)
         × (plan.now.line_port + plan.now.lines ≤ 65536) }
-    requires blanks { AreBlanks blanks E.name E.parts B.name B.parts F.name F.parts }
+    requires kept { plan.now.kept ≤ 1000000 }
+    requires blanks { AreBlanks blanks E.name E.parts B.name B.parts }
     ensures fresh { IfOk result (λ s. AreFresh plan.now.lines s.seated s.given) }
     ensures fault { result ≡ Err StartFault.Failed →
         Rose (O.faults opener.old) (O.faults opener.new) }
@@ -132,10 +136,10 @@ fn opened<O: Opener, C: Core, E: Ledger, B: Ledger, F: Ledger>(
 }
 
 // Nothing ran.
-fn not_run<C: Core, T: Tx, L: LineEnd, E: Ledger, B: Ledger, F: Ledger>(
+fn not_run<C: Core, T: Tx, L: LineEnd, E: Ledger, B: Ledger>(
     alloc: Global,
     status: u8,
-) -> CoreServed<C, T, L, E, B, F>
+) -> CoreServed<C, T, L, E, B>
     ensures ran { (result.status ≡ status) × (result.ran ≡ None) }
     ensures given { IsNothing result.given }
 {
@@ -157,17 +161,16 @@ fn run_started<
     S: Sink,
     E: Ledger + Sync,
     B: Ledger + Sync,
-    F: Ledger + Sync,
     R: Threads + Wait + Sync,
 >(
     rt: &R,
     alloc: Global,
     plan: &Plan,
-    start: Start<C, T, X, L, E, B, F>,
+    start: Start<C, T, X, L, E, B>,
     clock: K,
     gate: &G,
     out: &mut S,
-) -> CoreServed<C, T, L, E, B, F>
+) -> CoreServed<C, T, L, E, B>
     requires lines { (1 ≤ plan.now.lines) × (plan.now.lines ≤ 64) }
     requires fresh { AreFresh plan.now.lines start.seated start.given }
     ensures ended { CoreHasPrinted S.written S.faults out.old out.new result }
@@ -213,7 +216,6 @@ pub fn serve_core<
     S: Sink,
     E: Ledger + Sync,
     B: Ledger + Sync,
-    F: Ledger + Sync,
     R: Threads + Wait + Sync,
 >(
     rt: &R,
@@ -225,13 +227,14 @@ pub fn serve_core<
     clock: K,
     gate: &G,
     out: &mut S,
-) -> CoreServed<C, O::T, O::L, E, B, F>
+) -> CoreServed<C, O::T, O::L, E, B>
     requires made { IfOk core (λ c. C.made (C.opening c)) }
     requires stands { IfOk core (λ c. C.stands c (C.opening c)) }
     requires valid { IfOk core C.valid }
     requires lines { (1 ≤ plan.now.lines) × (plan.now.lines ≤ 64)
         × (plan.now.line_port + plan.now.lines ≤ 65536) }
-    requires blanks { AreBlanks blanks E.name E.parts B.name B.parts F.name F.parts }
+    requires kept { plan.now.kept ≤ 1000000 }
+    requires blanks { AreBlanks blanks E.name E.parts B.name B.parts }
     ensures ended { CoreHasPrinted S.written S.faults out.old out.new result }
     ensures back { CoreIsBack O.L.faults plan.now.lines result }
     ensures own { IsOwn result.status ⊎ ((result.status ≡ 4) ⊎ (result.status ≡ 5)) }
@@ -242,7 +245,7 @@ pub fn serve_core<
     ensures none { result.ran ≡ None → (result.status ≡ 4) ⊎ (result.status ≡ 9) }
     ensures empty { result.ran ≡ None → IsNothing result.given }
 {
-    match opened::<O, C, E, B, F>(alloc, plan, core, blanks, opener) {
+    match opened::<O, C, E, B>(alloc, plan, core, blanks, opener) {
         Ok(start) => run_started(rt, alloc, plan, start, clock, gate, out),
         Err(StartFault::Failed) => not_run(alloc, 4),
         Err(StartFault::Memory) => not_run(alloc, 9),

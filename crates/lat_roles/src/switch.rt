@@ -24,6 +24,7 @@ fn opened(alloc: Global, setup: &Setup) -> Result<Play<FreeLines>, Memory>
         lines: setup.server.lines,
         groups: setup.server.groups,
         timing: setup.server.timing,
+        prompt: setup.server.prompt,
     };
     let switch = Post::new(SwitchCore::make(alloc, &config)?, config.own);
     let node = Post::new(

@@ -55,6 +55,7 @@ fn play_rules<R: SteadyRule>(
         timer: 30,
         groups: Bytes::copy(alloc, &[])?,
         timing: USUAL,
+        prompt: false,
     };
     let core = TariffCore::make(alloc, &config, FreeLines, tariff)?;
     Play::new(core).act_all(alloc, block, text)

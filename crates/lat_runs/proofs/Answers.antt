@@ -2,7 +2,7 @@
 use Rattle.std.proofs.Common.{◌≢◌, ℕ, List, None, refl}
 use Rattle.lat_machines.specs.values.Frames.{Value, Whole, Malformed}
 use Rattle.lat_machines.specs.values.Events.{Hears}
-use Rattle.lat_machines.specs.values.Answers.{Answer, Circuit, Started, StartRefused, Announced, DirectoryFull, KeptIs, NotKept, Noted, Apart, Solicited, Ignored, Bad, Done, Connected, Accepted, Took, NoLine, Busy, NoService, SessionsFull, CircuitsFull, IdsOut, Closed, Full, IdUsed, NotHere}
+use Rattle.lat_machines.specs.values.Answers.{Answer, Circuit, Started, StartRefused, Announced, DirectoryFull, KeptIs, NotKept, Noted, Apart, Solicited, Ignored, Bad, Done, Connected, Accepted, Took, NoLine, Busy, NoService, SessionsFull, CircuitsFull, IdsOut, Closed, Full, IdUsed, NotHere, Halted}
 use Rattle.lat_machines.specs.server.Server.{ServerConfig, Server, server_step}
 use Rattle.lat_machines.specs.node.Node.{NodeConfig, Node, node_step}
 use Rattle.lat_machines.proofs.frames.Reads.{server_bad_only, node_bad_only}
@@ -46,3 +46,4 @@ not_bad Closed n bad e = let z : ⊥ = cc in z
 not_bad Full n bad e = let z : ⊥ = cc in z
 not_bad IdUsed n bad e = let z : ⊥ = cc in z
 not_bad NotHere n bad e = let z : ⊥ = cc in z
+not_bad Halted n bad e = let z : ⊥ = cc in z

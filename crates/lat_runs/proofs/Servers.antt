@@ -3,7 +3,7 @@ use Rattle.std.proofs.Common.{◌≡◌, List, [], ◌∷◌, ◌++◌, map, ref
 use Rattle.std.proofs.lemmas.List.{map-append}
 use Rattle.lat_base.specs.declared.answer.Answer.{Answer}
 use Rattle.lat_base.specs.declared.outbox.OutFrame.{OutFrame}
-use Rattle.lat_history.specs.declared.past.Past.{Past}
+use Rattle.lat_past.specs.declared.past.Past.{Past}
 use Rattle.lat_history.specs.History.{run_of, IsLegal, IsRun, FramesOf}
 use Rattle.lat_machines.specs.server.Queue.{LegalQueue}
 use Rattle.lat_machines.specs.server.Server.{Server}

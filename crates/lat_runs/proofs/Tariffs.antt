@@ -2,7 +2,7 @@
 use Rattle.std.proofs.Common.{◌≡◌, ℕ, List, [], ◌∷◌, ◌++◌, map, refl, sym, ap, ap₂, ◌∙◌, subst}
 use Rattle.std.proofs.lemmas.List.{map-append}
 use Rattle.lat_base.specs.declared.outbox.OutFrame.{OutFrame}
-use Rattle.lat_history.specs.declared.past.Past.{Past}
+use Rattle.lat_past.specs.declared.past.Past.{Past}
 use Rattle.lat_history.specs.History.{run_of, IsLegal, IsRun, FramesOf}
 use Rattle.lat_machines.specs.node.Node.{node_step}
 use Rattle.lat_machines.specs.world.Histories.{RatedEvent, node_frames}

@@ -1,6 +1,6 @@
 -- Two cells, and the world of their histories.
 use Rattle.std.proofs.Common.{◌≡◌, List, sym, ap, ◌∙◌}
-use Rattle.lat_history.specs.declared.past.Past.{Past}
+use Rattle.lat_past.specs.declared.past.Past.{Past}
 use Rattle.lat_history.specs.History.{run_of}
 use Rattle.lat_machines.specs.server.Server.{open_server}
 use Rattle.lat_machines.specs.node.Node.{Node, open_node}

@@ -1,7 +1,7 @@
 -- A history of a cell is a run of its machine.
 use Rattle.std.specs.Prelude.{◌≡◌, ℕ, List, map}
 use Rattle.lat_base.specs.declared.outbox.OutFrame.{OutFrame}
-use Rattle.lat_history.specs.declared.past.Past.{Past}
+use Rattle.lat_past.specs.declared.past.Past.{Past}
 use Rattle.lat_history.specs.History.{run_of, IsLegal, IsRun, FramesOf}
 use Rattle.lat_machines.specs.server.Queue.{LegalQueue}
 use Rattle.lat_machines.specs.server.Server.{Server, open_server}

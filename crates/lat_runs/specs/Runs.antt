@@ -2,14 +2,14 @@
 use Rattle.std.specs.Prelude.{◌≡◌, ℕ, List, [], ◌∷◌, map}
 use Rattle.lat_base.specs.declared.answer.Answer.{Answer}
 use Rattle.lat_base.specs.declared.event.Event as base
-use Rattle.lat_history.specs.declared.past.Past.{Past}
+use Rattle.lat_past.specs.declared.past.Past.{Past}
 use Rattle.lat_machines.specs.cores.Lines.{used}
 use Rattle.lat_machines.specs.values.Events.{Event}
 use Rattle.lat_machines.specs.node.Node.{NodeConfig, Node, node_step, Allowed}
 use Rattle.lat_machines.specs.world.Histories.{RatedEvent}
 use Rattle.lat_lines.specs.Events.{event_shown}
 use Rattle.lat_tariff.specs.declared.tariff.Rule.{Rule}
-use Rattle.lat_tariff.specs.Kept.{asked}
+use Rattle.lat_tariff.specs.Kept.{asked_at}
 use Rattle.lat_tariff.specs.Tariffs.{AreOwn}
 
 -- its events, as they were told
@@ -40,5 +40,5 @@ abbrev pub AreOwnEach : {R : Type 0} → (R → ℕ → ℕ → ℕ → Type 0) 
     → Type 0
 AreOwnEach may rules config [] state = Unit {0}
 AreOwnEach may rules config (r ∷ rated) state =
-    AreOwn may (used state.core) config.lines (asked rules r.event (node_step config [] state r.event).answer) r.rates
+    AreOwn may (used state.core) config.lines (asked_at rules config state r.event) r.rates
     × AreOwnEach may rules config rated (node_step config r.rates state r.event).state

@@ -36,8 +36,8 @@ fn words_of(alloc: Global, all: Args<Global>) -> Result<Vec<String>, AllocError>
 }
 
 // The status alone; all else that a daemon hands back is dropped.
-fn status_of<H: RatingRule, P: SteadyRule, T: Tx, L: LineEnd, E: Ledger, B: Ledger, F: Ledger>(
-    served: Served<H, P, T, L, E, B, F>,
+fn status_of<H: RatingRule, P: SteadyRule, T: Tx, L: LineEnd, E: Ledger, B: Ledger>(
+    served: Served<H, P, T, L, E, B>,
 ) -> u8
     ensures { result ≡ served.status }
 {
@@ -50,7 +50,6 @@ fn status_by<
     P: SteadyRule + Send,
     E: Ledger + Sync,
     B: Ledger + Sync,
-    F: Ledger + Sync,
     R: Threads
         + Wait
         + Net<Listener = TcpListener, Stream = TcpStream>
@@ -62,12 +61,12 @@ fn status_by<
 >(rt: &R, alloc: Global, words: &[String], blanks: Blanks, rule: H, tariff: Tariff<P>) -> u8
     requires fact { H.fact rule }
     requires rules { AreKnown P.fact tariff }
-    requires blanks { AreBlanks blanks E.name E.parts B.name B.parts F.name F.parts }
+    requires blanks { AreBlanks blanks E.name E.parts B.name B.parts }
 {
     let mut opener = NetOpener::new(*rt);
     let clock = RealClock::new(*rt);
     let mut out = StdSink::new(io::writer(rt));
-    status_of(serve::<_, _, _, _, _, _, E, B, F, R>(
+    status_of(serve::<_, _, _, _, _, _, E, B, R>(
         rt,
         alloc,
         words,
@@ -96,7 +95,6 @@ fn services() -> (Name, Name)
 fn status<
     E: Ledger + Sync,
     B: Ledger + Sync,
-    F: Ledger + Sync,
     R: Threads
         + Wait
         + Net<Listener = TcpListener, Stream = TcpStream>
@@ -106,7 +104,7 @@ fn status<
         + Send
         + Sync,
 >(rt: &R, alloc: Global, words: &[String], blanks: Blanks) -> Result<u8, AllocError>
-    requires blanks { AreBlanks blanks E.name E.parts B.name B.parts F.name F.parts }
+    requires blanks { AreBlanks blanks E.name E.parts B.name B.parts }
 {
     let (login, print) = services();
     let per_line: Box<dyn SteadyRule + Send> = Box::new(alloc, TwentyPerFreeLine)?;
@@ -121,7 +119,7 @@ fn status<
         rule: while_free,
     })?;
     let tariff = Tariff::make(rules);
-    Ok(status_by::<_, _, E, B, F, R>(rt, alloc, words, blanks, FreeLines, tariff))
+    Ok(status_by::<_, _, E, B, R>(rt, alloc, words, blanks, FreeLines, tariff))
 }
 
 fn main(rt: HostRuntime) -> ExitCode {
@@ -134,7 +132,7 @@ fn main(rt: HostRuntime) -> ExitCode {
     let Ok(words) = words else {
         return ExitCode::from(NO_MEMORY);
     };
-    let status = status::<Brand, Brand, Brand, HostRuntime>(
+    let status = status::<Brand, Brand, HostRuntime>(
         &rt,
         rt.alloc(),
         words.as_slice(),

@@ -2,8 +2,9 @@
 
 use crate::cell::events::event_of;
 use lat_base::{Core, Memory};
-use lat_history::{Cell, CellFault, LineShare, seat};
+use lat_history::{Cell, CellFault, LineShare};
 use lat_outside::Tx;
+use lat_past::seat;
 use std::alloc::Global;
 use std::sync::ledger::Ledger;
 
@@ -29,16 +30,16 @@ impl From<Memory> for Wrong {
 
 /// A cell of two lines, and the shares of its seats: the wire, the lines, the clock.
 #[derive(Drop)]
-pub struct Told<C: Core, T: Tx, E: Ledger, B: Ledger, F: Ledger> {
-    pub cell: Cell<C, T, E, B, F>,
-    pub shares: Vec<LineShare<E, B, F>>,
+pub struct Told<C: Core, T: Tx, E: Ledger, B: Ledger> {
+    pub cell: Cell<C, T, E, B>,
+    pub shares: Vec<LineShare<E, B>>,
 }
 
 // Applies an event by the share of its seat.
-fn act<C: Core, T: Tx, E: Ledger, B: Ledger, F: Ledger>(
+fn act<C: Core, T: Tx, E: Ledger, B: Ledger>(
     alloc: Global,
-    cell: &mut Cell<C, T, E, B, F>,
-    shares: &mut [LineShare<E, B, F>],
+    cell: &mut Cell<C, T, E, B>,
+    shares: &mut [LineShare<E, B>],
     number: u64,
 ) -> Result<(), Wrong> {
     let event = event_of(alloc, number)?;
@@ -52,15 +53,14 @@ fn act<C: Core, T: Tx, E: Ledger, B: Ledger, F: Ledger>(
     match cell.apply(alloc, event, share) {
         Ok(_) => Ok(()),
         Err(CellFault::Memory) => Err(Wrong::Memory),
-        Err(CellFault::Full(_)) => Err(Wrong::Changed),
+        Err(CellFault::CountsOut) => Err(Wrong::Changed),
     }
 }
 
-impl<C: Core, T: Tx, E: Ledger, B: Ledger, F: Ledger> Told<C, T, E, B, F> {
-    // So many events are kept, and the shares are theirs.
+impl<C: Core, T: Tx, E: Ledger, B: Ledger> Told<C, T, E, B> {
+    // The history has so many events, and the shares are theirs.
     fn is_right(&self, events: u64) -> bool {
-        self.cell.history().len() as u64 == events
-            && self.cell.audit(self.shares.as_slice()).is_ok()
+        self.cell.len() == events && self.cell.audit(self.shares.as_slice()).is_ok()
     }
 
     /// Tells the event of this number, once more where no memory is found for it.

@@ -28,7 +28,7 @@ fn print(alloc: Global, frame: &OutFrame, text: &mut String) -> Result<(), Memor
     if frame.circuit != 0 {
         return Ok(());
     }
-    address_onto(alloc, text, frame.to)?;
+    address_onto(text, frame.to)?;
     text.push_str(" ")?;
     hex_onto(alloc, text, frame.payload.bytes())?;
     Ok(text.push_str("\n")?)

@@ -5,6 +5,3 @@ ghosts-status-E-Ledger g a = record { name = a.blanks.events.name; parts = a.bla
 
 abbrev pub ghosts-status-B-Ledger : goal.ghosts-status-B-Ledger
 ghosts-status-B-Ledger g a = record { name = a.blanks.bytes.name; parts = a.blanks.bytes.parts }
-
-abbrev pub ghosts-status-F-Ledger : goal.ghosts-status-F-Ledger
-ghosts-status-F-Ledger g a = record { name = a.blanks.full.name; parts = a.blanks.full.parts }

@@ -5,6 +5,3 @@ ghosts-played-E-Ledger a = record { name = a.blanks.events.name; parts = a.blank
 
 abbrev pub ghosts-played-B-Ledger : goal.ghosts-played-B-Ledger
 ghosts-played-B-Ledger a = record { name = a.blanks.bytes.name; parts = a.blanks.bytes.parts }
-
-abbrev pub ghosts-played-F-Ledger : goal.ghosts-played-F-Ledger
-ghosts-played-F-Ledger a = record { name = a.blanks.full.name; parts = a.blanks.full.parts }

@@ -6,5 +6,4 @@ returns g c =
     record {
       place = record { seat = worked.seat.0; parts = worked.seat.1 };
       fault = worked.fault;
-      full = worked.full;
     }
