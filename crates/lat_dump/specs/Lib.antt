@@ -1,0 +1,3 @@
+pub mod Indented
+pub mod Printed
+pub mod DumpOf
