@@ -17,7 +17,7 @@ use Rattle.lat_cmd.specs.declared.course.Course.TheVariants as courses
 use Rattle.lat_cmd.specs.declared.outcome.Outcome.{Outcome}
 use Rattle.lat_cmd.specs.Answers.{Answer, plain, answered_behind, captured, HandsBack}
 use Rattle.lat_cmd.specs.Courses.{Runs}
-use Rattle.lat_cmd.specs.Laws.{IsLegalText, CaptureIsLegal}
+use Rattle.lat_cmd.specs.Laws.{IsLegalText, CaptureIsLegal, SaysCalm}
 use Rattle.lat_cmd.proofs.Coming.{fits, same_some}
 use Rattle.lat_cmd.proofs.Ending.{within_limit}
 
@@ -39,19 +39,19 @@ undone a w none back fit done =
 
 pub capture_through :
     {H : Type 0} (input : List ℕ) (p : ℕ) (c : Course H) (k : Kept H) (r : Result (Outcome H) Memory) → c ≡ courses.Through k →
-    Runs (λ tale. answered_behind tale input) c → IfOk r (λ o. (t : State) → StandsAt k t → AuditIsLegal (setups_of k) t.machines p) →
+    Runs (SaysCalm input) (λ tale. answered_behind tale input) c → IfOk r (λ o. (t : State) → StandsAt k t → AuditIsLegal (setups_of k) t.machines p) →
     IfOk r (λ o. CaptureIsLegal p input)
 capture_through input p c k (Err e) is runs legal = tt
 capture_through input p c k (Ok o) is runs legal =
-    let q : Runs (λ tale. answered_behind tale input) (courses.Through k) = subst (λ (x : Course _). Runs (λ tale. answered_behind tale input) x) is runs in
+    let q : Runs (SaysCalm input) (λ tale. answered_behind tale input) (courses.Through k) = subst (λ (x : Course _). Runs (SaysCalm input) (λ tale. answered_behind tale input) x) is runs in
     let u : Setups = setups_of k in
     let text : (answered_behind (captured p) input).text ≡ captured_text u q.0.machines p =
     ap (λ (a : Answer). a.text) (q.3 (captured p)) ∙ captured_prints p u q.0 in
     λ done. subst (λ xs. IsLegalText xs) (sym text) (printed_legal u q.0.machines p (printing.capture_of u q.0.machines p) refl (legal q.0 q.1))
 
 pub capture_stopped :
-    {H : Type 0} (input : List ℕ) (p : ℕ) (c : Course H) (o : Outcome H) → c ≡ courses.Stopped o → Runs (λ tale. answered_behind tale input) c →
+    {H : Type 0} (input : List ℕ) (p : ℕ) (c : Course H) (o : Outcome H) → c ≡ courses.Stopped o → Runs (SaysCalm input) (λ tale. answered_behind tale input) c →
     CaptureIsLegal p input
 capture_stopped input p c o is runs =
-    let q : Runs (λ tale. answered_behind tale input) (courses.Stopped o) = subst (λ (x : Course _). Runs (λ tale. answered_behind tale input) x) is runs in
+    let q : Runs (SaysCalm input) (λ tale. answered_behind tale input) (courses.Stopped o) = subst (λ (x : Course _). Runs (SaysCalm input) (λ tale. answered_behind tale input) x) is runs in
     λ done. absurd (undone (answered_behind (captured p) input) o.world q.0 (q.1 (captured p)).world (fits (commands.Capture p) input).1 done)

@@ -4,9 +4,14 @@ use Rattle.std.specs.Prelude.{is_some, nat_eq, nat_lt, if◌then◌else◌}
 use Rattle.lat_machines.specs.world.Machines.{Setups}
 use Rattle.lat_show.specs.ShowOf as shows
 use Rattle.lat_show.specs.choice.ChooseOf as chooses
+use Rattle.lat_dump.specs.DumpOf as dumps
 use Rattle.lat_audit.specs.AuditOf as audits
 use Rattle.lat_audit.specs.CaptureText.{Capture as CaptureText, capture_of}
 use Rattle.lat_settle.specs.Rounds as rounds
+use Rattle.lat_pcap.specs.Held.{contents_of}
+use Rattle.lat_pcap.specs.declared.contents.Contents.{Contents}
+use Rattle.lat_pcap.specs.declared.fault.Wrong.{Wrong}
+use Rattle.lat_schedule.specs.Places.{opening}
 use Rattle.lat_schedule.specs.ScheduleText as schedules
 use Rattle.lat_schedule.specs.declared.schedule.Schedule.{Schedule}
 use Rattle.lat_schedule.specs.declared.schedule.ScheduleFault.{ScheduleFault}
@@ -17,7 +22,7 @@ use Rattle.lat_replay.specs.Setups.{setups_shown}
 use Rattle.lat_replay.specs.Played.{State, Played, Through, Refused, open_state, played}
 use Rattle.lat_cmd.specs.generate.Grown as gen
 use Rattle.lat_cmd.specs.declared.command.Command.{Command}
-use Rattle.lat_cmd.specs.declared.command.Command.TheVariants.{Show, Choose, Replay, Capture, Settle, Audit, Gen, Bench}
+use Rattle.lat_cmd.specs.declared.command.Command.TheVariants.{Show, Choose, Replay, Capture, Settle, Audit, Pcap, Gen, Bench}
 use Rattle.lat_cmd.specs.Answers.{Ended, Answer, Tale, plain, with_world, tale_answer, answered_of, tale_answer_at, answered_behind, reported, captured, settled}
 use Rattle.lat_cmd.specs.Answers.{settled_to, gen_of, bench_of, answer_to, HandsBack}
 use Rattle.lat_cmd.specs.Commands.{ComesTo, makes_world}
@@ -37,6 +42,13 @@ choose_fits (Err number) = (inr refl, refl)
 audit_fits : (r : Result CaptureText ℕ) → Fits Audit (plain (audits.answer_of r))
 audit_fits (Ok c) = (inl refl, refl)
 audit_fits (Err number) = (inr refl, refl)
+
+wrong_fits : (wrong : Option Wrong) (text : List ℕ) → Fits Pcap (plain (dumps.ended_by wrong text))
+wrong_fits None text = (inl refl, refl)
+wrong_fits (Some wrong) text = (inr refl, refl)
+
+pcap_fits : (c : Contents) → Fits Pcap (plain (dumps.dump_text c))
+pcap_fits c = wrong_fits c.wrong (dumps.frames_text c)
 
 report_fits : (u : Setups) (t : State) → Fits Replay (reported u t)
 unfolding reported
@@ -59,20 +71,20 @@ settle_fits : (count : ℕ) (u : Setups) (t : State) → Fits Replay (settled co
 unfolding settled
 settle_fits count u t = settled_fits u t (rounds.settled u t count)
 
-played_fits : (tale : Tale) (u : Setups) (first : ℕ) (p : Played) → ((t : State) → Fits Replay (tale u t)) → Fits Replay (tale_answer tale u first p)
-played_fits tale u first (Through t) told = told t
-played_fits tale u first (Refused index faults.FramesFull t) told = (inr (inr (inr refl)), refl)
-played_fits tale u first (Refused index (faults.Backward at last) t) told = (inr (inr (inl refl)), refl)
-played_fits tale u first (Refused index faults.OwnAddress t) told = (inr (inr (inl refl)), refl)
-played_fits tale u first (Refused index (faults.NoFrame place sent) t) told = (inr (inr (inl refl)), refl)
-played_fits tale u first (Refused index (faults.Old acknowledgement number newest) t) told = (inr (inr (inl refl)), refl)
-played_fits tale u first (Refused index faults.Memory t) told = (inr (inr (inr refl)), refl)
+played_fits : (tale : Tale) (u : Setups) (lines : List ℕ) (p : Played) → ((t : State) → Fits Replay (tale u t)) → Fits Replay (tale_answer tale u lines p)
+played_fits tale u lines (Through t) told = told t
+played_fits tale u lines (Refused index faults.FramesFull t) told = (inr (inr (inr refl)), refl)
+played_fits tale u lines (Refused index (faults.Backward at last) t) told = (inr (inr (inl refl)), refl)
+played_fits tale u lines (Refused index faults.OwnAddress t) told = (inr (inr (inl refl)), refl)
+played_fits tale u lines (Refused index (faults.NoFrame place sent) t) told = (inr (inr (inl refl)), refl)
+played_fits tale u lines (Refused index (faults.Old acknowledgement number newest) t) told = (inr (inr (inl refl)), refl)
+played_fits tale u lines (Refused index faults.Memory t) told = (inr (inr (inr refl)), refl)
 
 of_fits : (tale : Tale) (s : Schedule) → ((u : Setups) (t : State) → Fits Replay (tale u t)) → Fits Replay (answered_of tale s)
 unfolding answered_of
 of_fits tale s told =
     let u : Setups = setups_shown s.setup in
-    played_fits tale u s.first (played u (open_state u) s.events) (told u)
+    played_fits tale u s.lines (played u (open_state u) s.events) (told u)
 
 either : (P : Result Schedule ScheduleFault → Type 0) (b : Bool) (x y : Result Schedule ScheduleFault) → P x → P y → P (if b then x else y)
 either P true x y p q = p
@@ -86,7 +98,7 @@ schedule_fits tale (Ok s) told =
 
 tale_fits : (tale : Tale) (input : List ℕ) → ((u : Setups) (t : State) → Fits Replay (tale u t)) → Fits Replay (answered_behind tale input)
 unfolding answered_behind
-tale_fits tale input told = schedule_fits tale (schedules.schedule_at (record { number = 1; lines = lines_of input })) told
+tale_fits tale input told = schedule_fits tale (schedules.schedule_at (opening input)) told
 
 grown_fits : (text : List ℕ) (u : Setups) (t : State) → ((with_world text u t).status ≡ 0) × (is_some (with_world text u t).world ≡ true)
 grown_fits text u t = (refl, refl)
@@ -109,6 +121,7 @@ fits Replay input = tale_fits reported input report_fits
 fits (Capture p) input = tale_fits (captured p) input (capture_fits p)
 fits (Settle count) input = tale_fits (settled count) input (settle_fits count)
 fits Audit input = audit_fits (capture_of input)
+fits Pcap input = pcap_fits (contents_of input)
 fits (Gen seed) input = ((gen_fits seed).0, done_fits (gen_of seed).status (is_some (gen_of seed).world) (gen_fits seed))
 fits (Bench seed) input = ((bench_fits seed).0, done_fits (bench_of seed).status (is_some (bench_of seed).world) (bench_fits seed))
 

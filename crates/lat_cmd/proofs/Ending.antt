@@ -4,7 +4,7 @@ use Rattle.std.proofs.Common.{refl, sym, ap, ◌∙◌, subst, arith}
 use Rattle.std.specs.Prelude.{IfSome, codes}
 use Rattle.std.proofs.lemmas.Bool.Decides.{nat_tests}
 use Rattle.lat_cmd.specs.declared.command.Command.{Command}
-use Rattle.lat_cmd.specs.declared.command.Command.TheVariants.{Show, Choose, Replay, Capture, Settle, Audit, Gen, Bench}
+use Rattle.lat_cmd.specs.declared.command.Command.TheVariants.{Show, Choose, Replay, Capture, Settle, Audit, Pcap, Gen, Bench}
 use Rattle.lat_cmd.specs.declared.end.RunEnd.{RunEnd}
 use Rattle.lat_cmd.specs.Answers.{Answer, plain, answer_of, answer_to, capture_of, input_of}
 use Rattle.lat_cmd.specs.Laws.{SettleTakesAll, IsLawful, ObeysLaw}
@@ -67,11 +67,12 @@ input_read c left input now same read = subst (λ (ys : List ℕ). IsRead c left
 pub lawless : (c : Command) (left : Option (List ℕ)) (status : ℕ) (before now : Option (List ℕ)) → status ≢ 0 → status ≢ 3 → ObeysLaw c left status before now
 lawless (Capture p) left status before now undone passes = λ done. absurd (undone done)
 lawless (Settle count) left status before now undone passes =
-    if_known (λ xs. SettleTakesAll count xs status) left (λ xs is ended one lossless. record { passes = passes; all = λ done. absurd (undone done) })
+    if_known (λ xs. SettleTakesAll count xs status) left (λ xs is calm ended one lossless. record { passes = passes; all = λ done. absurd (undone done) })
 lawless Show left status before now undone passes = tt
 lawless Choose left status before now undone passes = tt
 lawless Replay left status before now undone passes = tt
 lawless Audit left status before now undone passes = tt
+lawless Pcap left status before now undone passes = tt
 lawless (Gen seed) left status before now undone passes = tt
 lawless (Bench seed) left status before now undone passes = tt
 
@@ -93,5 +94,6 @@ lawful_told Show left input end before now read law (inl told) = tt
 lawful_told Choose left input end before now read law (inl told) = tt
 lawful_told Replay left input end before now read law (inl told) = tt
 lawful_told Audit left input end before now read law (inl told) = tt
+lawful_told Pcap left input end before now read law (inl told) = tt
 lawful_told (Gen seed) left input end before now read law (inl told) = tt
 lawful_told (Bench seed) left input end before now read law (inl told) = tt

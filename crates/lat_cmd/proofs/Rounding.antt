@@ -20,7 +20,7 @@ use Rattle.lat_cmd.specs.declared.course.Course.TheVariants as courses
 use Rattle.lat_cmd.specs.declared.outcome.Outcome.{Outcome}
 use Rattle.lat_cmd.specs.Answers.{Ended, Answer, Tale, answered_behind, reported, settled, settled_to, settle_of, HandsBack}
 use Rattle.lat_cmd.specs.Courses.{Runs}
-use Rattle.lat_cmd.specs.Laws.{SettleTakesAll}
+use Rattle.lat_cmd.specs.Laws.{SaysCalm, SettleTakesAll}
 use Rattle.lat_cmd.specs.Outcomes.{IsOutcome}
 use Rattle.lat_cmd.proofs.Forming.{is_plain, is_with_world}
 
@@ -69,10 +69,10 @@ is_unsettled u count before k o none not is t prints =
 
 -- there is a moment for each round
 pub has_room :
-    {H : Type 0} (answer : Tale → Answer) (c : Course H) (k : Kept H) (count : ℕ) → c ≡ courses.Through k → Runs answer c → count ≤ 100000 →
+    {H : Type 0} (calm : Type 0) (answer : Tale → Answer) (c : Course H) (k : Kept H) (count : ℕ) → c ≡ courses.Through k → Runs calm answer c → count ≤ 100000 →
     rounds.rounds_moment (setups_of k) (moment_of k) count < 2 ^ 64
-has_room answer c k count is runs few =
-    let p : Runs answer (courses.Through k) = subst (λ (x : Course _). Runs answer x) is runs in
+has_room calm answer c k count is runs few =
+    let p : Runs calm answer (courses.Through k) = subst (λ (x : Course _). Runs calm answer x) is runs in
     subst (λ m. rounds.rounds_moment (setups_of k) m count < 2 ^ 64) (sym p.1.moment) (p.2.room count few)
 
 -- the world of a tale
@@ -88,10 +88,10 @@ unfolding reported
 reported_world u t = refl
 
 not_stopped :
-    {H : Type 0} (answer : Tale → Answer) (c : Course H) (o : Outcome H) (tale : Tale) (e : Ended) → c ≡ courses.Stopped o → Runs answer c →
+    {H : Type 0} (calm : Type 0) (answer : Tale → Answer) (c : Course H) (o : Outcome H) (tale : Tale) (e : Ended) → c ≡ courses.Stopped o → Runs calm answer c →
     (answer tale).world ≡ Some e → ⊥
-not_stopped answer c o tale e is runs some =
-    let p : Runs answer (courses.Stopped o) = subst (λ (x : Course _). Runs answer x) is runs in
+not_stopped calm answer c o tale e is runs some =
+    let p : Runs calm answer (courses.Stopped o) = subst (λ (x : Course _). Runs calm answer x) is runs in
     let back : HandsBack (answer tale).world o.world = (p.1 tale).world in
     let here : HandsBack (Some e) o.world = subst (λ x. HandsBack x o.world) some back in
     subst (λ (w : Option (Kept _)). HandsBack (Some e) w) p.0 here
@@ -142,26 +142,26 @@ unfolding settled
 takes_all u t count e all some = settled_takes u t count (rounds.settled u t count) e refl all some
 
 pub settle_through :
-    {H : Type 0} (input : List ℕ) (count : ℕ) (c : Course H) (k : Kept H) → c ≡ courses.Through k → Runs (λ tale. answered_behind tale input) c →
+    {H : Type 0} (input : List ℕ) (count : ℕ) (c : Course H) (k : Kept H) → c ≡ courses.Through k → Runs (SaysCalm input) (λ tale. answered_behind tale input) c →
     SettleTakesAll count input (settle_of count input).status
 settle_through input count c k is runs =
-    let q : Runs (λ tale. answered_behind tale input) (courses.Through k) = subst (λ (x : Course _). Runs (λ tale. answered_behind tale input) x) is runs in
+    let q : Runs (SaysCalm input) (λ tale. answered_behind tale input) (courses.Through k) = subst (λ (x : Course _). Runs (SaysCalm input) (λ tale. answered_behind tale input) x) is runs in
     let u : Setups = setups_of k in
     let so : answered_behind (settled count) input ≡ settled count u q.0 = q.3 (settled count) in
-    λ before one lossless.
+    λ calm before one lossless.
     let same : Lossless u q.0.machines =
     same_end (λ x. Lossless x.setups x.state.machines) before (record { setups = u; state = q.0 }) (answered_behind reported input).world one
     (ap (λ (a : Answer). a.world) (q.3 reported) ∙ reported_world u q.0) lossless in
     record {
-      passes = subst (λ (a : Answer). a.status ≢ 3) (sym so) (passes u q.0 count (q.2.begins same));
+      passes = subst (λ (a : Answer). a.status ≢ 3) (sym so) (passes u q.0 count (q.2.begins calm same));
       all = λ done behind two.
-          takes_all u q.0 count behind (λ b e enough. enough_settle u q.0 count b (q.2.begins same) e enough) (sym (ap (λ (a : Answer). a.world) so) ∙ two);
+          takes_all u q.0 count behind (λ b e enough. enough_settle u q.0 count b (q.2.begins calm same) e enough) (sym (ap (λ (a : Answer). a.world) so) ∙ two);
     }
 
 pub settle_stopped :
-    {H : Type 0} (input : List ℕ) (count : ℕ) (c : Course H) (o : Outcome H) → c ≡ courses.Stopped o → Runs (λ tale. answered_behind tale input) c →
+    {H : Type 0} (input : List ℕ) (count : ℕ) (c : Course H) (o : Outcome H) → c ≡ courses.Stopped o → Runs (SaysCalm input) (λ tale. answered_behind tale input) c →
     SettleTakesAll count input (settle_of count input).status
-settle_stopped input count c o is runs = λ before one lossless. absurd (not_stopped (λ tale. answered_behind tale input) c o reported before is runs one)
+settle_stopped input count c o is runs = λ calm before one lossless. absurd (not_stopped (SaysCalm input) (λ tale. answered_behind tale input) c o reported before is runs one)
 
 pub if_ok_all : {A E : Type 0} (P : Type 0) (r : Result A E) → P → IfOk r (λ a. P)
 if_ok_all P (Ok a) p = p

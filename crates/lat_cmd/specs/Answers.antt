@@ -1,9 +1,10 @@
 -- What the program answers: a status, the text that it writes, and the world that it hands back.
-use Rattle.std.specs.Prelude.{◌≡◌, ℕ, ◌+◌, List, [], length, Option, Some, None, Result, Ok, Err, nat_lt, codes, if◌then◌else◌}
+use Rattle.std.specs.Prelude.{◌≡◌, ℕ, List, [], length, get_or, Option, Some, None, Result, Ok, Err, nat_lt, codes, if◌then◌else◌}
 use Rattle.lat_machines.specs.world.Machines.{Setups}
 use Rattle.lat_machines.specs.world.Reports.{report}
 use Rattle.lat_show.specs.ShowOf.{show_of}
 use Rattle.lat_show.specs.choice.ChooseOf.{choose_of}
+use Rattle.lat_dump.specs.DumpOf.{dump_of}
 use Rattle.lat_audit.specs.AuditOf.{audit_of}
 use Rattle.lat_audit.specs.CapturedText.{captured_text}
 use Rattle.lat_settle.specs.Rounds as rounds
@@ -21,7 +22,7 @@ use Rattle.lat_schedule.specs.declared.schedule.ScheduleFault.{ScheduleFault}
 use Rattle.lat_schedule.specs.declared.schedule.ScheduleFault.TheVariants as faults
 use Rattle.lat_text.specs.WrongLine.{wrong_line}
 use Rattle.lat_cmd.specs.declared.command.Command.{Command}
-use Rattle.lat_cmd.specs.declared.command.Command.TheVariants.{Show, Choose, Replay, Capture, Settle, Audit, Gen, Bench}
+use Rattle.lat_cmd.specs.declared.command.Command.TheVariants.{Show, Choose, Replay, Capture, Settle, Audit, Pcap, Gen, Bench}
 use Rattle.lat_cmd.specs.Commands.{reads}
 use Rattle.lat_replay.specs.Refusals.{refused_of}
 
@@ -53,13 +54,13 @@ misread faults.Memory = plain (9, [])
 abbrev pub Tale : Type 0
 Tale = Setups → State → Answer
 
--- where a schedule leads: to the tale, or to the line of the first event that is refused
-abbrev pub tale_answer : Tale → Setups → (first : ℕ) → Played → Answer
-tale_answer tale u first (Through t) = tale u t
-tale_answer tale u first (Refused index fault t) = plain (status (refused_of fault), refused_text (first + index) (refused_of fault))
+-- where a schedule leads whose events have these lines: to the tale, or to the line of the first event that is refused
+abbrev pub tale_answer : Tale → Setups → (lines : List ℕ) → Played → Answer
+tale_answer tale u lines (Through t) = tale u t
+tale_answer tale u lines (Refused index fault t) = plain (status (refused_of fault), refused_text (get_or lines index 0) (refused_of fault))
 
 unfoldable pub answered_of : Tale → Schedule → Answer
-answered_of tale s = tale_answer tale (setups_shown s.setup) s.first (played (setups_shown s.setup) (open_state (setups_shown s.setup)) s.events)
+answered_of tale s = tale_answer tale (setups_shown s.setup) s.lines (played (setups_shown s.setup) (open_state (setups_shown s.setup)) s.events)
 
 abbrev pub tale_answer_at : Tale → Result Schedule ScheduleFault → Answer
 tale_answer_at tale (Ok s) = answered_of tale s
@@ -108,6 +109,7 @@ answer_to Replay input = replay_of input
 answer_to (Capture circuit) input = capture_of circuit input
 answer_to (Settle count) input = settle_of count input
 answer_to Audit input = plain (audit_of input)
+answer_to Pcap input = plain (dump_of input)
 answer_to (Gen seed) input = gen_of seed
 answer_to (Bench seed) input = bench_of seed
 

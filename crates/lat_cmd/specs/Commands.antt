@@ -3,7 +3,7 @@ use Rattle.std.specs.Prelude.{◌≡◌, ◌≤◌, ◌⊎◌, ℕ, ◌-◌, ◌
 use Rattle.std.specs.Str.{bytes_eq}
 use Rattle.lat_text.specs.Numbers.{number_within}
 use Rattle.lat_cmd.specs.declared.command.Command.{Command}
-use Rattle.lat_cmd.specs.declared.command.Command.TheVariants.{Show, Choose, Replay, Capture, Settle, Audit, Gen, Bench}
+use Rattle.lat_cmd.specs.declared.command.Command.TheVariants.{Show, Choose, Replay, Capture, Settle, Audit, Pcap, Gen, Bench}
 
 -- a word alone
 abbrev pub plain_of : List ℕ → Option Command
@@ -12,6 +12,7 @@ plain_of w =
     else if bytes_eq w (codes "choose") then Some Choose
     else if bytes_eq w (codes "replay") then Some Replay
     else if bytes_eq w (codes "audit") then Some Audit
+    else if bytes_eq w (codes "pcap") then Some Pcap
     else None
 
 -- a word with a number behind it: one below 2^64, a circuit, or so many rounds
@@ -45,6 +46,7 @@ abbrev pub makes_world : Command → Bool
 makes_world Show = false
 makes_world Choose = false
 makes_world Audit = false
+makes_world Pcap = false
 makes_world command = true
 
 -- the statuses of what a command comes to; what reads nothing finds nothing wrong

@@ -1,5 +1,5 @@
 -- What holds of what is printed of schedules, and of the world that is handed back.
-use Rattle.std.specs.Prelude.{◌≡◌, ◌≢◌, ◌⊎◌, ◌≤◌, ℕ, List, length, Option, Some, IfSome, codes}
+use Rattle.std.specs.Prelude.{◌≡◌, ◌≢◌, ◌⊎◌, ◌≤◌, ℕ, List, length, Option, Some, Ok, IfSome, codes}
 use Rattle.std.specs.Io.KnownBytes.{Appends}
 use Rattle.lat_machines.specs.world.Machines.{Machines}
 use Rattle.lat_machines.specs.world.Reports.{report}
@@ -8,6 +8,9 @@ use Rattle.lat_captures.specs.Audit.{IsLegal}
 use Rattle.lat_audit.specs.AuditOf.{verdict_text}
 use Rattle.lat_laws.specs.rounds.Lossless.{Lossless}
 use Rattle.lat_laws.specs.rounds.Settles.{Enough, Settled}
+use Rattle.lat_schedule.specs.ScheduleText.{schedule_of}
+use Rattle.lat_schedule.specs.declared.schedule.Schedule.{Schedule}
+use Rattle.lat_settle.specs.Laws.{IsCalm}
 use Rattle.lat_replay.specs.Kept.{Kept, setups_of}
 use Rattle.lat_replay.specs.Stands.{Stands}
 use Rattle.lat_replay.specs.Promises.{Promises}
@@ -36,9 +39,14 @@ pub record RoundsBring (count : ℕ) (input : List ℕ) (status : ℕ) : Type 0 
       Enough count (report behind.setups behind.state.machines) →
       Settled behind.setups behind.state.machines
 
--- they do so behind the schedule that an input is, if it lost nothing
+-- the schedule that an input is, if it is one: neither end is prompt, and nobody is halted
+abbrev pub SaysCalm : List ℕ → Type 0
+SaysCalm input = (s : Schedule) → schedule_of input ≡ Ok s → IsCalm s.setup s.events
+
+-- they do so behind the schedule that an input is, if it is calm and lost nothing
 abbrev pub SettleTakesAll : (count : ℕ) → List ℕ → (status : ℕ) → Type 0
 SettleTakesAll count input status =
+    SaysCalm input →
     (before : Ended) →
     (replay_of input).world ≡ Some before →
     Lossless before.setups before.state.machines →

@@ -21,6 +21,8 @@ pub enum Command {
     Settle(u32),
     /// `audit`: audits the capture that the input is.
     Audit,
+    /// `pcap`: prints the frames that the input, a pcap file, holds.
+    Pcap,
     /// `gen N`: prints the schedule that is generated from this number.
     Gen(u64),
     /// `bench N`: plays that schedule, and prints what it came to in one line.
@@ -45,6 +47,7 @@ fn plain_of(word: &str) -> Option<Command>
         "choose" => Some(Command::Choose),
         "replay" => Some(Command::Replay),
         "audit" => Some(Command::Audit),
+        "pcap" => Some(Command::Pcap),
         _ => None,
     }
 }

@@ -10,6 +10,8 @@ ghost use Rattle.lat_wire.specs.Rates.{RatesWhatIsLeft};
 ghost use Rattle.lat_cmd.specs.Answers.{plain, misread, answered_of, answered_behind};
 ghost use Rattle.lat_cmd.specs.Outcomes.{IsOutcome};
 ghost use Rattle.lat_cmd.specs.Courses.{Runs};
+ghost use Rattle.lat_cmd.specs.Laws.{SaysCalm};
+ghost use Rattle.lat_settle.specs.Laws.{IsCalm};
 
 use crate::outcome::Outcome;
 use lat_base::Memory;
@@ -53,14 +55,15 @@ fn played<H: RatingRule>(alloc: Global, rule: H, schedule: &Schedule) -> Result<
     requires setup { IsSetup schedule.now.setup }
     requires events { Each (IsEvent schedule.now.setup.server.own) schedule.now.events }
     requires few { length schedule.now.events ≤ 100000 }
-    ensures { IfOk result (λ course. Runs (λ tale. answered_of tale schedule.now) course) }
+    ensures { IfOk result (λ course.
+        Runs (IsCalm schedule.now.setup schedule.now.events) (λ tale. answered_of tale schedule.now) course) }
 {
     let mut world = World::make(alloc, &schedule.setup, rule)?;
     match world.play(alloc, schedule.events.as_slice()) {
         Ok(()) => Ok(Course::Through(world)),
         Err(stopped) => {
             let why = refused_of(stopped.fault)?;
-            let line = u64::from(schedule.first) + stopped.index as u64;
+            let line = u64::from(schedule.lines.at(stopped.index));
             let outcome = refused(alloc, line, why)?;
             Ok(Course::Stopped(outcome))
         }
@@ -75,7 +78,7 @@ pub(crate) fn course_of<H: RatingRule>(
 ) -> Result<Course<H>, Memory>
     requires fact { H.fact rule }
     requires rates { RatesWhatIsLeft (H.may rule) }
-    ensures { IfOk result (λ course. Runs (λ tale. answered_behind tale input.now) course) }
+    ensures { IfOk result (λ course. Runs (SaysCalm input.now) (λ tale. answered_behind tale input.now) course) }
 {
     match read_schedule(alloc, input) {
         Ok(schedule) => played(alloc, rule, &schedule),

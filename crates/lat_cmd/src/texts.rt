@@ -2,6 +2,7 @@
 
 ghost use Rattle.std.specs.Prelude.{IfOk};
 ghost use Rattle.lat_show.specs.ShowOf.{show_of};
+ghost use Rattle.lat_dump.specs.DumpOf.{dump_of};
 ghost use Rattle.lat_audit.specs.AuditOf.{audit_of};
 ghost use Rattle.lat_show.specs.choice.ChooseOf.{choose_of};
 ghost use Rattle.lat_cmd.specs.Answers.{plain};
@@ -10,6 +11,7 @@ ghost use Rattle.lat_cmd.specs.Outcomes.{IsOutcome};
 use crate::outcome::Outcome;
 use lat_audit::audit;
 use lat_base::Memory;
+use lat_dump::dump;
 use lat_node::RatingRule;
 use lat_show::{choose, show};
 use std::alloc::Global;
@@ -35,5 +37,13 @@ pub(crate) fn audited<H: RatingRule>(alloc: Global, input: &[u8]) -> Result<Outc
     ensures { IfOk result (λ o. IsOutcome (plain (audit_of input.now)) o) }
 {
     let (status, text) = audit(alloc, input)?;
+    Ok(Outcome::plain(status, text))
+}
+
+/// Prints the frames of a pcap file.
+pub(crate) fn dumped<H: RatingRule>(alloc: Global, input: &[u8]) -> Result<Outcome<H>, Memory>
+    ensures { IfOk result (λ o. IsOutcome (plain (dump_of input.now)) o) }
+{
+    let (status, text) = dump(alloc, input)?;
     Ok(Outcome::plain(status, text))
 }

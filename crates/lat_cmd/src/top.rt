@@ -100,7 +100,8 @@ fn obeyed<S: Source, K: Sink, H: RatingRule>(
 ///
 /// - 0: the whole output of the command was written;
 /// - 1: the words are no command; nothing was read, and `words` was written;
-/// - 2: the input isn't of the command's form; `line N form` was written, N the first wrong line, counted from 1;
+/// - 2: the input isn't of the command's form; `line N form` was written, N the first wrong line, counted from 1; of `pcap`
+///   what stands in front of the first wrong part, and `bad PART PLACE`;
 /// - 3: an event of the schedule, or of a round, is refused; the line that says why was written;
 /// - 4: a read failed; nothing was written;
 /// - 5: a write failed; a prefix of the output was written;

@@ -32,6 +32,7 @@ setup = record {
     offers = [];
     groups = replicate 32 255;
     timing = timing;
+    prompt = false;
   };
   node = record {
     own = record { 0 = 0xaa ∷ 0x00 ∷ 0x04 ∷ 0x00 ∷ 0x02 ∷ 0x04 ∷ [] };
@@ -42,5 +43,6 @@ setup = record {
     timer = 255;
     groups = [];
     timing = timing;
+    prompt = false;
   };
 }

@@ -1,4 +1,4 @@
-use Rattle.lat_cmd.specs.declared.command.Command.TheVariants.{Show, Choose, Replay, Capture, Settle, Audit, Gen, Bench}
+use Rattle.lat_cmd.specs.declared.command.Command.TheVariants.{Show, Choose, Replay, Capture, Settle, Audit, Pcap, Gen, Bench}
 use Rattle.lat_cmd.proofs.Forming.{answers_as, lawful_as, no_law}
 use Rattle.lat_cmd.proofs.answer.answered.Goals as goal
 
@@ -40,6 +40,12 @@ returns-in-Audit-clause-answer g c = answers_as c.args.command Audit c.args.inpu
 
 pub returns-in-Audit-clause-law : goal.returns-in-Audit-clause-law
 returns-in-Audit-clause-law g c = no_law c.args.command Audit c.args.input.now c.audited.result c.in-Audit.is tt
+
+pub returns-in-Pcap-clause-answer : goal.returns-in-Pcap-clause-answer
+returns-in-Pcap-clause-answer g c = answers_as c.args.command Pcap c.args.input.now c.dumped.result c.in-Pcap.is c.dumped.ensures
+
+pub returns-in-Pcap-clause-law : goal.returns-in-Pcap-clause-law
+returns-in-Pcap-clause-law g c = no_law c.args.command Pcap c.args.input.now c.dumped.result c.in-Pcap.is tt
 
 pub returns-in-Gen-clause-answer : goal.returns-in-Gen-clause-answer
 returns-in-Gen-clause-answer g c = answers_as c.args.command (Gen c.in-Gen.seed) c.args.input.now c.made.result c.in-Gen.is c.made.ensures

@@ -1,11 +1,12 @@
 use Rattle.lat_cmd.specs.Answers.{captured, answered_behind}
+use Rattle.lat_cmd.specs.Laws.{SaysCalm}
 use Rattle.lat_cmd.proofs.Replaying.{of_through, of_stopped}
 use Rattle.lat_cmd.proofs.Capturing.{capture_through, capture_stopped}
 use Rattle.lat_cmd.proofs.capture.capture.Goals as goal
 
 pub returns-in-Through-clause-answer : goal.returns-in-Through-clause-answer
 returns-in-Through-clause-answer g c =
-    of_through (captured c.args.circuit) (λ tale. answered_behind tale c.args.input.now) c.in_ok-world.field-0 c.in-Through.world c.captured.result
+    of_through (SaysCalm c.args.input.now) (captured c.args.circuit) (λ tale. answered_behind tale c.args.input.now) c.in_ok-world.field-0 c.in-Through.world c.captured.result
     c.in-Through.is c.in_ok-world.ensures c.captured.ensures.answer
 
 pub returns-in-Through-clause-legal : goal.returns-in-Through-clause-legal
@@ -15,7 +16,7 @@ returns-in-Through-clause-legal g c =
 
 pub returns-in-Stopped-clause-answer : goal.returns-in-Stopped-clause-answer
 returns-in-Stopped-clause-answer g c =
-    of_stopped (captured c.args.circuit) (λ tale. answered_behind tale c.args.input.now) c.in_ok-world.field-0 c.in-Stopped.outcome c.in-Stopped.is
+    of_stopped (SaysCalm c.args.input.now) (captured c.args.circuit) (λ tale. answered_behind tale c.args.input.now) c.in_ok-world.field-0 c.in-Stopped.outcome c.in-Stopped.is
     c.in_ok-world.ensures
 
 pub returns-in-Stopped-clause-legal : goal.returns-in-Stopped-clause-legal

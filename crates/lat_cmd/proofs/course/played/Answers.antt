@@ -1,24 +1,15 @@
-use Rattle.std.proofs.Common.{◌<◌, ◌+◌, length, ap, arith, subst, sym}
+use Rattle.std.proofs.Common.{◌∙◌, subst, sym}
 use Rattle.lat_model.specs.Lists.{Each}
 use Rattle.lat_replay.specs.Kept.{setups_of}
 use Rattle.lat_replay.specs.Moves.{IsPlayable}
 use Rattle.lat_replay.specs.Played.{open_state}
 use Rattle.lat_replay.proofs.Playable.{events_play}
-use Rattle.lat_cmd.proofs.Replaying.{opens, below, runs_through, runs_stopped}
+use Rattle.lat_cmd.proofs.Replaying.{opens, runs_through, runs_stopped}
 use Rattle.lat_cmd.proofs.course.played.Goals as goal
 
 pub play-requires : goal.play-requires
 play-requires g c =
     subst (Each IsPlayable) (sym c.as_slice.ensures) (events_play c.args.schedule.now.setup.server.own c.args.schedule.now.events c.requires.events)
-
-pub overflow_add-line : goal.overflow_add-line
-overflow_add-line g c =
-    let k = c.in_ok-world.world in
-    let p = c.in-Err.ensures.plays (open_state (setups_of k)) (opens k c.in_ok-world.ensures.stands c.in_ok-world.ensures.moment) in
-    let early : c.in-Err.stopped.index < length c.as_slice.result.now =
-    below (setups_of k) (open_state (setups_of k)) c.as_slice.result.now c.in-Err.stopped.index c.in-Err.stopped.fault p.0
-    c.in_ok-why-in-Err.ensures.kept p.1 in
-    omega (arith, ap length c.as_slice.ensures, c.requires.few, early)
 
 pub returns-in-Ok : goal.returns-in-Ok
 returns-in-Ok g c =
@@ -31,7 +22,7 @@ pub returns-in_ok-outcome-in-Err : goal.returns-in_ok-outcome-in-Err
 returns-in_ok-outcome-in-Err g c =
     let k = c.in_ok-world.world in
     let p = c.in-Err.ensures.plays (open_state (setups_of k)) (opens k c.in_ok-world.ensures.stands c.in_ok-world.ensures.moment) in
-    runs_stopped c.args.schedule.now (setups_of k) c.as_slice.result.now c.in-Err.stopped.index (c.from.result + c.in-Err.stopped.index)
+    runs_stopped c.args.schedule.now (setups_of k) c.as_slice.result.now c.in-Err.stopped.index c.from-line.result
     c.in-Err.stopped.fault c.in_ok-why-in-Err.why p.0 c.in_ok-outcome-in-Err.outcome
     c.in_ok-world.ensures.setups c.as_slice.ensures p.1 c.in_ok-why-in-Err.ensures.kept c.in_ok-why-in-Err.ensures.value
-    (ap (λ n. n + c.in-Err.stopped.index) c.from.ensures) c.in_ok-outcome-in-Err.ensures
+    (c.from-line.ensures ∙ c.at.ensures) c.in_ok-outcome-in-Err.ensures

@@ -1,17 +1,18 @@
 use Rattle.lat_cmd.specs.Answers.{settled, settle_of, answered_behind}
 use Rattle.lat_cmd.specs.Laws.{SettleTakesAll}
+use Rattle.lat_cmd.specs.Laws.{SaysCalm}
 use Rattle.lat_cmd.proofs.Replaying.{of_through, of_stopped}
 use Rattle.lat_cmd.proofs.Rounding.{has_room, settle_through, settle_stopped, if_ok_all}
 use Rattle.lat_cmd.proofs.settle.settle.Goals as goal
 
 pub settled-requires : goal.settled-requires
 settled-requires g c =
-    has_room (λ tale. answered_behind tale c.args.input.now) c.in_ok-world.field-0 c.in-Through.world c.args.rounds
+    has_room (SaysCalm c.args.input.now) (λ tale. answered_behind tale c.args.input.now) c.in_ok-world.field-0 c.in-Through.world c.args.rounds
     c.in-Through.is c.in_ok-world.ensures c.requires.few
 
 pub returns-in-Through-clause-answer : goal.returns-in-Through-clause-answer
 returns-in-Through-clause-answer g c =
-    of_through (settled c.args.rounds) (λ tale. answered_behind tale c.args.input.now) c.in_ok-world.field-0 c.in-Through.world c.settled.result
+    of_through (SaysCalm c.args.input.now) (settled c.args.rounds) (λ tale. answered_behind tale c.args.input.now) c.in_ok-world.field-0 c.in-Through.world c.settled.result
     c.in-Through.is c.in_ok-world.ensures c.settled.ensures
 
 pub returns-in-Through-clause-all : goal.returns-in-Through-clause-all
@@ -21,7 +22,7 @@ returns-in-Through-clause-all g c =
 
 pub returns-in-Stopped-clause-answer : goal.returns-in-Stopped-clause-answer
 returns-in-Stopped-clause-answer g c =
-    of_stopped (settled c.args.rounds) (λ tale. answered_behind tale c.args.input.now) c.in_ok-world.field-0 c.in-Stopped.outcome
+    of_stopped (SaysCalm c.args.input.now) (settled c.args.rounds) (λ tale. answered_behind tale c.args.input.now) c.in_ok-world.field-0 c.in-Stopped.outcome
     c.in-Stopped.is c.in_ok-world.ensures
 
 pub returns-in-Stopped-clause-all : goal.returns-in-Stopped-clause-all

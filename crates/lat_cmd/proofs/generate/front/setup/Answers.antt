@@ -11,8 +11,8 @@ pub returns-in-Ok-clause-value : goal.returns-in-Ok-clause-value
 returns-in-Ok-clause-value c =
     let text : c.as_bytes.result.now ≡ front_text ++ end_text = search rules in
     let read : ◌≡◌ {A = Result Schedule ScheduleFault} (Ok c.in-Ok.schedule) (schedule_of c.as_bytes.result.now) = c.in-Ok.ensures.reads in
-    let told : schedule_of c.as_bytes.result.now ≡ Ok (record { setup = setup; first = 7; events = [] }) = ap schedule_of text ∙ front_tells in
-    let same : c.in-Ok.schedule ≡ record { setup = setup; first = 7; events = [] } = cc in
+    let told : schedule_of c.as_bytes.result.now ≡ Ok (record { setup = setup; lines = []; events = [] }) = ap schedule_of text ∙ front_tells in
+    let same : c.in-Ok.schedule ≡ record { setup = setup; lines = []; events = [] } = cc in
     ap (λ (s : Schedule). s.setup) same
 
 pub unreachable-requires : goal.unreachable-requires
