@@ -39,6 +39,7 @@ pub fn server(alloc: Global, name: Name) -> ServerConfig
         offers: Offers::new(alloc),
         groups: [0xff; 32],
         timing: TIMING,
+        prompt: false,
     }
 }
 
@@ -57,5 +58,6 @@ pub fn node(alloc: Global, name: Name, service: &Name) -> Result<NodeConfig, Mem
         timer: 30,
         groups: Bytes::copy(alloc, &[])?,
         timing: TIMING,
+        prompt: false,
     })
 }

@@ -8,14 +8,17 @@ use super::far::Far;
 use super::outside::{FarRx, FarTx, RoundClock, RoundGate, RoundLine, Signs};
 use lat_base::{Core, Name};
 use lat_cell::{Blanks, Cell, LineDone, LineShare, Shares, line_worker, time_worker, wire_worker};
-use lat_history::{CLOCK, WIRE};
 use lat_outside::Tx;
+use lat_past::{CLOCK, WIRE};
 use std::alloc::Global;
 use std::sync::ledger::Ledger;
 use std::sync::{Mutex, Wait};
 use std::thread;
 use std::thread::Threads;
 use std::time::Clock;
+
+/// How many entries of its history the cell keeps: fewer than the events of a run.
+const MOST_KEPT: usize = 10;
 
 /// What the threads share.
 #[derive(Drop)]
@@ -44,14 +47,13 @@ fn around<
     N: Core + Send,
     E: Ledger + Sync,
     B: Ledger + Sync,
-    F: Ledger + Sync,
     R: Threads + Wait + Clock + Sync,
 >(
     place: &Place<'a, N, R>,
-    cell: &Mutex<Cell<C, T, E, B, F>>,
-    wire: LineShare<E, B, F>,
-    clock: LineShare<E, B, F>,
-) -> (LineShare<E, B, F>, LineShare<E, B, F>)
+    cell: &Mutex<Cell<C, T, E, B>>,
+    wire: LineShare<E, B>,
+    clock: LineShare<E, B>,
+) -> (LineShare<E, B>, LineShare<E, B>)
     requires { (wire.seat ≡ 0) × (clock.seat ≡ 65) }
 {
     let (rt, alloc) = (place.rt, place.alloc);
@@ -81,28 +83,19 @@ fn around<
 
 // How a line came back.
 #[derive(Drop)]
-struct Back<'a, E: Ledger, B: Ledger, F: Ledger, R: Clock> {
-    share: LineShare<E, B, F>,
+struct Back<'a, E: Ledger, B: Ledger, R: Clock> {
+    share: LineShare<E, B>,
     done: LineDone,
     line: RoundLine<'a, R>,
 }
 
 // The worker of a line.
-fn line<
-    'a,
-    C: Core,
-    T: Tx,
-    N: Core,
-    E: Ledger,
-    B: Ledger,
-    F: Ledger,
-    R: Threads + Wait + Clock + Sync,
->(
+fn line<'a, C: Core, T: Tx, N: Core, E: Ledger, B: Ledger, R: Threads + Wait + Clock + Sync>(
     place: &Place<'a, N, R>,
-    cell: &Mutex<Cell<C, T, E, B, F>>,
-    share: LineShare<E, B, F>,
+    cell: &Mutex<Cell<C, T, E, B>>,
+    share: LineShare<E, B>,
     bytes: &'a [u8],
-) -> Back<'a, E, B, F, R> {
+) -> Back<'a, E, B, R> {
     let line = RoundLine {
         rt: place.rt,
         signs: place.signs,
@@ -122,32 +115,32 @@ fn line<
 
 // How all came back.
 #[derive(Drop)]
-struct AllBack<'a, E: Ledger, B: Ledger, F: Ledger, R: Clock> {
-    wire: LineShare<E, B, F>,
-    clock: LineShare<E, B, F>,
-    one: Back<'a, E, B, F, R>,
-    two: Back<'a, E, B, F, R>,
+struct AllBack<'a, E: Ledger, B: Ledger, R: Clock> {
+    wire: LineShare<E, B>,
+    clock: LineShare<E, B>,
+    one: Back<'a, E, B, R>,
+    two: Back<'a, E, B, R>,
 }
 
 // The shares of the seats of a cell of two lines.
 #[derive(Drop)]
-struct Seats<E: Ledger, B: Ledger, F: Ledger> {
-    wire: LineShare<E, B, F>,
-    one: LineShare<E, B, F>,
-    two: LineShare<E, B, F>,
-    clock: LineShare<E, B, F>,
+struct Seats<E: Ledger, B: Ledger> {
+    wire: LineShare<E, B>,
+    one: LineShare<E, B>,
+    two: LineShare<E, B>,
+    clock: LineShare<E, B>,
 }
 
 // Takes the last two shares out, in order.
-fn last_two<E: Ledger, B: Ledger, F: Ledger>(
-    shares: &mut Vec<LineShare<E, B, F>>,
-) -> Option<(LineShare<E, B, F>, LineShare<E, B, F>)> {
+fn last_two<E: Ledger, B: Ledger>(
+    shares: &mut Vec<LineShare<E, B>>,
+) -> Option<(LineShare<E, B>, LineShare<E, B>)> {
     let last = shares.pop()?;
     Some((shares.pop()?, last))
 }
 
 // Each share at its seat, where there are four and they stand in order.
-fn seats_of<E: Ledger, B: Ledger, F: Ledger>(shares: Shares<E, B, F>) -> Option<Seats<E, B, F>>
+fn seats_of<E: Ledger, B: Ledger>(shares: Shares<E, B>) -> Option<Seats<E, B>>
     ensures { IfSome result (λ s. (s.wire.seat ≡ 0) × (s.clock.seat ≡ 65)) }
 {
     let mut shares = shares.into_vec();
@@ -172,13 +165,12 @@ fn at_once<
     N: Core + Send,
     E: Ledger + Sync,
     B: Ledger + Sync,
-    F: Ledger + Sync,
     R: Threads + Wait + Clock + Sync,
 >(
     place: &Place<'a, N, R>,
-    cell: &Mutex<Cell<C, T, E, B, F>>,
-    seats: Seats<E, B, F>,
-) -> AllBack<'a, E, B, F, R>
+    cell: &Mutex<Cell<C, T, E, B>>,
+    seats: Seats<E, B>,
+) -> AllBack<'a, E, B, R>
     requires { (seats.wire.seat ≡ 0) × (seats.clock.seat ≡ 65) }
 {
     let Seats {
@@ -209,9 +201,9 @@ fn at_once<
 }
 
 // Whether what came back is right: of each line, of the shares, and of both together.
-fn came_of<C: Core, T: Tx, E: Ledger, B: Ledger, F: Ledger, R: Clock>(
-    cell: &Cell<C, T, E, B, F>,
-    all: AllBack<'_, E, B, F, R>,
+fn came_of<C: Core, T: Tx, E: Ledger, B: Ledger, R: Clock>(
+    cell: &Cell<C, T, E, B>,
+    all: AllBack<'_, E, B, R>,
 ) -> Came {
     let AllBack {
         wire,
@@ -226,7 +218,7 @@ fn came_of<C: Core, T: Tx, E: Ledger, B: Ledger, F: Ledger, R: Clock>(
         back,
         ended,
         audited: cell.audit(&shares).is_ok(),
-        summed: events_of(&shares) == cell.history().len() as u64,
+        summed: events_of(&shares) == cell.len(),
     }
 }
 
@@ -238,9 +230,8 @@ fn work<
     N: Core + Send,
     E: Ledger + Sync,
     B: Ledger + Sync,
-    F: Ledger + Sync,
     R: Threads + Wait + Clock + Sync,
->(place: &Place<'a, N, R>, cell: Cell<C, T, E, B, F>, shares: Shares<E, B, F>) -> Option<Came> {
+>(place: &Place<'a, N, R>, cell: Cell<C, T, E, B>, shares: Shares<E, B>) -> Option<Came> {
     let seats = seats_of(shares)?;
     let cell = Mutex::new(cell);
     let all = at_once(place, &cell, seats);
@@ -248,7 +239,7 @@ fn work<
 }
 
 // How many events the shares say.
-fn events_of<E: Ledger, B: Ledger, F: Ledger>(shares: &[LineShare<E, B, F>]) -> u64 {
+fn events_of<E: Ledger, B: Ledger>(shares: &[LineShare<E, B>]) -> u64 {
     shares
         .iter()
         .fold(0u64, |sum, share| sum.saturating_add(share.events()))
@@ -261,13 +252,12 @@ pub fn run<
     N: Core + Send,
     E: Ledger + Sync,
     B: Ledger + Sync,
-    F: Ledger + Sync,
     R: Threads + Wait + Clock + Sync,
 >(place: &Place<'_, N, R>, core: C, inner: T, blanks: Blanks) -> Option<Came>
     requires made { C.made (C.opening core) }
     requires stands { C.stands core (C.opening core) }
     requires valid { C.valid core }
-    requires blanks { AreBlanks blanks E.name E.parts B.name B.parts F.name F.parts }
+    requires blanks { AreBlanks blanks E.name E.parts B.name B.parts }
 {
     let tx = FarTx {
         rt: place.rt,
@@ -276,11 +266,12 @@ pub fn run<
         signs: place.signs,
         inner,
     };
-    let (cell, shares) = Cell::<C, FarTx<'_, T, N, R>, E, B, F>::make(
+    let (cell, shares) = Cell::<C, FarTx<'_, T, N, R>, E, B>::make(
         place.alloc,
         core,
         tx,
         LINES,
+        MOST_KEPT,
         blanks,
     ).ok()?;
     work(place, cell, shares)

@@ -33,8 +33,8 @@ fn words_of(alloc: Global, text: &str) -> Result<Vec<String>, AllocError> {
 }
 
 // The status, and the lines that are handed back; the cell and the shares are dropped.
-fn kept<H: RatingRule, P: SteadyRule, T: Tx, L: LineEnd, E: Ledger, B: Ledger, F: Ledger>(
-    served: Served<H, P, T, L, E, B, F>,
+fn kept<H: RatingRule, P: SteadyRule, T: Tx, L: LineEnd, E: Ledger, B: Ledger>(
+    served: Served<H, P, T, L, E, B>,
 ) -> (u8, Lines<L>) {
     let Served { status, lines, .. } = served;
     (status, lines)
@@ -50,7 +50,6 @@ fn served<
     S: Sink,
     E: Ledger + Sync,
     B: Ledger + Sync,
-    F: Ledger + Sync,
     R: Threads + Wait + Sync,
 >(
     rt: &R,
@@ -66,9 +65,9 @@ fn served<
 ) -> (u8, Lines<O::L>)
     requires fact { H.fact rule }
     requires rules { AreKnown P.fact tariff }
-    requires blanks { AreBlanks blanks E.name E.parts B.name B.parts F.name F.parts }
+    requires blanks { AreBlanks blanks E.name E.parts B.name B.parts }
 {
-    kept(serve::<_, _, _, _, _, _, E, B, F, R>(
+    kept(serve::<_, _, _, _, _, _, E, B, R>(
         rt, alloc, words, blanks, opener, clock, gate, rule, tariff, out,
     ))
 }
@@ -82,7 +81,6 @@ pub fn daemon<
     P: SteadyRule + Send,
     E: Ledger + Sync,
     B: Ledger + Sync,
-    F: Ledger + Sync,
     R: Threads + Wait + Sync,
 >(
     rt: &R,
@@ -98,11 +96,11 @@ pub fn daemon<
 ) -> Result<Came<O::L>, Memory>
     requires fact { H.fact rule }
     requires rules { AreKnown P.fact tariff }
-    requires blanks { AreBlanks blanks E.name E.parts B.name B.parts F.name F.parts }
+    requires blanks { AreBlanks blanks E.name E.parts B.name B.parts }
 {
     let words = words_of(alloc, text)?;
     let mut out = MemSink::new(alloc, 1000, failing);
-    let (status, lines) = served::<_, _, _, _, _, _, E, B, F, R>(
+    let (status, lines) = served::<_, _, _, _, _, _, E, B, R>(
         rt,
         alloc,
         words.as_slice(),

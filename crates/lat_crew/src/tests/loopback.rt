@@ -104,7 +104,6 @@ struct Ended {
 fn real<
     E: Ledger + Sync,
     B: Ledger + Sync,
-    F: Ledger + Sync,
     R: Threads
         + Wait
         + Net<Listener = TcpListener, Stream = TcpStream>
@@ -113,12 +112,12 @@ fn real<
         + Send
         + Sync,
 >(rt: &R, alloc: Global, text: &str, blanks: Blanks) -> Result<u8, Memory>
-    requires { AreBlanks blanks E.name E.parts B.name B.parts F.name F.parts }
+    requires { AreBlanks blanks E.name E.parts B.name B.parts }
 {
     let tariff = whole_tariff(alloc, name(b"PRINT"))?;
     let mut opener = NetOpener::new(*rt);
     let clock = RealClock::new(*rt);
-    let came = daemon::<_, _, _, _, _, E, B, F, R>(
+    let came = daemon::<_, _, _, _, _, E, B, R>(
         rt,
         alloc,
         text,
@@ -137,7 +136,6 @@ fn real<
 fn node_and_lines<
     E: Ledger + Sync,
     B: Ledger + Sync,
-    F: Ledger + Sync,
     R: Threads
         + Wait
         + Net<Listener = TcpListener, Stream = TcpStream>
@@ -146,13 +144,13 @@ fn node_and_lines<
         + Send
         + Sync,
 >(rt: &R, alloc: Global, case: Case, blanks: Blanks) -> (Result<u8, Memory>, io::Result<bool>)
-    requires { AreBlanks blanks E.name E.parts B.name B.parts F.name F.parts }
+    requires { AreBlanks blanks E.name E.parts B.name B.parts }
 {
     thread::join(
         rt,
         move ||
-            requires { AreBlanks blanks E.name E.parts B.name B.parts F.name F.parts }
-        { real::<E, B, F, R>(rt, alloc, case.node, blanks) },
+            requires { AreBlanks blanks E.name E.parts B.name B.parts }
+        { real::<E, B, R>(rt, alloc, case.node, blanks) },
         move || passed(rt, case.first),
     )
 }
@@ -160,10 +158,8 @@ fn node_and_lines<
 fn session<
     E: Ledger + Sync,
     B: Ledger + Sync,
-    F: Ledger + Sync,
     P: Ledger + Sync,
     Q: Ledger + Sync,
-    S: Ledger + Sync,
     R: Threads
         + Wait
         + Net<Listener = TcpListener, Stream = TcpStream>
@@ -172,17 +168,17 @@ fn session<
         + Send
         + Sync,
 >(rt: &R, alloc: Global, case: Case, blanks: Blanks, others: Blanks) -> Ended
-    requires blanks { AreBlanks blanks E.name E.parts B.name B.parts F.name F.parts }
-    requires others { AreBlanks others P.name P.parts Q.name Q.parts S.name S.parts }
+    requires blanks { AreBlanks blanks E.name E.parts B.name B.parts }
+    requires others { AreBlanks others P.name P.parts Q.name Q.parts }
 {
     let (server, (node, is_passed)) = thread::join(
         rt,
         move ||
-            requires { AreBlanks blanks E.name E.parts B.name B.parts F.name F.parts }
-        { real::<E, B, F, R>(rt, alloc, case.server, blanks) },
+            requires { AreBlanks blanks E.name E.parts B.name B.parts }
+        { real::<E, B, R>(rt, alloc, case.server, blanks) },
         move ||
-            requires { AreBlanks others P.name P.parts Q.name Q.parts S.name S.parts }
-        { node_and_lines::<P, Q, S, R>(rt, alloc, case, others) },
+            requires { AreBlanks others P.name P.parts Q.name Q.parts }
+        { node_and_lines::<P, Q, R>(rt, alloc, case, others) },
     );
     Ended {
         server,
@@ -194,7 +190,7 @@ fn session<
 #[test]
 fn two_lines_at_once(rt: HostRuntime) -> Result<(), Fail> {
     for case in CASES.iter() {
-        let ended = session::<Brand, Brand, Brand, Brand, Brand, Brand, HostRuntime>(
+        let ended = session::<Brand, Brand, Brand, Brand, HostRuntime>(
             &rt,
             rt.alloc(),
             *case,

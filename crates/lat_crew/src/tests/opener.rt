@@ -3,6 +3,7 @@
 ghost use Rattle.std.specs.Prelude.{◌≡◌};
 ghost use Rattle.lat_outside.specs.Causes.{HasCause};
 
+use super::cores::SERVER_ADDRESS;
 use super::far::Far;
 use super::outside::{FarRx, FarTx, RoundLine, Signs};
 use lat_base::{Addr, Core};
@@ -11,13 +12,14 @@ use std::alloc::Global;
 use std::sync::{Mutex, Wait};
 use std::time::Clock;
 
-/// How many calls were made, which of them fails, and how many faults there were.
+/// How many calls were made, which of them fails, how many faults there were, and whether something was asked for that wasn't due.
 #[derive(Drop)]
 pub struct Opens {
     pub made: u8,
     /// Counted from 1. None fails at 0.
     failing: u8,
     faults: u64,
+    pub amiss: bool,
 }
 
 impl Opens {
@@ -27,7 +29,15 @@ impl Opens {
             made: 0,
             failing,
             faults: 0,
+            amiss: false,
         }
+    }
+
+    // Something was asked for that is due or isn't.
+    fn ask(&mut self, is_due: bool)
+        ensures { self.new.faults ≡ self.old.faults }
+    {
+        self.amiss = self.amiss || !is_due;
     }
 
     // Counts a call.
@@ -43,7 +53,8 @@ impl Opens {
     }
 }
 
-/// Opens the carrier to the far core, and then two lines, of which the first gives `one` and the second `two`.
+/// Opens the carrier to the far core, and then two lines, of which the first gives `one` and the second `two`. What is due is the
+/// carrier of the server at port 1 with both peers, 4 and 5, and the lines at ports 2 and 3.
 #[derive(Drop)]
 pub struct FarOpener<'a, N: Core + Send, R: Wait + Clock + Sync> {
     pub rt: &'a R,
@@ -64,10 +75,11 @@ impl<'a, N: Core + Send, R: Wait + Clock + Sync> Opener for FarOpener<'a, N, R> 
 
     fn open_carrier(
         &mut self,
-        _own: Addr,
-        _port: u16,
-        _peers: &[u16],
+        own: Addr,
+        port: u16,
+        peers: &[u16],
     ) -> Result<(FarTx<'a, MemTx<'a>, N, R>, FarRx<'a, N, R>), Failed> {
+        self.opens.ask(own.0 == SERVER_ADDRESS.0 && port == 1 && peers == [4, 5].as_slice());
         self.opens.count()?;
         let tx = FarTx {
             rt: self.rt,
@@ -84,7 +96,8 @@ impl<'a, N: Core + Send, R: Wait + Clock + Sync> Opener for FarOpener<'a, N, R> 
         Ok((tx, rx))
     }
 
-    fn open_line(&mut self, _port: u16) -> Result<RoundLine<'a, R>, Failed> {
+    fn open_line(&mut self, port: u16) -> Result<RoundLine<'a, R>, Failed> {
+        self.opens.ask(port == self.opens.made as u16 + 1);
         self.opens.count()?;
         let is_first = self.opens.made == 2;
         let bytes: &'a [u8] = if is_first { b"one" } else { b"two" };

@@ -208,7 +208,7 @@ impl<R: time::Clock> Gate for RoundGate<'_, R> {
 }
 
 /// Moves on, and tells the far core so, once the wire was quiet, or after many turns. Where it has waited for many turns in all
-/// it waits no more, so that a cell which isn't stopped becomes full.
+/// it waits no more.
 #[derive(Drop)]
 pub struct RoundClock<'a, C: Core, R: Wait + time::Clock> {
     pub rt: &'a R,

@@ -23,13 +23,13 @@ use std::test::Fail;
 use std::thread::Threads;
 use std::time::Clock;
 
-/// Right words, of a server with two lines.
+/// Right words, of a server with two lines and two peers.
 const RIGHT: &str =
-    "latd --role server --name TS1 --address aa0004000104 --port 1 --lines 2 --line-port 2 --service VAX --sessions 1 4";
+    "latd --role server --name TS1 --address aa0004000104 --port 1 --lines 2 --line-port 2 --service VAX --sessions 1 4 5";
 
 /// No session is stated.
 const WRONG: &str =
-    "latd --role server --name TS1 --address aa0004000104 --port 1 --lines 2 --line-port 2 --service VAX --sessions 0 4";
+    "latd --role server --name TS1 --address aa0004000104 --port 1 --lines 2 --line-port 2 --service VAX --sessions 0 4 5";
 
 /// The words, the call of the opener and the calls of the sink that fail, and what is due.
 #[derive(Drop)]
@@ -138,7 +138,7 @@ fn is_due(text: &[u8], case: &Case) -> bool {
 // What isn't as is due.
 fn amiss<R: Clock>(
     came: &Came<RoundLine<'_, R>>,
-    opens: u8,
+    opens: &Opens,
     signs: &Signs,
     case: &Case,
 ) -> Option<&'static str> {
@@ -150,8 +150,10 @@ fn amiss<R: Clock>(
         Some("the status")
     } else if !is_due(came.text.as_slice(), case) {
         Some("the text")
-    } else if opens != case.opens {
+    } else if opens.made != case.opens {
         Some("the calls of the opener")
+    } else if opens.amiss {
+        Some("what the opener was asked for")
     } else {
         None
     }
@@ -163,7 +165,6 @@ fn over<
     P: SteadyRule + Send,
     E: Ledger + Sync,
     B: Ledger + Sync,
-    F: Ledger + Sync,
     R: Threads + Wait + Clock + Sync,
 >(
     rt: &R,
@@ -174,7 +175,7 @@ fn over<
     blanks: Blanks,
 ) -> Result<Option<&'static str>, Memory>
     requires rules { AreKnown P.fact tariff }
-    requires blanks { AreBlanks blanks E.name E.parts B.name B.parts F.name F.parts }
+    requires blanks { AreBlanks blanks E.name E.parts B.name B.parts }
 {
     let (far, signs) = (Mutex::new(far), Signs::new());
     let (far, signs) = (&far, &signs);
@@ -194,7 +195,7 @@ fn over<
         turns: 0,
     };
     let gate = RoundGate { rt, signs };
-    let came = daemon::<_, _, _, _, _, E, B, F, R>(
+    let came = daemon::<_, _, _, _, _, E, B, R>(
         rt,
         alloc,
         case.words,
@@ -206,27 +207,27 @@ fn over<
         tariff,
         case.writes,
     )?;
-    Ok(amiss(&came, opener.opens.made, signs, case))
+    Ok(amiss(&came, &opener.opens, signs, case))
 }
 
-fn run<E: Ledger + Sync, B: Ledger + Sync, F: Ledger + Sync, R: Threads + Wait + Clock + Sync>(
+fn run<E: Ledger + Sync, B: Ledger + Sync, R: Threads + Wait + Clock + Sync>(
     rt: &R,
     alloc: Global,
     case: &Case,
     blanks: Blanks,
 ) -> Result<Option<&'static str>, Memory>
-    requires { AreBlanks blanks E.name E.parts B.name B.parts F.name F.parts }
+    requires { AreBlanks blanks E.name E.parts B.name B.parts }
 {
     let service = name(b"VAX");
     let far = announced_node(alloc, &service)?;
     let tariff = whole_tariff(alloc, service)?;
-    over::<_, _, E, B, F, R>(rt, alloc, far, tariff, case, blanks)
+    over::<_, _, E, B, R>(rt, alloc, far, tariff, case, blanks)
 }
 
 #[test]
 fn daemons_end_as_is_due(rt: HostRuntime) -> Result<(), Fail> {
     for case in CASES.iter() {
-        let amiss = run::<Brand, Brand, Brand, HostRuntime>(&rt, rt.alloc(), case, Blanks::new())?;
+        let amiss = run::<Brand, Brand, HostRuntime>(&rt, rt.alloc(), case, Blanks::new())?;
         assert!(rt; amiss.is_none(), "{}: {}", case.name, amiss.unwrap_or(""));
     }
     Ok(())

@@ -53,13 +53,7 @@ pub fn announced_node(alloc: Global, service: &Name) -> Result<Far<NodeCore<Free
 }
 
 // What comes of a run, and whether its carrier failed, where the send of this number is to fail.
-fn played<
-    N: Core + Send,
-    E: Ledger + Sync,
-    B: Ledger + Sync,
-    F: Ledger + Sync,
-    R: Threads + Wait + Clock + Sync,
->(
+fn played<N: Core + Send, E: Ledger + Sync, B: Ledger + Sync, R: Threads + Wait + Clock + Sync>(
     rt: &R,
     alloc: Global,
     far: Far<N>,
@@ -67,7 +61,7 @@ fn played<
     fails: u64,
     blanks: Blanks,
 ) -> Option<(Came, bool, bool)>
-    requires blanks { AreBlanks blanks E.name E.parts B.name B.parts F.name F.parts }
+    requires blanks { AreBlanks blanks E.name E.parts B.name B.parts }
 {
     let (far, signs, failing) = (Mutex::new(far), Signs::new(), [fails]);
     let place = Place {
@@ -81,27 +75,27 @@ fn played<
     let Ok(core) = fresh_server(alloc) else {
         return None;
     };
-    let came = run::<ServerCore, MemTx, N, E, B, F, R>(&place, core, tx, blanks)?;
+    let came = run::<ServerCore, MemTx, N, E, B, R>(&place, core, tx, blanks)?;
     Some((came, signs.is_late(), signs.has_lost()))
 }
 
-fn one<E: Ledger + Sync, B: Ledger + Sync, F: Ledger + Sync, R: Threads + Wait + Clock + Sync>(
+fn one<E: Ledger + Sync, B: Ledger + Sync, R: Threads + Wait + Clock + Sync>(
     rt: &R,
     alloc: Global,
     fails: u64,
     blanks: Blanks,
 ) -> Option<(Came, bool, bool)>
-    requires blanks { AreBlanks blanks E.name E.parts B.name B.parts F.name F.parts }
+    requires blanks { AreBlanks blanks E.name E.parts B.name B.parts }
 {
     let service = name(b"VAX");
     let far = announced_node(alloc, &service).ok()?;
-    played::<NodeCore<FreeLines>, E, B, F, R>(rt, alloc, far, service, fails, blanks)
+    played::<NodeCore<FreeLines>, E, B, R>(rt, alloc, far, service, fails, blanks)
 }
 
 #[test]
 fn workers_work_at_once(rt: HostRuntime) {
     for fails in 0..SENDS {
-        let came = one::<Brand, Brand, Brand, HostRuntime>(&rt, rt.alloc(), fails, Blanks::new());
+        let came = one::<Brand, Brand, HostRuntime>(&rt, rt.alloc(), fails, Blanks::new());
         assert!(rt; came.is_some(), "memory, where send {fails} fails");
         let Some((came, late, lost)) = came else {
             return;

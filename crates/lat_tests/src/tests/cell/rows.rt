@@ -1,38 +1,42 @@
 //! One cell after another, without threads.
 
+ghost use Rattle.std.specs.Prelude.{◌≤◌};
 ghost use Rattle.lat_history.specs.Ledgers.{AreBlanks};
 
 use super::echo::Echo;
 use super::outside::FailingTx;
 use lat_base::{Bytes, Core, Event};
-use lat_cell::{
-    Blanks, Cell, CellFault, FullAt, LineDone, LineShare, Receipt, SeatFault, line_worker,
-};
-use lat_history::{MOST_EVENTS, past_events, seat};
+use lat_cell::{Blanks, Cell, CellFault, LineDone, LineShare, Receipt, SeatFault, line_worker};
 use lat_outside::{FreeGate, MemLine, MemTx, Tx};
+use lat_past::{Entry, SeatTotals, seat};
 use std::alloc::Global;
 use std::marker::Brand;
 use std::sync::atomic::{AtomicU64, Ordering};
 use std::sync::ledger::Ledger;
 use std::sync::{Mutex, Wait};
 
+/// How many entries the cells keep, where it doesn't matter.
+const KEPT: usize = 2;
+
 // A cell with one line, and the shares of wire, line and clock.
 #[derive(Drop)]
-struct OpenCell<T: Tx, E: Ledger, B: Ledger, F: Ledger> {
-    cell: Cell<Echo, T, E, B, F>,
-    wire: LineShare<E, B, F>,
-    line: LineShare<E, B, F>,
-    clock: LineShare<E, B, F>,
+struct OpenCell<T: Tx, E: Ledger, B: Ledger> {
+    cell: Cell<Echo, T, E, B>,
+    wire: LineShare<E, B>,
+    line: LineShare<E, B>,
+    clock: LineShare<E, B>,
 }
 
-fn make_cell<T: Tx, E: Ledger, B: Ledger, F: Ledger>(
+fn make_cell<T: Tx, E: Ledger, B: Ledger>(
     alloc: Global,
     tx: T,
+    most: usize,
     blanks: Blanks,
-) -> Option<OpenCell<T, E, B, F>>
-    requires blanks { AreBlanks blanks E.name E.parts B.name B.parts F.name F.parts }
+) -> Option<OpenCell<T, E, B>>
+    requires most { most ≤ 1000000 }
+    requires blanks { AreBlanks blanks E.name E.parts B.name B.parts }
 {
-    let (cell, shares) = Cell::<Echo, T, E, B, F>::make(alloc, Echo::new(), tx, 1, blanks).ok()?;
+    let (cell, shares) = Cell::<Echo, T, E, B>::make(alloc, Echo::new(), tx, 1, most, blanks).ok()?;
     let mut shares = shares.into_vec();
     let (clock, line, wire) = (shares.pop()?, shares.pop()?, shares.pop()?);
     Some(OpenCell {
@@ -44,10 +48,10 @@ fn make_cell<T: Tx, E: Ledger, B: Ledger, F: Ledger>(
 }
 
 // Applies an event of the share's seat.
-fn act<C: Core, T: Tx, E: Ledger, B: Ledger, F: Ledger>(
+fn act<C: Core, T: Tx, E: Ledger, B: Ledger>(
     alloc: Global,
-    cell: &mut Cell<C, T, E, B, F>,
-    share: &mut LineShare<E, B, F>,
+    cell: &mut Cell<C, T, E, B>,
+    share: &mut LineShare<E, B>,
     event: Event,
 ) -> Result<Receipt, CellFault> {
     if seat(&event) != share.seat() {
@@ -56,57 +60,46 @@ fn act<C: Core, T: Tx, E: Ledger, B: Ledger, F: Ledger>(
     cell.apply(alloc, event, share)
 }
 
-// What a cell says after so many time events, and one more.
-#[derive(Drop)]
-struct Filled {
-    answer: Option<FullAt>,
-    full: Option<FullAt>,
-    share: bool,
+// What a cell has behind so many time events and a put on line 1.
+#[derive(Debug, Drop, PartialEq)]
+struct Passed {
     events: u64,
+    kept: usize,
+    /// The moment of the oldest entry that is kept.
+    oldest: Option<u64>,
+    line: SeatTotals,
+    agrees: bool,
 }
 
-fn fill_cell<E: Ledger, B: Ledger, F: Ledger>(alloc: Global, blanks: Blanks) -> Option<Filled>
-    requires blanks { AreBlanks blanks E.name E.parts B.name B.parts F.name F.parts }
-{
-    let tx = MemTx::new(alloc, &[]);
-    let OpenCell {
-        mut cell,
-        mut clock,
-        ..
-    } = make_cell::<MemTx, E, B, F>(alloc, tx, blanks)?;
-    for now in 0..MOST_EVENTS as u64 {
-        act(alloc, &mut cell, &mut clock, Event::Time { now }).ok()?;
-    }
-    let answer = match act(alloc, &mut cell, &mut clock, Event::Time { now: 0 }) {
-        Err(CellFault::Full(at)) => Some(at),
-        _ => None,
-    };
-    Some(Filled {
-        answer,
-        full: cell.full(),
-        share: clock.is_full(),
-        events: clock.events(),
-    })
-}
-
-// Tells a cell of three moments.
-fn pass_three<C: Core, T: Tx, E: Ledger, B: Ledger, F: Ledger>(
+// Tells a cell of so many moments.
+fn pass<C: Core, T: Tx, E: Ledger, B: Ledger>(
     alloc: Global,
-    cell: &mut Cell<C, T, E, B, F>,
-    clock: &mut LineShare<E, B, F>,
+    cell: &mut Cell<C, T, E, B>,
+    clock: &mut LineShare<E, B>,
+    times: u64,
 ) -> Option<()> {
-    for now in 0..3 {
+    for now in 0..times {
         act(alloc, cell, clock, Event::Time { now }).ok()?;
     }
     Some(())
 }
 
-// What an audit says of three time events and two takes: with all shares, and without the line's.
-fn audited<E: Ledger, B: Ledger, F: Ledger>(
+// The moment of a time event.
+fn moment_of(entry: &Entry) -> Option<u64> {
+    match entry.event {
+        Event::Time { now } => Some(now),
+        _ => None,
+    }
+}
+
+fn pass_year<E: Ledger, B: Ledger>(
     alloc: Global,
+    times: u64,
+    most: usize,
     blanks: Blanks,
-) -> Option<(bool, Option<SeatFault>)>
-    requires blanks { AreBlanks blanks E.name E.parts B.name B.parts F.name F.parts }
+) -> Option<Passed>
+    requires most { most ≤ 1000000 }
+    requires blanks { AreBlanks blanks E.name E.parts B.name B.parts }
 {
     let tx = MemTx::new(alloc, &[]);
     let OpenCell {
@@ -114,8 +107,38 @@ fn audited<E: Ledger, B: Ledger, F: Ledger>(
         wire,
         mut line,
         mut clock,
-    } = make_cell::<MemTx, E, B, F>(alloc, tx, blanks)?;
-    pass_three(alloc, &mut cell, &mut clock)?;
+    } = make_cell::<MemTx, E, B>(alloc, tx, most, blanks)?;
+    pass(alloc, &mut cell, &mut clock, times)?;
+    let bytes = Bytes::copy(alloc, &[7; 150]).ok()?;
+    act(alloc, &mut cell, &mut line, Event::Put { line: 1, bytes }).ok()?;
+    let (front, back) = cell.entries();
+    let kept = front.len().checked_add(back.len())?;
+    let oldest = moment_of(front.first()?);
+    let mut shares = Vec::new(alloc);
+    shares.push(wire).ok()?;
+    shares.push(line).ok()?;
+    shares.push(clock).ok()?;
+    Some(Passed {
+        events: cell.len(),
+        kept,
+        oldest,
+        line: cell.of_seat(1),
+        agrees: cell.audit(shares.as_slice()).is_ok(),
+    })
+}
+
+// What an audit says of three time events and two takes: with all shares, and without the line's.
+fn audited<E: Ledger, B: Ledger>(alloc: Global, blanks: Blanks) -> Option<(bool, Option<SeatFault>)>
+    requires blanks { AreBlanks blanks E.name E.parts B.name B.parts }
+{
+    let tx = MemTx::new(alloc, &[]);
+    let OpenCell {
+        mut cell,
+        wire,
+        mut line,
+        mut clock,
+    } = make_cell::<MemTx, E, B>(alloc, tx, KEPT, blanks)?;
+    pass(alloc, &mut cell, &mut clock, 3)?;
     for _ in 0..2 {
         let take = Event::Take { line: 1, n: 5 };
         act(alloc, &mut cell, &mut line, take).ok()?;
@@ -129,32 +152,24 @@ fn audited<E: Ledger, B: Ledger, F: Ledger>(
 }
 
 // Puts three bytes, and tells how many events there are.
-fn put_three<T: Tx, E: Ledger, B: Ledger, F: Ledger>(
-    alloc: Global,
-    tx: T,
-    blanks: Blanks,
-) -> Option<usize>
-    requires blanks { AreBlanks blanks E.name E.parts B.name B.parts F.name F.parts }
+fn put_three<T: Tx, E: Ledger, B: Ledger>(alloc: Global, tx: T, blanks: Blanks) -> Option<u64>
+    requires blanks { AreBlanks blanks E.name E.parts B.name B.parts }
 {
     let OpenCell {
         mut cell,
         mut line,
         ..
-    } = make_cell::<T, E, B, F>(alloc, tx, blanks)?;
+    } = make_cell::<T, E, B>(alloc, tx, KEPT, blanks)?;
     for byte in *b"abc" {
         let bytes = Bytes::copy(alloc, &[byte]).ok()?;
         act(alloc, &mut cell, &mut line, Event::Put { line: 1, bytes }).ok()?;
     }
-    Some(cell.history().len())
+    Some(cell.len())
 }
 
 // The bytes of the frames tried, where the send of this number fails, and how many events there are.
-fn tried<E: Ledger, B: Ledger, F: Ledger>(
-    alloc: Global,
-    fails: u64,
-    blanks: Blanks,
-) -> Option<(u64, usize)>
-    requires blanks { AreBlanks blanks E.name E.parts B.name B.parts F.name F.parts }
+fn tried<E: Ledger, B: Ledger>(alloc: Global, fails: u64, blanks: Blanks) -> Option<(u64, u64)>
+    requires blanks { AreBlanks blanks E.name E.parts B.name B.parts }
 {
     let tried = AtomicU64::new(0);
     let tx = FailingTx {
@@ -163,50 +178,66 @@ fn tried<E: Ledger, B: Ledger, F: Ledger>(
         sends: 0,
         faults: 0,
     };
-    let events = put_three::<FailingTx, E, B, F>(alloc, tx, blanks)?;
+    let events = put_three::<FailingTx, E, B>(alloc, tx, blanks)?;
     Some((tried.load(Ordering::SeqCst), events))
 }
 
-// How a worker ends whose line fails at its second read, with its events, the history's, and its bytes.
-fn failed<E: Ledger, B: Ledger, F: Ledger, R: Wait>(
+// How a worker ends whose line gives three bytes and fails at its second read, with its events, the history's, and the bytes that
+// were put: their number, and those of the frames tried, of which the core makes one for each byte that it takes, one a put.
+fn failed<E: Ledger, B: Ledger, R: Wait>(
     rt: &R,
     alloc: Global,
     blanks: Blanks,
-) -> Option<(LineDone, u64, u64, u64)>
-    requires blanks { AreBlanks blanks E.name E.parts B.name B.parts F.name F.parts }
+) -> Option<(LineDone, u64, u64, u64, u64)>
+    requires blanks { AreBlanks blanks E.name E.parts B.name B.parts }
 {
-    let tx = MemTx::new(alloc, &[]);
-    let OpenCell { cell, line, .. } = make_cell::<MemTx, E, B, F>(alloc, tx, blanks)?;
+    let tried = AtomicU64::new(0);
+    let tx = FailingTx {
+        tried: &tried,
+        fails: 0,
+        sends: 0,
+        faults: 0,
+    };
+    let OpenCell { cell, line, .. } = make_cell::<FailingTx, E, B>(alloc, tx, KEPT, blanks)?;
     let cell = Mutex::new(cell);
-    let end = MemLine::new(alloc, b"ab", 1, 9, &[2]);
+    let end = MemLine::new(alloc, b"abc", 9, 9, &[2]);
     let (share, done, _) = line_worker(rt, alloc, &cell, line, end, &FreeGate, None);
     let cell = cell.into_inner();
-    let history = cell.history();
-    Some((done, share.events(), past_events(1, history), share.bytes()))
+    let events = cell.of_seat(1).events;
+    let bytes = tried.load(Ordering::SeqCst);
+    Some((done, share.events(), events, share.bytes(), bytes))
 }
 
 #[test]
 fn cells(rt: HostRuntime) {
     let alloc = rt.alloc();
-    let full = FullAt {
-        events: 1_000_000,
-        bytes: 0,
-        more: 0,
+    let line = SeatTotals {
+        events: 1,
+        bytes: 1,
+        items: 0,
     };
-    let came = fill_cell::<Brand, Brand, Brand>(alloc, Blanks::new());
-    let came = came.map(|came| (came.answer, came.full, came.share, came.events));
-    assert_eq!(rt; came, Some((Some(full), Some(full), true, 1_000_000)));
+    for (times, most, kept, oldest) in [(5, 3, 3, 3), (2_000_000, 1000, 1000, 1_999_001)] {
+        let came = pass_year::<Brand, Brand>(alloc, times, most, Blanks::new());
+        let due = Passed {
+            events: times.saturating_add(1),
+            kept,
+            oldest: Some(oldest),
+            line,
+            agrees: true,
+        };
+        assert_eq!(rt; came, Some(due));
+    }
     let left_out = SeatFault {
         seat: 1,
         kept: 2,
         share: 0,
     };
-    let came = audited::<Brand, Brand, Brand>(alloc, Blanks::new());
+    let came = audited::<Brand, Brand>(alloc, Blanks::new());
     assert_eq!(rt; came, Some((true, Some(left_out))));
     for fails in 0..4 {
-        let came = tried::<Brand, Brand, Brand>(alloc, fails, Blanks::new());
+        let came = tried::<Brand, Brand>(alloc, fails, Blanks::new());
         assert_eq!(rt; came, Some((0x61_62_63, 3)));
     }
-    let came = failed::<Brand, Brand, Brand, HostRuntime>(&rt, alloc, Blanks::new());
-    assert_eq!(rt; came, Some((LineDone::Fault, 2, 2, 1)));
+    let came = failed::<Brand, Brand, HostRuntime>(&rt, alloc, Blanks::new());
+    assert_eq!(rt; came, Some((LineDone::Fault, 4, 4, 3, 0x61_62_63)));
 }

@@ -6,14 +6,8 @@ ghosts-session-E-Ledger g a = record { name = a.blanks.events.name; parts = a.bl
 abbrev pub ghosts-session-B-Ledger : goal.ghosts-session-B-Ledger
 ghosts-session-B-Ledger g a = record { name = a.blanks.bytes.name; parts = a.blanks.bytes.parts }
 
-abbrev pub ghosts-session-F-Ledger : goal.ghosts-session-F-Ledger
-ghosts-session-F-Ledger g a = record { name = a.blanks.full.name; parts = a.blanks.full.parts }
-
 abbrev pub ghosts-session-P-Ledger : goal.ghosts-session-P-Ledger
 ghosts-session-P-Ledger g a = record { name = a.others.events.name; parts = a.others.events.parts }
 
 abbrev pub ghosts-session-Q-Ledger : goal.ghosts-session-Q-Ledger
 ghosts-session-Q-Ledger g a = record { name = a.others.bytes.name; parts = a.others.bytes.parts }
-
-abbrev pub ghosts-session-S-Ledger : goal.ghosts-session-S-Ledger
-ghosts-session-S-Ledger g a = record { name = a.others.full.name; parts = a.others.full.parts }

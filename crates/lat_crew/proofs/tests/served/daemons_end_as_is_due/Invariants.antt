@@ -5,6 +5,3 @@ ghosts-run-E-Ledger g a = record { name = a.blanks.events.name; parts = a.blanks
 
 abbrev pub ghosts-run-B-Ledger : goal.ghosts-run-B-Ledger
 ghosts-run-B-Ledger g a = record { name = a.blanks.bytes.name; parts = a.blanks.bytes.parts }
-
-abbrev pub ghosts-run-F-Ledger : goal.ghosts-run-F-Ledger
-ghosts-run-F-Ledger g a = record { name = a.blanks.full.name; parts = a.blanks.full.parts }

@@ -5,6 +5,3 @@ ghosts-one-E-Ledger g a = record { name = a.blanks.events.name; parts = a.blanks
 
 abbrev pub ghosts-one-B-Ledger : goal.ghosts-one-B-Ledger
 ghosts-one-B-Ledger g a = record { name = a.blanks.bytes.name; parts = a.blanks.bytes.parts }
-
-abbrev pub ghosts-one-F-Ledger : goal.ghosts-one-F-Ledger
-ghosts-one-F-Ledger g a = record { name = a.blanks.full.name; parts = a.blanks.full.parts }
