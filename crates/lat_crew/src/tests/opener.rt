@@ -97,7 +97,8 @@ impl<'a, N: Core + Send, R: Wait + Clock + Sync> Opener for FarOpener<'a, N, R> 
     }
 
     fn open_line(&mut self, port: u16) -> Result<RoundLine<'a, R>, Failed> {
-        self.opens.ask(port == self.opens.made as u16 + 1);
+        let due = self.opens.made as u16 + 1;
+        self.opens.ask(port == due);
         self.opens.count()?;
         let is_first = self.opens.made == 2;
         let bytes: &'a [u8] = if is_first { b"one" } else { b"two" };
