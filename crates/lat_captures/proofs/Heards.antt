@@ -13,6 +13,7 @@ use Rattle.lat_model.specs.circuits.WorldOk.{void_half, mate, Idle, Joint, BySer
 use Rattle.lat_model.proofs.circuits.Kin.{Kin, kin_run, kin_stop}
 use Rattle.lat_model.proofs.circuits.Begins.{node_alive}
 use Rattle.lat_model.proofs.circuits.Arrives.{Fair}
+use Rattle.lat_model.proofs.circuits.Ids.{drawn_some}
 use Rattle.lat_captures.proofs.Steps.{StepOk, run_ok, heard_stop_ok}
 use Rattle.lat_captures.proofs.Mute.{NoRuns, stop_heard_no_run}
 use Rattle.lat_captures.proofs.Traces.{between, KeptOf, flip, circuit_frames, Traced, server_traced, node_traced, joint_kept}
@@ -28,7 +29,7 @@ server_step w x st ok t kin k mute = server_traced w x st t kin mute (λ h. k (m
 
 pub node_step : (w : World) (x : ℕ) (st : Step) → WorldOk w → Traced w → lives (w.node.circuit_at x).end ≡ true → Kin (w.node.circuit_at x).end st.end → StepOk false (w.node.circuit_at x).end.half (w.node.circuit_at x).end.window st → (Idle (w.node.circuit_at x).end → NoRuns st.sent) → Traced (at_end w false x st)
 node_step w x st ok t l kin k mute =
-    node_traced w x st ok t (node_alive w x ok l).0 kin (λ h n. mute (ok.idle x h n))
+    node_traced w x st ok t (drawn_some w.node.first w.node.drawn x (node_alive w x ok l)) kin (λ h n. mute (ok.idle x h n))
     (λ h j.
     let u : KeptOf (w.server.circuit_at (w.node.circuit_at x).end.peer).end.half (w.node.circuit_at x).end.half (between w.server.own w.node.own (w.node.circuit_at x).end.peer x w.frames) = joint_kept w x t j in
     k (w.server.circuit_at (w.node.circuit_at x).end.peer).end.half (between w.server.own w.node.own (w.node.circuit_at x).end.peer x w.frames) (ok.windows x).1 u.sides (flip (w.server.circuit_at (w.node.circuit_at x).end.peer).end.half (w.node.circuit_at x).end.half (between w.server.own w.node.own (w.node.circuit_at x).end.peer x w.frames) u.kept))
@@ -77,9 +78,9 @@ run_node w ok tr from bit d s now a k f fair =
         let ip : c.end.peer ≡ s = eqb-true c.end.peer s i.1 in
         let joint : c.address ≡ w.server.own → Joint w d = λ t.
         let o : ((w.server.circuit_at s).address ≡ w.node.own) × ByServer w s d s f = fair (sym it ∙ t) in
-        let run : ((w.server.circuit_at s).end.running ≡ true) × (d ≡ (w.server.circuit_at s).end.peer) = ⊎_elim {C = ((w.server.circuit_at s).end.running ≡ true) × (d ≡ (w.server.circuit_at s).end.peer)} (λ z. absurd ((node_alive w d ok r.1).0 z)) (λ z. z) o.1.destination in
+        let run : ((w.server.circuit_at s).end.running ≡ true) × (d ≡ (w.server.circuit_at s).end.peer) = ⊎_elim {C = ((w.server.circuit_at s).end.running ≡ true) × (d ≡ (w.server.circuit_at s).end.peer)} (λ z. absurd (drawn_some w.node.first w.node.drawn d (node_alive w d ok r.1) z)) (λ z. z) o.1.destination in
         record { address = ap (λ z. (w.server.circuit_at z).address) ip ∙ o.0; running = ap (λ z. (w.server.circuit_at z).end.running) ip ∙ run.0; peer = ap (λ z. (w.server.circuit_at z).end.peer) ip ∙ sym run.1 } in
-        node_traced w d st ok tr (node_alive w d ok r.1).0 (kin_run now a f c.end) (λ t n. absurd (n (joint t)))
+        node_traced w d st ok tr (drawn_some w.node.first w.node.drawn d (node_alive w d ok r.1)) (kin_run now a f c.end) (λ t n. absurd (n (joint t)))
         (λ t j.
         let u : KeptOf (w.server.circuit_at c.end.peer).end.half c.end.half (between w.server.own w.node.own c.end.peer d w.frames) = joint_kept w d tr j in
         run_ok false now a f c.end (w.server.circuit_at c.end.peer).end.half (between w.server.own w.node.own c.end.peer d w.frames) (ok.windows d).1 (subst (λ z. FrameOf (List Slot) (w.server.circuit_at z).end.half.link f) (sym ip) (fair (sym it ∙ t)).1.frame) u.sides (flip (w.server.circuit_at c.end.peer).end.half c.end.half (between w.server.own w.node.own c.end.peer d w.frames) u.kept))

@@ -1,4 +1,6 @@
 -- Ends, pairs of ends, and all circuits of a server and a node.
+pub mod Ids
+pub mod IdLists
 pub mod Logs
 pub mod Halves
 pub mod Pairs

@@ -7,6 +7,7 @@ pub mod Heard
 pub mod Matched
 pub mod History
 pub mod World
+pub mod Ids
 pub mod Arriving
 pub mod Events
 pub mod WorldOk

@@ -1,6 +1,6 @@
 //! The laws of circuits. Each holds for every run, however frames are lost, repeated or brought out of order.
 
-ghost use Rattle.std.specs.Prelude.{◌≡◌, ℕ, ◌+◌, ◌*◌, ◌%◌, ◌<◌, ◌≤◌, slice_get, ◌≢◌, Some, Bool, true, false, List, not, length, ◌-◌, min, ◌&&◌};
+ghost use Rattle.std.specs.Prelude.{◌≡◌, ℕ, ◌+◌, ◌*◌, ◌%◌, ◌<◌, ◌≤◌, slice_get, suc, cond, nat_eq, ◌≢◌, Some, Bool, true, false, List, not, length, ◌-◌, min, ◌&&◌};
 ghost use Rattle.lat_model.specs.numbers.Near.{near, ahead};
 ghost use Rattle.lat_model.specs.sessions.Packing.{TaggedSlot, Packing, turn, pack, waiting_rejects};
 ghost use Rattle.lat_model.specs.sessions.Session.{Session, free, held_slots};
@@ -14,6 +14,8 @@ ghost use Rattle.lat_model.specs.numbers.Link.{Frame, fresh};
 ghost use Rattle.lat_model.specs.ends.End.{Mark, Run};
 ghost use Rattle.lat_model.specs.ends.Run.{RunBroke, run_end};
 ghost use Rattle.lat_model.specs.circuits.World.{Wired, World, table};
+ghost use Rattle.lat_model.specs.circuits.Ids.{id_behind, ids_of, is_id_of, Rises};
+ghost use Rattle.lat_model.specs.Lists.{Each};
 ghost use Rattle.lat_model.specs.circuits.Events.{WorldRun, open_world};
 ghost use Rattle.lat_model.specs.circuits.Spans.{TellSpans};
 ghost use Rattle.lat_model.specs.circuits.WorldOk.{Idle, Joint};
@@ -114,6 +116,26 @@ pub fn pair_hears_bytes()
         heard_frame r w b f ≡ f }
 {}
 
+/// The ids of a core's circuits, of which 65,535 can be drawn. The first one has the id that was chosen (`first`), and each
+/// next one the id behind it, 1 behind 65,535 (`next`). Each is 1 to 65,535 (`low`), and none comes twice (`once`). What was
+/// drawn is what came (`drawn`, `only`): so many ids (`count`), which stand in their list by rising number (`rising`, `listed`).
+pub fn circuit_ids_follow()
+    ensures first { (first : ℕ) → 1 ≤ first → first ≤ 65535 → id_behind first 0 ≡ first }
+    ensures next { (first n : ℕ) →
+        1 ≤ first →
+        first ≤ 65535 →
+        n + 1 < 65535 →
+        id_behind first (suc n) ≡ cond (nat_eq (id_behind first n) 65535) 1 (suc (id_behind first n)) }
+    ensures low { (first n : ℕ) → n < 65535 → (id_behind first n ≢ 0) × (id_behind first n ≤ 65535) }
+    ensures once { (first m n : ℕ) → m ≢ n → id_behind first m ≢ id_behind first n }
+    ensures drawn { (first n k : ℕ) → k < n → is_id_of first n (id_behind first k) ≡ true }
+    ensures only { (first n x : ℕ) → is_id_of first n x ≡ true →
+        (k : ℕ) × ((k < n) × (id_behind first k ≡ x)) }
+    ensures count { (first n : ℕ) → length (ids_of first n) ≡ n }
+    ensures rising { (first n : ℕ) → Rises 0 (ids_of first n) }
+    ensures listed { (first n : ℕ) → Each (λ x. is_id_of first n x ≡ true) (ids_of first n) }
+{}
+
 /// A circuit of the server to the node that runs is joint with the slave that it names, and this slave names it (`answered`).
 /// So what the laws say of joint circuits holds of every circuit whose reply was heard. A slave of the server whose circuit
 /// isn't joint has formed nothing and taken nothing (`idle`), and a circuit of the server whose reply wasn't heard has formed
@@ -208,7 +230,7 @@ pub fn world_hears_bytes()
 /// the other's kind, and a RUN of another kind is foreign.
 pub fn both_ends_have_one_span()
     ensures { (w : World) (r : WorldRun w) (wide_server wide_node : Bool) (q : ℕ) →
-        TellSpans wide_server wide_node (open_world r.server r.node r.setup r.other) r.events →
+        TellSpans wide_server wide_node (open_world r.server r.node r.first r.other_first r.setup r.other) r.events →
         Joint w q →
         ((w.node.circuit_at q).end.wide ≡ (wide_server && wide_node))
         × ((w.server.circuit_at (w.node.circuit_at q).end.peer).end.wide

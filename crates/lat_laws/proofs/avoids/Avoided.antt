@@ -1,11 +1,11 @@
 -- What an avoid leaves of the directory, and who is chosen behind it.
-use Rattle.std.proofs.Common.{◌≡◌, ◌≢◌, ℕ, refl, sym, ap, ap₂, ◌∙◌, subst, Bool, true, false, not, cond, List, [], ◌∷◌, ◌++◌, Option, nat_eq, filter}
+use Rattle.std.proofs.Common.{◌≡◌, ◌≢◌, ℕ, refl, sym, ap, ap₂, ◌∙◌, subst, Bool, true, false, not, cond, List, [], ◌∷◌, ◌++◌, nat_eq}
 use Rattle.std.proofs.lemmas.Bool.{true≢false}
 use Rattle.lat_model.specs.Lists.{Each}
 use Rattle.lat_model.proofs.numbers.Net.{each_append}
 use Rattle.lat_machines.specs.values.Addresses.{everyone}
 use Rattle.lat_machines.specs.values.Notices.{Announcement}
-use Rattle.lat_machines.specs.values.Events.{Numbers, Event, Avoids}
+use Rattle.lat_machines.specs.values.Events.{Event, Avoids}
 use Rattle.lat_machines.specs.values.Answers.{Ignored}
 use Rattle.lat_machines.specs.cores.Cores.{at_moment}
 use Rattle.lat_machines.specs.cores.Lines.{had_session, peer_address, line_exists}

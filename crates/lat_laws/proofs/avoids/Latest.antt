@@ -1,6 +1,6 @@
 -- The latest announcements but for those of an address are the latest still.
-use Rattle.std.proofs.Common.{◌≡◌, ◌≢◌, ℕ, refl, sym, ap, ◌∙◌, Bool, true, false, not, cond, ◌||◌, List, [], ◌∷◌, nat_eq, filter}
-use Rattle.std.proofs.lemmas.Bool.{or_parts, false≢true, eqb-false}
+use Rattle.std.proofs.Common.{◌≡◌, ℕ, refl, ap, ◌∙◌, Bool, true, false, not, cond, ◌||◌, List, [], ◌∷◌, nat_eq, filter}
+use Rattle.std.proofs.lemmas.Bool.{or_parts, eqb-false}
 use Rattle.lat_model.specs.Lists.{Each}
 use Rattle.lat_machines.specs.values.Names.{Name}
 use Rattle.lat_machines.specs.server.Directory.{HeardAnnouncement, of_node, any_of, latest, avoid}

@@ -1,6 +1,6 @@
 -- What every event leaves of the circuits that live: a new one is made only where none has its address, or its address and
 -- its peer's id.
-use Rattle.std.proofs.Common.{◌≡◌, ℕ, suc, arith, refl, sym, ap, ap₂, ◌∙◌, Bool, true, false, not, cond, ◌&&◌, ◌||◌, List, [], ◌∷◌, Option, nat_eq, nat_lt, eqb-true, eq-eqb}
+use Rattle.std.proofs.Common.{◌≡◌, ℕ, refl, sym, ap, ap₂, ◌∙◌, Bool, true, false, not, cond, ◌&&◌, ◌||◌, List, [], ◌∷◌, Option, nat_eq, nat_lt, eqb-true, eq-eqb}
 use Rattle.std.proofs.lemmas.Bool.{and_parts, true≢false, eqb-false}
 use Rattle.lat_model.specs.sessions.Slots.{Slot}
 use Rattle.lat_model.specs.sessions.Calls.{Call, Connect, Answer, RejectAsk}
@@ -13,6 +13,7 @@ use Rattle.lat_model.specs.circuits.World.{CircuitEntry, Table, first_end}
 use Rattle.lat_model.specs.circuits.Arriving.{is_of, living, slave_of}
 use Rattle.lat_model.proofs.circuits.Kin.{Kin, kin_time, kin_run, kin_again, kin_stop, kin_finish}
 use Rattle.lat_model.proofs.circuits.Begins.{kin_call}
+use Rattle.lat_model.specs.circuits.Ids.{next_id, ids}
 use Rattle.lat_machines.specs.values.Names.{Name}
 use Rattle.lat_machines.specs.values.Messages.{Head}
 use Rattle.lat_machines.specs.values.Keys.{Key}
@@ -123,13 +124,13 @@ reply_lone t from to source now g h =
 
 -- a call, where no circuit to the address lives
 call_lone : (u : Setup) (c : Core) (address now : ℕ) → Lone by_address c.circuits → circuit_to c address ≡ 0 → Lone by_address (call_at u c.circuits address now).table
-call_lone u c address now h q = lone_makes by_address true c.circuits address (called u now) h (λ i a b l e. true≢false (sym (ap₂ (λ m n. m && n) (eq-eqb (c.circuits.circuit_at i).address address e) l) ∙ least_none (test_of c.circuits address) 0 c.circuits.drawn q i a (omega (arith, b))))
+call_lone u c address now h q = lone_makes by_address true c.circuits address (called u now) h (λ i b l e. true≢false (sym (ap₂ (λ m n. m && n) (eq-eqb (c.circuits.circuit_at i).address address e) l) ∙ least_none (test_of c.circuits address) c.circuits q i b))
 
 opens_lone : (config : ServerConfig) (line address : ℕ) (node service : Name) (key : Option Key) (request : Option ℕ) (c : Core) → Lone by_address c.circuits → Lone by_address (opens config line address node service key request c).core.circuits
 opens_lone config line address node service key request c h = go (nat_eq (circuit_to c address) 0) refl
   where
     named : Core
-    named = record c { names = updated c.names (suc c.circuits.drawn) node }
+    named = record c { names = updated c.names (next_id c.circuits) node }
 
     made : Doing
     made = acts (server_side config) named (call_at (setup_of config.timing) named.circuits address named.moment)
@@ -157,7 +158,7 @@ server_lone config [] st h = h
 server_lone config (e ∷ es) st h = server_lone config es (server_step config st e).state (server_keeps config (λ y. Unit {0}) (LoneCore by_address) (LoneCore by_address) (Unit {0}) (server_acts config) st e (λ q. tt) (λ q. tt) (any_allowed e) h)
 
 pub none_yet : {K : Type 0} (key : CircuitEntry → K) (t : Table) → ((k : ℕ) → lives (t.circuit_at k).end ≡ false) → Lone key t
-none_yet key t n = record { new = λ k d. n k; zero = n 0; one = λ x y a b e. absurd (true≢false (sym a ∙ n x)) }
+none_yet key t n = record { new = λ k d. n k; one = λ x y a b e. absurd (true≢false (sym a ∙ n x)) }
 
 pub server_found : (config : ServerConfig) (es : List Event) → Lone by_address (server_run config es (open_server config)).core.circuits
 server_found config es = server_lone config es (open_server config) (none_yet by_address (open_server config).core.circuits (λ k. refl))
@@ -182,12 +183,12 @@ start_lone u t from source now g h = go (nat_eq (slave_of t from source) 0) refl
     is_it : (i : ℕ) → by_peer (t.circuit_at i) ≡ (from, source) → is_of (t.circuit_at i) from source ≡ true
     is_it i e = ap₂ (λ m n. m && n) (eq-eqb (t.circuit_at i).address from (ap (λ (z : ℕ × ℕ). z.0) e)) (eq-eqb (t.circuit_at i).end.peer source (ap (λ (z : ℕ × ℕ). z.1) e))
 
-    go : (a : Bool) → nat_eq (slave_of t from source) 0 ≡ a → (m : Bool) → Lone by_peer (start_at u t from source now g (cond a (cond m (Makes (suc t.drawn)) Refuses) (Repeats (slave_of t from source)))).table
-    go true q true = lone_makes by_peer false t from (make_slave now source g (first_end false false u)) h (λ i a b l e. true≢false (sym (ap₂ (λ m n. m && n) (is_it i e) l) ∙ least_none test 0 t.drawn (eqb-true (slave_of t from source) 0 q) i a (omega (arith, b))))
+    go : (a : Bool) → nat_eq (slave_of t from source) 0 ≡ a → (m : Bool) → Lone by_peer (start_at u t from source now g (cond a (cond m (Makes (next_id t)) Refuses) (Repeats (slave_of t from source)))).table
+    go true q true = lone_makes by_peer false t from (make_slave now source g (first_end false false u)) h (λ i b l e. true≢false (sym (ap₂ (λ m n. m && n) (is_it i e) l) ∙ least_none test t (eqb-true (slave_of t from source) 0 q) i b))
     go true q false = h
     go false q m =
         let k : ℕ = slave_of t from source in
-        at_living by_peer steady_peer false t h k (again_start now (t.circuit_at k).end) (and_parts (is_of (t.circuit_at k) from source) (lives (t.circuit_at k).end) (least_true test 0 t.drawn (eqb-false k 0 q))).1 (kin_again now (t.circuit_at k).end)
+        at_living by_peer steady_peer false t h k (again_start now (t.circuit_at k).end) (and_parts (is_of (t.circuit_at k) from source) (lives (t.circuit_at k).end) (least_true test (ids t) (eqb-false k 0 q))).1 (kin_again now (t.circuit_at k).end)
 
 outlive_lone : (t : Table) (from source x : ℕ) → Lone by_peer t → Lone by_peer (outlive_at from source x t)
 outlive_lone t from source x h = go (is_outlived c from source) refl

@@ -1,5 +1,5 @@
 -- In every history of a machine each credited slot had its credit: what each act leaves of the sessions of all circuits.
-use Rattle.std.proofs.Common.{◌≡◌, ℕ, suc, ◌<◌, refl, sym, ap, ◌∙◌, subst, arith, Bool, true, false, not, cond, ◌&&◌, ◌||◌, List, [], ◌∷◌, ◌++◌, Option, nat_eq, nat_lt, eqb-true}
+use Rattle.std.proofs.Common.{◌≡◌, ℕ, suc, refl, sym, ap, ◌∙◌, subst, arith, Bool, true, false, not, cond, ◌&&◌, ◌||◌, List, [], ◌∷◌, ◌++◌, Option, nat_eq, nat_lt, eqb-true}
 use Rattle.std.proofs.lemmas.Bool.{and_parts, true≢false, eqb-false}
 use Rattle.lat_model.specs.sessions.Slots.{Slot}
 use Rattle.lat_model.specs.sessions.Session.{blank}
@@ -13,6 +13,8 @@ use Rattle.lat_model.specs.ends.Starting.{Agreed, Setup, make_slave, again_start
 use Rattle.lat_model.specs.circuits.World.{CircuitEntry, Table, first_end}
 use Rattle.lat_model.specs.circuits.Arriving.{is_of, living, slave_of}
 use Rattle.lat_model.proofs.sessions.Words.{upd_other, upd_all}
+use Rattle.lat_model.specs.circuits.Ids.{is_drawn, next_id, ids}
+use Rattle.lat_model.proofs.circuits.Ids.{undrawn_before, undrawn_other, next_new}
 use Rattle.lat_machines.specs.values.Names.{Name}
 use Rattle.lat_machines.specs.values.Messages.{Head}
 use Rattle.lat_machines.specs.values.Keys.{Key}
@@ -25,7 +27,7 @@ use Rattle.lat_machines.specs.server.Server.{ServerConfig, Server, server_side, 
 use Rattle.lat_machines.specs.node.Node.{NodeConfig, Node, node_side, open_node, node_step}
 use Rattle.lat_machines.specs.world.Histories.{server_run, RatedEvent, node_run}
 use Rattle.lat_machines.proofs.queue.Rooms.{least_true}
-use Rattle.lat_laws.proofs.rounds.counting.Kept.{to_time, to_run, to_again, to_stop, to_reply}
+use Rattle.lat_laws.proofs.rounds.counting.Kept.{to_time, to_run, to_again, to_stop, to_reply, is_none}
 use Rattle.lat_laws.proofs.tales.steps.Tables.{sess}
 use Rattle.lat_laws.proofs.tales.steps.Walk.{Acts, ServerActs, NodeActs, server_keeps, node_keeps}
 use Rattle.lat_laws.proofs.habits.Circuits.{any_allowed}
@@ -38,8 +40,8 @@ use Rattle.lat_laws.specs.habits.Credits.{session_on, IsCredited, ServerSlotsCre
 -- circuits that weren't drawn don't live, and have no sessions
 record Tidy (t : Table) : Type 0 where
   past : (x : ℕ) → Past (sess t x)
-  undrawn : (x : ℕ) → t.drawn < x → lives (t.circuit_at x).end ≡ false
-  empty : (x k : ℕ) → t.drawn < x → (sess t x).session k ≡ blank
+  undrawn : (x : ℕ) → is_drawn t x ≡ false → lives (t.circuit_at x).end ≡ false
+  empty : (x k : ℕ) → is_drawn t x ≡ false → (sess t x).session k ≡ blank
 
 record MoreOf (t : Table) (v : Table) : Type 0 where
   tidy : Tidy v
@@ -76,7 +78,7 @@ steps_grow b t x s l g h = record {
     more : More (sess t x) s.end.half.sessions
     more = g (h.past x)
 
-    other : (y : ℕ) → t.drawn < y → y ≡ x → ⊥
+    other : (y : ℕ) → is_drawn t y ≡ false → y ≡ x → ⊥
     other y d q = true≢false (sym l ∙ (ap (λ i. lives (t.circuit_at i).end) (sym q) ∙ h.undrawn y d))
 
     go : (y k : ℕ) (c : Bool) → nat_eq y x ≡ c → Grown ((sess t y).session k) ((cond c new (t.circuit_at y)).end.half.sessions.session k)
@@ -84,21 +86,21 @@ steps_grow b t x s l g h = record {
     go y k false q = grown_same ((sess t y).session k)
 
 -- a circuit more, without sessions
-makes_grow : (b : Bool) (t : Table) (address : ℕ) (s : Step) → ((k : ℕ) → s.end.half.sessions.session k ≡ blank) → TableGrows t (put_at b t (suc t.drawn) (suc t.drawn) address s).table
+makes_grow : (b : Bool) (t : Table) (address : ℕ) (s : Step) → ((k : ℕ) → s.end.half.sessions.session k ≡ blank) → TableGrows t (put_at b t (suc t.drawn) (next_id t) address s).table
 makes_grow b t address s n h = record {
   tidy = record {
-    past = λ y. upd_all (λ (z : CircuitEntry). Past z.end.half.sessions) t.circuit_at (suc t.drawn) new (λ k l. n k) h.past y;
-    undrawn = λ y d. ap (λ (z : CircuitEntry). lives z.end) (upd_other t.circuit_at (suc t.drawn) new y (λ q. absurd (omega (arith, q, d)))) ∙ h.undrawn y (omega (arith, d));
-    empty = λ y k d. ap (λ (z : CircuitEntry). z.end.half.sessions.session k) (upd_other t.circuit_at (suc t.drawn) new y (λ q. absurd (omega (arith, q, d)))) ∙ h.empty y k (omega (arith, d));
+    past = λ y. upd_all (λ (z : CircuitEntry). Past z.end.half.sessions) t.circuit_at (next_id t) new (λ k l. n k) h.past y;
+    undrawn = λ y d. ap (λ (z : CircuitEntry). lives z.end) (upd_other t.circuit_at (next_id t) new y (undrawn_other t.first t.drawn y d)) ∙ h.undrawn y (undrawn_before t.first t.drawn y d);
+    empty = λ y k d. ap (λ (z : CircuitEntry). z.end.half.sessions.session k) (upd_other t.circuit_at (next_id t) new y (undrawn_other t.first t.drawn y d)) ∙ h.empty y k (undrawn_before t.first t.drawn y d);
   };
-  each = λ y k. go y k (nat_eq y (suc t.drawn)) refl;
+  each = λ y k. go y k (nat_eq y (next_id t)) refl;
 }
   where
     new : CircuitEntry
     new = record { address = address; end = s.end }
 
-    go : (y k : ℕ) (c : Bool) → nat_eq y (suc t.drawn) ≡ c → Grown ((sess t y).session k) ((cond c new (t.circuit_at y)).end.half.sessions.session k)
-    go y k true q = (let i : y ≡ suc t.drawn = eqb-true y (suc t.drawn) q in subst (Grown ((sess t y).session k)) (h.empty y k (omega (arith, i)) ∙ sym (n k)) (grown_same ((sess t y).session k)))
+    go : (y k : ℕ) (c : Bool) → nat_eq y (next_id t) ≡ c → Grown ((sess t y).session k) ((cond c new (t.circuit_at y)).end.half.sessions.session k)
+    go y k true q = (let i : y ≡ next_id t = eqb-true y (next_id t) q in subst (Grown ((sess t y).session k)) (h.empty y k (subst (λ z. is_drawn t z ≡ false) (sym i) (next_new t.first t.drawn)) ∙ sym (n k)) (grown_same ((sess t y).session k)))
     go y k false q = grown_same ((sess t y).session k)
 
 -- acts
@@ -112,7 +114,7 @@ module _ (b : Bool) (t : Table) where
   time_grow : (x now : ℕ) → TableGrows t (time_at b t x now).table
   time_grow x now =
       let s : Step = time_step now (t.circuit_at x).end in
-      act_cond t (lives (t.circuit_at x).end) (steps_at b t x s) (idle t) (λ l. steps_grow b t x s l (to_time 0 b _ (grows_kept b) 0 now (t.circuit_at x).end (omega arith))) (table_same t)
+      act_cond t (lives (t.circuit_at x).end) (steps_at b t x s) (idle t) (λ l. steps_grow b t x s l (to_time is_none b _ (grows_kept b) 0 now (t.circuit_at x).end refl)) (table_same t)
 
   -- a circuit that lives is ended
   ends_grow : (x : ℕ) (s : Step) → s.end.half.sessions ≡ sess t x → lives (t.circuit_at x).end ≡ true → TableGrows t (steps_at b t x s).table
@@ -132,7 +134,7 @@ module _ (b : Bool) (t : Table) where
       let f : Frame (List Slot) = run_frame (numbers_at e m k) slots in
       heard_cond t (names t from m.to m.from) (run_at b t m.to (fits_kind e m.master wide) now m.ask f) (foreign t)
       (λ i. heard_cond t (fits_kind e m.master wide) _ _
-      (λ j. steps_grow b t m.to (run_end now m.ask f e).step (and_parts (is_of (t.circuit_at m.to) from m.from) (lives e) (and_parts (is_of (t.circuit_at m.to) from m.from && lives e) e.running i).0).1 (to_run 0 b _ (grows_kept b) 0 now m.ask f e (omega arith)))
+      (λ j. steps_grow b t m.to (run_end now m.ask f e).step (and_parts (is_of (t.circuit_at m.to) from m.from) (lives e) (and_parts (is_of (t.circuit_at m.to) from m.from && lives e) e.running i).0).1 (to_run is_none b _ (grows_kept b) 0 now m.ask f e refl))
       (move_grow m.to now))
       (table_same t)
 
@@ -140,14 +142,14 @@ module _ (b : Bool) (t : Table) where
   stop_grow from to source now reason =
       let c : CircuitEntry = t.circuit_at to in
       heard_cond t (nat_eq c.address from && (nat_eq c.end.peer source || nat_eq source 0) && lives c.end) (record { act = steps_at b t to (hear_stop now reason c.end); answer = Ended reason }) (foreign t)
-      (λ i. steps_grow b t to (hear_stop now reason c.end) (and_parts (nat_eq c.address from && (nat_eq c.end.peer source || nat_eq source 0)) (lives c.end) i).1 (to_stop 0 b _ (grows_kept b) 0 now reason c.end (omega arith)))
+      (λ i. steps_grow b t to (hear_stop now reason c.end) (and_parts (nat_eq c.address from && (nat_eq c.end.peer source || nat_eq source 0)) (lives c.end) i).1 (to_stop is_none b _ (grows_kept b) 0 now reason c.end refl))
       (table_same t)
 
 reply_grow : (t : Table) (from to source now : ℕ) (g : Agreed) → TableGrows t (hear_reply_at t from to source now g).act.table
 reply_grow t from to source now g =
     let c : CircuitEntry = t.circuit_at to in
     heard_cond t (nat_eq c.address from && lives c.end && (not c.end.running || nat_eq c.end.peer source)) (record { act = steps_at true t to (hear_reply now source g c.end); answer = cond c.end.running Again Running }) (foreign t)
-    (λ i. steps_grow true t to (hear_reply now source g c.end) (and_parts (nat_eq c.address from) (lives c.end) (and_parts (nat_eq c.address from && lives c.end) (not c.end.running || nat_eq c.end.peer source) i).0).1 (to_reply 0 true _ (grows_kept true) 0 now source g c.end (omega arith)))
+    (λ i. steps_grow true t to (hear_reply now source g c.end) (and_parts (nat_eq c.address from) (lives c.end) (and_parts (nat_eq c.address from && lives c.end) (not c.end.running || nat_eq c.end.peer source) i).0).1 (to_reply is_none true _ (grows_kept true) 0 now source g c.end refl))
     (table_same t)
 
 outlive_grow : (t : Table) (from source x : ℕ) → TableGrows t (outlive_at from source x t)
@@ -166,12 +168,12 @@ start_grow u t from source now g = go (nat_eq (slave_of t from source) 0) refl (
     test : ℕ → Bool
     test i = is_of (t.circuit_at i) from source && lives (t.circuit_at i).end
 
-    go : (a : Bool) → nat_eq (slave_of t from source) 0 ≡ a → (m : Bool) → TableGrows t (start_at u t from source now g (cond a (cond m (Makes (suc t.drawn)) Refuses) (Repeats (slave_of t from source)))).table
+    go : (a : Bool) → nat_eq (slave_of t from source) 0 ≡ a → (m : Bool) → TableGrows t (start_at u t from source now g (cond a (cond m (Makes (next_id t)) Refuses) (Repeats (slave_of t from source)))).table
     go true q true = makes_grow false t from (make_slave now source g (first_end false false u)) (λ k. refl)
     go true q false = table_same t
     go false q m =
         let k : ℕ = slave_of t from source in
-        steps_grow false t k (again_start now (t.circuit_at k).end) (and_parts (is_of (t.circuit_at k) from source) (lives (t.circuit_at k).end) (least_true test 0 t.drawn (eqb-false k 0 q))).1 (to_again 0 false _ (grows_kept false) 0 now (t.circuit_at k).end (omega arith))
+        steps_grow false t k (again_start now (t.circuit_at k).end) (and_parts (is_of (t.circuit_at k) from source) (lives (t.circuit_at k).end) (least_true test (ids t) (eqb-false k 0 q))).1 (to_again is_none false _ (grows_kept false) 0 now (t.circuit_at k).end refl)
 
 -- cores
 
@@ -200,7 +202,7 @@ opens_since : (config : ServerConfig) (line address : ℕ) (node service : Name)
 opens_since config line address node service key request c d s = go (nat_eq (circuit_to d address) 0)
   where
     renamed : Core
-    renamed = record d { names = updated d.names (suc d.circuits.drawn) node }
+    renamed = record d { names = updated d.names (next_id d.circuits) node }
 
     made : Doing
     made = acts (server_side config) renamed (call_at (setup_of config.timing) renamed.circuits address renamed.moment)

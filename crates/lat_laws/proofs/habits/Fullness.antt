@@ -1,6 +1,6 @@
 -- Each announcement of a node tells whether all its lines were held, and who told so isn't chosen.
-use Rattle.std.proofs.Common.{◌≡◌, ℕ, suc, ◌≤◌, arith, refl, ap, ◌∙◌, subst, Bool, true, false, cond, ◌&&◌, List, [], ◌∷◌, map, length, Option, Some, None, nat_eq, find, ◌++◌}
-use Rattle.lat_model.specs.Lists.{Each, upwards}
+use Rattle.std.proofs.Common.{◌≡◌, ℕ, suc, ◌≤◌, arith, refl, ap, ◌∙◌, subst, Bool, true, false, cond, ◌&&◌, List, [], ◌∷◌, map, length, Option, Some, None, nat_eq, find}
+use Rattle.lat_model.specs.Lists.{Each}
 use Rattle.lat_model.specs.ends.End.{Sent, Run, CallStart, ReplyStart, Stopped}
 use Rattle.lat_model.specs.circuits.World.{Wired}
 use Rattle.lat_model.proofs.numbers.Net.{each_at, each_append, each_imp}
@@ -23,6 +23,7 @@ use Rattle.lat_laws.specs.habits.Fullness.{TellsFullness, IsAnnounced, Announcem
 use Rattle.lat_laws.proofs.habits.Chosen.{unwilling}
 use Rattle.lat_model.specs.sessions.Slots.{Slot}
 use Rattle.lat_model.specs.circuits.Events.{stray_stop}
+use Rattle.lat_model.specs.circuits.Ids.{ids}
 
 -- each rating of an announcement is as R says
 abbrev Rates : (ℕ → Type 0) → Value → Type 0
@@ -132,7 +133,7 @@ module _ (R : ℕ → Type 0) where
     step_rates st (Hears from (Whole v) k now) q =
         let t : Node = record st { core = at_moment now st.core } in
         cond_rates st.halted (Hears from (Whole v) k now) (nat_eq from everyone) (tells t Ignored) (hears_value config rates t from v k) (λ z. tt) (value_rates from (Whole v) k now t v) q
-    step_rates st (Time now) q = times_rate (node_side config) (upwards 0 st.core.circuits.drawn) (rests (at_moment now st.core)) tt
+    step_rates st (Time now) q = times_rate (node_side config) (ids st.core.circuits) (rests (at_moment now st.core)) tt
     step_rates st (Connects line service) q = tt
     step_rates st (Puts line bytes) q = tt
     step_rates st (Sets line setting) q = tt
@@ -163,7 +164,7 @@ module _ (R : ℕ → Type 0) where
         go false q = (rated_all config.services rates (omega (arith, q)) h, tt)
     step_rates st (Avoids line) q = tt
     step_rates st (Readies line ready) q = tt
-    step_rates st Halts q = each_append (λ (f : OutFrame). Rates R f.value) (ends_all (node_side config) 3 st.core).frames (farewell config st.halted) (ends_rate (node_side config) 3 (upwards 0 st.core.circuits.drawn) (rests st.core) tt) (farewell_rates config st.halted)
+    step_rates st Halts q = each_append (λ (f : OutFrame). Rates R f.value) (ends_all (node_side config) 3 st.core).frames (farewell config st.halted) (ends_rate (node_side config) 3 (ids st.core.circuits) (rests st.core) tt) (farewell_rates config st.halted)
 
 announced_tells : (config : NodeConfig) (st : Node) (a : Announcement) → IsAnnounced config st a → Each (λ (s : Service). TellsFullness (used st.core) config.lines s.rating) a.services
 announced_tells config st a i =

@@ -11,7 +11,7 @@ use Rattle.lat_model.specs.sessions.Hearing.{heard, hear_at, asked_session, ask_
 use Rattle.lat_model.specs.sessions.Calls.{Call, Connect, Put, Set, Attend, Take, Close, Answer, RejectAsk, call, connect, new_call, answer, reject}
 use Rattle.lat_model.specs.Lists.{updated, is_empty, IsPrefixOf}
 use Rattle.lat_model.proofs.sessions.Words.{upd_other, costs-append, credits-append}
-use Rattle.lat_laws.proofs.rounds.counting.Kept.{KeptByActs}
+use Rattle.lat_laws.proofs.rounds.counting.Kept.{KeptByActs, is_none}
 use Rattle.lat_laws.proofs.rounds.counting.Steps.{pack_by, hear_by}
 use Rattle.lat_laws.specs.habits.Credits.{IsCredited}
 
@@ -192,15 +192,15 @@ grows_heard e k x g = touched e (hear_at e k x) k (heard (e.session k) x) refl r
 grows_asked : (e : Sessions) (x : Slot) (service : List ℕ) (request : Option ℕ) → Grows e (ask_in e x service request)
 grows_asked e x service request = added e (ask_in e x service request) (asked_session e x service request) refl refl refl
 
--- what an end does, of all its circuits up to the first
-pub grows_kept : (side : Bool) → KeptByActs 0 side (λ x e f. x ≤ 0 → Grows e f)
+-- what an end does
+pub grows_kept : (side : Bool) → KeptByActs is_none side (λ x e f. is_none x ≡ true → Grows e f)
 grows_kept side = record {
   same = λ x e l. grows_same e;
   after = λ x a b c p q l. grows_then a b c (p l) (q l);
   packs = λ x room e l. pack_by Grows grows_same grows_then grows_form room e;
   hears = λ x slots e l. hear_by Grows grows_same grows_then (λ f y service request m. grows_asked f y service request) grows_heard slots e;
   agrees = λ x k e l h. record { past = h; each = λ j. grown_same (e.session j) };
-  news = λ x e k c l m. absurd (omega (arith, l, m));
+  news = λ x e k c l m. absurd (true≢false (sym m ∙ l));
 }
 
 -- local calls

@@ -105,10 +105,10 @@ node_sound config (e ∷ es) st h = node_sound config es (node_step config e.rat
 
 -- one machine beside any other
 beside_server : ServerConfig → Setups
-beside_server config = record { server = config; node = record { own = 0; name = []; incarnation = 0; lines = 0; services = []; timer = 0; groups = []; timing = config.timing; prompt = false } }
+beside_server config = record { server = config; node = record { own = 0; name = []; incarnation = 0; lines = 0; services = []; timer = 0; groups = []; timing = config.timing; prompt = false; first = 1 } }
 
 beside_node : NodeConfig → Setups
-beside_node config = record { server = record { own = 0; name = []; lines = 0; offers = []; groups = []; timing = config.timing; prompt = false }; node = config }
+beside_node config = record { server = record { own = 0; name = []; lines = 0; offers = []; groups = []; timing = config.timing; prompt = false; first = 1 }; node = config }
 
 first_server : (config : ServerConfig) → Sound true config.lines (open_server config).core
 unfolding beside_server

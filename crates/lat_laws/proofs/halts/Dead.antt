@@ -1,22 +1,23 @@
 -- Behind a halt no circuit lives: the halt ends each that does, and where none lives no act makes one.
-use Rattle.std.proofs.Common.{◌≡◌, ℕ, zero, suc, ◌+◌, ◌<◌, ◌≤◌, refl, sym, ap, ◌∙◌, arith, Bool, true, false, not, cond, ◌&&◌, ◌||◌, List, [], ◌∷◌, ◌++◌, Option, nat_eq, nat_lt, eqb-true}
-use Rattle.std.proofs.lemmas.Bool.{true≢false, false≢true, eqb-false, ltb-true, ltb-false}
+use Rattle.std.proofs.Common.{◌≡◌, ℕ, refl, sym, ap, ◌∙◌, Bool, true, false, not, cond, ◌&&◌, ◌||◌, List, [], ◌∷◌, ◌++◌, Option, nat_eq, eqb-true, inl, inr, eq-eqb}
+use Rattle.std.proofs.lemmas.Bool.{true≢false}
 use Rattle.lat_model.specs.sessions.Slots.{Slot}
 use Rattle.lat_model.specs.sessions.Calls.{Call, Answer, RejectAsk}
-use Rattle.lat_model.specs.Lists.{upwards}
 use Rattle.lat_model.specs.ends.End.{End, Step, lives, call_end, finish, lapse}
 use Rattle.lat_model.specs.ends.Timers.{note_empty, time_step}
 use Rattle.lat_model.specs.ends.Starting.{Agreed, hear_reply, hear_stop}
 use Rattle.lat_model.specs.circuits.World.{CircuitEntry, Table}
 use Rattle.lat_model.specs.circuits.Arriving.{is_of}
 use Rattle.lat_model.proofs.circuits.Kin.{and_false, right_false}
+use Rattle.lat_model.proofs.circuits.IdLists.{id_once, Once}
+use Rattle.lat_model.specs.circuits.Ids.{is_drawn, ids}
 use Rattle.lat_machines.specs.values.Messages.{Head}
 use Rattle.lat_machines.specs.values.Events.{Numbers, Event, Halts}
 use Rattle.lat_machines.specs.values.Answers.{Again, Running, Ended}
 use Rattle.lat_machines.specs.cores.Acts.{Acted, idle, steps_at, local_at, time_at, end_at}
 use Rattle.lat_machines.specs.cores.Hearing.{HeardAct, foreign, names, fits_kind, numbers_at, run_frame, run_at, hear_run, hear_stop_at, hear_reply_at, follows, is_outlived, outlive_at}
 use Rattle.lat_machines.specs.cores.Cores.{Core, Side, Doing, rests, then_doing, acts, end_each, ends_all}
-use Rattle.lat_machines.specs.server.Server.{ServerConfig, Server, server_side, open_server, server_event, server_step}
+use Rattle.lat_machines.specs.server.Server.{ServerConfig, Server, server_side, open_server, server_step}
 use Rattle.lat_machines.specs.node.Node.{NodeConfig, Node, node_side, open_node, node_step}
 use Rattle.lat_machines.specs.world.Histories.{server_run, RatedEvent, node_run}
 use Rattle.lat_laws.proofs.tales.steps.Walk.{Acts, ServerActs, NodeActs, server_keeps, passed_keeps, node_keeps}
@@ -136,27 +137,17 @@ dead_through : (k : Side) (r : ℕ) (xs : List ℕ) (d : Doing) (y : ℕ) → li
 dead_through k r [] d y h = h
 dead_through k r (x ∷ xs) d y h = dead_through k r xs (then_doing d (λ c. acts k c (end_at k.server c.circuits x r))) y (ended_at k.server d.core.circuits x r y (λ q. h))
 
-all_ended : (k : Side) (r n m : ℕ) (d : Doing) (y : ℕ) → n < y → y ≤ n + m → lives ((end_each k r (upwards n m) d).core.circuits.circuit_at y).end ≡ false
-all_ended k r n zero d y a b = absurd (omega (arith, a, b))
-all_ended k r n (suc m) d y a b = go (nat_eq y (suc n)) refl (λ l. all_ended k r (suc n) m e y l (omega (arith, b)))
-  where
-    e : Doing
-    e = then_doing d (λ c. acts k c (end_at k.server c.circuits (suc n) r))
-
-    go : (c : Bool) → nat_eq y (suc n) ≡ c → (suc n < y → lives ((end_each k r (upwards (suc n) m) e).core.circuits.circuit_at y).end ≡ false) → lives ((end_each k r (upwards (suc n) m) e).core.circuits.circuit_at y).end ≡ false
-    go true q rest = dead_through k r (upwards (suc n) m) e y (ended_at k.server d.core.circuits (suc n) r y (λ z. absurd (true≢false (sym q ∙ z))))
-    go false q rest = (let i : y ≡ suc n → ⊥ = eqb-false y (suc n) q in rest (omega (arith, a, i)))
+all_ended : (k : Side) (r : ℕ) (xs : List ℕ) (d : Doing) (y : ℕ) → Once y xs → lives ((end_each k r xs d).core.circuits.circuit_at y).end ≡ false
+all_ended k r [] d y a = absurd a
+all_ended k r (x ∷ xs) d y (inl a) = dead_through k r xs (then_doing d (λ c. acts k c (end_at k.server c.circuits x r))) y (ended_at k.server d.core.circuits x r y (λ z. absurd (true≢false (sym (eq-eqb y x (sym a.0)) ∙ z))))
+all_ended k r (x ∷ xs) d y (inr a) = all_ended k r xs (then_doing d (λ c. acts k c (end_at k.server c.circuits x r))) y a.1
 
 ends_dead : {K : Type 0} (key : CircuitEntry → K) (k : Side) (r : ℕ) (c : Core) → Lone key c.circuits → NoneLives (ends_all k r c).core
-ends_dead key k r c h y = go (nat_lt 0 y) refl (nat_lt c.circuits.drawn y) refl
+ends_dead key k r c h y = go (is_drawn c.circuits y) refl
   where
-    old : lives (c.circuits.circuit_at y).end ≡ false → lives ((ends_all k r c).core.circuits.circuit_at y).end ≡ false
-    old q = dead_through k r (upwards 0 c.circuits.drawn) (rests c) y q
-
-    go : (n : Bool) → nat_lt 0 y ≡ n → (m : Bool) → nat_lt c.circuits.drawn y ≡ m → lives ((ends_all k r c).core.circuits.circuit_at y).end ≡ false
-    go false i m j = (let z : y ≤ 0 = ltb-false 0 y i in let e : y ≡ 0 = omega (arith, z) in old (ap (λ x. lives (c.circuits.circuit_at x).end) e ∙ h.zero))
-    go true i true j = old (h.new y (ltb-true c.circuits.drawn y j))
-    go true i false j = all_ended k r 0 c.circuits.drawn (rests c) y (ltb-true 0 y i) (let z : y ≤ c.circuits.drawn = ltb-false c.circuits.drawn y j in omega (arith, z))
+    go : (n : Bool) → is_drawn c.circuits y ≡ n → lives ((ends_all k r c).core.circuits.circuit_at y).end ≡ false
+    go false i = dead_through k r (ids c.circuits) (rests c) y (h.new y i)
+    go true i = all_ended k r (ids c.circuits) (rests c) y (id_once c.circuits.first c.circuits.drawn y i)
 
 pub server_halt : (config : ServerConfig) (st : Server) → Lone by_address st.core.circuits → NoneLives (server_step config st Halts).state.core
 server_halt config st h = passed_keeps config (λ y. Unit {0}) NoneLives NoneLives ⊥ (server_acts config) st Halts (awake refl) (ends_dead by_address (server_side config) 3 st.core h)

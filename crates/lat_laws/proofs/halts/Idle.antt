@@ -1,10 +1,10 @@
 -- A halted machine makes no line session and no circuit.
-use Rattle.std.proofs.Common.{◌≡◌, ℕ, refl, sym, ap, ◌∙◌, Bool, true, false, not, cond, ◌&&◌, ◌||◌, List, [], ◌∷◌, Option, Some, None, nat_eq}
+use Rattle.std.proofs.Common.{◌≡◌, ℕ, refl, ap, ◌∙◌, Bool, true, false, not, cond, ◌&&◌, ◌||◌, List, [], ◌∷◌, Option, Some, None, nat_eq}
 use Rattle.std.proofs.lemmas.Bool.{ne_eqb}
 use Rattle.lat_model.specs.sessions.Slots.{Slot}
 use Rattle.lat_model.specs.sessions.Calls.{Call, Answer, RejectAsk}
 use Rattle.lat_model.specs.Lists.{upwards}
-use Rattle.lat_model.specs.ends.End.{End, Step, lives, call_end, finish, lapse}
+use Rattle.lat_model.specs.ends.End.{End, lives, call_end, finish, lapse}
 use Rattle.lat_model.specs.ends.Timers.{time_step}
 use Rattle.lat_model.specs.ends.Starting.{Agreed, hear_reply, hear_stop}
 use Rattle.lat_model.specs.circuits.World.{CircuitEntry, Table}
@@ -12,13 +12,13 @@ use Rattle.lat_machines.specs.values.Names.{Name}
 use Rattle.lat_machines.specs.values.Addresses.{everyone}
 use Rattle.lat_machines.specs.values.Messages.{Head, StartMessage}
 use Rattle.lat_machines.specs.values.Frames.{OfCircuit}
-use Rattle.lat_machines.specs.values.Events.{Numbers, Event}
+use Rattle.lat_machines.specs.values.Events.{Numbers}
 use Rattle.lat_machines.specs.values.Answers.{Again, Running, Ended, Ignored}
 use Rattle.lat_machines.specs.cores.Acts.{Acted, idle, steps_at, local_at, time_at, end_at, move_at}
 use Rattle.lat_machines.specs.cores.Hearing.{HeardAct, foreign, names, fits_kind, numbers_at, run_frame, run_at, hear_run, hear_stop_at, hear_reply_at, is_outlived, outlive_at}
 use Rattle.lat_machines.specs.cores.Cores.{Seat, Core, Side, at_moment}
-use Rattle.lat_machines.specs.server.Server.{ServerConfig, Server, server_side, offer_on, grantable_on, grantable, Passing, grants_by, grant_line, grant_lines, server_event, server_step}
-use Rattle.lat_machines.specs.node.Node.{NodeConfig, Node, node_side, tells, announcement, turns_away, starts, makes_way, hears_value, node_step}
+use Rattle.lat_machines.specs.server.Server.{ServerConfig, server_side, offer_on, grantable_on, grantable, Passing, grants_by, grant_lines}
+use Rattle.lat_machines.specs.node.Node.{NodeConfig, Node, node_side, tells, announcement, turns_away, starts, makes_way, hears_value}
 use Rattle.lat_laws.proofs.tales.steps.Walk.{Acts, ServerActs, NodeActs, server_keeps, node_keeps}
 use Rattle.lat_laws.proofs.habits.Circuits.{any_allowed}
 use Rattle.lat_laws.proofs.halts.Stays.{event_halted}

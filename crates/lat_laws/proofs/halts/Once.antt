@@ -1,13 +1,13 @@
 -- Where a machine is halted no circuit lives, so a second halt ends none.
-use Rattle.std.proofs.Common.{◌≡◌, ℕ, ◌⊎◌, inl, inr, ⊎_elim, refl, sym, ap, ◌∙◌, subst, Bool, true, false, cond, List, [], ◌∷◌, ◌++◌}
+use Rattle.std.proofs.Common.{◌≡◌, ℕ, ◌⊎◌, inl, inr, refl, sym, ap, ◌∙◌, subst, Bool, true, false, cond, List, [], ◌∷◌, ◌++◌}
 use Rattle.std.proofs.lemmas.Bool.{true≢false, false≢true}
-use Rattle.lat_model.specs.Lists.{upwards}
-use Rattle.lat_model.specs.ends.End.{lives, finish}
+use Rattle.lat_model.specs.ends.End.{finish}
+use Rattle.lat_model.specs.circuits.Ids.{ids}
 use Rattle.lat_machines.specs.values.Events.{Event, Halts}
 use Rattle.lat_machines.specs.values.Answers.{Done}
-use Rattle.lat_machines.specs.cores.Acts.{Acted, idle, steps_at, end_at}
-use Rattle.lat_machines.specs.cores.Cores.{Core, Side, Doing, rests, acts, end_each, ends_all}
-use Rattle.lat_machines.specs.server.Server.{ServerConfig, Server, ServerStep, server_side, open_server, does, tells, server_event, passed, server_step}
+use Rattle.lat_machines.specs.cores.Acts.{Acted, idle, steps_at}
+use Rattle.lat_machines.specs.cores.Cores.{Core, Side, Doing, rests, acts, end_each}
+use Rattle.lat_machines.specs.server.Server.{ServerConfig, Server, server_side, open_server, does, tells, passed, server_step}
 use Rattle.lat_machines.specs.node.Node.{NodeConfig, Node, NodeStep, node_side, open_node, farewell, node_step}
 use Rattle.lat_machines.specs.node.Node as N
 use Rattle.lat_machines.specs.world.Histories.{server_run, RatedEvent, node_run}
@@ -72,7 +72,7 @@ ends_none k r (x ∷ xs) c h = ap (λ a. end_each k r xs (after a)) (ap (λ n. c
 
 pub server_once : ServerHaltsOnce
 server_once config es pos q =
-    ap (passed config) (ap (does (record st { halted = true }) Done) (ends_none (server_side config) 3 (upwards 0 st.core.circuits.drawn) st.core none) ∙ ap (λ b. tells (record st { halted = b }) Done) (sym q))
+    ap (passed config) (ap (does (record st { halted = true }) Done) (ends_none (server_side config) 3 (ids st.core.circuits) st.core none) ∙ ap (λ b. tells (record st { halted = b }) Done) (sym q))
     ∙ passes_nothing config st Done g.seated g.quiet
   where
     st : Server
@@ -86,7 +86,7 @@ server_once config es pos q =
 
 pub node_once : NodeHaltsOnce
 node_once config es rates q =
-    ap halted_by (ends_none (node_side config) 3 (upwards 0 st.core.circuits.drawn) st.core none)
+    ap halted_by (ends_none (node_side config) 3 (ids st.core.circuits) st.core none)
     ∙ ap (λ b. record { state = record st { halted = true }; answer = Done; frames = farewell config b }) q
     ∙ ap (λ b. N.tells (record st { halted = b }) Done) (sym q)
   where

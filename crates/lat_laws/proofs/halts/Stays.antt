@@ -7,7 +7,7 @@ use Rattle.lat_model.specs.ends.End.{lives}
 use Rattle.lat_machines.specs.values.Names.{Name, same}
 use Rattle.lat_machines.specs.values.Addresses.{everyone}
 use Rattle.lat_machines.specs.values.Messages.{Head, RunMessage, WideMessage, StartMessage, StopMessage}
-use Rattle.lat_machines.specs.values.Notices.{Announcement, AnnouncementNotice, CommandNotice, StatusNotice, SolicitNotice, ResponseNotice}
+use Rattle.lat_machines.specs.values.Notices.{AnnouncementNotice, CommandNotice, StatusNotice, SolicitNotice, ResponseNotice}
 use Rattle.lat_machines.specs.values.Frames.{Value, OfCircuit, OfNotice, Whole, Malformed}
 use Rattle.lat_machines.specs.values.Events.{Numbers, Event, Hears, Time, Connects, Puts, Sets, Takes, Attends, Closes, Requests, Withdraws, Announces, Avoids, Readies, Halts}
 use Rattle.lat_machines.specs.values.Answers.{Ignored, IdUsed}
@@ -17,7 +17,7 @@ use Rattle.lat_machines.specs.server.Server.{ServerConfig, Server, hears_announc
 use Rattle.lat_machines.specs.server.Server as Server
 use Rattle.lat_machines.specs.node.Node.{NodeConfig, Node, NodeStep, Requested, tells, request_of, Verdict, Accepts, Rejects, verdict, judged, asked_at, answers_one, answers_in, asked_on, answers_asked, heard_at, hears_run, turns_away, starts, makes_way, hears_value, solicited, requests_again, withdraws, node_step}
 use Rattle.lat_laws.specs.halts.Dead.{ServerStaysHalted, NodeStaysHalted}
-use Rattle.lat_laws.proofs.halts.Parts.{Parts, IsPlain, kinds, parts_cond, event_parts, passed_parts}
+use Rattle.lat_laws.proofs.halts.Parts.{Parts, kinds, parts_cond, event_parts, passed_parts}
 
 -- the server
 

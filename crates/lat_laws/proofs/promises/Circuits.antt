@@ -1,5 +1,5 @@
 -- The circuits of both machines in every run.
-use Rattle.std.proofs.Common.{◌≡◌, ℕ, inl, refl, sym, ap, ◌∙◌, subst, Bool, true, false, cond, List, []}
+use Rattle.std.proofs.Common.{◌≡◌, ℕ, refl, sym, ap, ◌∙◌, subst, Bool, true, false, cond, List, []}
 use Rattle.lat_model.specs.sessions.Session.{blank}
 use Rattle.lat_model.specs.sessions.Sessions.{Sessions}
 use Rattle.lat_model.specs.sessions.Packing.{TaggedSlot}
@@ -13,6 +13,7 @@ use Rattle.lat_model.specs.circuits.Events.{WorldRun, go_on}
 use Rattle.lat_model.specs.circuits.Together.{Together, flat}
 use Rattle.lat_model.specs.circuits.WorldOk.{Joint, Replied, WorldOk, mate, void_half}
 use Rattle.lat_model.proofs.circuits.Windows.{run_open, open_at, window_at}
+use Rattle.lat_model.proofs.circuits.Ids.{zero_undrawn}
 use Rattle.lat_machines.specs.cores.Cores.{setup_of}
 use Rattle.lat_machines.specs.world.Machines.{Setups, Machines, Move, run, open_machines}
 use Rattle.lat_machines.specs.world.Safe.{Fit, circuits_open, Shared}
@@ -59,6 +60,8 @@ module _ (u : Setups) (f : Fit u) (moves : List Move) where
     server = u.server.own;
     node = u.node.own;
     apart = f.apart;
+    first = u.server.first;
+    other_first = u.node.first;
     setup = setup_of u.server.timing;
     other = setup_of u.node.timing;
     ceiling = f.server_ceiling;
@@ -117,7 +120,7 @@ module _ (u : Setups) (f : Fit u) (moves : List Move) where
   pub standing : Standing u m
   standing = record {
     mate = tied (λ (z : Machines). (p : ℕ) → (z.server.core.circuits.circuit_at p).address ≡ u.node.own → HasMate u z p) mate_in;
-    nobody = tied (λ (z : Machines). (sessions_at z false 0).session 0 ≡ blank) (ap (λ (c : CircuitEntry). c.end.half.sessions.session 0) (ok.none_node 0 (inl refl)));
+    nobody = tied (λ (z : Machines). (sessions_at z false 0).session 0 ≡ blank) (ap (λ (c : CircuitEntry). c.end.half.sessions.session 0) (ok.none_node 0 (zero_undrawn w.node.first w.node.drawn)));
     before = tied (NothingSaidBefore u) before_in;
     windows = tied WithinWindows windows_in;
   }

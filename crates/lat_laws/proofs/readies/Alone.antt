@@ -1,16 +1,14 @@
 -- To say that a line is ready, or that it isn't, changes nothing else by itself.
-use Rattle.std.proofs.Common.{◌≡◌, ℕ, refl, sym, ap, ◌∙◌, Bool, true, false, not, cond, ◌&&◌, List, Option, Some, None, nat_eq}
+use Rattle.std.proofs.Common.{◌≡◌, ℕ, refl, Bool, true, false, not, cond, ◌&&◌, Option, Some, None, nat_eq}
 use Rattle.std.proofs.lemmas.Bool.{false≢true}
 use Rattle.lat_model.specs.Lists.{updated}
 use Rattle.lat_machines.specs.values.Names.{Name}
-use Rattle.lat_machines.specs.values.Events.{Event, Readies}
+use Rattle.lat_machines.specs.values.Events.{Readies}
 use Rattle.lat_machines.specs.values.Answers.{Answer, Done, NoLine}
 use Rattle.lat_machines.specs.server.Queue.{Request}
 use Rattle.lat_machines.specs.cores.Lines.{line_exists}
-use Rattle.lat_machines.specs.server.Directory.{HeardAnnouncement}
-use Rattle.lat_machines.specs.server.Server.{ServerConfig, Server, open_server, offer_on, grantable_on, grantable}
+use Rattle.lat_machines.specs.server.Server.{Server, open_server, offer_on, grantable_on, grantable}
 use Rattle.lat_machines.specs.world.Histories.{server_run}
-use Rattle.lat_machines.specs.world.Safe.{NoGrant}
 use Rattle.lat_machines.proofs.queue.Settled.{Settled, settled, passes_nothing}
 use Rattle.lat_laws.proofs.avoids.Avoided.{directory_stays}
 use Rattle.lat_laws.specs.readies.Alone.{ReadyAlone, ReadyKeepsDirectory, UnreadyAlone}

@@ -1,9 +1,10 @@
 -- The pass makes no line session on a line that isn't ready.
-use Rattle.std.proofs.Common.{◌≡◌, ◌≢◌, ℕ, suc, refl, sym, ap, ◌∙◌, Bool, true, false, not, cond, ◌&&◌, List, [], ◌∷◌, ◌++◌, Option, Some, None, nat_eq, append_assoc, append-nil}
+use Rattle.std.proofs.Common.{◌≡◌, ◌≢◌, ℕ, suc, refl, sym, ap, ◌∙◌, Bool, true, false, not, cond, List, [], ◌∷◌, ◌++◌, Option, Some, None, nat_eq, append_assoc, append-nil}
 use Rattle.lat_model.specs.sessions.Sessions.{Sessions, least_free}
-use Rattle.lat_model.specs.Lists.{Each, updated, upwards}
+use Rattle.lat_model.specs.Lists.{updated, upwards}
 use Rattle.lat_model.proofs.circuits.Kin.{right_false}
 use Rattle.lat_model.proofs.numbers.Net.{each_append}
+use Rattle.lat_model.specs.circuits.Ids.{next_id}
 use Rattle.lat_machines.specs.values.Names.{Name}
 use Rattle.lat_machines.specs.values.Keys.{Key}
 use Rattle.lat_machines.specs.server.Queue.{Request}
@@ -28,7 +29,7 @@ opens_one : (config : ServerConfig) (line address : ℕ) (node service : Name) (
 opens_one config line address node service key request c = go (nat_eq (circuit_to c address) 0)
   where
     named : Core
-    named = record c { names = updated c.names (suc c.circuits.drawn) node }
+    named = record c { names = updated c.names (next_id c.circuits) node }
 
     made : Doing
     made = acts (server_side config) named (call_at (setup_of config.timing) named.circuits address named.moment)

@@ -1,5 +1,5 @@
 -- Behind a halt no circuit lives, and none comes.
-use Rattle.std.specs.Prelude.{◌≡◌, ℕ, Bool, true, false, List, [], ◌∷◌, ◌++◌}
+use Rattle.std.specs.Prelude.{◌≡◌, ℕ, true, false, List, ◌∷◌, ◌++◌}
 use Rattle.lat_model.specs.ends.End.{lives}
 use Rattle.lat_machines.specs.values.Events.{Event, Halts}
 use Rattle.lat_machines.specs.cores.Cores.{Core}

@@ -7,6 +7,7 @@ use Rattle.lat_model.specs.circuits.Arriving.{refusal}
 use Rattle.lat_model.specs.circuits.Events.{WorldEvent, Delivers, occurs, Lapses, Stops}
 use Rattle.lat_laws.specs.rounds.Lossless.{is_side, is_in}
 use Rattle.lat_model.specs.Lists.{Each}
+use Rattle.lat_model.specs.circuits.Ids.{is_drawn, is_known}
 use Rattle.lat_laws.specs.rounds.Flight.{Flow, ShowsTaken, Clear, Old}
 
 -- a frame of the circuit x of the side b, to the other end; a and c are the ends' addresses
@@ -96,7 +97,7 @@ Came w b x to destination s = Unit {0}
 -- What every run keeps in which frames come in order
 pub record Carried (w : World) (done : List ℕ) : Type 0 where
   pub below : (j : ℕ) → length w.frames ≤ j → is_in j done ≡ false
-  pub low : Each (λ v. v.circuit ≤ (table w v.by_server).drawn) w.frames
+  pub low : Each (λ v. is_known (table w v.by_server) v.circuit ≡ true) w.frames
   pub calling :
       (p : ℕ) →
       (w.server.circuit_at p).address ≡ w.node.own →
@@ -124,8 +125,7 @@ pub record Carried (w : World) (done : List ℕ) : Type 0 where
       Flow (node_end w (server_end w p).peer).half.link (server_end w p).half.link (flying w done false (server_end w p).peer)
   pub offered :
       (q : ℕ) →
-      q ≢ 0 →
-      q ≤ w.node.drawn →
+      is_drawn w.node q ≡ true →
       (w.node.circuit_at q).address ≡ w.server.own →
       (w.server.circuit_at (node_end w q).peer).address ≡ w.node.own →
       lives (server_end w (node_end w q).peer) ≡ true →
@@ -134,10 +134,9 @@ pub record Carried (w : World) (done : List ℕ) : Type 0 where
   -- a slave of the server names a circuit that the server has drawn
   pub peers :
       (q : ℕ) →
-      q ≢ 0 →
-      q ≤ w.node.drawn →
+      is_drawn w.node q ≡ true →
       (w.node.circuit_at q).address ≡ w.server.own →
-      (node_end w q).peer ≤ w.server.drawn
+      is_known w.server (node_end w q).peer ≡ true
   pub tells : Each (λ v. NamesSender w v.by_server v.circuit v.to v.destination v.source v.sent) w.frames
   pub came :
       (j : ℕ) (v : Wired) →
@@ -148,8 +147,7 @@ pub record Carried (w : World) (done : List ℕ) : Type 0 where
 -- A slave of this circuit, whether it lives or has ended
 pub record HasSlave (w : World) (p : ℕ) : Type 0 where
   pub slave : ℕ
-  pub some : slave ≢ 0
-  pub drawn : slave ≤ w.node.drawn
+  pub drawn : is_drawn w.node slave ≡ true
   pub address : (w.node.circuit_at slave).address ≡ w.server.own
   pub peer : (node_end w slave).peer ≡ p
 

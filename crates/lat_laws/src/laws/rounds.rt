@@ -56,25 +56,25 @@ pub fn sessions_have_an_end()
 /// In every run of the world of circuits in which the names of services are short, the sessions of each circuit of both ends
 /// are plain: frugal slots, short names, and no stop where neither end has closed.
 pub fn sessions_stay_plain()
-    ensures { (server node : ℕ) (u v : Setup) (events : List WorldEvent) →
+    ensures { (server node first other : ℕ) (u v : Setup) (events : List WorldEvent) →
         server ≢ node →
         u.ceiling ≤ 255 →
         v.ceiling ≤ 255 →
         Each ShortWorldEvent events →
-        WorldPlain (go_on events (open_world server node u v)) }
+        WorldPlain (go_on events (open_world server node first other u v)) }
 {}
 
 /// In every run in which frames come in order, no circuit lapses and no STOP comes from no circuit, what is in flight between
 /// two circuits brings what was sent; where a slave has ended, its STOP is in flight; and a slave whose master waits has its
 /// reply in flight.
 pub fn frames_are_carried()
-    ensures { (server node : ℕ) (u v : Setup) (events : List WorldEvent) →
+    ensures { (server node first other : ℕ) (u v : Setup) (events : List WorldEvent) →
         server ≢ node →
         u.ceiling ≤ 255 →
         v.ceiling ≤ 255 →
-        Orderly (open_world server node u v) [] events →
-        Carried (go_on events (open_world server node u v))
-        (done_all (open_world server node u v) [] events) }
+        Orderly (open_world server node first other u v) [] events →
+        Carried (go_on events (open_world server node first other u v))
+        (done_all (open_world server node first other u v) [] events) }
 {}
 
 /// A frame of a run of the server that comes to the node in its turn is young, where both ends live.

@@ -12,6 +12,7 @@ use Rattle.lat_model.specs.ends.Starting.{Agreed, make_slave, again_start, hear_
 use Rattle.lat_model.specs.circuits.World.{CircuitEntry, Table, Wired, World, table, with_table, put_circuit, at_end, wire_all, first_end}
 use Rattle.lat_model.specs.circuits.Arriving.{living, slave_of, arrive}
 use Rattle.lat_model.specs.circuits.Events.{WorldEvent, Calls, Locally, Times, Moves, Delivers, Injects, occurs, go_on, Ends, Lapses, Stops}
+use Rattle.lat_model.specs.circuits.Ids.{next_id}
 use Rattle.lat_machines.specs.values.Addresses.{everyone}
 use Rattle.lat_machines.specs.values.Messages.{Head}
 use Rattle.lat_machines.specs.values.Events.{Numbers}
@@ -299,7 +300,7 @@ start_leads {L} {D} w from source now g bit to p = go (nat_eq k 0) refl (nat_lt 
     k = slave_of w.node from source
 
     made : World
-    made = put_circuit w false (suc w.node.drawn) (suc w.node.drawn) from (make_slave now source g (first_end false false w.other))
+    made = put_circuit w false (suc w.node.drawn) (next_id w.node) from (make_slave now source g (first_end false false w.other))
 
     refused : World
     refused = with_table w false w.node (record { by_server = false; circuit = 0; to = from; destination = source; source = 0; sent = Stopped 7 } ∷ [])
@@ -311,12 +312,12 @@ start_leads {L} {D} w from source now g bit to p = go (nat_eq k 0) refl (nat_lt 
     act f = start_at w.other w.node from source now g f
 
     fact : Bool → Bool → StartFact
-    fact n r = cond n (cond r (Makes (suc w.node.drawn)) Refuses) (Repeats k)
+    fact n r = cond n (cond r (Makes (next_id w.node)) Refuses) (Repeats k)
 
     goes : (n r : Bool) → nat_eq k 0 ≡ n → (nat_lt (living w.node) 8 && nat_lt w.node.drawn 65535) ≡ r → occurs w (p.event now g) ≡ cond n (cond r made refused) again
     goes n r i j = p.arrives w (like w) now g ∙ ap₂ (λ y z. cond y (cond z made refused) again) i j
 
     go : (n : Bool) → nat_eq k 0 ≡ n → (r : Bool) → (nat_lt (living w.node) 8 && nat_lt w.node.drawn 65535) ≡ r → Leads L D w false (act (fact n r)).table (act (fact n r)).sent
     go false i r j = steps_lead w false k (again_start now (w.node.circuit_at k).end) (p.event now g) (p.fits now g) (p.gives now g) (goes false r i j)
-    go true i true j = leads_one w false (act (Makes (suc w.node.drawn))) (p.event now g) (p.fits now g) (p.gives now g) (goes true true i j) (refl, tt) refl
+    go true i true j = leads_one w false (act (Makes (next_id w.node))) (p.event now g) (p.fits now g) (p.gives now g) (goes true true i j) (refl, tt) refl
     go true i false j = leads_one w false (act Refuses) (p.event now g) (p.fits now g) (p.gives now g) (goes true false i j) (refl, tt) refl

@@ -4,11 +4,12 @@ use Rattle.std.proofs.lemmas.Bool.{and_parts}
 use Rattle.lat_machines.specs.values.Messages.{Head}
 use Rattle.lat_model.specs.circuits.Events.{stray_stop}
 use Rattle.lat_machines.specs.values.Addresses.{everyone}
-use Rattle.lat_model.specs.Lists.{Each, upwards}
+use Rattle.lat_model.specs.Lists.{Each}
 use Rattle.lat_model.specs.sessions.Session.{put_open, take_open, unframed}
 use Rattle.lat_model.specs.sessions.Calls.{Call, Put, Set, Attend, Take, Close, put_count, took}
 use Rattle.lat_model.specs.ends.End.{lives, call_end}
 use Rattle.lat_model.specs.circuits.World.{Table, Wired, World, table, with_table}
+use Rattle.lat_model.specs.circuits.Ids.{ids}
 use Rattle.lat_machines.specs.values.Frames.{OutFrame, OfNotice}
 use Rattle.lat_machines.specs.values.Notices.{Notice}
 use Rattle.lat_machines.specs.values.Answers.{Accepted, Took, Done, NoLine, Closed, Full}
@@ -98,7 +99,7 @@ time_made k (x ∷ xs) w d m =
     (made_then w k.server d.core d.frames (f d.core).core (f d.core).frames m (time_one k d.core (with_table w k.server d.core.circuits m.wired) x (table_with w k.server d.core.circuits m.wired)))
 
 pub passes_made : {L : Deed → Type 0} (k : Side) (c : Core) (w : World) → table w k.server ≡ c.circuits → Made L Quiet w k.server (passes_time k c).core (passes_time k c).frames
-passes_made k c w q = time_made k (upwards 0 c.circuits.drawn) w (rests c) (made_none w k.server c q)
+passes_made k c w q = time_made k (ids c.circuits) w (rests c) (made_none w k.server c q)
 
 -- every circuit is ended
 
@@ -113,7 +114,7 @@ end_made k r (x ∷ xs) w d l m =
     (made_then w k.server d.core d.frames (f d.core).core (f d.core).frames m (end_one k d.core (with_table w k.server d.core.circuits m.wired) x r l (table_with w k.server d.core.circuits m.wired)))
 
 pub ends_made : {L : Deed → Type 0} (k : Side) (r : ℕ) (c : Core) (w : World) → L Breaking → table w k.server ≡ c.circuits → Made L Quiet w k.server (ends_all k r c).core (ends_all k r c).frames
-ends_made k r c w l q = end_made k r (upwards 0 c.circuits.drawn) w (rests c) l (made_none w k.server c q)
+ends_made k r c w l q = end_made k r (ids c.circuits) w (rests c) l (made_none w k.server c q)
 
 -- a STOP from no circuit
 pub stray_made : {L : Deed → Type 0} (k : Side) (c : Core) (w : World) (b : Bool) (to d s r : ℕ) → to ≢ everyone → L Breaking → table w b ≡ c.circuits → Made L Quiet w b (acts k c (stray_at b c.circuits to d s r)).core (acts k c (stray_at b c.circuits to d s r)).frames

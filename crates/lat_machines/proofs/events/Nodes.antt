@@ -9,6 +9,7 @@ use Rattle.lat_model.specs.sessions.Calls.{RejectAsk}
 use Rattle.lat_model.specs.sessions.Calls as Calls
 use Rattle.lat_model.specs.ends.End.{lives, CallStart}
 use Rattle.lat_model.specs.circuits.World.{World, table, with_table, Table}
+use Rattle.lat_model.specs.circuits.Ids.{ids}
 use Rattle.lat_machines.specs.values.Names.{Name, same}
 use Rattle.lat_machines.specs.values.Addresses.{everyone}
 use Rattle.lat_machines.specs.values.Messages.{Head, StartInfo, Message, RunMessage, WideMessage, StartMessage, StopMessage}
@@ -114,13 +115,13 @@ did_starts {L} {D} config w st from to source info b q s p =
     (start_leads v from source st.core.moment (agreed_by config.timing info) true to y)) in
     record { wired = m.wired; leads = leads_before w false t [] (starts config x from source info).state.core.circuits m.wired l m.leads; shown = m.shown }
   where
-    outlived : L Breaking → (t : Table) → w.node ≡ t → Leads L Quiet w false (outlive from source (upwards 0 t.drawn) t) []
-    outlived b t q = subst (λ z. Leads L Quiet w false (outlive from source (upwards 0 z.drawn) z) []) q (outlive_leads from source (upwards 0 w.node.drawn) w b)
+    outlived : L Breaking → (t : Table) → w.node ≡ t → Leads L Quiet w false (outlive from source (ids t) t) []
+    outlived b t q = subst (λ z. Leads L Quiet w false (outlive from source (ids z) z) []) q (outlive_leads from source (ids w.node) w b)
 
     way : Leads L Quiet w false (makes_way config st from source).core.circuits []
     way = go config.prompt refl
       where
-        go : (n : Bool) → config.prompt ≡ n → Leads L Quiet w false (cond n (outlive from source (upwards 0 st.core.circuits.drawn) st.core.circuits) st.core.circuits) []
+        go : (n : Bool) → config.prompt ≡ n → Leads L Quiet w false (cond n (outlive from source (ids st.core.circuits) st.core.circuits) st.core.circuits) []
         go true i = outlived (b i) st.core.circuits q
         go false i = subst (λ t. Leads L Quiet w false t []) q (leads_none w false)
 

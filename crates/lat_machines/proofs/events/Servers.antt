@@ -11,6 +11,7 @@ use Rattle.lat_model.specs.ends.End.{Mark, Run, CallStart, ReplyStart, Stopped}
 use Rattle.lat_model.specs.ends.Run.{run_end}
 use Rattle.lat_model.specs.circuits.World.{World, table, with_table}
 use Rattle.lat_model.specs.circuits.Arriving.{living}
+use Rattle.lat_model.specs.circuits.Ids.{next_id}
 use Rattle.lat_machines.specs.values.Names.{Name, same}
 use Rattle.lat_machines.specs.values.Addresses.{everyone}
 use Rattle.lat_machines.specs.values.Messages.{Head, Message, RunMessage, WideMessage, StartMessage, StopMessage}
@@ -158,7 +159,7 @@ offer_fits L line (o ∷ os) h = go (nat_eq o.line line) (offer_fits L line os h
 
 calls_made : {L : Deed → Type 0} (config : ServerConfig) (address : ℕ) (node : Name) (c : Core) (w : World) → table w true ≡ c.circuits → w.setup ≡ setup_of config.timing → address ≢ everyone → Made L Quiet w true (calls_to config address node c).core (calls_to config address node c).frames
 calls_made {L} config address node c w q s f =
-    let d : Core = record c { names = updated c.names (suc c.circuits.drawn) node } in
+    let d : Core = record c { names = updated c.names (next_id c.circuits) node } in
     made_cond w true (nat_eq (circuit_to c address) 0) (acts (server_side config) d (call_at (setup_of config.timing) d.circuits address d.moment)) (rests c)
     (λ i. acts_made (server_side config) d w true (call_at (setup_of config.timing) d.circuits address d.moment) (subst (λ u. Leads L Quiet w true (call_at u d.circuits address d.moment).table (call_at u d.circuits address d.moment).sent) s (subst (λ t. Leads L Quiet w true (call_at w.setup t address d.moment).table (call_at w.setup t address d.moment).sent) q (call_leads w address d.moment f))))
     (λ i. made_none w true c q)
@@ -209,7 +210,7 @@ did_connect {L} config w st line service l q s f = go (line_exists config.lines 
         let yes : ServerMade L Quiet w (record st { core = d.core }) d.frames = did_core w st d.core d.frames f (opens_made config line b.from b.node service None None st.core w l q s g) in
         step (nat_eq x 0) (nat_lt (living st.core.circuits) 8) (nat_lt st.core.circuits.drawn 65535) (has_room st.core x) d yes x
       where
-        step : (i j k l : Bool) (d : Doing) → ServerMade L Quiet w (record st { core = d.core }) d.frames → (x : ℕ) → ServerMade L Quiet w (cond i (cond j (cond k (does st (Connected (suc st.core.circuits.drawn) 1) d) (tells st IdsOut)) (tells st CircuitsFull)) (cond l (does st (Connected x (least_free (st.core.circuits.circuit_at x).end.half.sessions)) d) (tells st SessionsFull))).state (cond i (cond j (cond k (does st (Connected (suc st.core.circuits.drawn) 1) d) (tells st IdsOut)) (tells st CircuitsFull)) (cond l (does st (Connected x (least_free (st.core.circuits.circuit_at x).end.half.sessions)) d) (tells st SessionsFull))).frames
+        step : (i j k l : Bool) (d : Doing) → ServerMade L Quiet w (record st { core = d.core }) d.frames → (x : ℕ) → ServerMade L Quiet w (cond i (cond j (cond k (does st (Connected (next_id st.core.circuits) 1) d) (tells st IdsOut)) (tells st CircuitsFull)) (cond l (does st (Connected x (least_free (st.core.circuits.circuit_at x).end.half.sessions)) d) (tells st SessionsFull))).state (cond i (cond j (cond k (does st (Connected (next_id st.core.circuits) 1) d) (tells st IdsOut)) (tells st CircuitsFull)) (cond l (does st (Connected x (least_free (st.core.circuits.circuit_at x).end.half.sessions)) d) (tells st SessionsFull))).frames
         step true true true l d y x = y
         step true true false l d y x = none
         step true false k l d y x = none

@@ -13,6 +13,7 @@ use Rattle.lat_model.specs.circuits.Arriving.{is_of, living, slave_of, make_in, 
 use Rattle.lat_model.specs.circuits.Events.{deliver_in, WorldEvent, Calls, Locally, Times, Moves, Delivers, Injects, occurs, go_on, open_world, Ends, Lapses, Stops, stray_stop}
 use Rattle.lat_model.proofs.sessions.Words.{upd_all}
 use Rattle.lat_model.proofs.numbers.Net.{each_at}
+use Rattle.lat_model.specs.circuits.Ids.{next_id}
 use Rattle.lat_machines.specs.values.Addresses.{everyone}
 use Rattle.lat_machines.specs.values.Messages.{RunMessage, WideMessage, StartMessage, StopMessage}
 use Rattle.lat_machines.specs.values.Notices.{Notice}
@@ -76,8 +77,8 @@ arrive_apart w true from bit destination source now g CallStart a n = a
 arrive_apart w false from bit destination source now g CallStart a n =
     let k : ℕ = slave_of w.node from source in
     apart_cond (nat_eq k 0) (make_in w from source now g) (at_end w false k (again_start now (w.node.circuit_at k).end))
-    (apart_cond (nat_lt (living w.node) 8 && nat_lt w.node.drawn 65535) (put_circuit w false (suc w.node.drawn) (suc w.node.drawn) from (make_slave now source g (first_end false false w.other))) (with_table w false w.node (record { by_server = false; circuit = 0; to = from; destination = source; source = 0; sent = Stopped 7 } ∷ []))
-    (put_apart w false (suc w.node.drawn) (suc w.node.drawn) from (make_slave now source g (first_end false false w.other)) a n)
+    (apart_cond (nat_lt (living w.node) 8 && nat_lt w.node.drawn 65535) (put_circuit w false (suc w.node.drawn) (next_id w.node) from (make_slave now source g (first_end false false w.other))) (with_table w false w.node (record { by_server = false; circuit = 0; to = from; destination = source; source = 0; sent = Stopped 7 } ∷ []))
+    (put_apart w false (suc w.node.drawn) (next_id w.node) from (make_slave now source g (first_end false false w.other)) a n)
     (refuse_apart w from source a n))
     (at_apart w false k (again_start now (w.node.circuit_at k).end) a)
 arrive_apart w true from bit destination source now g ReplyStart a n =
@@ -99,7 +100,7 @@ deliver_apart w now g (Some p) a =
     (arrive_apart w (not p.by_server) (table w p.by_server).own p.by_server p.destination p.source now g p.sent a (own_apart w p.by_server a)) a
 
 event_apart : (L : Deed → Type 0) (w : World) (e : WorldEvent) → Apart w → EventFits L e → Apart (occurs w e)
-event_apart L w (Calls address now) a n = put_apart w true (suc w.server.drawn) (suc w.server.drawn) address (called w.setup now) a n
+event_apart L w (Calls address now) a n = put_apart w true (suc w.server.drawn) (next_id w.server) address (called w.setup now) a n
 event_apart L w (Locally b x c) a n =
     let e : End = ((table w b).circuit_at x).end in
     apart_cond (lives e) (at_end w b x (record { end = call_end c e; sent = [] })) w (at_apart w b x (record { end = call_end c e; sent = [] }) a) a
@@ -377,7 +378,7 @@ happens_goes u m w (HearsFrame i now rates) p = go (slice_get m.posts i) refl
 not_zero : 0 ≡ everyone → ⊥
 not_zero q = false≢true (sym (ap (λ z. nat_eq 0 z) q))
 
-pub open_beside : (u : Setups) → Fit u → Beside u (open_machines u) (open_world u.server.own u.node.own (setup_of u.server.timing) (setup_of u.node.timing))
+pub open_beside : (u : Setups) → Fit u → Beside u (open_machines u) (open_world u.server.own u.node.own u.server.first u.node.first (setup_of u.server.timing) (setup_of u.node.timing))
 open_beside u f = record {
   ties = record { server = refl; node = refl; shows = refl; setup = refl; other = refl; server_own = refl; node_own = refl };
   apart = record { server_own = f.server_own; node_own = f.node_own; server = λ x. not_zero; node = λ x. not_zero; frames = tt };
@@ -391,5 +392,5 @@ run_goes u (e ∷ es) m w p =
     let h : Goes u (run u es (happens u m e)) (go_on g.events w) = run_goes u es (happens u m e) (go_on g.events w) g.beside in
     record { events = g.events ++ h.events; beside = subst (Beside u (run u es (happens u m e))) (sym (go_on_more g.events h.events w)) h.beside }
 
-pub every_run : (u : Setups) (es : List Move) → Fit u → Goes u (run u es (open_machines u)) (open_world u.server.own u.node.own (setup_of u.server.timing) (setup_of u.node.timing))
-every_run u es f = run_goes u es (open_machines u) (open_world u.server.own u.node.own (setup_of u.server.timing) (setup_of u.node.timing)) (open_beside u f)
+pub every_run : (u : Setups) (es : List Move) → Fit u → Goes u (run u es (open_machines u)) (open_world u.server.own u.node.own u.server.first u.node.first (setup_of u.server.timing) (setup_of u.node.timing))
+every_run u es f = run_goes u es (open_machines u) (open_world u.server.own u.node.own u.server.first u.node.first (setup_of u.server.timing) (setup_of u.node.timing)) (open_beside u f)

@@ -1,5 +1,5 @@
 -- A frame leaves alone the circuits of other addresses.
-use Rattle.std.proofs.Common.{◌≡◌, ◌≢◌, ℕ, suc, ◌+◌, ◌≤◌, arith, refl, ap, ◌∙◌, Bool, true, false, not, cond, ◌&&◌, ◌||◌, List, [], ◌∷◌, ◌++◌, Option, Some, None, nat_eq, nat_lt, eqb-true, subst, sym}
+use Rattle.std.proofs.Common.{◌≡◌, ◌≢◌, ℕ, ◌+◌, refl, ap, ◌∙◌, Bool, true, false, not, cond, ◌&&◌, ◌||◌, List, [], ◌∷◌, ◌++◌, Option, Some, None, nat_eq, nat_lt, eqb-true, subst, sym}
 use Rattle.std.specs.List.{find}
 use Rattle.std.proofs.lemmas.Bool.{and_parts, eqb-false}
 use Rattle.lat_model.specs.sessions.Slots.{Slot}
@@ -13,6 +13,8 @@ use Rattle.lat_model.specs.ends.Starting.{Agreed, again_start, hear_reply, hear_
 use Rattle.lat_model.specs.circuits.World.{CircuitEntry, Table}
 use Rattle.lat_model.specs.circuits.Arriving.{is_of, slave_of, living}
 use Rattle.lat_model.proofs.sessions.Words.{upd_other}
+use Rattle.lat_model.specs.circuits.Ids.{ids, is_drawn, next_id}
+use Rattle.lat_model.proofs.circuits.Ids.{drawn_apart}
 use Rattle.lat_machines.specs.values.Names.{Name, same}
 use Rattle.lat_machines.specs.values.Addresses.{everyone}
 use Rattle.lat_machines.specs.values.Messages.{Head, StartInfo, Message, RunMessage, WideMessage, StartMessage, StopMessage}
@@ -164,7 +166,7 @@ node_run_home config st x from wide h slots k n = go (names st.core.circuits fro
     go true i = asked_home config x h.to s.state (apart st.core.circuits x h.to from n (addr_named st.core.circuits from h.to h.from i)) ∙ home
     go false i = home
 
-start_home : (config : NodeConfig) (st : Node) (x from source : ℕ) (info : StartInfo) → x ≤ st.core.circuits.drawn → (st.core.circuits.circuit_at x).address ≢ from → (Node.hears_start config st from source info (start_fact st.core.circuits from source)).state.core.circuits.circuit_at x ≡ st.core.circuits.circuit_at x
+start_home : (config : NodeConfig) (st : Node) (x from source : ℕ) (info : StartInfo) → is_drawn st.core.circuits x ≡ true → (st.core.circuits.circuit_at x).address ≢ from → (Node.hears_start config st from source info (start_fact st.core.circuits from source)).state.core.circuits.circuit_at x ≡ st.core.circuits.circuit_at x
 start_home config st x from source info l n = go (nat_eq k 0) refl (nat_lt (living t) 8 && nat_lt t.drawn 65535)
   where
     t : Table
@@ -174,12 +176,12 @@ start_home config st x from source info l n = go (nat_eq k 0) refl (nat_lt (livi
     k = slave_of t from source
 
     fact : Bool → Bool → StartFact
-    fact a b = cond a (cond b (Makes (suc t.drawn)) Refuses) (Repeats k)
+    fact a b = cond a (cond b (Makes (next_id t)) Refuses) (Repeats k)
 
     go : (a : Bool) → nat_eq k 0 ≡ a → (b : Bool) → (Node.hears_start config st from source info (fact a b)).state.core.circuits.circuit_at x ≡ t.circuit_at x
-    go true i true = upd_other t.circuit_at (suc t.drawn) _ x (λ q. absurd (omega (arith, q, l)))
+    go true i true = upd_other t.circuit_at (next_id t) _ x (drawn_apart t.first t.drawn x l)
     go true i false = refl
-    go false i b = steps_home false t x k (again_start st.core.moment (t.circuit_at k).end) (apart t x k from n (and_parts (nat_eq (t.circuit_at k).address from) (nat_eq (t.circuit_at k).end.peer source) (and_parts (is_of (t.circuit_at k) from source) (lives (t.circuit_at k).end) (least_true (λ j. is_of (t.circuit_at j) from source && lives (t.circuit_at j).end) 0 t.drawn (eqb-false k 0 i))).0).0)
+    go false i b = steps_home false t x k (again_start st.core.moment (t.circuit_at k).end) (apart t x k from n (and_parts (nat_eq (t.circuit_at k).address from) (nat_eq (t.circuit_at k).end.peer source) (and_parts (is_of (t.circuit_at k) from source) (lives (t.circuit_at k).end) (least_true (λ j. is_of (t.circuit_at j) from source && lives (t.circuit_at j).end) (ids t) (eqb-false k 0 i))).0).0)
 
 outlive_home : (from source x : ℕ) (ys : List ℕ) (t : Table) → (t.circuit_at x).address ≢ from → ((outlive from source ys t).circuit_at x ≡ t.circuit_at x) × ((outlive from source ys t).drawn ≡ t.drawn)
 outlive_home from source x [] t n = (refl, refl)
@@ -199,26 +201,26 @@ outlive_home from source x (y ∷ ys) t n =
 way_home : (config : NodeConfig) (st : Node) (x from source : ℕ) → (st.core.circuits.circuit_at x).address ≢ from → (Node.makes_way config st from source).core.circuits.circuit_at x ≡ st.core.circuits.circuit_at x
 way_home config st x from source n = go config.prompt
   where
-    go : (b : Bool) → (cond b (outlive from source (upwards 0 st.core.circuits.drawn) st.core.circuits) st.core.circuits).circuit_at x ≡ st.core.circuits.circuit_at x
-    go true = (outlive_home from source x (upwards 0 st.core.circuits.drawn) st.core.circuits n).0
+    go : (b : Bool) → (cond b (outlive from source (ids st.core.circuits) st.core.circuits) st.core.circuits).circuit_at x ≡ st.core.circuits.circuit_at x
+    go true = (outlive_home from source x (ids st.core.circuits) st.core.circuits n).0
     go false = refl
 
-outlive_drawn : (from source : ℕ) (ys : List ℕ) (t : Table) → (outlive from source ys t).drawn ≡ t.drawn
-outlive_drawn from source [] t = refl
-outlive_drawn from source (y ∷ ys) t = outlive_drawn from source ys (outlive_at from source y t) ∙ go (is_outlived (t.circuit_at y) from source)
+outlive_drawn : (from source x : ℕ) (ys : List ℕ) (t : Table) → is_drawn (outlive from source ys t) x ≡ is_drawn t x
+outlive_drawn from source x [] t = refl
+outlive_drawn from source x (y ∷ ys) t = outlive_drawn from source x ys (outlive_at from source y t) ∙ go (is_outlived (t.circuit_at y) from source)
   where
-    go : (b : Bool) → (cond b (steps_at false t y (lapse 5 (t.circuit_at y).end)).table t).drawn ≡ t.drawn
+    go : (b : Bool) → is_drawn (cond b (steps_at false t y (lapse 5 (t.circuit_at y).end)).table t) x ≡ is_drawn t x
     go true = refl
     go false = refl
 
-way_drawn : (config : NodeConfig) (st : Node) (from source : ℕ) → (Node.makes_way config st from source).core.circuits.drawn ≡ st.core.circuits.drawn
-way_drawn config st from source = go config.prompt
+way_drawn : (config : NodeConfig) (st : Node) (from source x : ℕ) → is_drawn (Node.makes_way config st from source).core.circuits x ≡ is_drawn st.core.circuits x
+way_drawn config st from source x = go config.prompt
   where
-    go : (b : Bool) → (cond b (outlive from source (upwards 0 st.core.circuits.drawn) st.core.circuits) st.core.circuits).drawn ≡ st.core.circuits.drawn
-    go true = outlive_drawn from source (upwards 0 st.core.circuits.drawn) st.core.circuits
+    go : (b : Bool) → is_drawn (cond b (outlive from source (ids st.core.circuits) st.core.circuits) st.core.circuits) x ≡ is_drawn st.core.circuits x
+    go true = outlive_drawn from source x (ids st.core.circuits) st.core.circuits
     go false = refl
 
-node_message : (config : NodeConfig) (st : Node) (x from : ℕ) (m : Message) (k : Option Numbers) → x ≤ st.core.circuits.drawn → (st.core.circuits.circuit_at x).address ≢ from → (Node.hears_message config st from m k).state.core.circuits.circuit_at x ≡ st.core.circuits.circuit_at x
+node_message : (config : NodeConfig) (st : Node) (x from : ℕ) (m : Message) (k : Option Numbers) → is_drawn st.core.circuits x ≡ true → (st.core.circuits.circuit_at x).address ≢ from → (Node.hears_message config st from m k).state.core.circuits.circuit_at x ≡ st.core.circuits.circuit_at x
 node_message config st x from (RunMessage h slots) k l n = node_run_home config st x from false h slots k n
 node_message config st x from (WideMessage h slots) k l n = node_run_home config st x from true h slots k n
 node_message config st x from (StartMessage true ask to source info) k l n = by st.halted
@@ -227,7 +229,7 @@ node_message config st x from (StartMessage true ask to source info) k l n = by 
     by true = refl
     by false =
         let way : (Node.makes_way config st from source).core.circuits.circuit_at x ≡ st.core.circuits.circuit_at x = way_home config st x from source n in
-        start_home config (Node.makes_way config st from source) x from source info (subst (λ z. x ≤ z) (sym (way_drawn config st from source)) l) (subst (λ (c : CircuitEntry). c.address ≢ from) (sym way) n) ∙ way
+        start_home config (Node.makes_way config st from source) x from source info (way_drawn config st from source x ∙ l) (subst (λ (c : CircuitEntry). c.address ≢ from) (sym way) n) ∙ way
 node_message config st x from (StartMessage false ask to source info) k l n = refl
 node_message config st x from (StopMessage master ask to source reason text) k l n = stop_home false st.core.circuits x from to source st.core.moment reason n
 

@@ -1,10 +1,11 @@
 -- What is refused, or means nothing to a machine, changes nothing.
-use Rattle.std.proofs.Common.{◌≡◌, ℕ, suc, refl, sym, ap, ◌∙◌, Bool, true, false, cond, ◌&&◌, List, [], ◌∷◌, ◌++◌, length, Option, Some, None, nat_eq, nat_lt, find}
+use Rattle.std.proofs.Common.{◌≡◌, ℕ, refl, sym, ap, ◌∙◌, Bool, true, false, cond, ◌&&◌, List, [], ◌∷◌, ◌++◌, length, Option, Some, None, nat_eq, nat_lt, find}
 use Rattle.std.proofs.lemmas.Bool.{false≢true}
 use Rattle.lat_model.specs.sessions.Session.{put_open, take_open, unframed}
 use Rattle.lat_model.specs.sessions.Sessions.{least_free}
 use Rattle.lat_model.specs.Lists.{updated}
 use Rattle.lat_model.specs.circuits.Arriving.{living}
+use Rattle.lat_model.specs.circuits.Ids.{next_id}
 use Rattle.lat_machines.specs.values.Names.{Name, same}
 use Rattle.lat_machines.specs.values.Addresses.{everyone}
 use Rattle.lat_machines.specs.values.Messages.{RunMessage, WideMessage, StartMessage, StopMessage, StartInfo}
@@ -76,10 +77,10 @@ connect_same config st line service = go (line_exists config.lines line) (has_se
         let x : ℕ = circuit_to st.core b.from in
         let d : Doing = opens config line b.from b.node service None None st.core in
         same_cond st (nat_eq x 0)
-        (cond (nat_lt (living st.core.circuits) 8) (cond (nat_lt st.core.circuits.drawn 65535) (does st (Connected (suc st.core.circuits.drawn) 1) d) (Server.tells st IdsOut)) (Server.tells st CircuitsFull))
+        (cond (nat_lt (living st.core.circuits) 8) (cond (nat_lt st.core.circuits.drawn 65535) (does st (Connected (next_id st.core.circuits) 1) d) (Server.tells st IdsOut)) (Server.tells st CircuitsFull))
         (cond (has_room st.core x) (does st (Connected x (least_free (st.core.circuits.circuit_at x).end.half.sessions)) d) (Server.tells st SessionsFull))
-        (same_cond st (nat_lt (living st.core.circuits) 8) (cond (nat_lt st.core.circuits.drawn 65535) (does st (Connected (suc st.core.circuits.drawn) 1) d) (Server.tells st IdsOut)) (Server.tells st CircuitsFull)
-        (same_cond st (nat_lt st.core.circuits.drawn 65535) (does st (Connected (suc st.core.circuits.drawn) 1) d) (Server.tells st IdsOut) (λ h. absurd (false≢true h)) (told IdsOut)) (told CircuitsFull))
+        (same_cond st (nat_lt (living st.core.circuits) 8) (cond (nat_lt st.core.circuits.drawn 65535) (does st (Connected (next_id st.core.circuits) 1) d) (Server.tells st IdsOut)) (Server.tells st CircuitsFull)
+        (same_cond st (nat_lt st.core.circuits.drawn 65535) (does st (Connected (next_id st.core.circuits) 1) d) (Server.tells st IdsOut) (λ h. absurd (false≢true h)) (told IdsOut)) (told CircuitsFull))
         (same_cond st (has_room st.core x) (does st (Connected x (least_free (st.core.circuits.circuit_at x).end.half.sessions)) d) (Server.tells st SessionsFull) (λ h. absurd (false≢true h)) (told SessionsFull))
 
     go : (n m : Bool) (o : Option Best) → Same st (cond n (cond m (Server.tells st Busy) (elim o [ None ↦ solicits_for config st service | Some b ↦ connects_to config st line service b ])) (Server.tells st NoLine))

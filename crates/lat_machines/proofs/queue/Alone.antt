@@ -1,5 +1,5 @@
 -- A server alone, whatever it hears and from whom: its queue is legal, and no line is left that could grant a request.
-use Rattle.std.proofs.Common.{◌≡◌, ℕ, suc, ◌<◌, arith, refl, sym, ap, ◌∙◌, Bool, true, false, not, cond, ◌&&◌, ◌||◌, List, [], ◌∷◌, ◌++◌, Option, Some, None, nat_eq, nat_lt}
+use Rattle.std.proofs.Common.{◌≡◌, ℕ, ◌<◌, refl, sym, ap, ◌∙◌, Bool, true, false, not, cond, ◌&&◌, ◌||◌, List, [], ◌∷◌, ◌++◌, Option, Some, None, nat_eq, nat_lt}
 use Rattle.std.proofs.lemmas.Bool.{and_parts, true≢false}
 use Rattle.lat_model.specs.sessions.Slots.{Slot}
 use Rattle.lat_model.specs.sessions.Session.{put_open, take_open}
@@ -15,6 +15,8 @@ use Rattle.lat_model.specs.circuits.Arriving.{is_of, living}
 use Rattle.lat_model.proofs.sessions.Words.{upd_all, upd_other}
 use Rattle.lat_model.proofs.circuits.Kin.{kin_time, kin_run, kin_stop}
 use Rattle.lat_model.proofs.circuits.Begins.{kin_call}
+use Rattle.lat_model.specs.circuits.Ids.{ids, is_drawn, next_id}
+use Rattle.lat_model.proofs.circuits.Ids.{undrawn_other, undrawn_before}
 use Rattle.lat_machines.specs.values.Names.{Name}
 use Rattle.lat_machines.specs.values.Addresses.{everyone}
 use Rattle.lat_machines.specs.values.Messages.{Head, RunMessage, WideMessage, StartMessage, StopMessage}
@@ -49,7 +51,7 @@ legal_history config (e ∷ es) st l = legal_history config es (server_step conf
 
 pub record Sound (t : Table) : Type 0 where
   pub masters : (x : ℕ) → (t.circuit_at x).end.half.sessions.master ≡ true
-  pub new : (k : ℕ) → t.drawn < k → lives (t.circuit_at k).end ≡ false
+  pub new : (k : ℕ) → is_drawn t k ≡ false → lives (t.circuit_at k).end ≡ false
 
 steps_sound : (t : Table) (x : ℕ) (s : Step) → Sound t → lives (t.circuit_at x).end ≡ true → s.end.half.sessions.master ≡ (t.circuit_at x).end.half.sessions.master → Sound (steps_at true t x s).table
 steps_sound t x s r l m = record {
@@ -62,8 +64,8 @@ steps_sound t x s r l m = record {
 
 call_sound : (u : Setup) (t : Table) (address now : ℕ) → Sound t → Sound (call_at u t address now).table
 call_sound u t address now r = record {
-  masters = λ y. upd_all (λ (z : CircuitEntry). z.end.half.sessions.master ≡ true) t.circuit_at (suc t.drawn) new refl r.masters y;
-  new = λ k d. ap (λ (z : CircuitEntry). lives z.end) (upd_other t.circuit_at (suc t.drawn) new k (λ q. absurd (omega (arith, q, d)))) ∙ r.new k (omega (arith, d));
+  masters = λ y. upd_all (λ (z : CircuitEntry). z.end.half.sessions.master ≡ true) t.circuit_at (next_id t) new refl r.masters y;
+  new = λ k d. ap (λ (z : CircuitEntry). lives z.end) (upd_other t.circuit_at (next_id t) new k (undrawn_other t.first t.drawn k d)) ∙ r.new k (undrawn_before t.first t.drawn k d);
 }
   where
     new : CircuitEntry
@@ -121,7 +123,7 @@ opens_sound : (config : ServerConfig) (line address : ℕ) (node service : Name)
 opens_sound config line address node service key request c r = go (nat_eq (circuit_to c address) 0)
   where
     named : Core
-    named = record c { names = updated c.names (suc c.circuits.drawn) node }
+    named = record c { names = updated c.names (next_id c.circuits) node }
 
     made : Doing
     made = acts (server_side config) named (call_at (setup_of config.timing) named.circuits address named.moment)
@@ -148,9 +150,9 @@ connect_sound config st line service r = go (line_exists config.lines line) (has
         let d : Doing = opens config line b.from b.node service None None st.core in
         let o : Sound d.core.circuits = opens_sound config line b.from b.node service None None st.core r in
         steady_cond st (nat_eq x 0)
-        (cond (nat_lt (living st.core.circuits) 8) (cond (nat_lt st.core.circuits.drawn 65535) (does st (Connected (suc st.core.circuits.drawn) 1) d) (tells st IdsOut)) (tells st CircuitsFull))
+        (cond (nat_lt (living st.core.circuits) 8) (cond (nat_lt st.core.circuits.drawn 65535) (does st (Connected (next_id st.core.circuits) 1) d) (tells st IdsOut)) (tells st CircuitsFull))
         (cond (has_room st.core x) (does st (Connected x (least_free (st.core.circuits.circuit_at x).end.half.sessions)) d) (tells st SessionsFull))
-        (steady_cond st (nat_lt (living st.core.circuits) 8) (cond (nat_lt st.core.circuits.drawn 65535) (does st (Connected (suc st.core.circuits.drawn) 1) d) (tells st IdsOut)) (tells st CircuitsFull) (steady_cond st (nat_lt st.core.circuits.drawn 65535) (does st (Connected (suc st.core.circuits.drawn) 1) d) (tells st IdsOut) (λ y. o) (λ y. y)) (λ y. y))
+        (steady_cond st (nat_lt (living st.core.circuits) 8) (cond (nat_lt st.core.circuits.drawn 65535) (does st (Connected (next_id st.core.circuits) 1) d) (tells st IdsOut)) (tells st CircuitsFull) (steady_cond st (nat_lt st.core.circuits.drawn 65535) (does st (Connected (next_id st.core.circuits) 1) d) (tells st IdsOut) (λ y. o) (λ y. y)) (λ y. y))
         (steady_cond st (has_room st.core x) (does st (Connected x (least_free (st.core.circuits.circuit_at x).end.half.sessions)) d) (tells st SessionsFull) (λ y. o) (λ y. y))
         r
 
@@ -210,7 +212,7 @@ event_sound config st (Hears from (Malformed field at) k now) r = r
 event_sound config st (Hears from (Whole v) k now) r =
     let s : Server = record st { core = at_moment now st.core } in
     steady_cond s (nat_eq from everyone) (tells s Ignored) (hears_value config s from v k) (λ y. y) (value_sound config s from v k) r
-event_sound config st (Time now) r = times_sound config (upwards 0 st.core.circuits.drawn) (rests (at_moment now st.core)) r
+event_sound config st (Time now) r = times_sound config (ids st.core.circuits) (rests (at_moment now st.core)) r
 event_sound config st (Connects line service) r = steady_cond st st.halted (tells st Halted) (connect_event config st line service) (λ y. y) (connect_sound config st line service) r
 event_sound config st (Puts line bytes) r = line_sound config.lines st.core line (λ s. put_on (server_side config) st.core s bytes) r (λ s. call_sound_if config st.core s (put_open (session_of st.core s)) (Put s.id bytes) _ Closed r)
 event_sound config st (Sets line setting) r =
@@ -224,7 +226,7 @@ event_sound config st (Withdraws id) r = r
 event_sound config st Announces r = r
 event_sound config st (Avoids line) r = r
 event_sound config st (Readies line ready) r = r
-event_sound config st Halts r = ends_sound config 3 (upwards 0 st.core.circuits.drawn) (rests st.core) r
+event_sound config st Halts r = ends_sound config 3 (ids st.core.circuits) (rests st.core) r
 
 -- the grant pass
 

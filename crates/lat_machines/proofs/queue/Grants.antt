@@ -8,6 +8,7 @@ use Rattle.lat_model.specs.Lists.{updated, upwards, Each}
 use Rattle.lat_model.specs.sessions.Session.{free}
 use Rattle.lat_model.specs.sessions.Calls.{Connect}
 use Rattle.lat_model.specs.ends.End.{lives}
+use Rattle.lat_model.specs.circuits.Ids.{next_id, ids}
 use Rattle.lat_machines.specs.values.Names.{Name, folded, same}
 use Rattle.lat_machines.specs.values.Keys.{Key, same_key}
 use Rattle.lat_machines.specs.server.Queue.{QueueEvent, Asks, Cancels, Grants, Finishes, Request, cancels, grants, first_asks, is_waiting, is_overfull, records, waits, first, next_request}
@@ -49,7 +50,7 @@ pub opens_at : (config : ServerConfig) (line address : ℕ) (node service : Name
 opens_at config line address node service key request c pos r can = go (nat_eq (circuit_to c address) 0) refl can
   where
     named : Core
-    named = record c { names = updated c.names (suc c.circuits.drawn) node }
+    named = record c { names = updated c.names (next_id c.circuits) node }
 
     made : Doing
     made = acts (server_side config) named (call_at (setup_of config.timing) named.circuits address named.moment)
@@ -58,7 +59,7 @@ opens_at config line address node service key request c pos r can = go (nat_eq (
     after d = (connects_on config line (circuit_to d.core address) service key request d.core).core
 
     go : (b : Bool) → nat_eq (circuit_to c address) 0 ≡ b → cond b (may_call c) (has_room c (circuit_to c address)) ≡ true → Opened c line key (after (cond b made (rests c)))
-    go false i can = connect_at config line (circuit_to c address) service key request c r (and_parts (nat_eq (c.circuits.circuit_at (circuit_to c address)).address address) (lives (c.circuits.circuit_at (circuit_to c address)).end) (least_true (test_of c.circuits address) 0 c.circuits.drawn (eqb-false (circuit_to c address) 0 i))).1 can
+    go false i can = connect_at config line (circuit_to c address) service key request c r (and_parts (nat_eq (c.circuits.circuit_at (circuit_to c address)).address address) (lives (c.circuits.circuit_at (circuit_to c address)).end) (least_true (test_of c.circuits address) (ids c.circuits) (eqb-false (circuit_to c address) 0 i))).1 can
     go true i can =
         let k : Called named address (with_circuits named (call_at (setup_of config.timing) named.circuits address named.moment).table) = call_opens (setup_of config.timing) named address named.moment pos (record { masters = r.masters; new = r.new }) (eqb-true (circuit_to c address) 0 i) can in
         let g : Grown c made.core = record { kept = k.grown.kept; room = k.grown.room; ready = record { masters = k.grown.ready.masters; new = k.grown.ready.new } } in

@@ -1,5 +1,5 @@
 -- In every run no line of the server could grant a request.
-use Rattle.std.proofs.Common.{◌≡◌, ℕ, suc, ◌<◌, inr, refl, sym, ap, ◌∙◌, subst, Bool, true, false, not, cond, ◌&&◌, ◌||◌, List, [], ◌∷◌, Option, Some, None, slice_get, nat_eq, nat_lt}
+use Rattle.std.proofs.Common.{◌≡◌, ℕ, suc, ◌<◌, refl, sym, ap, ◌∙◌, subst, Bool, true, false, not, cond, ◌&&◌, ◌||◌, List, [], ◌∷◌, Option, Some, None, slice_get, nat_eq, nat_lt}
 use Rattle.std.proofs.lemmas.Bool.{or_parts}
 use Rattle.lat_model.specs.ends.End.{Sent, Run, CallStart, ReplyStart, Stopped, End, Step, lives, call_end, finish, lapse}
 use Rattle.lat_model.specs.ends.Timers.{note_empty, time_step}
@@ -14,6 +14,7 @@ use Rattle.lat_model.proofs.circuits.Kin.{kin_time, kin_run, kin_stop}
 use Rattle.lat_model.proofs.circuits.Begins.{kin_call}
 use Rattle.lat_model.proofs.circuits.Arrives.{go_on_ok}
 use Rattle.lat_model.proofs.circuits.Follows.{every_world}
+use Rattle.lat_model.specs.circuits.Ids.{is_drawn, next_id}
 use Rattle.lat_machines.specs.cores.Acts.{called}
 use Rattle.lat_machines.specs.values.Events.{Event, Hears, is_heard}
 use Rattle.lat_machines.specs.cores.Cores.{Core, setup_of}
@@ -27,7 +28,7 @@ use Rattle.lat_machines.proofs.queue.Rooms.{Ready}
 use Rattle.lat_machines.proofs.queue.Grants.{no_grant}
 
 pub world_ok : (u : Setups) → Fit u → (es : List WorldEvent) → WorldOk (go_on es (circuits_open u))
-world_ok u f es = every_world u.server.own u.node.own (setup_of u.server.timing) (setup_of u.node.timing) es f.apart f.server_ceiling f.node_ceiling
+world_ok u f es = every_world u.server.own u.node.own u.server.first u.node.first (setup_of u.server.timing) (setup_of u.node.timing) es f.apart f.server_ceiling f.node_ceiling
 
 -- each circuit of the server is a master
 
@@ -75,7 +76,7 @@ arrive_masters w true from bit destination source now g CallStart m = m
 arrive_masters w false from bit destination source now g CallStart m =
     let k : ℕ = slave_of w.node from source in
     masters_cond (nat_eq k 0) (make_in w from source now g) (at_end w false k (again_start now (w.node.circuit_at k).end))
-    (masters_cond (nat_lt (living w.node) 8 && nat_lt w.node.drawn 65535) (put_circuit w false (suc w.node.drawn) (suc w.node.drawn) from (make_slave now source g (first_end false false w.other))) (with_table w false w.node (record { by_server = false; circuit = 0; to = from; destination = source; source = 0; sent = Stopped 7 } ∷ [])) m m)
+    (masters_cond (nat_lt (living w.node) 8 && nat_lt w.node.drawn 65535) (put_circuit w false (suc w.node.drawn) (next_id w.node) from (make_slave now source g (first_end false false w.other))) (with_table w false w.node (record { by_server = false; circuit = 0; to = from; destination = source; source = 0; sent = Stopped 7 } ∷ [])) m m)
     m
 arrive_masters w true from bit destination source now g ReplyStart m =
     let c : CircuitEntry = w.server.circuit_at destination in
@@ -92,7 +93,7 @@ deliver_masters w now g (Some p) m =
     (arrive_masters w (not p.by_server) (table w p.by_server).own p.by_server p.destination p.source now g p.sent m) m
 
 event_masters : (w : World) (e : WorldEvent) → Masters w → Masters (occurs w e)
-event_masters w (Calls address now) m = put_masters w true (suc w.server.drawn) (suc w.server.drawn) address (called w.setup now) m (λ q. refl)
+event_masters w (Calls address now) m = put_masters w true (suc w.server.drawn) (next_id w.server) address (called w.setup now) m (λ q. refl)
 event_masters w (Locally b x c) m =
     let e : End = ((table w b).circuit_at x).end in
     masters_cond (lives e) (at_end w b x (record { end = call_end c e; sent = [] })) w (at_masters w b x (record { end = call_end c e; sent = [] }) m (kin_call c e).sessions) m
@@ -122,7 +123,7 @@ masters_on (e ∷ es) w m = masters_on es (occurs w e) (event_masters w e m)
 ready_of : (w : World) (c : Core) → w.server ≡ c.circuits → WorldOk w → Masters w → Ready c
 ready_of w c q ok m = record {
   masters = λ x. ap (λ (t : Table). (t.circuit_at x).end.half.sessions.master) (sym q) ∙ m x;
-  new = λ k l. ap (λ (t : Table). lives (t.circuit_at k).end) (sym q) ∙ ap (λ (z : CircuitEntry). lives z.end) (ok.none_server k (inr (subst (λ (t : Table). t.drawn < k) (sym q) l)));
+  new = λ k l. ap (λ (t : Table). lives (t.circuit_at k).end) (sym q) ∙ ap (λ (z : CircuitEntry). lives z.end) (ok.none_server k (subst (λ (t : Table). is_drawn t k ≡ false) (sym q) l));
 }
 
 pub record Going (u : Setups) (m : Machines) (w : World) : Type 0 where

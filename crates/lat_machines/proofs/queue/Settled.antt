@@ -7,6 +7,7 @@ use Rattle.lat_model.specs.sessions.Session.{put_open, take_open}
 use Rattle.lat_model.specs.sessions.Calls.{Call, Put, Set, Attend, Take, Close}
 use Rattle.lat_model.specs.Lists.{updated, upwards}
 use Rattle.lat_model.specs.circuits.Arriving.{living}
+use Rattle.lat_model.specs.circuits.Ids.{ids, next_id}
 use Rattle.lat_machines.specs.values.Names.{Name}
 use Rattle.lat_machines.specs.values.Addresses.{everyone}
 use Rattle.lat_machines.specs.values.Messages.{RunMessage, WideMessage, StartMessage, StopMessage}
@@ -51,7 +52,7 @@ opens_served : (config : ServerConfig) (line address : ℕ) (node service : Name
 opens_served config line address node service c h p = go (nat_eq (circuit_to c address) 0)
   where
     named : Core
-    named = record c { names = updated c.names (suc c.circuits.drawn) node }
+    named = record c { names = updated c.names (next_id c.circuits) node }
 
     made : Doing
     made = acts (server_side config) named (call_at (setup_of config.timing) named.circuits address named.moment)
@@ -72,9 +73,9 @@ connect_served config st line service = go (line_exists config.lines line) (has_
         let d : Doing = opens config line b.from b.node service None None st.core in
         let o : KeptServed st (record st { core = d.core }) = opens_served config line b.from b.node service st.core st.queue in
         served_cond st (nat_eq x 0)
-        (cond (nat_lt (living st.core.circuits) 8) (cond (nat_lt st.core.circuits.drawn 65535) (does st (Connected (suc st.core.circuits.drawn) 1) d) (tells st IdsOut)) (tells st CircuitsFull))
+        (cond (nat_lt (living st.core.circuits) 8) (cond (nat_lt st.core.circuits.drawn 65535) (does st (Connected (next_id st.core.circuits) 1) d) (tells st IdsOut)) (tells st CircuitsFull))
         (cond (has_room st.core x) (does st (Connected x (least_free (st.core.circuits.circuit_at x).end.half.sessions)) d) (tells st SessionsFull))
-        (served_cond st (nat_lt (living st.core.circuits) 8) (cond (nat_lt st.core.circuits.drawn 65535) (does st (Connected (suc st.core.circuits.drawn) 1) d) (tells st IdsOut)) (tells st CircuitsFull) (served_cond st (nat_lt st.core.circuits.drawn 65535) (does st (Connected (suc st.core.circuits.drawn) 1) d) (tells st IdsOut) o (λ l. l)) (λ l. l))
+        (served_cond st (nat_lt (living st.core.circuits) 8) (cond (nat_lt st.core.circuits.drawn 65535) (does st (Connected (next_id st.core.circuits) 1) d) (tells st IdsOut)) (tells st CircuitsFull) (served_cond st (nat_lt st.core.circuits.drawn 65535) (does st (Connected (next_id st.core.circuits) 1) d) (tells st IdsOut) o (λ l. l)) (λ l. l))
         (served_cond st (has_room st.core x) (does st (Connected x (least_free (st.core.circuits.circuit_at x).end.half.sessions)) d) (tells st SessionsFull) o (λ l. l))
 
     go : (n m : Bool) (o : Option Best) → KeptServed st (cond n (cond m (tells st Busy) (elim o [ None ↦ solicits_for config st service | Some b ↦ connects_to config st line service b ])) (tells st NoLine)).state
@@ -136,7 +137,7 @@ event_served config st (Hears from (Malformed field at) k now) l = l
 event_served config st (Hears from (Whole v) k now) l =
     let s : Server = record st { core = at_moment now st.core } in
     served_cond s (nat_eq from everyone) (tells s Ignored) (hears_value config s from v k) (λ y. y) (value_served config s from v k) l
-event_served config st (Time now) l = subst (AllServed st.queue) (sym (times_seats config (upwards 0 st.core.circuits.drawn) (rests (at_moment now st.core)))) l
+event_served config st (Time now) l = subst (AllServed st.queue) (sym (times_seats config (ids st.core.circuits) (rests (at_moment now st.core)))) l
 event_served config st (Connects line service) l = served_cond st st.halted (tells st Halted) (connect_event config st line service) (λ y. y) (connect_served config st line service) l
 event_served config st (Puts line bytes) l = subst (AllServed st.queue) (sym (line_seats config.lines st.core line (λ s. put_on (server_side config) st.core s bytes) (λ s. call_seats config st.core s (put_open (session_of st.core s)) (Put s.id bytes) _ Closed))) l
 event_served config st (Sets line setting) l =
@@ -150,7 +151,7 @@ event_served config st (Withdraws id) l = l
 event_served config st Announces l = l
 event_served config st (Avoids line) l = l
 event_served config st (Readies line ready) l = l
-event_served config st Halts l = subst (AllServed st.queue) (sym (ends_seats config 3 (upwards 0 st.core.circuits.drawn) (rests st.core))) l
+event_served config st Halts l = subst (AllServed st.queue) (sym (ends_seats config 3 (ids st.core.circuits) (rests st.core))) l
 
 -- the grant pass
 

@@ -30,6 +30,7 @@ use Rattle.lat_model.proofs.circuits.Logs.{wires-append, flat-push}
 use Rattle.lat_model.proofs.circuits.Streams.{history_up}
 use Rattle.lat_model.proofs.circuits.Arrives.{occurs_ok, open_world_ok}
 use Rattle.lat_model.proofs.circuits.Kin.{kin_time}
+use Rattle.lat_model.specs.circuits.Ids.{next_id}
 use Rattle.lat_machines.specs.cores.Cores.{setup_of}
 use Rattle.lat_machines.specs.world.Machines.{Setups, Machines}
 use Rattle.lat_machines.specs.world.Ties.{Ties}
@@ -295,7 +296,7 @@ arrive_placed w true from bit destination source now g CallStart ok m = m
 arrive_placed w false from bit destination source now g CallStart ok m =
     let k : ℕ = slave_of w.node from source in
     all_cond (nat_eq k 0) (make_in w from source now g) (at_end w false k (again_start now (w.node.circuit_at k).end))
-    (λ i. all_cond (nat_lt (Arriving.living w.node) 8 && nat_lt w.node.drawn 65535) (put_circuit w false (suc w.node.drawn) (suc w.node.drawn) from (make_slave now source g (first_end false false w.other))) (with_table w false w.node (record { by_server = false; circuit = 0; to = from; destination = source; source = 0; sent = Stopped 7 } ∷ [])) (λ j. m) m)
+    (λ i. all_cond (nat_lt (Arriving.living w.node) 8 && nat_lt w.node.drawn 65535) (put_circuit w false (suc w.node.drawn) (next_id w.node) from (make_slave now source g (first_end false false w.other))) (with_table w false w.node (record { by_server = false; circuit = 0; to = from; destination = source; source = 0; sent = Stopped 7 } ∷ [])) (λ j. m) m)
     m
 arrive_placed w true from bit destination source now g ReplyStart ok m =
     let c : CircuitEntry = w.server.circuit_at destination in
@@ -330,7 +331,7 @@ time_placed : (now : ℕ) (e : End) (s : Half) → Together e.half s [] → Plac
 time_placed now e s t p = ((kin_time now e).master ∙ p.0, (time_both now e (p.1, record { other = s.sessions; up = flat t.up; down = flat t.down; joined = t.joined })).0)
 
 event_placed : (w : World) (e : WorldEvent) → WorldOk w → AllPlaced w → AllPlaced (occurs w e)
-event_placed w (Calls address now) ok m = put_placed w true (suc w.server.drawn) (suc w.server.drawn) address (make_master now (first_end true true w.setup)) m (λ q a. (refl, record { log = []; wires_is = refl; out_is = λ g. refl; places = tt; count = refl }))
+event_placed w (Calls address now) ok m = put_placed w true (suc w.server.drawn) (next_id w.server) address (make_master now (first_end true true w.setup)) m (λ q a. (refl, record { log = []; wires_is = refl; out_is = λ g. refl; places = tt; count = refl }))
 event_placed w (Locally b x c) ok m = step_placed w b x (λ e. record { end = call_end c e; sent = [] }) m (λ a. call_placed c (w.server.circuit_at x).end (fits_at w ok x a).joined.master_ok)
 event_placed w (Times b x now) ok m = step_placed w b x (time_step now) m (λ a. time_placed now (w.server.circuit_at x).end (mate w x) (fits_at w ok x a))
 event_placed w (Moves b x now) ok m = step_placed w b x (λ e. record { end = record e { moment = now }; sent = [] }) m (λ a p. p)
@@ -356,7 +357,7 @@ places u m es f t ok p q s = record { history = record { formed = n.log; taken =
     w = go_on es (circuits_open u)
 
     placed : AllPlaced w
-    placed = placed_on es (circuits_open u) (open_world_ok u.server.own u.node.own (setup_of u.server.timing) (setup_of u.node.timing) f.apart f.server_ceiling f.node_ceiling) (λ x a. (refl, record { log = []; wires_is = refl; out_is = λ g. refl; places = tt; count = refl }))
+    placed = placed_on es (circuits_open u) (open_world_ok u.server.own u.node.own u.server.first u.node.first (setup_of u.server.timing) (setup_of u.node.timing) f.apart f.server_ceiling f.node_ceiling) (λ x a. (refl, record { log = []; wires_is = refl; out_is = λ g. refl; places = tt; count = refl }))
 
     address : (w.server.circuit_at p).address ≡ w.node.own
     address = ap (λ (z : Table). (z.circuit_at p).address) t.server ∙ (s.address ∙ sym t.node_own)

@@ -1,10 +1,11 @@
 -- What holds of every run of the two machines.
-use Rattle.std.proofs.Common.{◌≡◌, ◌≢◌, ℕ, ◌≤◌, sym, ap, ◌∙◌, subst, true, false, List}
+use Rattle.std.proofs.Common.{◌≡◌, ℕ, sym, ap, ◌∙◌, subst, true, false, List}
 use Rattle.lat_model.specs.circuits.World.{CircuitEntry, Table, World}
 use Rattle.lat_model.specs.circuits.Events.{go_on}
 use Rattle.lat_model.specs.circuits.Agree.{Agree}
 use Rattle.lat_model.specs.circuits.WorldOk.{Joint, Replied, WorldOk}
 use Rattle.lat_model.proofs.circuits.Follows.{circuits_agree}
+use Rattle.lat_model.specs.circuits.Ids.{is_drawn}
 use Rattle.lat_machines.specs.world.Machines.{Setups, Machines, Move, run, open_machines}
 use Rattle.lat_machines.specs.world.Ties.{Ties}
 use Rattle.lat_machines.specs.world.Safe.{Fit, circuits_open, half_of, Shared, SharedMatch, EndsAgree, StreamsInOrder, SlotsCredited, Safe}
@@ -48,7 +49,7 @@ shared_match u es f w t ok p q s = record { address = there ∙ t.server_own; ru
     there = subst (λ (z : Table). (z.circuit_at q).address ≡ w.server.own) t.node (subst (λ z. (w.node.circuit_at z).address ≡ w.server.own) peer reply.address)
 
     runs : (m.node.core.circuits.circuit_at q).end.running ≡ true
-    runs = node_runs u es f q (subst (λ z. z ≢ 0) peer reply.some) (subst (λ (z : Table). q ≤ z.drawn) t.node (subst (λ z. z ≤ w.node.drawn) peer reply.drawn))
+    runs = node_runs u es f q (subst (λ (z : Table). is_drawn z q ≡ true) t.node (subst (λ z. is_drawn w.node z ≡ true) peer reply.drawn))
 
 pub every_safe : (u : Setups) (es : List Move) → Fit u → Safe u (run u es (open_machines u))
 every_safe u es f =

@@ -61,10 +61,10 @@ all_groups zero = []
 all_groups (suc n) = 255 ∷ all_groups n
 
 abbrev pub server_of : List Offer → ServerConfig
-server_of offers = record { own = server_at; name = ts1; lines = 2; offers = offers; groups = all_groups 32; timing = usual; prompt = false }
+server_of offers = record { own = server_at; name = ts1; lines = 2; offers = offers; groups = all_groups 32; timing = usual; prompt = false; first = 1 }
 
 abbrev pub node_of : List Name → NodeConfig
-node_of services = record { own = node_at; name = vax1; incarnation = 1; lines = 2; services = services; timer = 30; groups = []; timing = usual; prompt = false }
+node_of services = record { own = node_at; name = vax1; incarnation = 1; lines = 2; services = services; timer = 30; groups = []; timing = usual; prompt = false; first = 1 }
 
 -- the node offers VAX
 abbrev pub offering : Setups

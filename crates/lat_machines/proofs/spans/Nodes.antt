@@ -8,6 +8,7 @@ use Rattle.lat_model.specs.sessions.Calls as Calls
 use Rattle.lat_model.specs.sessions.Slots.{Slot}
 use Rattle.lat_model.specs.Lists.{upwards}
 use Rattle.lat_model.specs.ends.End.{lives}
+use Rattle.lat_model.specs.circuits.Ids.{ids}
 use Rattle.lat_machines.specs.values.Names.{Name, same}
 use Rattle.lat_machines.specs.values.Addresses.{everyone}
 use Rattle.lat_machines.specs.values.Messages.{Head, StartInfo, RunMessage, WideMessage, StartMessage, StopMessage}
@@ -101,7 +102,7 @@ announced_ok p config rates st r = go st.halted
 halt_ok : (p : Facts) (config : NodeConfig) (st : Node) → TimingOk false p config.timing → CircuitsOk false p st.core.circuits → StepOk p (halts config st)
 halt_ok p config st i r =
     let d : Doing = ends_all (node_side config) 3 st.core in
-    let m : CoreOk false p d.core d.frames = ends_ok false p config.timing config.name i 3 (upwards 0 st.core.circuits.drawn) (rests st.core) (record { table = r; frames = tt }) in
+    let m : CoreOk false p d.core d.frames = ends_ok false p config.timing config.name i 3 (ids st.core.circuits) (rests st.core) (record { table = r; frames = tt }) in
     core_then false p d.core d.core d.frames (farewell config st.halted) m (go d.core m.table st.halted)
   where
     go : (c : Core) → CircuitsOk false p c.circuits → (n : Bool) → CoreOk false p c (farewell config n)
@@ -118,8 +119,8 @@ start_says false false w i q h = ap₂ (λ x y. x && y) q h
 way_ok : (p : Facts) (config : NodeConfig) (st : Node) (from source : ℕ) → CircuitsOk false p st.core.circuits → CircuitsOk false p (makes_way config st from source).core.circuits
 way_ok p config st from source r = go config.prompt
   where
-    go : (n : Bool) → CircuitsOk false p (cond n (outlive from source (upwards 0 st.core.circuits.drawn) st.core.circuits) st.core.circuits)
-    go true = outlive_ok p.other (both p) from source (upwards 0 st.core.circuits.drawn) st.core.circuits r
+    go : (n : Bool) → CircuitsOk false p (cond n (outlive from source (ids st.core.circuits) st.core.circuits) st.core.circuits)
+    go true = outlive_ok p.other (both p) from source (ids st.core.circuits) st.core.circuits r
     go false = r
 
 value_ok : (p : Facts) (config : NodeConfig) (rates : List ℕ) (st : Node) (from : ℕ) (v : Value) (k : Option Numbers) → TimingOk false p config.timing → CircuitsOk false p st.core.circuits → ReadOk false p from v → StepOk p (hears_value config rates st from v k)
@@ -153,7 +154,7 @@ node_span p config rates st (Hears from (Malformed field at) k now) i r y = reco
 node_span p config rates st (Hears from (Whole v) k now) i r y =
     let s : Node = record st { core = at_moment now st.core } in
     step_cond p (nat_eq from everyone) (tells s Ignored) (hears_value config rates s from v k) (record { table = r; frames = tt }) (value_ok p config rates s from v k i r y)
-node_span p config rates st (Time now) i r y = times_ok false p config.timing config.name i (upwards 0 st.core.circuits.drawn) (rests (at_moment now st.core)) (record { table = r; frames = tt })
+node_span p config rates st (Time now) i r y = times_ok false p config.timing config.name i (ids st.core.circuits) (rests (at_moment now st.core)) (record { table = r; frames = tt })
 node_span p config rates st (Connects line service) i r y = record { table = r; frames = tt }
 node_span p config rates st (Puts line bytes) i r y = record { table = line_ok false p config.lines st.core line (λ s. put_on (node_side config) st.core s bytes) r (λ s. put_ok false p config.timing config.name st.core s bytes r); frames = tt }
 node_span p config rates st (Sets line setting) i r y = record { table = line_ok false p config.lines st.core line (λ s. set_on (node_side config) st.core s setting) r (λ s. set_ok false p config.timing config.name st.core s setting r); frames = tt }

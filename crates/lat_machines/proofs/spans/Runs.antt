@@ -1,10 +1,12 @@
 -- In every run both ends of a circuit have one span, and each RUN is of its kind.
-use Rattle.std.proofs.Common.{◌≡◌, ◌≢◌, ℕ, ◌≤◌, arith, ⊎_elim, refl, sym, ap, ◌∙◌, subst, Bool, true, false, not, cond, ◌&&◌, List, [], ◌∷◌, Option, Some, None, slice_get, nat_eq}
+use Rattle.std.proofs.Common.{◌≡◌, ◌≢◌, ℕ, ⊎_elim, refl, sym, ap, ◌∙◌, subst, Bool, true, false, not, cond, ◌&&◌, List, [], ◌∷◌, Option, Some, None, slice_get, nat_eq}
 use Rattle.std.proofs.lemmas.Bool.{or_parts, false≢true, true≢false, eqb-false}
 use Rattle.lat_model.specs.Lists.{Each}
 use Rattle.lat_model.specs.circuits.World.{Wired, World}
 use Rattle.lat_model.specs.circuits.Events.{go_on}
 use Rattle.lat_model.proofs.numbers.Net.{each_at}
+use Rattle.lat_model.specs.circuits.Ids.{is_drawn}
+use Rattle.lat_model.proofs.circuits.Ids.{none_drawn}
 use Rattle.lat_machines.specs.values.Notices.{Notice}
 use Rattle.lat_machines.specs.values.Messages.{RunMessage, WideMessage, StartMessage, StopMessage}
 use Rattle.lat_machines.specs.values.Frames.{Value, OfCircuit, OfNotice, Reading, Whole, Malformed, OutFrame}
@@ -119,8 +121,8 @@ run_ok u (e ∷ es) m w h s =
 
 open_ok : (u : Setups) → Spans u (open_machines u)
 open_ok u = record {
-  server = record { wide = λ x q a. absurd (false≢true q); alive = λ q x l. absurd (true≢false q); drawn = λ q x n l. absurd (true≢false q) };
-  node = record { wide = λ x q a. absurd (false≢true q); alive = λ q x l. absurd (false≢true l); drawn = λ q x n l. absurd (omega (arith, n, l)) };
+  server = record { wide = λ x q a. absurd (false≢true q); alive = λ q x l. absurd (true≢false q); drawn = λ q x l. absurd (true≢false q) };
+  node = record { wide = λ x q a. absurd (false≢true q); alive = λ q x l. absurd (false≢true l); drawn = λ q x l. absurd (true≢false (sym l ∙ none_drawn u.node.first x)) };
   posts = tt;
 }
 
@@ -135,7 +137,7 @@ every_span : (u : Setups) (es : List Move) → Fit u → Spans u (run u es (open
 every_span u es f = run_ok u es (open_machines u) (circuits_open u) (open_beside u f) (open_ok u)
 
 -- each circuit that the node drew runs
-pub node_runs : (u : Setups) (es : List Move) → Fit u → (x : ℕ) → x ≢ 0 → x ≤ (run u es (open_machines u)).node.core.circuits.drawn → ((run u es (open_machines u)).node.core.circuits.circuit_at x).end.running ≡ true
+pub node_runs : (u : Setups) (es : List Move) → Fit u → (x : ℕ) → is_drawn (run u es (open_machines u)).node.core.circuits x ≡ true → ((run u es (open_machines u)).node.core.circuits.circuit_at x).end.running ≡ true
 node_runs u es f = (every_span u es f).node.drawn refl
 
 pub one_span : (u : Setups) (es : List Move) → Fit u → OneSpan u (run u es (open_machines u))

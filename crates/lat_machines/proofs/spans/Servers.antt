@@ -1,10 +1,11 @@
 -- What every event of a server keeps of spans.
-use Rattle.std.proofs.Common.{◌≡◌, ℕ, suc, ap, ap₂, Bool, true, false, cond, ◌&&◌, List, [], ◌∷◌, ◌++◌, Option, Some, None, nat_eq, nat_lt}
+use Rattle.std.proofs.Common.{◌≡◌, ℕ, ap, ap₂, Bool, true, false, cond, ◌&&◌, List, [], ◌∷◌, ◌++◌, Option, Some, None, nat_eq, nat_lt}
 use Rattle.lat_model.specs.sessions.Slots.{Slot}
 use Rattle.lat_model.specs.sessions.Sessions.{least_free}
 use Rattle.lat_model.specs.sessions.Calls.{Connect}
 use Rattle.lat_model.specs.Lists.{updated, upwards}
 use Rattle.lat_model.specs.circuits.Arriving.{living}
+use Rattle.lat_model.specs.circuits.Ids.{ids, next_id}
 use Rattle.lat_machines.specs.values.Names.{Name}
 use Rattle.lat_machines.specs.values.Addresses.{everyone}
 use Rattle.lat_machines.specs.values.Messages.{RunMessage, WideMessage, StartMessage, StopMessage, Head}
@@ -37,7 +38,7 @@ opens_ok : (p : Facts) (config : ServerConfig) (line address : ℕ) (node servic
 opens_ok p config line address node service key request c i r = go (nat_eq (circuit_to c address) 0)
   where
     named : Core
-    named = record c { names = updated c.names (suc c.circuits.drawn) node }
+    named = record c { names = updated c.names (next_id c.circuits) node }
 
     made : Doing
     made = acts (server_side config) named (call_at (setup_of config.timing) named.circuits address named.moment)
@@ -69,9 +70,9 @@ connect_ok p config st line service i r = go (line_exists config.lines line) (ha
         let d : Doing = opens config line b.from b.node service None None st.core in
         let o : CoreOk true p d.core d.frames = opens_ok p config line b.from b.node service None None st.core i r in
         step_cond p (nat_eq x 0)
-        (cond (nat_lt (living st.core.circuits) 8) (cond (nat_lt st.core.circuits.drawn 65535) (does st (Connected (suc st.core.circuits.drawn) 1) d) (tells st IdsOut)) (tells st CircuitsFull))
+        (cond (nat_lt (living st.core.circuits) 8) (cond (nat_lt st.core.circuits.drawn 65535) (does st (Connected (next_id st.core.circuits) 1) d) (tells st IdsOut)) (tells st CircuitsFull))
         (cond (has_room st.core x) (does st (Connected x (least_free (st.core.circuits.circuit_at x).end.half.sessions)) d) (tells st SessionsFull))
-        (step_cond p (nat_lt (living st.core.circuits) 8) (cond (nat_lt st.core.circuits.drawn 65535) (does st (Connected (suc st.core.circuits.drawn) 1) d) (tells st IdsOut)) (tells st CircuitsFull) (step_cond p (nat_lt st.core.circuits.drawn 65535) (does st (Connected (suc st.core.circuits.drawn) 1) d) (tells st IdsOut) o none) none)
+        (step_cond p (nat_lt (living st.core.circuits) 8) (cond (nat_lt st.core.circuits.drawn 65535) (does st (Connected (next_id st.core.circuits) 1) d) (tells st IdsOut)) (tells st CircuitsFull) (step_cond p (nat_lt st.core.circuits.drawn 65535) (does st (Connected (next_id st.core.circuits) 1) d) (tells st IdsOut) o none) none)
         (step_cond p (has_room st.core x) (does st (Connected x (least_free (st.core.circuits.circuit_at x).end.half.sessions)) d) (tells st SessionsFull) o none)
 
     go : (n m : Bool) (o : Option Best) → StepOk p (cond n (cond m (tells st Busy) (elim o [ None ↦ solicits_for config st service | Some b ↦ connects_to config st line service b ])) (tells st NoLine))
@@ -124,7 +125,7 @@ event_ok p config st (Hears from (Malformed field at) k now) i r y = record { ta
 event_ok p config st (Hears from (Whole v) k now) i r y =
     let s : Server = record st { core = at_moment now st.core } in
     step_cond p (nat_eq from everyone) (tells s Ignored) (hears_value config s from v k) (record { table = r; frames = tt }) (value_ok p config s from v k i r y)
-event_ok p config st (Time now) i r y = times_ok true p config.timing config.name i (upwards 0 st.core.circuits.drawn) (rests (at_moment now st.core)) (record { table = r; frames = tt })
+event_ok p config st (Time now) i r y = times_ok true p config.timing config.name i (ids st.core.circuits) (rests (at_moment now st.core)) (record { table = r; frames = tt })
 event_ok p config st (Connects line service) i r y = step_cond p st.halted (tells st Halted) (connect_event config st line service) (record { table = r; frames = tt }) (connect_ok p config st line service i r)
 event_ok p config st (Puts line bytes) i r y = record { table = line_ok true p config.lines st.core line (λ s. put_on (server_side config) st.core s bytes) r (λ s. put_ok true p config.timing config.name st.core s bytes r); frames = tt }
 event_ok p config st (Sets line setting) i r y = record { table = line_ok true p config.lines st.core line (λ s. set_on (server_side config) st.core s setting) r (λ s. set_ok true p config.timing config.name st.core s setting r); frames = tt }
@@ -136,7 +137,7 @@ event_ok p config st (Withdraws id) i r y = record { table = r; frames = tt }
 event_ok p config st Announces i r y = record { table = r; frames = tt }
 event_ok p config st (Avoids line) i r y = record { table = r; frames = tt }
 event_ok p config st (Readies line ready) i r y = record { table = r; frames = tt }
-event_ok p config st Halts i r y = ends_ok true p config.timing config.name i 3 (upwards 0 st.core.circuits.drawn) (rests st.core) (record { table = r; frames = tt })
+event_ok p config st Halts i r y = ends_ok true p config.timing config.name i 3 (ids st.core.circuits) (rests st.core) (record { table = r; frames = tt })
 
 -- the grant pass
 

@@ -1,5 +1,5 @@
 -- Spans, act by act: what a core's circuits and frames keep.
-use Rattle.std.proofs.Common.{◌≡◌, ◌≢◌, ℕ, suc, ◌≤◌, arith, refl, sym, ap, ◌∙◌, Bool, true, false, not, cond, ◌&&◌, ◌||◌, List, [], ◌∷◌, Option, Some, nat_eq, nat_lt, eqb-true}
+use Rattle.std.proofs.Common.{◌≡◌, ◌≢◌, ℕ, suc, refl, sym, ap, ◌∙◌, Bool, true, false, not, cond, ◌&&◌, ◌||◌, List, [], ◌∷◌, Option, Some, nat_eq, nat_lt, eqb-true}
 use Rattle.std.proofs.lemmas.Bool.{and_parts, true≢false, false≢true, eqb-false}
 use Rattle.lat_model.specs.sessions.Slots.{Slot}
 use Rattle.lat_model.specs.sessions.Calls.{Call}
@@ -13,6 +13,8 @@ use Rattle.lat_model.specs.circuits.Arriving.{is_of, living, slave_of}
 use Rattle.lat_model.proofs.sessions.Words.{upd_same, upd_other, upd_all}
 use Rattle.lat_model.proofs.circuits.Kin.{kin_time, kin_run, kin_again, kin_stop}
 use Rattle.lat_model.proofs.circuits.Begins.{kin_call}
+use Rattle.lat_model.specs.circuits.Ids.{is_drawn, is_id_of, next_id, ids}
+use Rattle.lat_model.proofs.circuits.Ids.{drawn_before}
 use Rattle.lat_machines.specs.values.Messages.{Head}
 use Rattle.lat_machines.specs.values.Events.{Numbers}
 use Rattle.lat_machines.specs.values.Answers.{Again, Running, Ended}
@@ -26,7 +28,7 @@ use Rattle.lat_machines.proofs.spans.Times.{has_span, SentRunning, each_any, tim
 pub record TableOk (b : Bool) (o : ℕ) (z : Bool) (t : Table) : Type 0 where
   pub wide : (x : ℕ) → (t.circuit_at x).end.running ≡ true → (t.circuit_at x).address ≡ o → (t.circuit_at x).end.wide ≡ z
   pub alive : b ≡ false → (x : ℕ) → lives (t.circuit_at x).end ≡ true → (t.circuit_at x).end.running ≡ true
-  pub drawn : b ≡ false → (x : ℕ) → x ≢ 0 → x ≤ t.drawn → (t.circuit_at x).end.running ≡ true
+  pub drawn : b ≡ false → (x : ℕ) → is_drawn t x ≡ true → (t.circuit_at x).end.running ≡ true
 
 abbrev pub WireOk : ℕ → Bool → Table → Wired → Type 0
 WireOk o z t v = has_span v.sent ≡ true → v.to ≡ o → (t.circuit_at v.circuit).end.wide ≡ z
@@ -35,12 +37,12 @@ pub record ActOk (b : Bool) (o : ℕ) (z : Bool) (x : Acted) : Type 0 where
   pub table : TableOk b o z x.table
   pub sent : Each (WireOk o z x.table) x.sent
 
-put_ok : (b : Bool) (o : ℕ) (z : Bool) (t : Table) (drawn x address : ℕ) (s : Step) → TableOk b o z t → ((y : ℕ) → y ≢ x → y ≤ drawn → y ≤ t.drawn) → (s.end.running ≡ true → address ≡ o → s.end.wide ≡ z) → (b ≡ false → s.end.running ≡ true) → SentRunning s.end s.sent → ActOk b o z (put_at b t drawn x address s)
+put_ok : (b : Bool) (o : ℕ) (z : Bool) (t : Table) (drawn x address : ℕ) (s : Step) → TableOk b o z t → ((y : ℕ) → y ≢ x → is_id_of t.first drawn y ≡ true → is_drawn t y ≡ true) → (s.end.running ≡ true → address ≡ o → s.end.wide ≡ z) → (b ≡ false → s.end.running ≡ true) → SentRunning s.end s.sent → ActOk b o z (put_at b t drawn x address s)
 put_ok b o z t drawn x address s r old here alive sends = record {
   table = record {
     wide = λ y. upd_all (λ (c : CircuitEntry). c.end.running ≡ true → c.address ≡ o → c.end.wide ≡ z) t.circuit_at x new here r.wide y;
     alive = λ q y. upd_all (λ (c : CircuitEntry). lives c.end ≡ true → c.end.running ≡ true) t.circuit_at x new (λ l. alive q) (r.alive q) y;
-    drawn = λ q y n l. runs q y n l (nat_eq y x) refl;
+    drawn = λ q y l. runs q y l (nat_eq y x) refl;
   };
   sent = wires s.sent sends;
 }
@@ -51,17 +53,17 @@ put_ok b o z t drawn x address s r old here alive sends = record {
     after : Table
     after = (put_at b t drawn x address s).table
 
-    runs : b ≡ false → (y : ℕ) → y ≢ 0 → y ≤ drawn → (e : Bool) → nat_eq y x ≡ e → (after.circuit_at y).end.running ≡ true
-    runs q y n l true i = ap (λ (w : CircuitEntry). w.end.running) (ap after.circuit_at (eqb-true y x i) ∙ upd_same t.circuit_at x new) ∙ alive q
-    runs q y n l false i = ap (λ (w : CircuitEntry). w.end.running) (upd_other t.circuit_at x new y (eqb-false y x i)) ∙ r.drawn q y n (old y (eqb-false y x i) l)
+    runs : b ≡ false → (y : ℕ) → is_id_of t.first drawn y ≡ true → (e : Bool) → nat_eq y x ≡ e → (after.circuit_at y).end.running ≡ true
+    runs q y l true i = ap (λ (w : CircuitEntry). w.end.running) (ap after.circuit_at (eqb-true y x i) ∙ upd_same t.circuit_at x new) ∙ alive q
+    runs q y l false i = ap (λ (w : CircuitEntry). w.end.running) (upd_other t.circuit_at x new y (eqb-false y x i)) ∙ r.drawn q y (old y (eqb-false y x i) l)
 
     wires : (ss : List Sent) → SentRunning s.end ss → Each (WireOk o z after) (wire_all b x address s.end.peer ss)
     wires [] q = tt
     wires (v ∷ vs) q = (λ h a. ap (λ (c : CircuitEntry). c.end.wide) (upd_same t.circuit_at x new) ∙ here (q.0 h) a, wires vs q.1)
 
--- a new circuit is the last that was drawn
-below : (t : Table) (y : ℕ) → y ≢ suc t.drawn → y ≤ suc t.drawn → y ≤ t.drawn
-below t y n l = omega (arith, n, l)
+-- behind a draw
+below : (t : Table) (y : ℕ) → y ≢ next_id t → is_id_of t.first (suc t.drawn) y ≡ true → is_drawn t y ≡ true
+below t y n l = drawn_before t.first t.drawn y n l
 
 running_on : (e f : End) → f.running ≡ e.running → (ss : List Sent) → SentRunning e ss → SentRunning f ss
 running_on e f n [] p = tt
@@ -125,7 +127,7 @@ move_ok b o z t x now r =
     act_cond b o z (lives e) (steps_at b t x s) (idle t) (λ i. steps_ok b o z t x s r i refl refl tt) (λ i. idle_ok b o z t r)
 
 pub call_ok : (o : ℕ) (z : Bool) (u : Setup) (t : Table) (address now : ℕ) → TableOk true o z t → ActOk true o z (call_at u t address now)
-call_ok o z u t address now r = put_ok true o z t (suc t.drawn) (suc t.drawn) address (called u now) r (below t) (λ q. absurd (false≢true q)) (λ q. absurd (true≢false q)) ((λ h. absurd (false≢true h)), tt)
+call_ok o z u t address now r = put_ok true o z t (suc t.drawn) (next_id t) address (called u now) r (below t) (λ q. absurd (false≢true q)) (λ q. absurd (true≢false q)) ((λ h. absurd (false≢true h)), tt)
 
 pub run_ok : (b : Bool) (o : ℕ) (z : Bool) (t : Table) (from : ℕ) (wide : Bool) (h : Head) (slots : List Slot) (k : Option Numbers) (now : ℕ) → TableOk b o z t → ActOk b o z (hear_run b t from wide h slots k now).act
 run_ok b o z t from wide h slots k now r =
@@ -201,11 +203,11 @@ start_ok o z u t from source now g r h = go (nat_eq k 0) refl (nat_lt (living t)
     k = slave_of t from source
 
     fact : Bool → Bool → StartFact
-    fact n m = cond n (cond m (Makes (suc t.drawn)) Refuses) (Repeats k)
+    fact n m = cond n (cond m (Makes (next_id t)) Refuses) (Repeats k)
 
     go : (n : Bool) → nat_eq k 0 ≡ n → (m : Bool) → ActOk false o z (start_at u t from source now g (fact n m))
-    go true i true = put_ok false o z t (suc t.drawn) (suc t.drawn) from (make_slave now source g (first_end false false u)) r (below t) (λ q a. h a) (λ q. refl) ((λ y. refl), tt)
+    go true i true = put_ok false o z t (suc t.drawn) (next_id t) from (make_slave now source g (first_end false false u)) r (below t) (λ q a. h a) (λ q. refl) ((λ y. refl), tt)
     go true i false = record { table = r; sent = ((λ y. absurd (false≢true y)), tt) }
     go false i m =
-        let l : lives (t.circuit_at k).end ≡ true = (and_parts (is_of (t.circuit_at k) from source) (lives (t.circuit_at k).end) (least_true (λ j. is_of (t.circuit_at j) from source && lives (t.circuit_at j).end) 0 t.drawn (eqb-false k 0 i))).1 in
+        let l : lives (t.circuit_at k).end ≡ true = (and_parts (is_of (t.circuit_at k) from source) (lives (t.circuit_at k).end) (least_true (λ j. is_of (t.circuit_at j) from source && lives (t.circuit_at j).end) (ids t) (eqb-false k 0 i))).1 in
         steps_ok false o z t k (again_start now (t.circuit_at k).end) r l (kin_again now (t.circuit_at k).end).wide (kin_again now (t.circuit_at k).end).running (again_sends now (t.circuit_at k).end (r.alive refl k l))

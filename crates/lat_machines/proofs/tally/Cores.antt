@@ -1,5 +1,5 @@
 -- Tallied numbers, act by act, of a core.
-use Rattle.std.proofs.Common.{◌≡◌, ℕ, suc, ◌+◌, arith, refl, sym, ap, ◌∙◌, subst, Bool, true, false, not, cond, ◌&&◌, ◌||◌, List, [], ◌∷◌, map, Option, Some, nat_eq, nat_lt}
+use Rattle.std.proofs.Common.{◌≡◌, ℕ, ◌+◌, arith, refl, sym, ap, ◌∙◌, subst, Bool, true, false, not, cond, ◌&&◌, ◌||◌, List, [], ◌∷◌, map, Option, Some, nat_eq, nat_lt}
 use Rattle.lat_model.specs.circuits.Events.{stray_stop}
 use Rattle.std.proofs.lemmas.Bool.{and_parts, eqb-false}
 use Rattle.lat_model.specs.sessions.Slots.{Slot}
@@ -11,6 +11,7 @@ use Rattle.lat_model.specs.ends.Run.{RunStep, RunAnswer, RunTaken, RunRepeated, 
 use Rattle.lat_model.specs.ends.Starting.{Agreed, Setup, reply_end, noted, replied, make_slave, again_start, hear_reply, hear_stop}
 use Rattle.lat_model.specs.circuits.World.{CircuitEntry, Table, first_end}
 use Rattle.lat_model.specs.circuits.Arriving.{is_of, living, slave_of}
+use Rattle.lat_model.specs.circuits.Ids.{next_id, ids}
 use Rattle.lat_machines.specs.values.Messages.{Head}
 use Rattle.lat_machines.specs.values.Notices.{Notice}
 use Rattle.lat_machines.specs.values.Frames.{Value, OfNotice, Plain, OutFrame, plain}
@@ -100,14 +101,14 @@ start_counts k c u from source now g r = go (nat_eq n 0) refl (nat_lt (living t)
     n = slave_of t from source
 
     fact : Bool → Bool → StartFact
-    fact i m = cond i (cond m (Makes (suc t.drawn)) Refuses) (Repeats n)
+    fact i m = cond i (cond m (Makes (next_id t)) Refuses) (Repeats n)
 
     go : (i : Bool) → nat_eq n 0 ≡ i → (m : Bool) → Same c (acts k c (start_at u t from source now g (fact i m))).core (acts k c (start_at u t from source now g (fact i m))).frames
     go true q true = new_counts false k c from (make_slave now source g (first_end false false u)) r refl tt
     go true q false = plain_more c c from _ [] refl (core_none c r)
     go false q m =
         steps_same false k c n (again_start now (t.circuit_at n).end) r
-        (and_parts (is_of (t.circuit_at n) from source) (lives (t.circuit_at n).end) (least_true (λ j. is_of (t.circuit_at j) from source && lives (t.circuit_at j).end) 0 t.drawn (eqb-false n 0 q))).1
+        (and_parts (is_of (t.circuit_at n) from source) (lives (t.circuit_at n).end) (least_true (λ j. is_of (t.circuit_at j) from source && lives (t.circuit_at j).end) (ids t) (eqb-false n 0 q))).1
         (again_steps now (t.circuit_at n).end)
 
 move_counts : (b : Bool) (k : Side) (c : Core) (x now : ℕ) → Steady c.circuits → Same c (acts k c (move_at b c.circuits x now)).core (acts k c (move_at b c.circuits x now)).frames

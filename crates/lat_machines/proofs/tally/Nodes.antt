@@ -8,6 +8,7 @@ use Rattle.lat_model.specs.sessions.Slots.{Slot}
 use Rattle.lat_model.specs.Lists.{upwards}
 use Rattle.lat_model.specs.ends.End.{lives}
 use Rattle.lat_model.specs.circuits.World.{Table}
+use Rattle.lat_model.specs.circuits.Ids.{ids}
 use Rattle.lat_machines.specs.values.Names.{Name, same}
 use Rattle.lat_machines.specs.values.Addresses.{everyone}
 use Rattle.lat_machines.specs.values.Messages.{Head, StartInfo, RunMessage, WideMessage, StartMessage, StopMessage}
@@ -102,7 +103,7 @@ silenced st fs r p = go st.halted
 halt_same : (config : NodeConfig) (st : Node) → Steady st.core.circuits → StepSame st (halts config st)
 halt_same config st r =
     let d : Doing = ends_all (node_side config) 3 st.core in
-    let p : Same st.core d.core d.frames = ends_counts false config.timing config.name 3 (upwards 0 st.core.circuits.drawn) st.core (rests st.core) (core_none st.core r) in
+    let p : Same st.core d.core d.frames = ends_counts false config.timing config.name 3 (ids st.core.circuits) st.core (rests st.core) (core_none st.core r) in
     core_then st.core d.core d.core d.frames (farewell config st.halted) (λ y. 0) p (go d.core p.steady st.halted)
   where
     go : (c : Core) → Steady c.circuits → (n : Bool) → Same c c (farewell config n)
@@ -128,8 +129,8 @@ starts_same config st from source info r =
     let s : NodeStep = starts config x from source info in
     core_then st.core x.core s.state.core [] s.frames (λ y. 0) p (start_same config x from source info p.steady)
   where
-    go : (n : Bool) → Same st.core (with_circuits st.core (cond n (outlive from source (upwards 0 st.core.circuits.drawn) st.core.circuits) st.core.circuits)) []
-    go true = outlive_counts (node_side config) from source (upwards 0 st.core.circuits.drawn) st.core r
+    go : (n : Bool) → Same st.core (with_circuits st.core (cond n (outlive from source (ids st.core.circuits) st.core.circuits) st.core.circuits)) []
+    go true = outlive_counts (node_side config) from source (ids st.core.circuits) st.core r
     go false = core_none st.core r
 
 value_counts : (config : NodeConfig) (rates : List ℕ) (st : Node) (from : ℕ) (v : Value) (k : Option Numbers) (now : ℕ) → Steady st.core.circuits → StepCounts (Hears from (Whole v) k now) st (hears_value config rates st from v k)
@@ -178,7 +179,7 @@ step_counts config rates st (Hears from (Whole v) k now) r = go (nat_eq from eve
     go true = ignored v
     go false = heard
 step_counts config rates st (Time now) r =
-    times_counts false config.timing config.name (upwards 0 st.core.circuits.drawn) st.core (rests (at_moment now st.core)) (core_none st.core r)
+    times_counts false config.timing config.name (ids st.core.circuits) st.core (rests (at_moment now st.core)) (core_none st.core r)
 step_counts config rates st (Connects line service) r = core_none st.core r
 step_counts config rates st (Puts line bytes) r = line_counts config.lines st.core line (λ s. put_on (node_side config) st.core s bytes) r (λ s. put_same false config.timing config.name st.core s bytes r)
 step_counts config rates st (Sets line setting) r = line_counts config.lines st.core line (λ s. set_on (node_side config) st.core s setting) r (λ s. set_same false config.timing config.name st.core s setting r)

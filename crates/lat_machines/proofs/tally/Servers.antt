@@ -1,10 +1,11 @@
 -- What every event of a server tallies.
-use Rattle.std.proofs.Common.{◌≡◌, ℕ, suc, refl, Bool, true, false, cond, List, [], ◌∷◌, ◌++◌, Option, Some, None, nat_eq, nat_lt}
+use Rattle.std.proofs.Common.{◌≡◌, ℕ, refl, Bool, true, false, cond, List, [], ◌∷◌, ◌++◌, Option, Some, None, nat_eq, nat_lt}
 use Rattle.lat_model.specs.sessions.Sessions.{least_free}
 use Rattle.lat_model.specs.sessions.Calls.{Connect}
 use Rattle.lat_model.specs.sessions.Slots.{Slot}
 use Rattle.lat_model.specs.Lists.{updated, upwards}
 use Rattle.lat_model.specs.circuits.Arriving.{living}
+use Rattle.lat_model.specs.circuits.Ids.{ids, next_id}
 use Rattle.lat_machines.specs.values.Names.{Name}
 use Rattle.lat_machines.specs.values.Addresses.{everyone}
 use Rattle.lat_machines.specs.values.Messages.{Head, RunMessage, WideMessage, StartMessage, StopMessage}
@@ -43,7 +44,7 @@ opens_counts : (config : ServerConfig) (line address : ℕ) (node service : Name
 opens_counts config line address node service key request c r = go (nat_eq (circuit_to c address) 0)
   where
     named : Core
-    named = record c { names = updated c.names (suc c.circuits.drawn) node }
+    named = record c { names = updated c.names (next_id c.circuits) node }
 
     made : Doing
     made = acts (server_side config) named (call_at (setup_of config.timing) named.circuits address named.moment)
@@ -75,9 +76,9 @@ connect_counts config st line service r = go (line_exists config.lines line) (ha
         let d : Doing = opens config line b.from b.node service None None st.core in
         let o : Same st.core d.core d.frames = opens_counts config line b.from b.node service None None st.core r in
         same_cond st (nat_eq x 0)
-        (cond (nat_lt (living st.core.circuits) 8) (cond (nat_lt st.core.circuits.drawn 65535) (does st (Connected (suc st.core.circuits.drawn) 1) d) (tells st IdsOut)) (tells st CircuitsFull))
+        (cond (nat_lt (living st.core.circuits) 8) (cond (nat_lt st.core.circuits.drawn 65535) (does st (Connected (next_id st.core.circuits) 1) d) (tells st IdsOut)) (tells st CircuitsFull))
         (cond (has_room st.core x) (does st (Connected x (least_free (st.core.circuits.circuit_at x).end.half.sessions)) d) (tells st SessionsFull))
-        (same_cond st (nat_lt (living st.core.circuits) 8) (cond (nat_lt st.core.circuits.drawn 65535) (does st (Connected (suc st.core.circuits.drawn) 1) d) (tells st IdsOut)) (tells st CircuitsFull) (same_cond st (nat_lt st.core.circuits.drawn 65535) (does st (Connected (suc st.core.circuits.drawn) 1) d) (tells st IdsOut) o none) none)
+        (same_cond st (nat_lt (living st.core.circuits) 8) (cond (nat_lt st.core.circuits.drawn 65535) (does st (Connected (next_id st.core.circuits) 1) d) (tells st IdsOut)) (tells st CircuitsFull) (same_cond st (nat_lt st.core.circuits.drawn 65535) (does st (Connected (next_id st.core.circuits) 1) d) (tells st IdsOut) o none) none)
         (same_cond st (has_room st.core x) (does st (Connected x (least_free (st.core.circuits.circuit_at x).end.half.sessions)) d) (tells st SessionsFull) o none)
 
     go : (n m : Bool) (o : Option Best) → StepSame st (cond n (cond m (tells st Busy) (elim o [ None ↦ solicits_for config st service | Some b ↦ connects_to config st line service b ])) (tells st NoLine))
@@ -161,7 +162,7 @@ event_counts config st (Hears from (Whole v) k now) r = go (nat_eq from everyone
     go true = ignored v
     go false = heard
 event_counts config st (Time now) r =
-    times_counts true config.timing config.name (upwards 0 st.core.circuits.drawn) st.core (rests (at_moment now st.core)) (core_none st.core r)
+    times_counts true config.timing config.name (ids st.core.circuits) st.core (rests (at_moment now st.core)) (core_none st.core r)
 event_counts config st (Connects line service) r = same_cond st st.halted (tells st Halted) (connect_event config st line service) (core_none st.core r) (connect_counts config st line service r)
 event_counts config st (Puts line bytes) r = line_counts config.lines st.core line (λ s. put_on (server_side config) st.core s bytes) r (λ s. put_same true config.timing config.name st.core s bytes r)
 event_counts config st (Sets line setting) r = line_counts config.lines st.core line (λ s. set_on (server_side config) st.core s setting) r (λ s. set_same true config.timing config.name st.core s setting r)
@@ -173,7 +174,7 @@ event_counts config st (Withdraws id) r = core_none st.core r
 event_counts config st Announces r = core_none st.core r
 event_counts config st (Avoids line) r = core_none st.core r
 event_counts config st (Readies line ready) r = core_none st.core r
-event_counts config st Halts r = ends_counts true config.timing config.name 3 (upwards 0 st.core.circuits.drawn) st.core (rests st.core) (core_none st.core r)
+event_counts config st Halts r = ends_counts true config.timing config.name 3 (ids st.core.circuits) st.core (rests st.core) (core_none st.core r)
 
 -- the grant pass
 

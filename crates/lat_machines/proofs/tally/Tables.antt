@@ -1,5 +1,5 @@
 -- Tallied numbers, table by table: what circuits form, take and show, and what frames bear.
-use Rattle.std.proofs.Common.{◌≡◌, ◌≢◌, ℕ, suc, ◌+◌, ◌<◌, arith, refl, sym, ap, ap₂, ◌∙◌, subst, Bool, true, false, cond, ◌&&◌, ◌||◌, List, [], ◌∷◌, ◌++◌, map, nat_eq, eqb-true}
+use Rattle.std.proofs.Common.{◌≡◌, ◌≢◌, ℕ, suc, ◌+◌, arith, refl, sym, ap, ap₂, ◌∙◌, subst, Bool, true, false, cond, ◌&&◌, ◌||◌, List, [], ◌∷◌, ◌++◌, map, nat_eq, eqb-true}
 use Rattle.lat_machines.specs.cores.Hearing.{outlive, outlive_at, is_outlived, follows}
 use Rattle.std.proofs.lemmas.Bool.{true≢false, eqb-false, and_parts}
 use Rattle.lat_model.specs.sessions.Slots.{Slot}
@@ -12,6 +12,8 @@ use Rattle.lat_model.specs.ends.Timers.{note_empty, time_step}
 use Rattle.lat_model.specs.ends.Starting.{Setup}
 use Rattle.lat_model.specs.circuits.World.{CircuitEntry, Table, wire_all}
 use Rattle.lat_model.proofs.sessions.Words.{upd_same, upd_other, upd_all}
+use Rattle.lat_model.specs.circuits.Ids.{is_drawn, is_id_of, next_id}
+use Rattle.lat_model.proofs.circuits.Ids.{next_new, undrawn_other, undrawn_before}
 use Rattle.lat_machines.specs.values.Messages.{RunMessage, WideMessage, StartMessage, StopMessage}
 use Rattle.lat_machines.specs.values.Frames.{Value, OfCircuit, OfNotice, FrameMark, OfRun, Plain, OutFrame}
 use Rattle.lat_machines.specs.values.Runs.{run_head, slots_in}
@@ -68,7 +70,7 @@ messages_on t x = messages (t.circuit_at x).end
 
 -- circuits that weren't drawn don't live, and have formed and taken nothing; no message is without slots
 pub record Steady (t : Table) : Type 0 where
-  pub unused : (x : ℕ) → t.drawn < x → (lives (t.circuit_at x).end ≡ false) × ((t.circuit_at x).end.half.link ≡ fresh)
+  pub unused : (x : ℕ) → is_drawn t x ≡ false → (lives (t.circuit_at x).end ≡ false) × ((t.circuit_at x).end.half.link ≡ fresh)
   pub full : (x : ℕ) → Full (messages_on t x)
 
 -- from one table to another, with the frames between; each circuit took so many messages more
@@ -212,7 +214,7 @@ of_counts e s p = record {
   full = p.full;
 }
 
-put_counts : (b : Bool) (k : Side) (c : Core) (drawn x address : ℕ) (s : Step) (i : ℕ) → Steady c.circuits → ((y : ℕ) → drawn < y → (y ≢ x) × (c.circuits.drawn < y)) → StepCounts (c.circuits.circuit_at x).end s i → CoreCounts c (acts k c (put_at b c.circuits drawn x address s)).core (acts k c (put_at b c.circuits drawn x address s)).frames (λ y. cond (nat_eq x y) i 0)
+put_counts : (b : Bool) (k : Side) (c : Core) (drawn x address : ℕ) (s : Step) (i : ℕ) → Steady c.circuits → ((y : ℕ) → is_id_of c.circuits.first drawn y ≡ false → (y ≢ x) × (is_drawn c.circuits y ≡ false)) → StepCounts (c.circuits.circuit_at x).end s i → CoreCounts c (acts k c (put_at b c.circuits drawn x address s)).core (acts k c (put_at b c.circuits drawn x address s)).frames (λ y. cond (nat_eq x y) i 0)
 put_counts b k c drawn x address s i r far p = record {
   numbers = wires_tallied k d b x address s.end.peer (formed_in c) (taken_in d) (formed e) (taken s.end) refl (at_x taken) s.sent p.sent;
   bears = wires_bear k d b x address s.end.peer (messages_on d.circuits) s.sent (subst (λ (z : List (List Slot)). SentBears z s.sent) (sym (at_x messages)) (p.bears (r.full x)));
@@ -221,7 +223,7 @@ put_counts b k c drawn x address s i r far p = record {
   shown = λ y. shows_at y (nat_eq y x) refl;
   grows = λ y. grows_at y (nat_eq y x) refl;
   steady = record {
-    unused = λ y l. (let h : (y ≢ x) × (c.circuits.drawn < y) = far y l in subst (λ (z : CircuitEntry). (lives z.end ≡ false) × (z.end.half.link ≡ fresh)) (sym (upd_other t.circuit_at x new y h.0)) (r.unused y h.1));
+    unused = λ y l. (let h : (y ≢ x) × (is_drawn c.circuits y ≡ false) = far y l in subst (λ (z : CircuitEntry). (lives z.end ≡ false) × (z.end.half.link ≡ fresh)) (sym (upd_other t.circuit_at x new y h.0)) (r.unused y h.1));
     full = upd_all (λ (z : CircuitEntry). Full (messages z.end)) t.circuit_at x new (p.full (r.full x)) r.full;
   };
 }
@@ -330,13 +332,13 @@ outlive_counts k from source (x ∷ xs) c r =
     go false i = core_none c r
 
 -- a new circuit has formed and taken nothing
-pub new_counts : (b : Bool) (k : Side) (c : Core) (address : ℕ) (s : Step) → Steady c.circuits → s.end.half.link ≡ fresh → NoRun s.sent → Same c (acts k c (put_at b c.circuits (suc c.circuits.drawn) (suc c.circuits.drawn) address s)).core (acts k c (put_at b c.circuits (suc c.circuits.drawn) (suc c.circuits.drawn) address s)).frames
+pub new_counts : (b : Bool) (k : Side) (c : Core) (address : ℕ) (s : Step) → Steady c.circuits → s.end.half.link ≡ fresh → NoRun s.sent → Same c (acts k c (put_at b c.circuits (suc c.circuits.drawn) (next_id c.circuits) address s)).core (acts k c (put_at b c.circuits (suc c.circuits.drawn) (next_id c.circuits) address s)).frames
 new_counts b k c address s r f h =
-    let n : ℕ = suc c.circuits.drawn in
+    let n : ℕ = next_id c.circuits in
     let e : End = (c.circuits.circuit_at n).end in
-    let u : (lives e ≡ false) × (e.half.link ≡ fresh) = r.unused n (omega arith) in
-    more_as c.circuits (acts k c (put_at b c.circuits n n address s)).core.circuits (acts k c (put_at b c.circuits n n address s)).frames _ (λ y. 0) (λ y. cond_none (nat_eq n y))
-    (put_counts b k c n n address s 0 r (λ y l. (λ q. absurd (omega (arith, q, l)), omega (arith, l))) (of_counts e s (plainly e s h (f ∙ sym u.1))))
+    let u : (lives e ≡ false) × (e.half.link ≡ fresh) = r.unused n (next_new c.circuits.first c.circuits.drawn) in
+    more_as c.circuits (acts k c (put_at b c.circuits (suc c.circuits.drawn) n address s)).core.circuits (acts k c (put_at b c.circuits (suc c.circuits.drawn) n address s)).frames _ (λ y. 0) (λ y. cond_none (nat_eq n y))
+    (put_counts b k c (suc c.circuits.drawn) n address s 0 r (λ y l. (undrawn_other c.circuits.first c.circuits.drawn y l, undrawn_before c.circuits.first c.circuits.drawn y l)) (of_counts e s (plainly e s h (f ∙ sym u.1))))
 
 pub call_counts : (k : Side) (c : Core) (u : Setup) (address now : ℕ) → Steady c.circuits → Same c (acts k c (call_at u c.circuits address now)).core (acts k c (call_at u c.circuits address now)).frames
 call_counts k c u address now r = new_counts true k c address (called u now) r refl tt

@@ -7,6 +7,7 @@ use Rattle.lat_model.specs.ends.End.{CallStart, Step, lives, call_end, finish}
 use Rattle.lat_model.specs.ends.Timers.{note_empty, time_step}
 use Rattle.lat_model.specs.ends.Starting.{Setup}
 use Rattle.lat_model.specs.circuits.World.{Table, Wired, wire_all, first_end}
+use Rattle.lat_model.specs.circuits.Ids.{next_id}
 
 pub record Acted : Type 0 where
   pub table : Table
@@ -33,7 +34,7 @@ called u now = record {
 
 -- a new circuit of the server
 abbrev pub call_at : Setup → Table → ℕ → ℕ → Acted
-call_at u t address now = put_at true t (suc t.drawn) (suc t.drawn) address (called u now)
+call_at u t address now = put_at true t (suc t.drawn) (next_id t) address (called u now)
 
 abbrev pub local_at : Bool → Table → ℕ → Call → Acted
 local_at b t x c =

@@ -2,10 +2,11 @@
 use Rattle.std.specs.Prelude.{ℕ, Bool, true, false, cond, ◌&&◌, List, [], ◌∷◌, ◌++◌, map, max, Option, Some, None, nat_eq, not}
 use Rattle.lat_machines.specs.cores.Hearing.{names}
 use Rattle.lat_model.specs.circuits.Events.{stray_stop}
-use Rattle.lat_model.specs.Lists.{upwards, least}
+use Rattle.lat_model.specs.Lists.{least}
 use Rattle.lat_model.specs.ends.End.{Sent, Run, CallStart, ReplyStart, Stopped, lives}
 use Rattle.lat_model.specs.ends.Starting.{Setup}
 use Rattle.lat_model.specs.circuits.World.{Table, Wired, no_circuit}
+use Rattle.lat_model.specs.circuits.Ids.{ids}
 use Rattle.lat_machines.specs.values.Names.{Name}
 use Rattle.lat_machines.specs.values.Timing.{Timing, call_info, reply_info}
 use Rattle.lat_machines.specs.values.Frames.{OfCircuit, OfRun, OutFrame, plain}
@@ -47,10 +48,11 @@ setup_of t = record {
   ceiling = t.ceiling;
 }
 
-abbrev pub open_core : Side → ℕ → Core
-open_core k own = record {
+-- with its address, and the id of its first circuit
+abbrev pub open_core : Side → ℕ → ℕ → Core
+open_core k own first = record {
   moment = 0;
-  circuits = record { own = own; drawn = 0; circuit_at = λ i. no_circuit k.server (setup_of k.timing) };
+  circuits = record { own = own; first = first; drawn = 0; circuit_at = λ i. no_circuit k.server (setup_of k.timing) };
   names = λ i. [];
   seats = [];
 }
@@ -103,7 +105,7 @@ time_each k [] d = d
 time_each k (x ∷ xs) d = time_each k xs (then_doing d (λ c. acts k c (time_at k.server c.circuits x c.moment)))
 
 abbrev pub passes_time : Side → Core → Doing
-passes_time k c = time_each k (upwards 0 c.circuits.drawn) (rests c)
+passes_time k c = time_each k (ids c.circuits) (rests c)
 
 -- this end ends each living circuit, by rising id
 abbrev pub end_each : Side → ℕ → List ℕ → Doing → Doing
@@ -111,7 +113,7 @@ end_each k r [] d = d
 end_each k r (x ∷ xs) d = end_each k r xs (then_doing d (λ c. acts k c (end_at k.server c.circuits x r)))
 
 abbrev pub ends_all : Side → ℕ → Core → Doing
-ends_all k r c = end_each k r (upwards 0 c.circuits.drawn) (rests c)
+ends_all k r c = end_each k r (ids c.circuits) (rests c)
 
 -- a RUN names no living circuit by the address and both ids, neither of which is 0
 abbrev pub is_stranger : Table → ℕ → Head → Bool
@@ -127,7 +129,7 @@ told_stranger k prompt c from h =
 -- the circuit to an address: there is at most one that lives; 0 where none does
 abbrev pub circuit_to : Core → ℕ → ℕ
 circuit_to c address =
-    least (λ i. nat_eq (c.circuits.circuit_at i).address address && lives (c.circuits.circuit_at i).end) (upwards 0 c.circuits.drawn)
+    least (λ i. nat_eq (c.circuits.circuit_at i).address address && lives (c.circuits.circuit_at i).end) (ids c.circuits)
 
 -- whether the numbers of a living circuit have two bytes on the wire; None where no such circuit lives
 abbrev pub span : Core → ℕ → Option Bool

@@ -8,6 +8,7 @@ use Rattle.lat_model.specs.ends.End.{Stopped, End, lives, lapse}
 use Rattle.lat_model.specs.ends.Run.{RunAnswer, RunTaken, RunRepeated, RunAckOnly, RunBroke, run_end}
 use Rattle.lat_model.specs.ends.Starting.{Agreed, Setup, make_slave, again_start, hear_reply, hear_stop}
 use Rattle.lat_model.specs.circuits.World.{CircuitEntry, Table, first_end}
+use Rattle.lat_model.specs.circuits.Ids.{next_id}
 use Rattle.lat_model.specs.circuits.Arriving.{is_of, living, slave_of}
 use Rattle.lat_machines.specs.values.Messages.{Head}
 use Rattle.lat_machines.specs.values.Timing.{half_range}
@@ -92,7 +93,7 @@ pub data StartFact : Type 0 where
 abbrev pub start_fact : Table → ℕ → ℕ → StartFact
 start_fact t from source =
     cond (nat_eq (slave_of t from source) 0)
-    (cond (nat_lt (living t) 8 && nat_lt t.drawn 65535) (Makes (suc t.drawn)) Refuses)
+    (cond (nat_lt (living t) 8 && nat_lt t.drawn 65535) (Makes (next_id t)) Refuses)
     (Repeats (slave_of t from source))
 
 -- an id that was drawn behind another one, by up to 32,767, counted round 65,535
@@ -114,7 +115,7 @@ outlive from source (x ∷ xs) t = outlive from source xs (outlive_at from sourc
 
 abbrev pub start_at : Setup → Table → ℕ → ℕ → ℕ → Agreed → StartFact → Acted
 start_at u t from source now g (Repeats k) = steps_at false t k (again_start now (t.circuit_at k).end)
-start_at u t from source now g (Makes k) = put_at false t k k from (make_slave now source g (first_end false false u))
+start_at u t from source now g (Makes k) = put_at false t (suc t.drawn) k from (make_slave now source g (first_end false false u))
 start_at u t from source now g Refuses = record {
   table = t;
   sent = record { by_server = false; circuit = 0; to = from; destination = source; source = 0; sent = Stopped reasons.no_resources } ∷ [];

@@ -8,6 +8,7 @@ use Rattle.lat_model.specs.Lists.{updated, upwards, least, Each}
 use Rattle.lat_model.specs.sessions.Sessions.{named}
 use Rattle.lat_model.specs.sessions.Calls.{Call, RejectAsk}
 use Rattle.lat_model.specs.ends.End.{lives}
+use Rattle.lat_model.specs.circuits.Ids.{ids}
 use Rattle.lat_machines.specs.values.Names.{Name, same}
 use Rattle.lat_machines.specs.values.Addresses.{everyone}
 use Rattle.lat_machines.specs.values.Messages.{Head, StartInfo, Message, RunMessage, WideMessage, StartMessage, StopMessage}
@@ -34,6 +35,7 @@ pub record NodeConfig : Type 0 where
   pub groups : List ℕ
   pub timing : Timing
   pub prompt : Bool  -- it tells a stranger at once that no such circuit lives here
+  pub first : ℕ  -- the id of its first circuit, 1 to 65,535
 
 -- a request, as it was first made
 pub record Requested : Type 0 where
@@ -57,7 +59,7 @@ abbrev pub node_side : NodeConfig → Side
 node_side config = record { server = false; timing = config.timing; name = config.name }
 
 abbrev pub open_node : NodeConfig → Node
-open_node config = record { core = open_core (node_side config) config.own; requests = []; accepted = []; turned_away = 0; halted = false }
+open_node config = record { core = open_core (node_side config) config.own config.first; requests = []; accepted = []; turned_away = 0; halted = false }
 
 abbrev pub tells : Node → Answer → NodeStep
 tells state a = record { state = state; answer = a; frames = [] }
@@ -221,7 +223,7 @@ hears_start config state from source info fact =
 -- a prompt node first ends the slaves that a START follows
 abbrev pub makes_way : NodeConfig → Node → ℕ → ℕ → Node
 makes_way config state from source =
-    with_core state (with_circuits state.core (cond config.prompt (outlive from source (upwards 0 state.core.circuits.drawn) state.core.circuits) state.core.circuits))
+    with_core state (with_circuits state.core (cond config.prompt (outlive from source (ids state.core.circuits) state.core.circuits) state.core.circuits))
 
 abbrev pub starts : NodeConfig → Node → ℕ → ℕ → StartInfo → NodeStep
 starts config state from source info = hears_start config state from source info (start_fact state.core.circuits from source)

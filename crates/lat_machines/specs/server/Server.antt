@@ -4,6 +4,7 @@ use Rattle.lat_model.specs.sessions.Slots.{Slot}
 use Rattle.lat_model.specs.sessions.Sessions.{Sessions, held, least_free}
 use Rattle.lat_model.specs.Lists.{updated, upwards}
 use Rattle.lat_model.specs.sessions.Calls.{Connect}
+use Rattle.lat_model.specs.circuits.Ids.{next_id}
 use Rattle.lat_model.specs.circuits.Arriving.{living}
 use Rattle.lat_machines.specs.values.Names.{Name}
 use Rattle.lat_machines.specs.values.Addresses.{everyone}
@@ -36,6 +37,7 @@ pub record ServerConfig : Type 0 where
   pub groups : List ℕ
   pub timing : Timing
   pub prompt : Bool  -- it tells a stranger at once that no such circuit lives here
+  pub first : ℕ  -- the id of its first circuit, 1 to 65,535
 
 pub record Server : Type 0 where
   pub core : Core
@@ -54,7 +56,7 @@ abbrev pub server_side : ServerConfig → Side
 server_side config = record { server = true; timing = config.timing; name = config.name }
 
 abbrev pub open_server : ServerConfig → Server
-open_server config = record { core = open_core (server_side config) config.own; heard = []; queue = []; solicits = 0; ready = λ line. true; halted = false }
+open_server config = record { core = open_core (server_side config) config.own config.first; heard = []; queue = []; solicits = 0; ready = λ line. true; halted = false }
 
 abbrev pub offered : ServerConfig → List Name
 offered config = map (λ (o : Offer). o.service) config.offers
@@ -92,7 +94,7 @@ can_open c address = cond (nat_eq (circuit_to c address) 0) (may_call c) (has_ro
 -- a circuit is called where none to this address lives
 abbrev pub calls_to : ServerConfig → ℕ → Name → Core → Doing
 calls_to config address node c =
-    let d : Core = record c { names = updated c.names (suc c.circuits.drawn) node } in
+    let d : Core = record c { names = updated c.names (next_id c.circuits) node } in
     cond (nat_eq (circuit_to c address) 0)
     (acts (server_side config) d (call_at (setup_of config.timing) d.circuits address d.moment))
     (rests c)
@@ -118,7 +120,7 @@ connects_to config state line service b =
     let done : Doing = opens config line b.from b.node service None None c in
     cond (nat_eq x 0)
     (cond (nat_lt (living c.circuits) 8)
-    (cond (nat_lt c.circuits.drawn 65535) (does state (Connected (suc c.circuits.drawn) 1) done) (tells state IdsOut))
+    (cond (nat_lt c.circuits.drawn 65535) (does state (Connected (next_id c.circuits) 1) done) (tells state IdsOut))
     (tells state CircuitsFull))
     (cond (has_room c x) (does state (Connected x (least_free (c.circuits.circuit_at x).end.half.sessions)) done) (tells state SessionsFull))
 

@@ -1,9 +1,10 @@
 -- A frame leaves alone the circuits of other addresses.
-use Rattle.std.specs.Prelude.{◌≡◌, ◌≢◌, ℕ, ◌≤◌, List, [], ◌∷◌, Option}
+use Rattle.std.specs.Prelude.{◌≡◌, ◌≢◌, ℕ, true, List, [], ◌∷◌, Option}
 use Rattle.lat_model.specs.sessions.Calls.{Connect}
 use Rattle.lat_model.specs.ends.End.{End, call_end}
 use Rattle.lat_model.specs.ends.Timers.{note_empty}
 use Rattle.lat_model.specs.circuits.World.{CircuitEntry}
+use Rattle.lat_model.specs.circuits.Ids.{is_drawn}
 use Rattle.lat_machines.specs.values.Names.{Name}
 use Rattle.lat_machines.specs.values.Frames.{Reading}
 use Rattle.lat_machines.specs.values.Events.{Numbers, Hears}
@@ -39,13 +40,13 @@ ServerHearsAtHome =
 abbrev pub ServerStaysHome : Type 0
 ServerStaysHome =
     (config : ServerConfig) (state : Server) (from : ℕ) (payload : Reading) (k : Option Numbers) (now x : ℕ) →
-    x ≤ state.core.circuits.drawn →
+    is_drawn state.core.circuits x ≡ true →
     (state.core.circuits.circuit_at x).address ≢ from →
     ButForSessions (state.core.circuits.circuit_at x) ((server_step config state (Hears from payload k now)).state.core.circuits.circuit_at x)
 
 abbrev pub NodeStaysHome : Type 0
 NodeStaysHome =
     (config : NodeConfig) (rates : List ℕ) (state : Node) (from : ℕ) (payload : Reading) (k : Option Numbers) (now x : ℕ) →
-    x ≤ state.core.circuits.drawn →
+    is_drawn state.core.circuits x ≡ true →
     (state.core.circuits.circuit_at x).address ≢ from →
     (node_step config rates state (Hears from payload k now)).state.core.circuits.circuit_at x ≡ state.core.circuits.circuit_at x

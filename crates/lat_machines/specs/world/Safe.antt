@@ -39,7 +39,7 @@ pub record Fit (u : Setups) : Type 0 where
   pub sessions : 0 < u.server.timing.sessions
 
 abbrev pub circuits_open : Setups → World
-circuits_open u = open_world u.server.own u.node.own (setup_of u.server.timing) (setup_of u.node.timing)
+circuits_open u = open_world u.server.own u.node.own u.server.first u.node.first (setup_of u.server.timing) (setup_of u.node.timing)
 
 -- a run of the machines is a run of the world of circuits
 pub record IsCircuits (u : Setups) (m : Machines) : Type 0 where

@@ -2,7 +2,7 @@
 use Rattle.std.proofs.Common.{◌++◌, ◌≡◌, ℕ, suc, ◌≤◌, ⊎_elim, sym, ap, ap₂, ◌∙◌, refl, subst, arith, Bool, true, false, not, cond, ◌&&◌, ◌||◌, List, [], ◌∷◌, min, Option, Some, None, nat_eq, nat_lt, slice_get, eqb-true}
 use Rattle.std.proofs.lemmas.Bool.{false≢true, and_parts, eqb-false}
 use Rattle.lat_model.specs.sessions.Slots.{Slot}
-use Rattle.lat_model.specs.Lists.{upwards, least}
+use Rattle.lat_model.specs.Lists.{least}
 use Rattle.lat_model.specs.numbers.Link.{Frame}
 use Rattle.lat_model.specs.numbers.NetOk.{FrameOf}
 use Rattle.lat_model.specs.ends.End.{Mark, Sent, Run, CallStart, ReplyStart, Stopped, End, Step, lives, call_end, finish, lapse}
@@ -18,6 +18,8 @@ use Rattle.lat_model.proofs.circuits.Pairs.{StepOk, run_ok, time_ok, again_start
 use Rattle.lat_model.proofs.circuits.Kin.{kin_time, kin_run, kin_again, kin_stop, idle_calm, calm_time, calm_again, calm_stop, idle_call, kin_finish}
 use Rattle.lat_model.proofs.circuits.Worlds.{void_together, server_put, node_put, NodeKept, Beside}
 use Rattle.lat_model.proofs.circuits.Begins.{server_alive, node_alive, kin_window, quiet_server, quiet_node, moved_ok, call_step_ok, kin_call, world_cond, calls_ok, make_put, reply_put}
+use Rattle.lat_model.proofs.circuits.Ids.{drawn_some}
+use Rattle.lat_model.specs.circuits.Ids.{next_id, ids}
 
 -- A frame that comes. What is known of it where it bears the other end's address
 
@@ -48,7 +50,7 @@ run_server w ok from bit d s now a k f fair =
         let it : c.address ≡ from = eqb-true c.address from i.0 in
         let ip : c.end.peer ≡ s = eqb-true c.end.peer s i.1 in
         let m : mate w d ≡ (w.node.circuit_at s).end.half = ap₂ (λ u v. cond u (w.node.circuit_at v).end.half (void_half false)) q.1 ip in
-        server_put w d st ok (server_alive w d ok r.1).0 (server_alive w d ok r.1).1 (kin_run now a f c.end) (kin_window c.end st.end (kin_run now a f c.end) (ok.windows d).0)
+        server_put w d st ok (server_alive w d ok r.1) (kin_run now a f c.end) (kin_window c.end st.end (kin_run now a f c.end) (ok.windows d).0)
         (λ t ps o. (run_ok true now a f c.end (mate w d) ps (ok.windows d).0 (subst (λ z. FrameOf (List Slot) z.link f) (sym m) (fair (sym it ∙ t)).1) o).after)
 
 run_node : (w : World) → WorldOk w → (from : ℕ) (bit : Bool) (d s now : ℕ) (a : Bool) (k : Mark) (f : Frame (List Slot)) → Fair w false from d s (Run k a f) → WorldOk (run_in w false from bit d s now a f)
@@ -71,10 +73,10 @@ run_node w ok from bit d s now a k f fair =
         let ip : c.end.peer ≡ s = eqb-true c.end.peer s i.1 in
         let kept : c.address ≡ w.server.own → NodeKept w d st = λ t.
         let o : ((w.server.circuit_at s).address ≡ w.node.own) × ByServer w s d s f = fair (sym it ∙ t) in
-        let run : ((w.server.circuit_at s).end.running ≡ true) × (d ≡ (w.server.circuit_at s).end.peer) = ⊎_elim {C = ((w.server.circuit_at s).end.running ≡ true) × (d ≡ (w.server.circuit_at s).end.peer)} (λ z. absurd ((node_alive w d ok r.1).0 z)) (λ z. z) o.1.destination in
+        let run : ((w.server.circuit_at s).end.running ≡ true) × (d ≡ (w.server.circuit_at s).end.peer) = ⊎_elim {C = ((w.server.circuit_at s).end.running ≡ true) × (d ≡ (w.server.circuit_at s).end.peer)} (λ z. absurd (drawn_some w.node.first w.node.drawn d (node_alive w d ok r.1) z)) (λ z. z) o.1.destination in
         Beside (record { address = ap (λ z. (w.server.circuit_at z).address) ip ∙ o.0; running = ap (λ z. (w.server.circuit_at z).end.running) ip ∙ run.0; peer = ap (λ z. (w.server.circuit_at z).end.peer) ip ∙ sym run.1 })
         (λ ps e. (run_ok false now a f c.end (w.server.circuit_at c.end.peer).end.half ps (ok.windows d).1 (subst (λ z. FrameOf (List Slot) (w.server.circuit_at z).end.half.link f) (sym ip) o.1.frame) e).after) in
-        node_put w d st ok (node_alive w d ok r.1).0 (node_alive w d ok r.1).1 (kin_run now a f c.end) (kin_window c.end st.end (kin_run now a f c.end) (ok.windows d).1) kept
+        node_put w d st ok (node_alive w d ok r.1) (kin_run now a f c.end) (kin_window c.end st.end (kin_run now a f c.end) (ok.windows d).1) kept
 
 stop_ok : (w : World) → WorldOk w → (b : Bool) (from d s now r : ℕ) → WorldOk (stop_in w b from d s now r)
 stop_ok w ok true from d s now r =
@@ -119,7 +121,7 @@ reply_ok w ok from d s now g fair =
         by false r it l =
             let is : hear_reply now s g c.end ≡ first = ap₂ (λ u v. cond u (cond v noted first) none) l r in
             subst (λ z. WorldOk (at_end w true d z)) (sym is)
-            (reply_put w d now s g ok (server_alive w d ok l).0 (server_alive w d ok l).1 r
+            (reply_put w d now s g ok (server_alive w d ok l) r
             (λ t. let o : ByNode w s d s = fair (sym it ∙ t) in (o.some, o.drawn, o.address, sym o.destination)))
 
 -- what the least number that passes is
@@ -178,14 +180,14 @@ start_in_ok w ok from s now g = go (nat_eq k 0) refl
     test : ℕ → Bool
     test i = is_of (w.node.circuit_at i) from s && lives (w.node.circuit_at i).end
 
-    make : (b : Bool) → WorldOk (cond b (put_circuit w false (suc w.node.drawn) (suc w.node.drawn) from (make_slave now s g (first_end false false w.other))) (with_table w false w.node (record { by_server = false; circuit = 0; to = from; destination = s; source = 0; sent = Stopped 7 } ∷ [])))
+    make : (b : Bool) → WorldOk (cond b (put_circuit w false (suc w.node.drawn) (next_id w.node) from (make_slave now s g (first_end false false w.other))) (with_table w false w.node (record { by_server = false; circuit = 0; to = from; destination = s; source = 0; sent = Stopped 7 } ∷ [])))
     make true = make_put w ok from s now g
     make false = stray_ok w ok false from s 0 7
 
     go : (b : Bool) → nat_eq k 0 ≡ b → WorldOk (cond b (make_in w from s now g) (at_end w false k (again_start now (w.node.circuit_at k).end)))
     go true q = make (nat_lt (living w.node) 8 && nat_lt w.node.drawn 65535)
     go false q =
-        let l : lives (w.node.circuit_at k).end ≡ true = (and_parts (is_of (w.node.circuit_at k) from s) (lives (w.node.circuit_at k).end) (least_passes test (upwards 0 w.node.drawn) (eqb-false k 0 q))).1 in
+        let l : lives (w.node.circuit_at k).end ≡ true = (and_parts (is_of (w.node.circuit_at k) from s) (lives (w.node.circuit_at k).end) (least_passes test (ids w.node) (eqb-false k 0 q))).1 in
         quiet_node w k (again_start now (w.node.circuit_at k).end) ok l (kin_again now (w.node.circuit_at k).end) (again_start_ok false now (w.node.circuit_at k).end) (λ i. idle_calm (w.node.circuit_at k).end (again_start now (w.node.circuit_at k).end).end (calm_again now (w.node.circuit_at k).end) i)
 
 pub arrive_ok : (w : World) → WorldOk w → (b : Bool) (from : ℕ) (bit : Bool) (d s now : ℕ) (g : Agreed) (m : Sent) → Fair w b from d s m → WorldOk (arrive w b from bit d s now g m)
@@ -281,8 +283,8 @@ pub go_on_ok : (es : List WorldEvent) (w : World) → WorldOk w → WorldOk (go_
 go_on_ok [] w ok = ok
 go_on_ok (e ∷ es) w ok = go_on_ok es (occurs w e) (occurs_ok w ok e)
 
-pub open_world_ok : (s n : ℕ) (u v : Setup) → (s ≡ n → ⊥) → u.ceiling ≤ 255 → v.ceiling ≤ 255 → WorldOk (open_world s n u v)
-open_world_ok s n u v a c d = record {
+pub open_world_ok : (s n i j : ℕ) (u v : Setup) → (s ≡ n → ⊥) → u.ceiling ≤ 255 → v.ceiling ≤ 255 → WorldOk (open_world s n i j u v)
+open_world_ok s n i j u v a c d = record {
   apart = a;
   ceiling = c;
   other_ceiling = d;

@@ -1,6 +1,6 @@
 -- A new circuit, a new slave and a first reply keep what is known of the circuits of a server and a node.
-use Rattle.std.proofs.Common.{◌≡◌, ℕ, suc, ◌<◌, ◌≤◌, ◌⊎◌, inl, inr, ⊎_elim, sym, ap, ◌∙◌, refl, subst, arith, Bool, true, false, cond, List, [], ◌∷◌, min, nat_eq, append-nil, le_refl, eqb-true}
-use Rattle.std.proofs.lemmas.Bool.{cases_lt, true≢false, false≢true, eqb-false}
+use Rattle.std.proofs.Common.{◌≡◌, ℕ, suc, ◌≤◌, ◌⊎◌, inl, inr, ⊎_elim, sym, ap, ◌∙◌, refl, subst, arith, Bool, true, false, cond, List, [], ◌∷◌, min, nat_eq, append-nil, eqb-true}
+use Rattle.std.proofs.lemmas.Bool.{true≢false, false≢true, eqb-false, true_from_ne_false}
 use Rattle.lat_model.specs.sessions.Slots.{Slot}
 use Rattle.lat_model.specs.sessions.Calls.{Call}
 use Rattle.lat_model.specs.numbers.Link.{Frame}
@@ -19,20 +19,16 @@ use Rattle.lat_model.proofs.circuits.Halves.{Sides, sides_call}
 use Rattle.lat_model.proofs.circuits.Pairs.{StepOk, agree_sides}
 use Rattle.lat_model.proofs.circuits.Kin.{Kin, call_master}
 use Rattle.lat_model.proofs.circuits.Worlds.{joint_decides, idle_together, void_together, server_put, node_put, NodeKept, Beside, Alone}
+use Rattle.lat_model.specs.circuits.Ids.{is_drawn, next_id}
+use Rattle.lat_model.proofs.circuits.Ids.{drawn_apart, drawn_not, next_new, drawn_behind, next_some, undrawn_other, next_drawn, undrawn_before}
 
 -- a circuit that lives was drawn
 
-pub server_alive : (w : World) (x : ℕ) → WorldOk w → lives (w.server.circuit_at x).end ≡ true → (x ≡ 0 → ⊥) × (x ≤ w.server.drawn)
-server_alive w x ok h = (λ q. dead (inl q), ⊎_elim {C = x ≤ w.server.drawn} (λ i. absurd (dead (inr i))) (λ i. i) (cases_lt w.server.drawn x))
-  where
-    dead : (x ≡ 0) ⊎ (w.server.drawn < x) → ⊥
-    dead i = false≢true (sym (ap (λ (z : CircuitEntry). lives z.end) (ok.none_server x i)) ∙ h)
+pub server_alive : (w : World) (x : ℕ) → WorldOk w → lives (w.server.circuit_at x).end ≡ true → is_drawn w.server x ≡ true
+server_alive w x ok h = true_from_ne_false (is_drawn w.server x) (λ i. false≢true (sym (ap (λ (z : CircuitEntry). lives z.end) (ok.none_server x i)) ∙ h))
 
-pub node_alive : (w : World) (x : ℕ) → WorldOk w → lives (w.node.circuit_at x).end ≡ true → (x ≡ 0 → ⊥) × (x ≤ w.node.drawn)
-node_alive w x ok h = (λ q. dead (inl q), ⊎_elim {C = x ≤ w.node.drawn} (λ i. absurd (dead (inr i))) (λ i. i) (cases_lt w.node.drawn x))
-  where
-    dead : (x ≡ 0) ⊎ (w.node.drawn < x) → ⊥
-    dead i = false≢true (sym (ap (λ (z : CircuitEntry). lives z.end) (ok.none_node x i)) ∙ h)
+pub node_alive : (w : World) (x : ℕ) → WorldOk w → lives (w.node.circuit_at x).end ≡ true → is_drawn w.node x ≡ true
+node_alive w x ok h = true_from_ne_false (is_drawn w.node x) (λ i. false≢true (sym (ap (λ (z : CircuitEntry). lives z.end) (ok.none_node x i)) ∙ h))
 
 -- a step that leaves an idle slave idle
 pub node_kept : (w : World) (x : ℕ) (st : Step) → WorldOk w → StepOk false (w.node.circuit_at x).end.half (w.node.circuit_at x).end.window st → (Idle (w.node.circuit_at x).end → Idle st.end) → (w.node.circuit_at x).address ≡ w.server.own → NodeKept w x st
@@ -48,10 +44,10 @@ kin_window e f k h = subst (λ z. z ≤ 8) (sym k.window) h
 -- the steps of a living circuit that no frame with a message brings
 
 pub quiet_server : (w : World) (x : ℕ) (st : Step) → WorldOk w → lives (w.server.circuit_at x).end ≡ true → Kin (w.server.circuit_at x).end st.end → StepOk true (w.server.circuit_at x).end.half (w.server.circuit_at x).end.window st → WorldOk (at_end w true x st)
-quiet_server w x st ok l kin k = server_put w x st ok (server_alive w x ok l).0 (server_alive w x ok l).1 kin (kin_window (w.server.circuit_at x).end st.end kin (ok.windows x).0) (λ h ps. k (mate w x) ps (ok.windows x).0)
+quiet_server w x st ok l kin k = server_put w x st ok (server_alive w x ok l) kin (kin_window (w.server.circuit_at x).end st.end kin (ok.windows x).0) (λ h ps. k (mate w x) ps (ok.windows x).0)
 
 pub quiet_node : (w : World) (x : ℕ) (st : Step) → WorldOk w → lives (w.node.circuit_at x).end ≡ true → Kin (w.node.circuit_at x).end st.end → StepOk false (w.node.circuit_at x).end.half (w.node.circuit_at x).end.window st → (Idle (w.node.circuit_at x).end → Idle st.end) → WorldOk (at_end w false x st)
-quiet_node w x st ok l kin k i = node_put w x st ok (node_alive w x ok l).0 (node_alive w x ok l).1 kin (kin_window (w.node.circuit_at x).end st.end kin (ok.windows x).1) (node_kept w x st ok k i)
+quiet_node w x st ok l kin k i = node_put w x st ok (node_alive w x ok l) kin (kin_window (w.node.circuit_at x).end st.end kin (ok.windows x).1) (node_kept w x st ok k i)
 
 pub moved_ok : (b : Bool) (now : ℕ) (e : End) → StepOk b e.half e.window (record { end = record e { moment = now }; sent = [] })
 moved_ok b now e o ps i t = record { sides = subst (Sides b e.half o) (sym (append-nil ps)) t; window = i }
@@ -80,13 +76,13 @@ calls_ok w ok address now = record {
   says = each_append (λ f. FromSender v f.by_server f.circuit f.to f.destination f.source f.sent) w.frames (record { by_server = true; circuit = x; to = address; destination = 0; source = x; sent = CallStart } ∷ [])
       (each_imp (λ f. FromSender w f.by_server f.circuit f.to f.destination f.source f.sent) (λ f. FromSender v f.by_server f.circuit f.to f.destination f.source f.sent) (λ f. says f.by_server f.circuit f.to f.destination f.source f.sent) w.frames ok.says)
       (tt, tt);
-  none_server = λ k h. upd_other w.server.circuit_at x c' k (λ q. ⊎_elim {C = ⊥} (λ z. absurd (omega (arith, q, z))) (λ z. absurd (omega (arith, q, z))) h) ∙ ok.none_server k (older k h);
+  none_server = λ k h. upd_other w.server.circuit_at x c' k (undrawn_other w.server.first w.server.drawn k h) ∙ ok.none_server k (undrawn_before w.server.first w.server.drawn k h);
   none_node = ok.none_node;
   windows = λ k. (upd_all (λ (z : CircuitEntry). z.end.window ≤ 8) w.server.circuit_at x c' (omega arith) (λ j. (ok.windows j).0) k, (ok.windows k).1);
 }
   where
     x : ℕ
-    x = suc w.server.drawn
+    x = next_id w.server
 
     e : End
     e = record (first_end true true w.setup) { moment = now; due_at = now; sent_at = now; start_at = now }
@@ -98,10 +94,7 @@ calls_ok w ok address now = record {
     v = occurs w (Calls address now)
 
     none : w.server.circuit_at x ≡ no_circuit true w.setup
-    none = ok.none_server x (inr (le_refl _))
-
-    older : (k : ℕ) → (k ≡ 0) ⊎ (x < k) → (k ≡ 0) ⊎ (w.server.drawn < k)
-    older k h = ⊎_elim {C = (k ≡ 0) ⊎ (w.server.drawn < k)} (λ z. inl z) (λ z. inr (omega arith)) h
+    none = ok.none_server x (next_new w.server.first w.server.drawn)
 
     matched : (p : ℕ) → (v.server.circuit_at p).address ≡ w.node.own → Together (v.server.circuit_at p).end.half (mate v p) []
     matched p h = go (nat_eq p x) h (ok.matched p)
@@ -116,7 +109,7 @@ calls_ok w ok address now = record {
         let k : Replied w p = o h r in
         let same : (v.server.circuit_at p) ≡ w.server.circuit_at p = upd_other w.server.circuit_at x c' p (eqb-false p x i) in
         let sp : (v.server.circuit_at p).end.peer ≡ (w.server.circuit_at p).end.peer = ap (λ (z : CircuitEntry). z.end.peer) same in
-        record { some = λ q. k.some (sym sp ∙ q); drawn = subst (λ z. z ≤ w.node.drawn) (sym sp) k.drawn; address = ap (λ z. (w.node.circuit_at z).address) sp ∙ k.address; peer = ap (λ z. (w.node.circuit_at z).end.peer) sp ∙ k.peer }
+        record { some = λ q. k.some (sym sp ∙ q); drawn = subst (λ z. is_drawn w.node z ≡ true) (sym sp) k.drawn; address = ap (λ z. (w.node.circuit_at z).address) sp ∙ k.address; peer = ap (λ z. (w.node.circuit_at z).end.peer) sp ∙ k.peer }
 
     calling : (p : ℕ) (b : Bool) → (cond b c' (w.server.circuit_at p)).end.running ≡ false → (cond b c' (w.server.circuit_at p)).end.peer ≡ 0
     calling p true r = refl
@@ -131,12 +124,12 @@ calls_ok w ok address now = record {
     says : (b : Bool) (y to d s : ℕ) (m : Sent) → FromSender w b y to d s m → FromSender v b y to d s m
     says true y to d s (Run k a f) h = λ t.
         let o : ((w.server.circuit_at y).address ≡ w.node.own) × ByServer w y d s f = h t in
-        let same : v.server.circuit_at y ≡ w.server.circuit_at y = upd_other w.server.circuit_at x c' y (λ q. absurd (omega (arith, q, o.1.drawn))) in (
+        let same : v.server.circuit_at y ≡ w.server.circuit_at y = upd_other w.server.circuit_at x c' y (drawn_apart w.server.first w.server.drawn y o.1.drawn) in (
           ap (λ (z : CircuitEntry). z.address) same ∙ o.0,
           record {
             source = o.1.source;
             destination = ⊎_elim {C = (d ≡ 0) ⊎ (((v.server.circuit_at y).end.running ≡ true) × (d ≡ (v.server.circuit_at y).end.peer))} (λ z. inl z) (λ z. inr (ap (λ (u : CircuitEntry). u.end.running) same ∙ z.0, z.1 ∙ sym (ap (λ (u : CircuitEntry). u.end.peer) same))) o.1.destination;
-            drawn = omega (arith, o.1.drawn);
+            drawn = drawn_behind w.server.first w.server.drawn y o.1.drawn;
             frame = subst (λ (u : CircuitEntry). FrameOf (List Slot) u.end.half.link f) (sym same) o.1.frame;
           },
         )
@@ -150,7 +143,7 @@ calls_ok w ok address now = record {
 
 -- a new slave of the node
 
-pub make_put : (w : World) → WorldOk w → (from source now : ℕ) (g : Agreed) → WorldOk (put_circuit w false (suc w.node.drawn) (suc w.node.drawn) from (make_slave now source g (first_end false false w.other)))
+pub make_put : (w : World) → WorldOk w → (from source now : ℕ) (g : Agreed) → WorldOk (put_circuit w false (suc w.node.drawn) (next_id w.node) from (make_slave now source g (first_end false false w.other)))
 make_put w ok from source now g = record {
   apart = ok.apart;
   ceiling = ok.ceiling;
@@ -159,19 +152,19 @@ make_put w ok from source now g = record {
   replied = λ p h r.
       let o : Replied w p = ok.replied p h r in
       let same : v.node.circuit_at (w.server.circuit_at p).end.peer ≡ w.node.circuit_at (w.server.circuit_at p).end.peer = old (w.server.circuit_at p).end.peer o.drawn in
-      record { some = o.some; drawn = omega (arith, o.drawn); address = ap (λ (z : CircuitEntry). z.address) same ∙ o.address; peer = ap (λ (z : CircuitEntry). z.end.peer) same ∙ o.peer };
+      record { some = o.some; drawn = drawn_behind w.node.first w.node.drawn (w.server.circuit_at p).end.peer o.drawn; address = ap (λ (z : CircuitEntry). z.address) same ∙ o.address; peer = ap (λ (z : CircuitEntry). z.end.peer) same ∙ o.peer };
   calling = ok.calling;
   idle = λ q h nj. idle q (nat_eq q x) refl h nj;
   says = each_append (λ f. FromSender v f.by_server f.circuit f.to f.destination f.source f.sent) w.frames (record { by_server = false; circuit = x; to = from; destination = source; source = x; sent = ReplyStart } ∷ [])
       (each_imp (λ f. FromSender w f.by_server f.circuit f.to f.destination f.source f.sent) (λ f. FromSender v f.by_server f.circuit f.to f.destination f.source f.sent) (λ f. says f.by_server f.circuit f.to f.destination f.source f.sent) w.frames ok.says)
-      (λ t. record { source = refl; some = λ q. absurd (omega (arith, q)); drawn = le_refl _; address = ap (λ (z : CircuitEntry). z.address) (upd_same w.node.circuit_at x c') ∙ t; destination = sym (ap (λ (z : CircuitEntry). z.end.peer) (upd_same w.node.circuit_at x c')) }, tt);
+      (λ t. record { source = refl; some = next_some w.node.first w.node.drawn; drawn = next_drawn w.node.first w.node.drawn; address = ap (λ (z : CircuitEntry). z.address) (upd_same w.node.circuit_at x c') ∙ t; destination = sym (ap (λ (z : CircuitEntry). z.end.peer) (upd_same w.node.circuit_at x c')) }, tt);
   none_server = ok.none_server;
-  none_node = λ k h. upd_other w.node.circuit_at x c' k (λ q. ⊎_elim {C = ⊥} (λ z. absurd (omega (arith, q, z))) (λ z. absurd (omega (arith, q, z))) h) ∙ ok.none_node k (older k h);
+  none_node = λ k h. upd_other w.node.circuit_at x c' k (undrawn_other w.node.first w.node.drawn k h) ∙ ok.none_node k (undrawn_before w.node.first w.node.drawn k h);
   windows = λ k. ((ok.windows k).0, upd_all (λ (z : CircuitEntry). z.end.window ≤ 8) w.node.circuit_at x c' (omega arith) (λ j. (ok.windows j).1) k);
 }
   where
     x : ℕ
-    x = suc w.node.drawn
+    x = next_id w.node
 
     e : End
     e = (make_slave now source g (first_end false false w.other)).end
@@ -180,13 +173,10 @@ make_put w ok from source now g = record {
     c' = record { address = from; end = e }
 
     v : World
-    v = put_circuit w false x x from (make_slave now source g (first_end false false w.other))
+    v = put_circuit w false (suc w.node.drawn) x from (make_slave now source g (first_end false false w.other))
 
-    old : (q : ℕ) → q ≤ w.node.drawn → v.node.circuit_at q ≡ w.node.circuit_at q
-    old q h = upd_other w.node.circuit_at x c' q (λ i. absurd (omega arith))
-
-    older : (k : ℕ) → (k ≡ 0) ⊎ (x < k) → (k ≡ 0) ⊎ (w.node.drawn < k)
-    older k h = ⊎_elim {C = (k ≡ 0) ⊎ (w.node.drawn < k)} (λ z. inl z) (λ z. inr (omega arith)) h
+    old : (q : ℕ) → is_drawn w.node q ≡ true → v.node.circuit_at q ≡ w.node.circuit_at q
+    old q h = upd_other w.node.circuit_at x c' q (drawn_apart w.node.first w.node.drawn q h)
 
     matched : (p : ℕ) → (w.server.circuit_at p).address ≡ w.node.own → (r : Bool) → (w.server.circuit_at p).end.running ≡ r → Together (w.server.circuit_at p).end.half (cond r (w.node.circuit_at (w.server.circuit_at p).end.peer).end.half (void_half false)) [] → Together (w.server.circuit_at p).end.half (cond r (v.node.circuit_at (w.server.circuit_at p).end.peer).end.half (void_half false)) []
     matched p h false r t = t
@@ -203,7 +193,7 @@ make_put w ok from source now g = record {
         ok.idle q h (λ j. nj (record { address = ap (λ z. (w.server.circuit_at z).address) sp ∙ j.address; running = ap (λ z. (w.server.circuit_at z).end.running) sp ∙ j.running; peer = ap (λ z. (w.server.circuit_at z).end.peer) sp ∙ j.peer }))
 
     by_node : (y d s : ℕ) → ByNode w y d s → ByNode v y d s
-    by_node y d s o = record { source = o.source; some = o.some; drawn = omega (arith, o.drawn); address = ap (λ (z : CircuitEntry). z.address) (old y o.drawn) ∙ o.address; destination = o.destination ∙ sym (ap (λ (z : CircuitEntry). z.end.peer) (old y o.drawn)) }
+    by_node y d s o = record { source = o.source; some = o.some; drawn = drawn_behind w.node.first w.node.drawn y o.drawn; address = ap (λ (z : CircuitEntry). z.address) (old y o.drawn) ∙ o.address; destination = o.destination ∙ sym (ap (λ (z : CircuitEntry). z.end.peer) (old y o.drawn)) }
 
     says : (b : Bool) (y to d s : ℕ) (m : Sent) → FromSender w b y to d s m → FromSender v b y to d s m
     says true y to d s (Run k a f) h = λ t. let o : ((w.server.circuit_at y).address ≡ w.node.own) × ByServer w y d s f = h t in (o.0, record { source = o.1.source; destination = o.1.destination; drawn = o.1.drawn; frame = o.1.frame })
@@ -217,8 +207,8 @@ make_put w ok from source now g = record {
 
 -- the first reply: from now on the master runs beside the slave that sent it
 
-pub reply_put : (w : World) (x now source : ℕ) (g : Agreed) → WorldOk w → (x ≡ 0 → ⊥) → x ≤ w.server.drawn → (w.server.circuit_at x).end.running ≡ false → ((w.server.circuit_at x).address ≡ w.node.own → (source ≡ 0 → ⊥) × (source ≤ w.node.drawn) × ((w.node.circuit_at source).address ≡ w.server.own) × ((w.node.circuit_at source).end.peer ≡ x)) → WorldOk (at_end w true x (record { end = reply_end now source g (w.server.circuit_at x).end; sent = [] }))
-reply_put w x now source g ok nz dr idle_yet facts = record {
+pub reply_put : (w : World) (x now source : ℕ) (g : Agreed) → WorldOk w → is_drawn w.server x ≡ true → (w.server.circuit_at x).end.running ≡ false → ((w.server.circuit_at x).address ≡ w.node.own → (source ≡ 0 → ⊥) × (is_drawn w.node source ≡ true) × ((w.node.circuit_at source).address ≡ w.server.own) × ((w.node.circuit_at source).end.peer ≡ x)) → WorldOk (at_end w true x (record { end = reply_end now source g (w.server.circuit_at x).end; sent = [] }))
+reply_put w x now source g ok dr idle_yet facts = record {
   apart = ok.apart;
   ceiling = ok.ceiling;
   other_ceiling = ok.other_ceiling;
@@ -228,7 +218,7 @@ reply_put w x now source g ok nz dr idle_yet facts = record {
   idle = λ q h nj. ok.idle q h (λ j. nj (joint q j (nat_eq (w.node.circuit_at q).end.peer x) refl));
   says = subst (Each (λ f. FromSender v f.by_server f.circuit f.to f.destination f.source f.sent)) (sym (append-nil w.frames))
       (each_imp (λ f. FromSender w f.by_server f.circuit f.to f.destination f.source f.sent) (λ f. FromSender v f.by_server f.circuit f.to f.destination f.source f.sent) (λ f. says f.by_server f.circuit f.to f.destination f.source f.sent) w.frames ok.says);
-  none_server = λ k h. upd_other w.server.circuit_at x c' k (λ q. ⊎_elim {C = ⊥} (λ z. nz (sym q ∙ z)) (λ z. absurd (omega arith)) h) ∙ ok.none_server k h;
+  none_server = λ k h. upd_other w.server.circuit_at x c' k (drawn_not w.server.first w.server.drawn k x h dr) ∙ ok.none_server k h;
   none_node = ok.none_node;
   windows = λ k. (upd_all (λ (z : CircuitEntry). z.end.window ≤ 8) w.server.circuit_at x c' (omega arith) (λ j. (ok.windows j).0) k, (ok.windows k).1);
 }
@@ -262,11 +252,11 @@ reply_put w x now source g ok nz dr idle_yet facts = record {
     replied p true i h r =
         let j : p ≡ x = eqb-true p x i in
         let same : (v.server.circuit_at p).end.peer ≡ source = ap (λ z. (v.server.circuit_at z).end.peer) j ∙ ap (λ (z : CircuitEntry). z.end.peer) (upd_same w.server.circuit_at x c') in
-        record { some = λ q. (facts h).0 (sym same ∙ q); drawn = subst (λ z. z ≤ w.node.drawn) (sym same) (facts h).1; address = ap (λ z. (w.node.circuit_at z).address) same ∙ (facts h).2; peer = ap (λ z. (w.node.circuit_at z).end.peer) same ∙ (facts h).3 ∙ sym j }
+        record { some = λ q. (facts h).0 (sym same ∙ q); drawn = subst (λ z. is_drawn w.node z ≡ true) (sym same) (facts h).1; address = ap (λ z. (w.node.circuit_at z).address) same ∙ (facts h).2; peer = ap (λ z. (w.node.circuit_at z).end.peer) same ∙ (facts h).3 ∙ sym j }
     replied p false i h r =
         let k : Replied w p = ok.replied p h r in
         let sp : (v.server.circuit_at p).end.peer ≡ (w.server.circuit_at p).end.peer = ap (λ (z : CircuitEntry). z.end.peer) (upd_other w.server.circuit_at x c' p (eqb-false p x i)) in
-        record { some = λ q. k.some (sym sp ∙ q); drawn = subst (λ z. z ≤ w.node.drawn) (sym sp) k.drawn; address = ap (λ z. (w.node.circuit_at z).address) sp ∙ k.address; peer = ap (λ z. (w.node.circuit_at z).end.peer) sp ∙ k.peer }
+        record { some = λ q. k.some (sym sp ∙ q); drawn = subst (λ z. is_drawn w.node z ≡ true) (sym sp) k.drawn; address = ap (λ z. (w.node.circuit_at z).address) sp ∙ k.address; peer = ap (λ z. (w.node.circuit_at z).end.peer) sp ∙ k.peer }
 
     calling : (p : ℕ) (b : Bool) → (cond b c' (w.server.circuit_at p)).end.running ≡ false → (cond b c' (w.server.circuit_at p)).end.peer ≡ 0
     calling p true r = absurd (true≢false r)

@@ -21,15 +21,16 @@ use Rattle.lat_model.proofs.circuits.Streams.{agree}
 use Rattle.lat_model.proofs.circuits.Worlds.{joint_sides}
 use Rattle.lat_model.proofs.circuits.Begins.{node_alive}
 use Rattle.lat_model.proofs.circuits.Arrives.{go_on_ok, open_world_ok}
+use Rattle.lat_model.proofs.circuits.Ids.{drawn_some}
 
-pub every_world : (s n : ℕ) (u v : Setup) (es : List WorldEvent) → (s ≡ n → ⊥) → u.ceiling ≤ 255 → v.ceiling ≤ 255 → WorldOk (go_on es (open_world s n u v))
-every_world s n u v es a c d = go_on_ok es (open_world s n u v) (open_world_ok s n u v a c d)
+pub every_world : (s n i j : ℕ) (u v : Setup) (es : List WorldEvent) → (s ≡ n → ⊥) → u.ceiling ≤ 255 → v.ceiling ≤ 255 → WorldOk (go_on es (open_world s n i j u v))
+every_world s n i j u v es a c d = go_on_ok es (open_world s n i j u v) (open_world_ok s n i j u v a c d)
 
 pub circuits_agree : (w : World) → WorldOk w → (q : ℕ) → Joint w q → Agree (the_half w true (w.node.circuit_at q).end.peer) (the_half w false q)
 circuits_agree w ok q j = agree (the_half w true (w.node.circuit_at q).end.peer) (the_half w false q) [] (joint_sides w q ok j)
 
 pub world_reached_ok : (w : World) → WorldRun w → WorldOk w
-world_reached_ok w r = subst WorldOk (sym r.reached) (every_world r.server r.node r.setup r.other r.events r.apart r.ceiling r.other_ceiling)
+world_reached_ok w r = subst WorldOk (sym r.reached) (every_world r.server r.node r.first r.other_first r.setup r.other r.events r.apart r.ceiling r.other_ceiling)
 
 -- a RUN that comes: its sender's circuit, beside which the one that hears it stands
 pub record Met_frame (w : World) (p : Wired) (f : Frame (List Slot)) : Type 0 where
@@ -61,7 +62,7 @@ met_node w ok x to d s k a f t h n =
     let ip : c.end.peer ≡ s = eqb-true c.end.peer s i.1 in
     let o : ((w.server.circuit_at x).address ≡ w.node.own) × ByServer w x d s f = h t in
     let e : x ≡ c.end.peer = sym o.1.source ∙ sym ip in
-    let run : ((w.server.circuit_at x).end.running ≡ true) × (d ≡ (w.server.circuit_at x).end.peer) = ⊎_elim {C = ((w.server.circuit_at x).end.running ≡ true) × (d ≡ (w.server.circuit_at x).end.peer)} (λ z. absurd ((node_alive w d ok r.1).0 z)) (λ z. z) o.1.destination in
+    let run : ((w.server.circuit_at x).end.running ≡ true) × (d ≡ (w.server.circuit_at x).end.peer) = ⊎_elim {C = ((w.server.circuit_at x).end.running ≡ true) × (d ≡ (w.server.circuit_at x).end.peer)} (λ z. absurd (drawn_some w.node.first w.node.drawn d (node_alive w d ok r.1) z)) (λ z. z) o.1.destination in
     let j : Joint w d = record { address = ap (λ z. (w.server.circuit_at z).address) (sym e) ∙ o.0; running = ap (λ z. (w.server.circuit_at z).end.running) (sym e) ∙ run.0; peer = ap (λ z. (w.server.circuit_at z).end.peer) (sym e) ∙ sym run.1 } in
     record {
       sides = subst (λ z. Together (w.server.circuit_at z).end.half c.end.half []) ip (joint_sides w d ok j);

@@ -1,6 +1,6 @@
 -- Both ends of a circuit have one span.
-use Rattle.std.proofs.Common.{◌≡◌, ◌≢◌, ℕ, suc, ◌≤◌, sym, ap, ◌∙◌, refl, subst, arith, Bool, true, false, not, cond, ◌&&◌, ◌||◌, List, [], ◌∷◌, Option, Some, None, slice_get, nat_eq, nat_lt, eqb-true}
-use Rattle.std.proofs.lemmas.Bool.{and_parts, or_parts, false≢true, eqb-false}
+use Rattle.std.proofs.Common.{◌≡◌, ◌≢◌, ℕ, suc, sym, ap, ◌∙◌, refl, subst, Bool, true, false, not, cond, ◌&&◌, ◌||◌, List, [], ◌∷◌, Option, Some, None, slice_get, nat_eq, nat_lt, eqb-true}
+use Rattle.std.proofs.lemmas.Bool.{and_parts, or_parts, false≢true, eqb-false, true≢false}
 use Rattle.lat_model.specs.ends.End.{Sent, Run, CallStart, ReplyStart, Stopped, End, Step, lives, still, call_end, finish, lapse}
 use Rattle.lat_model.specs.ends.Run.{run_end}
 use Rattle.lat_model.specs.ends.Timers.{time_step}
@@ -15,6 +15,8 @@ use Rattle.lat_model.proofs.numbers.Net.{each_at}
 use Rattle.lat_model.proofs.circuits.Kin.{Kin, kin_run, kin_time, kin_again, kin_stop, kin_finish}
 use Rattle.lat_model.proofs.circuits.Begins.{kin_call}
 use Rattle.lat_model.proofs.circuits.Arrives.{occurs_ok, open_world_ok}
+use Rattle.lat_model.specs.circuits.Ids.{is_drawn, is_id_of, next_id}
+use Rattle.lat_model.proofs.circuits.Ids.{drawn_before, none_drawn}
 
 -- a circuit is put
 
@@ -24,22 +26,22 @@ put_server a b w drawn x address s h k = record {
   masters = upd_all (λ (c : CircuitEntry). c.address ≡ w.node.own → c.end.running ≡ true → c.end.wide ≡ (a && b)) w.server.circuit_at x (record { address = address; end = s.end }) k h.masters;
 }
 
-put_node : (a b : Bool) (w : World) (drawn x address : ℕ) (s : Step) → ((q : ℕ) → q ≤ drawn → q ≢ x → q ≤ w.node.drawn) → OneSpan a b w → (x ≢ 0 → x ≤ drawn → address ≡ w.server.own → s.end.wide ≡ (a && b)) → OneSpan a b (put_circuit w false drawn x address s)
+put_node : (a b : Bool) (w : World) (drawn x address : ℕ) (s : Step) → ((q : ℕ) → is_id_of w.node.first drawn q ≡ true → q ≢ x → is_drawn w.node q ≡ true) → OneSpan a b w → (is_id_of w.node.first drawn x ≡ true → address ≡ w.server.own → s.end.wide ≡ (a && b)) → OneSpan a b (put_circuit w false drawn x address s)
 put_node a b w drawn x address s d h k = record { slaves = λ q. go q (nat_eq q x) refl; masters = h.masters }
   where
     entry : CircuitEntry
     entry = record { address = address; end = s.end }
 
-    go : (q : ℕ) (c : Bool) → nat_eq q x ≡ c → q ≢ 0 → q ≤ drawn → (cond c entry (w.node.circuit_at q)).address ≡ w.server.own → (cond c entry (w.node.circuit_at q)).end.wide ≡ (a && b)
-    go q true e n i j =
+    go : (q : ℕ) (c : Bool) → nat_eq q x ≡ c → is_id_of w.node.first drawn q ≡ true → (cond c entry (w.node.circuit_at q)).address ≡ w.server.own → (cond c entry (w.node.circuit_at q)).end.wide ≡ (a && b)
+    go q true e i j =
         let r : q ≡ x = eqb-true q x e in
-        k (λ z. n (r ∙ z)) (subst (λ z. z ≤ drawn) r i) j
-    go q false e n i j = h.slaves q n (d q i (eqb-false q x e)) j
+        k (subst (λ z. is_id_of w.node.first drawn z ≡ true) r i) j
+    go q false e i j = h.slaves q (d q i (eqb-false q x e)) j
 
 -- a step of a circuit that changes neither its span nor whether it runs
 kin_at : (a b : Bool) (w : World) (c : Bool) (x : ℕ) (s : Step) → OneSpan a b w → Kin ((table w c).circuit_at x).end s.end → OneSpan a b (at_end w c x s)
 kin_at a b w true x s h k = put_server a b w w.server.drawn x (w.server.circuit_at x).address _ h (λ e r. k.wide ∙ h.masters x e (sym k.running ∙ r))
-kin_at a b w false x s h k = put_node a b w w.node.drawn x (w.node.circuit_at x).address _ (λ q i n. i) h (λ n i e. k.wide ∙ h.slaves x n i e)
+kin_at a b w false x s h k = put_node a b w w.node.drawn x (w.node.circuit_at x).address _ (λ q i n. i) h (λ i e. k.wide ∙ h.slaves x i e)
 
 span_cond : (a b : Bool) (c : Bool) (v w : World) → (c ≡ true → OneSpan a b v) → (c ≡ false → OneSpan a b w) → OneSpan a b (cond c v w)
 span_cond a b true v w h k = h refl
@@ -58,9 +60,9 @@ start_span : (a b : Bool) (w : World) (from source now : ℕ) (g : Agreed) → O
 start_span a b w from source now g h k =
     span_cond a b (nat_eq (slave_of w.node from source) 0) (make_in w from source now g) (at_end w false (slave_of w.node from source) (again_start now (w.node.circuit_at (slave_of w.node from source)).end))
     (λ e. span_cond a b (nat_lt (living w.node) 8 && nat_lt w.node.drawn 65535)
-    (put_circuit w false (suc w.node.drawn) (suc w.node.drawn) from (make_slave now source g (first_end false false w.other)))
+    (put_circuit w false (suc w.node.drawn) (next_id w.node) from (make_slave now source g (first_end false false w.other)))
     (with_table w false w.node (refusal from source ∷ []))
-    (λ f. put_node a b w (suc w.node.drawn) (suc w.node.drawn) from (make_slave now source g (first_end false false w.other)) (λ q i n. omega (arith, n)) h (λ n i j. k j))
+    (λ f. put_node a b w (suc w.node.drawn) (next_id w.node) from (make_slave now source g (first_end false false w.other)) (λ q i n. drawn_before w.node.first w.node.drawn q n i) h (λ i j. k j))
     (λ f. record { slaves = h.slaves; masters = h.masters }))
     (λ e. kin_at a b w false (slave_of w.node from source) (again_start now (w.node.circuit_at (slave_of w.node from source)).end) h (kin_again now (w.node.circuit_at (slave_of w.node from source)).end))
 
@@ -102,7 +104,7 @@ sent_reads a b w h by x to d s g CallStart t y r = λ e i. r
 sent_reads a b w h true x to d s g ReplyStart t y r = λ e i. absurd (false≢true e)
 sent_reads a b w h false x to d s g ReplyStart t y r =
     let n : ByNode w x d s = y t in
-    λ e i. r ∙ ap (λ z. a && z) (h.slaves x n.some n.drawn n.address) ∙ and_again a b
+    λ e i. r ∙ ap (λ z. a && z) (h.slaves x n.drawn n.address) ∙ and_again a b
 
 deliver_span : (a b : Bool) (w : World) → WorldOk w → OneSpan a b w → (now : ℕ) (g : Agreed) (o : Option Wired) → ((p : Wired) → o ≡ Some p → FromSender w p.by_server p.circuit p.to p.destination p.source p.sent) → ((p : Wired) → o ≡ Some p → ReadsSpan a b w g p.circuit p.sent) → OneSpan a b (deliver_in w now g o)
 deliver_span a b w ok h now g None y r = h
@@ -121,7 +123,7 @@ foreign_reads a b w side from g ReplyStart e = λ i j. absurd (eqb-false from w.
 -- an event
 
 occurs_span : (a b : Bool) (w : World) → WorldOk w → OneSpan a b w → (e : WorldEvent) → TellsSpan a b w e → OneSpan a b (occurs w e)
-occurs_span a b w ok h (Calls address now) t = put_server a b w (suc w.server.drawn) (suc w.server.drawn) address (make_master now (first_end true true w.setup)) h (λ e r. absurd (false≢true r))
+occurs_span a b w ok h (Calls address now) t = put_server a b w (suc w.server.drawn) (next_id w.server) address (make_master now (first_end true true w.setup)) h (λ e r. absurd (false≢true r))
 occurs_span a b w ok h (Locally c x call) t =
     let e : End = ((table w c).circuit_at x).end in
     span_cond a b (lives e) (at_end w c x (record { end = call_end call e; sent = [] })) w (λ l. kin_at a b w c x (record { end = call_end call e; sent = [] }) h (kin_call call e)) (λ l. h)
@@ -151,16 +153,13 @@ go_on_span a b (e ∷ es) w ok h t = go_on_span a b es (occurs w e) (occurs_ok w
 pub joint_span : (a b : Bool) (w : World) → WorldOk w → OneSpan a b w → (q : ℕ) → Joint w q → ((w.node.circuit_at q).end.wide ≡ (a && b)) × ((w.server.circuit_at (w.node.circuit_at q).end.peer).end.wide ≡ (a && b))
 joint_span a b w ok h q j =
     let r : Replied w (w.node.circuit_at q).end.peer = ok.replied (w.node.circuit_at q).end.peer j.address j.running in (
-      h.slaves q (λ z. r.some (j.peer ∙ z)) (subst (λ z. z ≤ w.node.drawn) j.peer r.drawn) (ap (λ z. (w.node.circuit_at z).address) (sym j.peer) ∙ r.address),
+      h.slaves q (subst (λ z. is_drawn w.node z ≡ true) j.peer r.drawn) (ap (λ z. (w.node.circuit_at z).address) (sym j.peer) ∙ r.address),
       h.masters (w.node.circuit_at q).end.peer j.address j.running,
     )
 
-pub run_span : (a b : Bool) (w : World) (r : WorldRun w) → TellSpans a b (open_world r.server r.node r.setup r.other) r.events → OneSpan a b w
+pub run_span : (a b : Bool) (w : World) (r : WorldRun w) → TellSpans a b (open_world r.server r.node r.first r.other_first r.setup r.other) r.events → OneSpan a b w
 run_span a b w r t =
-    let v : World = open_world r.server r.node r.setup r.other in
+    let v : World = open_world r.server r.node r.first r.other_first r.setup r.other in
     subst (OneSpan a b) (sym r.reached)
-    (go_on_span a b r.events v (open_world_ok r.server r.node r.setup r.other r.apart r.ceiling r.other_ceiling)
-    (record { slaves = λ q n i e. absurd (nothing q n i); masters = λ p e f. absurd (false≢true f) }) t)
-  where
-    nothing : (q : ℕ) → q ≢ 0 → q ≤ 0 → ⊥
-    nothing q n i = n (omega (arith, i))
+    (go_on_span a b r.events v (open_world_ok r.server r.node r.first r.other_first r.setup r.other r.apart r.ceiling r.other_ceiling)
+    (record { slaves = λ q i e. absurd (true≢false (sym i ∙ none_drawn r.other_first q)); masters = λ p e f. absurd (false≢true f) }) t)

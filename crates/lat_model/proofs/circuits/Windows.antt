@@ -18,6 +18,7 @@ use Rattle.lat_model.specs.circuits.Events.{WorldEvent, Calls, Locally, Times, M
 use Rattle.lat_model.specs.circuits.WorldOk.{WorldOk}
 use Rattle.lat_model.proofs.sessions.Words.{upd_all}
 use Rattle.lat_model.proofs.circuits.Kin.{and_false, right_false, kin_run, kin_time}
+use Rattle.lat_model.specs.circuits.Ids.{next_id}
 
 -- what one end keeps of its window
 pub record Opens (e : End) : Type 0 where
@@ -221,9 +222,9 @@ start_open : (w : World) → AllOpen w → (from source now : ℕ) (g : Agreed) 
 start_open w h from source now g =
     all_cond (nat_eq k 0) (make_in w from source now g) (at_end w false k (again_start now (w.node.circuit_at k).end))
     (λ q. all_cond (nat_lt (arriving.living w.node) 8 && nat_lt w.node.drawn 65535)
-    (put_circuit w false (suc w.node.drawn) (suc w.node.drawn) from (make_slave now source g (first_end false false w.other)))
+    (put_circuit w false (suc w.node.drawn) (next_id w.node) from (make_slave now source g (first_end false false w.other)))
     (with_table w false w.node (refusal from source ∷ []))
-    (λ r. put_open w false (suc w.node.drawn) (suc w.node.drawn) from (make_slave now source g (first_end false false w.other)) h (record { quiet = λ z. refl; within = omega arith }))
+    (λ r. put_open w false (suc w.node.drawn) (next_id w.node) from (make_slave now source g (first_end false false w.other)) h (record { quiet = λ z. refl; within = omega arith }))
     (record { server = h.server; node = h.node }))
     (step_open w false k (again_start now (w.node.circuit_at k).end) h (open_again now (w.node.circuit_at k).end (h.node k)))
   where
@@ -254,7 +255,7 @@ deliver_open w h now g (Some p) =
     (λ q. arrive_open w h (not p.by_server) (table w p.by_server).own p.by_server p.destination p.source now g p.sent) h
 
 occurs_open : (w : World) → AllOpen w → (e : WorldEvent) → AllOpen (occurs w e)
-occurs_open w h (Calls address now) = put_open w true (suc w.server.drawn) (suc w.server.drawn) address (make_master now (first_end true true w.setup)) h (record { quiet = λ z. refl; within = omega arith })
+occurs_open w h (Calls address now) = put_open w true (suc w.server.drawn) (next_id w.server) address (make_master now (first_end true true w.setup)) h (record { quiet = λ z. refl; within = omega arith })
 occurs_open w h (Locally b x c) =
     let e : End = ((table w b).circuit_at x).end in
     all_cond (lives e) (at_end w b x (record { end = call_end c e; sent = [] })) w (λ q. step_open w b x (record { end = call_end c e; sent = [] }) h (open_call c e (open_at w h b x))) h
@@ -287,7 +288,7 @@ go_on_open (e ∷ es) w h = go_on_open es (occurs w e) (occurs_open w h e)
 pub run_open : (w : World) → WorldRun w → AllOpen w
 run_open w r =
     subst AllOpen (sym r.reached)
-    (go_on_open r.events (open_world r.server r.node r.setup r.other)
+    (go_on_open r.events (open_world r.server r.node r.first r.other_first r.setup r.other)
     (record { server = λ k. record { quiet = λ z. refl; within = omega arith }; node = λ k. record { quiet = λ z. refl; within = omega arith } }))
 
 pub window_at : (w : World) → WorldOk w → (b : Bool) (k : ℕ) → ((table w b).circuit_at k).end.window ≤ 8

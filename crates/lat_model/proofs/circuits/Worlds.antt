@@ -18,6 +18,8 @@ use Rattle.lat_model.proofs.circuits.Halves.{Sides}
 use Rattle.lat_model.proofs.circuits.Pairs.{After, void_ok}
 use Rattle.lat_model.proofs.sessions.Freshly.{fresh_same}
 use Rattle.lat_model.proofs.circuits.Kin.{Kin}
+use Rattle.lat_model.specs.circuits.Ids.{is_drawn}
+use Rattle.lat_model.proofs.circuits.Ids.{drawn_not, drawn_some}
 
 -- halves
 
@@ -138,10 +140,10 @@ joint_decides w q = go (nat_eq c.address w.node.own) refl c.end.running refl (na
 
 -- A step of a circuit of the server
 
-pub server_put : (w : World) (x : ℕ) (st : Step) → WorldOk w → (x ≡ 0 → ⊥) → x ≤ w.server.drawn → Kin (w.server.circuit_at x).end st.end → st.end.window ≤ 8 →
+pub server_put : (w : World) (x : ℕ) (st : Step) → WorldOk w → is_drawn w.server x ≡ true → Kin (w.server.circuit_at x).end st.end → st.end.window ≤ 8 →
     ((w.server.circuit_at x).address ≡ w.node.own → (ps : List Posted) → Sides true (w.server.circuit_at x).end.half (mate w x) ps → After true st (mate w x) ps) →
     WorldOk (at_end w true x st)
-server_put w x st ok nz dr kin win after = record {
+server_put w x st ok dr kin win after = record {
   apart = ok.apart;
   ceiling = ok.ceiling;
   other_ceiling = ok.other_ceiling;
@@ -150,7 +152,7 @@ server_put w x st ok nz dr kin win after = record {
       let o : Replied w p = ok.replied p (sym (address p) ∙ h) (sym (running p) ∙ r) in
       record {
         some = λ q. o.some (sym (peer p) ∙ q);
-        drawn = subst (λ z. z ≤ w.node.drawn) (sym (peer p)) o.drawn;
+        drawn = subst (λ z. is_drawn w.node z ≡ true) (sym (peer p)) o.drawn;
         address = ap (λ z. (w.node.circuit_at z).address) (peer p) ∙ o.address;
         peer = ap (λ z. (w.node.circuit_at z).end.peer) (peer p) ∙ o.peer;
       };
@@ -159,7 +161,7 @@ server_put w x st ok nz dr kin win after = record {
   says = each_append (λ f. FromSender v f.by_server f.circuit f.to f.destination f.source f.sent) w.frames (wire_all true x c.address e.peer st.sent)
       (each_imp (λ f. FromSender w f.by_server f.circuit f.to f.destination f.source f.sent) (λ f. FromSender v f.by_server f.circuit f.to f.destination f.source f.sent) (λ f. says f.by_server f.circuit f.to f.destination f.source f.sent) w.frames ok.says)
       (news st.sent (λ h. new_frames true st (mate w x) (after h [] (ok.matched x h))));
-  none_server = λ k h. upd_other w.server.circuit_at x c' k (λ q. ⊎_elim {C = ⊥} (λ z. nz (sym q ∙ z)) (λ z. absurd (omega arith)) h) ∙ ok.none_server k h;
+  none_server = λ k h. upd_other w.server.circuit_at x c' k (drawn_not w.server.first w.server.drawn k x h dr) ∙ ok.none_server k h;
   none_node = ok.none_node;
   windows = λ k. (upd_all (λ (z : CircuitEntry). z.end.window ≤ 8) w.server.circuit_at x c' win (λ j. (ok.windows j).0) k, (ok.windows k).1);
 }
@@ -273,9 +275,9 @@ node_idle : (w : World) (x : ℕ) (st : Step) → (Joint w x → ⊥) → NodeKe
 node_idle w x st n (Beside j k) = absurd (n j)
 node_idle w x st n (Alone m i k) = i
 
-pub node_put : (w : World) (x : ℕ) (st : Step) → WorldOk w → (x ≡ 0 → ⊥) → x ≤ w.node.drawn → Kin (w.node.circuit_at x).end st.end → st.end.window ≤ 8 →
+pub node_put : (w : World) (x : ℕ) (st : Step) → WorldOk w → is_drawn w.node x ≡ true → Kin (w.node.circuit_at x).end st.end → st.end.window ≤ 8 →
     ((w.node.circuit_at x).address ≡ w.server.own → NodeKept w x st) → WorldOk (at_end w false x st)
-node_put w x st ok nz dr kin win kept = record {
+node_put w x st ok dr kin win kept = record {
   apart = ok.apart;
   ceiling = ok.ceiling;
   other_ceiling = ok.other_ceiling;
@@ -289,7 +291,7 @@ node_put w x st ok nz dr kin win kept = record {
       (each_imp (λ f. FromSender w f.by_server f.circuit f.to f.destination f.source f.sent) (λ f. FromSender v f.by_server f.circuit f.to f.destination f.source f.sent) (λ f. says f.by_server f.circuit f.to f.destination f.source f.sent) w.frames ok.says)
       (news st.sent (λ h. node_new w x st ok h (kept h)));
   none_server = ok.none_server;
-  none_node = λ k h. upd_other w.node.circuit_at x c' k (λ q. ⊎_elim {C = ⊥} (λ z. nz (sym q ∙ z)) (λ z. absurd (omega arith)) h) ∙ ok.none_node k h;
+  none_node = λ k h. upd_other w.node.circuit_at x c' k (drawn_not w.node.first w.node.drawn k x h dr) ∙ ok.none_node k h;
   windows = λ k. ((ok.windows k).0, upd_all (λ (z : CircuitEntry). z.end.window ≤ 8) w.node.circuit_at x c' win (λ j. (ok.windows j).1) k);
 }
   where
@@ -361,7 +363,7 @@ node_put w x st ok nz dr kin win kept = record {
     says false y to d s (Stopped r) h = tt
 
     mine : c.address ≡ w.server.own → ByNode v x e.peer x
-    mine h = record { source = refl; some = nz; drawn = dr; address = address x ∙ h; destination = sym (ap (λ (z : CircuitEntry). z.end.peer) (upd_same w.node.circuit_at x c')) }
+    mine h = record { source = refl; some = drawn_some w.node.first w.node.drawn x dr; drawn = dr; address = address x ∙ h; destination = sym (ap (λ (z : CircuitEntry). z.end.peer) (upd_same w.node.circuit_at x c')) }
 
     news : (ss : List Sent) → (c.address ≡ w.server.own → Each (SentOk st.end.half.link) ss) → Each (λ f. FromSender v f.by_server f.circuit f.to f.destination f.source f.sent) (wire_all false x c.address e.peer ss)
     news [] h = tt

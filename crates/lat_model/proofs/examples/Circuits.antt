@@ -6,6 +6,7 @@ use Rattle.lat_model.specs.ends.End.{Sent, Run, CallStart, ReplyStart, Stopped, 
 use Rattle.lat_model.specs.ends.Starting.{Agreed}
 use Rattle.lat_model.specs.circuits.Pair.{Event, Time, run, open_pair}
 use Rattle.lat_model.specs.circuits.World.{Wired, World}
+use Rattle.lat_model.specs.circuits.Ids.{id_behind, ids_of}
 use Rattle.lat_model.specs.circuits.Events.{WorldEvent, Calls, Delivers, Injects, Locally, Times, go_on, open_world}
 use Rattle.lat_model.proofs.examples.Hello.{usual, vax, hello}
 
@@ -30,7 +31,7 @@ two_circuits =
     ∷ Locally true 1 (Connect vax None) ∷ Locally true 1 (Put 1 hello) ∷ Times true 1 80 ∷ Delivers 4 80 told ∷ Locally false 1 (Answer 1)
     ∷ Delivers 5 80 told ∷ Times false 1 80 ∷ Delivers 6 80 told ∷ Times true 1 160 ∷ Delivers 7 160 told ∷ []
 
-hello_arrives : took ((go_on two_circuits (open_world 1 2 usual usual)).node.circuit_at 1).end.half.sessions 1 100 ≡ Byte 104 ∷ Byte 101 ∷ Byte 108 ∷ Byte 108 ∷ Byte 111 ∷ []
+hello_arrives : took ((go_on two_circuits (open_world 1 2 1 1 usual usual)).node.circuit_at 1).end.half.sessions 1 100 ≡ Byte 104 ∷ Byte 101 ∷ Byte 108 ∷ Byte 108 ∷ Byte 111 ∷ []
 hello_arrives = refl
 
 -- A foreign peer asks for a session and sends data without a credit: the node replies, acknowledges, and breaks the circuit
@@ -44,8 +45,8 @@ no_credit =
     ∷ []
 
 broken_by_data :
-    (sent (go_on no_credit (open_world 1 2 usual usual)) ≡ ReplyStart ∷ Run Bare false (record { number = 0; acknowledgement = 1; body = None }) ∷ Stopped 2 ∷ [])
-    × (((go_on no_credit (open_world 1 2 usual usual)).node.circuit_at 1).end.ended ≡ Some 2)
+    (sent (go_on no_credit (open_world 1 2 1 1 usual usual)) ≡ ReplyStart ∷ Run Bare false (record { number = 0; acknowledgement = 1; body = None }) ∷ Stopped 2 ∷ [])
+    × (((go_on no_credit (open_world 1 2 1 1 usual usual)).node.circuit_at 1).end.ended ≡ Some 2)
 broken_by_data = (refl, refl)
 
 -- it acknowledges what was never sent: the circuit breaks, and the next frame is foreign
@@ -56,5 +57,13 @@ never_sent =
     ∷ Injects false 10 true 1 1 0 told (Run Fresh false (record { number = 2; acknowledgement = 0; body = Some (DataA 1 1 0 (65 ∷ []) ∷ []) }))
     ∷ []
 
-broken_by_acknowledgement : sent (go_on never_sent (open_world 1 2 usual usual)) ≡ ReplyStart ∷ Stopped 2 ∷ []
+broken_by_acknowledgement : sent (go_on never_sent (open_world 1 2 1 1 usual usual)) ≡ ReplyStart ∷ Stopped 2 ∷ []
 broken_by_acknowledgement = refl
+
+-- ids from 65,534 on: 1 and 2 come behind 65,535, and stand before it
+wraps : (map (id_behind 65534) (0 ∷ 1 ∷ 2 ∷ 3 ∷ []) ≡ 65534 ∷ 65535 ∷ 1 ∷ 2 ∷ []) × (ids_of 65534 4 ≡ 1 ∷ 2 ∷ 65534 ∷ 65535 ∷ [])
+wraps = (refl, refl)
+
+-- ids from 1 on
+from_one : ids_of 1 4 ≡ 1 ∷ 2 ∷ 3 ∷ 4 ∷ []
+from_one = refl

@@ -1,12 +1,13 @@
 -- A frame comes to a side. The address and both ids in it must be those of the circuit.
 use Rattle.std.specs.Prelude.{ℕ, suc, Bool, true, false, not, cond, ◌&&◌, ◌||◌, List, [], ◌∷◌, length, nat_eq, nat_lt}
 use Rattle.lat_model.specs.sessions.Slots.{Slot}
-use Rattle.lat_model.specs.Lists.{upwards, keep, least}
+use Rattle.lat_model.specs.Lists.{keep, least}
 use Rattle.lat_model.specs.numbers.Link.{Frame}
 use Rattle.lat_model.specs.ends.End.{Sent, Run, CallStart, ReplyStart, Stopped, lives}
 use Rattle.lat_model.specs.ends.Run.{run_end}
 use Rattle.lat_model.specs.ends.Starting.{Agreed, make_slave, again_start, hear_reply, hear_stop}
 use Rattle.lat_model.specs.circuits.World.{CircuitEntry, Table, Wired, World, table, with_table, put_circuit, at_end, first_end}
+use Rattle.lat_model.specs.circuits.Ids.{next_id, ids}
 use Rattle.lat_model.specs.Reasons as reasons
 
 abbrev pub is_of : CircuitEntry → ℕ → ℕ → Bool
@@ -34,11 +35,11 @@ reply_in w from destination source now g =
     w
 
 abbrev pub living : Table → ℕ
-living t = length (keep (λ i. lives (t.circuit_at i).end) (upwards 0 t.drawn))
+living t = length (keep (λ i. lives (t.circuit_at i).end) (ids t))
 
 abbrev pub slave_of : Table → ℕ → ℕ → ℕ
 slave_of t from source =
-    least (λ i. is_of (t.circuit_at i) from source && lives (t.circuit_at i).end) (upwards 0 t.drawn)
+    least (λ i. is_of (t.circuit_at i) from source && lives (t.circuit_at i).end) (ids t)
 
 -- a STOP for want of resources, which comes from no circuit
 abbrev pub refusal : ℕ → ℕ → Wired
@@ -55,7 +56,7 @@ refusal from source = record {
 abbrev pub make_in : World → ℕ → ℕ → ℕ → Agreed → World
 make_in w from source now g =
     cond (nat_lt (living w.node) 8 && nat_lt w.node.drawn 65535)
-    (put_circuit w false (suc w.node.drawn) (suc w.node.drawn) from (make_slave now source g (first_end false false w.other)))
+    (put_circuit w false (suc w.node.drawn) (next_id w.node) from (make_slave now source g (first_end false false w.other)))
     (with_table w false w.node (refusal from source ∷ []))
 
 abbrev pub start_in : World → ℕ → ℕ → ℕ → Agreed → World

@@ -5,6 +5,7 @@ use Rattle.lat_model.specs.ends.End.{Sent, Stopped, lives, finish, lapse, call_e
 use Rattle.lat_model.specs.ends.Timers.{time_step}
 use Rattle.lat_model.specs.ends.Starting.{Agreed, Setup, make_master}
 use Rattle.lat_model.specs.circuits.World.{Wired, World, table, with_table, put_circuit, at_end, first_end, no_circuit}
+use Rattle.lat_model.specs.circuits.Ids.{next_id}
 use Rattle.lat_model.specs.circuits.Arriving.{arrive}
 
 pub data WorldEvent : Type 0 where
@@ -30,7 +31,7 @@ deliver_in w now g (Some p) =
 
 abbrev pub occurs : World → WorldEvent → World
 occurs w (Calls address now) =
-    put_circuit w true (suc w.server.drawn) (suc w.server.drawn) address (make_master now (first_end true true w.setup))
+    put_circuit w true (suc w.server.drawn) (next_id w.server) address (make_master now (first_end true true w.setup))
 occurs w (Locally b x c) =
     cond (lives ((table w b).circuit_at x).end)
     (at_end w b x (record { end = call_end c ((table w b).circuit_at x).end; sent = [] }))
@@ -62,10 +63,11 @@ abbrev pub go_on : List WorldEvent → World → World
 go_on [] w = w
 go_on (e ∷ es) w = go_on es (occurs w e)
 
-abbrev pub open_world : ℕ → ℕ → Setup → Setup → World
-open_world s n u v = record {
-  server = record { own = s; drawn = 0; circuit_at = λ k. no_circuit true u };
-  node = record { own = n; drawn = 0; circuit_at = λ k. no_circuit false v };
+-- at these addresses, with these first ids and these setups
+abbrev pub open_world : ℕ → ℕ → ℕ → ℕ → Setup → Setup → World
+open_world s n i j u v = record {
+  server = record { own = s; first = i; drawn = 0; circuit_at = λ k. no_circuit true u };
+  node = record { own = n; first = j; drawn = 0; circuit_at = λ k. no_circuit false v };
   frames = [];
   setup = u;
   other = v;
@@ -76,9 +78,11 @@ pub record WorldRun (w : World) : Type 0 where
   pub server : ℕ
   pub node : ℕ
   pub apart : server ≢ node
+  pub first : ℕ
+  pub other_first : ℕ
   pub setup : Setup
   pub other : Setup
   pub ceiling : setup.ceiling ≤ 255
   pub other_ceiling : other.ceiling ≤ 255
   pub events : List WorldEvent
-  pub reached : w ≡ go_on events (open_world server node setup other)
+  pub reached : w ≡ go_on events (open_world server node first other_first setup other)

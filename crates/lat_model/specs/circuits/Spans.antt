@@ -1,8 +1,9 @@
 -- The span of a circuit's numbers: wide exactly where the configurations of both ends say so.
-use Rattle.std.specs.Prelude.{◌≡◌, ◌≢◌, ℕ, ◌≤◌, Bool, true, ◌&&◌, List, [], ◌∷◌, Some, slice_get}
+use Rattle.std.specs.Prelude.{◌≡◌, ℕ, Bool, true, ◌&&◌, List, [], ◌∷◌, Some, slice_get}
 use Rattle.lat_model.specs.ends.End.{Sent, Run, CallStart, ReplyStart, Stopped}
 use Rattle.lat_model.specs.ends.Starting.{Agreed}
 use Rattle.lat_model.specs.circuits.World.{Wired, World}
+use Rattle.lat_model.specs.circuits.Ids.{is_drawn}
 use Rattle.lat_model.specs.circuits.Events.{WorldEvent, Calls, Locally, Times, Moves, Delivers, Injects, occurs, Ends, Lapses, Stops}
 
 -- What is read of a START that one end sent: the node makes a wide slave where both configurations are wide; the server's
@@ -36,8 +37,7 @@ TellSpans server node w (e ∷ es) = TellsSpan server node w e × TellSpans serv
 pub record OneSpan (server : Bool) (node : Bool) (w : World) : Type 0 where
   pub slaves :
       (q : ℕ) →
-      q ≢ 0 →
-      q ≤ w.node.drawn →
+      is_drawn w.node q ≡ true →
       (w.node.circuit_at q).address ≡ w.server.own →
       (w.node.circuit_at q).end.wide ≡ (server && node)
   pub masters :

@@ -9,10 +9,11 @@ pub record CircuitEntry : Type 0 where
   pub address : ℕ  -- the peer's address
   pub end : End
 
--- the circuits of one core by their ids, drawn from 1 on
+-- the circuits of one core by their ids
 pub record Table : Type 0 where
   pub own : ℕ  -- the core's address
-  pub drawn : ℕ
+  pub first : ℕ  -- the id of the circuit that is drawn first
+  pub drawn : ℕ  -- how many were drawn
   pub circuit_at : ℕ → CircuitEntry
 
 pub record Wired : Type 0 where

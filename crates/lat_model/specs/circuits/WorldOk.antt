@@ -1,5 +1,5 @@
 -- What every run of the world of circuits keeps.
-use Rattle.std.specs.Prelude.{◌≡◌, ◌≢◌, ℕ, ◌<◌, ◌≤◌, ◌⊎◌, Bool, true, false, cond, List, []}
+use Rattle.std.specs.Prelude.{◌≡◌, ◌≢◌, ℕ, ◌≤◌, ◌⊎◌, Bool, true, false, cond, List, []}
 use Rattle.lat_model.specs.sessions.Slots.{Slot}
 use Rattle.lat_model.specs.numbers.Link.{Frame, fresh}
 use Rattle.lat_model.specs.Lists.{Each}
@@ -8,6 +8,7 @@ use Rattle.lat_model.specs.ends.End.{Sent, Run, CallStart, ReplyStart, Stopped, 
 use Rattle.lat_model.specs.circuits.Together.{Together}
 use Rattle.lat_model.specs.ends.Starting.{void_sessions}
 use Rattle.lat_model.specs.circuits.World.{World, no_circuit}
+use Rattle.lat_model.specs.circuits.Ids.{is_drawn}
 
 abbrev pub void_half : Bool → Half
 void_half m = record { link = fresh; sessions = void_sessions m 0 0 }
@@ -38,7 +39,7 @@ pub record Joint (w : World) (q : ℕ) : Type 0 where
 
 pub record Replied (w : World) (p : ℕ) : Type 0 where
   pub some : (w.server.circuit_at p).end.peer ≢ 0
-  pub drawn : (w.server.circuit_at p).end.peer ≤ w.node.drawn
+  pub drawn : is_drawn w.node (w.server.circuit_at p).end.peer ≡ true
   pub address : (w.node.circuit_at (w.server.circuit_at p).end.peer).address ≡ w.server.own
   pub peer : (w.node.circuit_at (w.server.circuit_at p).end.peer).end.peer ≡ p
 
@@ -46,13 +47,13 @@ pub record Replied (w : World) (p : ℕ) : Type 0 where
 pub record ByServer (w : World) (x : ℕ) (to_id : ℕ) (from_id : ℕ) (f : Frame (List Slot)) : Type 0 where
   pub source : from_id ≡ x
   pub destination : (to_id ≡ 0) ⊎ (((w.server.circuit_at x).end.running ≡ true) × (to_id ≡ (w.server.circuit_at x).end.peer))
-  pub drawn : x ≤ w.server.drawn
+  pub drawn : is_drawn w.server x ≡ true
   pub frame : FrameOf (List Slot) (w.server.circuit_at x).end.half.link f
 
 pub record ByNode (w : World) (x : ℕ) (to_id : ℕ) (from_id : ℕ) : Type 0 where
   pub source : from_id ≡ x
   pub some : x ≢ 0
-  pub drawn : x ≤ w.node.drawn
+  pub drawn : is_drawn w.node x ≡ true
   pub address : (w.node.circuit_at x).address ≡ w.server.own
   pub destination : to_id ≡ (w.node.circuit_at x).end.peer
 
@@ -84,6 +85,6 @@ pub record WorldOk (w : World) : Type 0 where
   pub calling : (p : ℕ) → (w.server.circuit_at p).end.running ≡ false → (w.server.circuit_at p).end.peer ≡ 0
   pub idle : (q : ℕ) → (w.node.circuit_at q).address ≡ w.server.own → (Joint w q → ⊥) → Idle (w.node.circuit_at q).end
   pub says : Each (λ f. FromSender w f.by_server f.circuit f.to f.destination f.source f.sent) w.frames
-  pub none_server : (k : ℕ) → (k ≡ 0) ⊎ (w.server.drawn < k) → w.server.circuit_at k ≡ no_circuit true w.setup
-  pub none_node : (k : ℕ) → (k ≡ 0) ⊎ (w.node.drawn < k) → w.node.circuit_at k ≡ no_circuit false w.other
+  pub none_server : (k : ℕ) → is_drawn w.server k ≡ false → w.server.circuit_at k ≡ no_circuit true w.setup
+  pub none_node : (k : ℕ) → is_drawn w.node k ≡ false → w.node.circuit_at k ≡ no_circuit false w.other
   pub windows : (k : ℕ) → ((w.server.circuit_at k).end.window ≤ 8) × ((w.node.circuit_at k).end.window ≤ 8)

@@ -1,8 +1,7 @@
 -- A circuit that waits for its reply has sent its START; where that was delivered, there is a slave or a refusal on its way.
 use Rattle.std.proofs.Common.{◌≡◌, ◌≢◌, ℕ, zero, suc, ◌<◌, ◌≤◌, ◌⊎◌, inl, inr, ⊎_elim, sym, ap, ap₂, ◌∙◌, refl, subst, arith, Bool, true, false, not, cond, ◌&&◌, ◌||◌, List, [], ◌∷◌, ◌++◌, length, Option, Some, None, nat_eq, nat_lt, slice_get, eqb-true}
-use Rattle.std.proofs.lemmas.Bool.{true≢false, false≢true, and_parts, and_from, or_right, eqb-false, cases_lt}
+use Rattle.std.proofs.lemmas.Bool.{true≢false, false≢true, and_parts, and_from, or_right, eqb-false}
 use Rattle.std.proofs.lemmas.Option.{slice_get_within}
-use Rattle.lat_model.specs.Lists.{upwards}
 use Rattle.lat_model.specs.ends.End.{Sent, Run, CallStart, ReplyStart, Stopped, End, Step, still, lives, call_end, finish, lapse}
 use Rattle.lat_model.specs.ends.Timers.{note_empty, time_step}
 use Rattle.lat_model.specs.ends.Run.{run_end}
@@ -14,6 +13,8 @@ use Rattle.lat_model.specs.circuits.Events.{WorldEvent, Calls, Locally, Times, M
 use Rattle.lat_model.proofs.sessions.Words.{upd_same, upd_other}
 use Rattle.lat_model.proofs.circuits.Kin.{Kin, kin_time, kin_run, kin_again, kin_stop, kin_finish}
 use Rattle.lat_model.proofs.circuits.Arrives.{occurs_ok}
+use Rattle.lat_model.proofs.circuits.Ids.{drawn_apart, drawn_behind, drawn_or, next_drawn}
+use Rattle.lat_model.specs.circuits.Ids.{ids, is_drawn, next_id, IdsStay}
 use Rattle.lat_machines.proofs.events.Leads.{append_nil}
 use Rattle.lat_laws.specs.rounds.Lossless.{is_in}
 use Rattle.lat_laws.specs.rounds.Carried.{server_end, node_end, Carried, Kinds, HasSlave, IsRefused, call_frame, IsAsked, Called, done_with, done_after, done_all, Orderly}
@@ -36,8 +37,8 @@ record Onward (P : ℕ → Type 0) (w : World) (v : World) : Type 0 where
   more : List Wired
   frames : v.frames ≡ w.frames ++ more
   up : (p : ℕ) → P p → Before p w v
-  down : (q : ℕ) → q ≤ w.node.drawn → Slaves q w v
-  drawn : w.node.drawn ≤ v.node.drawn
+  down : (q : ℕ) → is_drawn w.node q ≡ true → Slaves q w v
+  drawn : IdsStay w.node v.node
 
 abbrev Any : ℕ → Type 0
 Any p = Unit {0}
@@ -49,7 +50,7 @@ slaves_same : (q : ℕ) (w : World) → Slaves q w w
 slaves_same q w = record { address = refl; peer = refl }
 
 onward_same : (w : World) → Onward Any w w
-onward_same w = record { server_own = refl; node_own = refl; more = []; frames = sym (append_nil w.frames); up = λ p a. before_same p w; down = λ q d. slaves_same q w; drawn = omega arith }
+onward_same w = record { server_own = refl; node_own = refl; more = []; frames = sym (append_nil w.frames); up = λ p a. before_same p w; down = λ q d. slaves_same q w; drawn = λ y l. l }
 
 onward_cond : (w : World) (b : Bool) (x y : World) → (b ≡ true → Onward Any w x) → Onward Any w y → Onward Any w (cond b x y)
 onward_cond w true x y p q = p refl
@@ -64,7 +65,7 @@ server_onward w x st l k = record {
   frames = refl;
   up = λ p a. up p;
   down = λ q d. record { address = refl; peer = refl };
-  drawn = omega arith;
+  drawn = λ y l. l;
 }
   where
     new : CircuitEntry
@@ -98,7 +99,7 @@ node_onward w x st k = record {
   frames = refl;
   up = λ p a. record { address = refl; alive = λ h. h; calling = λ h. h };
   down = λ q d. down q;
-  drawn = omega arith;
+  drawn = λ y l. l;
 }
   where
     down : (q : ℕ) → Slaves q w (at_end w false x st)
@@ -113,24 +114,24 @@ node_onward w x st k = record {
             let is : (at_end w false x st).node.circuit_at q ≡ w.node.circuit_at q = upd_other w.node.circuit_at x (record { address = (w.node.circuit_at x).address; end = (note_empty (node_end w x) st).end }) q (eqb-false q x h) in
             record { address = ap (λ (c : CircuitEntry). c.address) is; peer = ap (λ (c : CircuitEntry). c.end.peer) is }
 
-make_onward : (w : World) (from source now : ℕ) (g : Agreed) → Onward Any w (put_circuit w false (suc w.node.drawn) (suc w.node.drawn) from (make_slave now source g (first_end false false w.other)))
+make_onward : (w : World) (from source now : ℕ) (g : Agreed) → Onward Any w (put_circuit w false (suc w.node.drawn) (next_id w.node) from (make_slave now source g (first_end false false w.other)))
 make_onward w from source now g = record {
   server_own = refl;
   node_own = refl;
-  more = wire_all false (suc w.node.drawn) from source (ReplyStart ∷ []);
+  more = wire_all false (next_id w.node) from source (ReplyStart ∷ []);
   frames = refl;
   up = λ p a. record { address = refl; alive = λ h. h; calling = λ h. h };
-  down = λ q d. (let is : (put_circuit w false (suc w.node.drawn) (suc w.node.drawn) from (make_slave now source g (first_end false false w.other))).node.circuit_at q ≡ w.node.circuit_at q = upd_other w.node.circuit_at (suc w.node.drawn) (record { address = from; end = (make_slave now source g (first_end false false w.other)).end }) q (λ z. absurd (omega (arith, z, d))) in record { address = ap (λ (c : CircuitEntry). c.address) is; peer = ap (λ (c : CircuitEntry). c.end.peer) is });
-  drawn = omega arith;
+  down = λ q d. (let is : (put_circuit w false (suc w.node.drawn) (next_id w.node) from (make_slave now source g (first_end false false w.other))).node.circuit_at q ≡ w.node.circuit_at q = upd_other w.node.circuit_at (next_id w.node) (record { address = from; end = (make_slave now source g (first_end false false w.other)).end }) q (drawn_apart w.node.first w.node.drawn q d) in record { address = ap (λ (c : CircuitEntry). c.address) is; peer = ap (λ (c : CircuitEntry). c.end.peer) is });
+  drawn = drawn_behind w.node.first w.node.drawn;
 }
 
 refuse_onward : (w : World) (from source : ℕ) → Onward Any w (with_table w false w.node (refusal from source ∷ []))
-refuse_onward w from source = record { server_own = refl; node_own = refl; more = refusal from source ∷ []; frames = refl; up = λ p a. record { address = refl; alive = λ h. h; calling = λ h. h }; down = λ q d. record { address = refl; peer = refl }; drawn = omega arith }
+refuse_onward w from source = record { server_own = refl; node_own = refl; more = refusal from source ∷ []; frames = refl; up = λ p a. record { address = refl; alive = λ h. h; calling = λ h. h }; down = λ q d. record { address = refl; peer = refl }; drawn = λ y l. l }
 
 start_onward : (w : World) (from source now : ℕ) (g : Agreed) → Onward Any w (start_in w from source now g)
 start_onward w from source now g = go (nat_eq (slave_of w.node from source) 0) (nat_lt (living w.node) 8 && nat_lt w.node.drawn 65535)
   where
-    go : (a b : Bool) → Onward Any w (cond a (cond b (put_circuit w false (suc w.node.drawn) (suc w.node.drawn) from (make_slave now source g (first_end false false w.other))) (with_table w false w.node (refusal from source ∷ []))) (at_end w false (slave_of w.node from source) (again_start now (node_end w (slave_of w.node from source)))))
+    go : (a b : Bool) → Onward Any w (cond a (cond b (put_circuit w false (suc w.node.drawn) (next_id w.node) from (make_slave now source g (first_end false false w.other))) (with_table w false w.node (refusal from source ∷ []))) (at_end w false (slave_of w.node from source) (again_start now (node_end w (slave_of w.node from source)))))
     go true true = make_onward w from source now g
     go true false = refuse_onward w from source
     go false b = node_onward w (slave_of w.node from source) (again_start now (node_end w (slave_of w.node from source))) (kin_again now (node_end w (slave_of w.node from source))).peer
@@ -177,7 +178,7 @@ frame_on : {P : ℕ → Type 0} (w v : World) → Onward P w v → (k : ℕ) (f 
 frame_on w v o k f e = ap (λ z. slice_get z k) o.frames ∙ get_more w.frames o.more k f e
 
 slave_stays : {P : ℕ → Type 0} (w v : World) (p : ℕ) → Onward P w v → HasSlave w p → HasSlave v p
-slave_stays w v p o h = record { slave = h.slave; some = h.some; drawn = omega (arith, h.drawn, o.drawn); address = (o.down h.slave h.drawn).address ∙ (h.address ∙ sym o.server_own); peer = (o.down h.slave h.drawn).peer ∙ h.peer }
+slave_stays w v p o h = record { slave = h.slave; drawn = o.drawn h.slave h.drawn; address = (o.down h.slave h.drawn).address ∙ (h.address ∙ sym o.server_own); peer = (o.down h.slave h.drawn).peer ∙ h.peer }
 
 refused_stays : {P : ℕ → Type 0} (w v : World) (done more : List ℕ) (p : ℕ) → Onward P w v → (h : IsRefused w done p) → is_in h.index more ≡ false → IsRefused v more p
 refused_stays w v done more p o h n = record { index = h.index; there = frame_on w v o h.index (refusal w.server.own p) h.there ∙ ap (λ z. Some (refusal z p)) (sym o.server_own); new = n }
@@ -201,35 +202,35 @@ last_at : {A : Type 0} → (xs : List A) (x : A) → slice_get (xs ++ x ∷ []) 
 last_at [] x = refl
 last_at (y ∷ xs) x = last_at xs x
 
-calls_onward : (w : World) (address now : ℕ) → Onward (λ p. p ≢ suc w.server.drawn) w (occurs w (Calls address now))
+calls_onward : (w : World) (address now : ℕ) → Onward (λ p. p ≢ next_id w.server) w (occurs w (Calls address now))
 calls_onward w address now = record {
   server_own = refl;
   node_own = refl;
-  more = call_frame address (suc w.server.drawn) ∷ [];
+  more = call_frame address (next_id w.server) ∷ [];
   frames = refl;
-  up = λ p n. (let is : (occurs w (Calls address now)).server.circuit_at p ≡ w.server.circuit_at p = upd_other w.server.circuit_at (suc w.server.drawn) (record { address = address; end = (make_master now (first_end true true w.setup)).end }) p n in record { address = ap (λ (c : CircuitEntry). c.address) is; alive = λ h. sym (ap (λ (c : CircuitEntry). lives c.end) is) ∙ h; calling = λ h. sym (ap (λ (c : CircuitEntry). c.end.running) is) ∙ h });
+  up = λ p n. (let is : (occurs w (Calls address now)).server.circuit_at p ≡ w.server.circuit_at p = upd_other w.server.circuit_at (next_id w.server) (record { address = address; end = (make_master now (first_end true true w.setup)).end }) p n in record { address = ap (λ (c : CircuitEntry). c.address) is; alive = λ h. sym (ap (λ (c : CircuitEntry). lives c.end) is) ∙ h; calling = λ h. sym (ap (λ (c : CircuitEntry). c.end.running) is) ∙ h });
   down = λ q d. record { address = refl; peer = refl };
-  drawn = omega arith;
+  drawn = λ y l. l;
 }
 
 calls_called : (w : World) (done : List ℕ) (address now : ℕ) → ((j : ℕ) → length w.frames ≤ j → is_in j done ≡ false) → Called w done → Called (occurs w (Calls address now)) done
-calls_called w done address now below k p home l n = go (nat_eq p (suc w.server.drawn)) refl
+calls_called w done address now below k p home l n = go (nat_eq p (next_id w.server)) refl
   where
-    o : Onward (λ p. p ≢ suc w.server.drawn) w (occurs w (Calls address now))
+    o : Onward (λ p. p ≢ next_id w.server) w (occurs w (Calls address now))
     o = calls_onward w address now
 
-    go : (b : Bool) → nat_eq p (suc w.server.drawn) ≡ b → IsAsked (occurs w (Calls address now)) done p
+    go : (b : Bool) → nat_eq p (next_id w.server) ≡ b → IsAsked (occurs w (Calls address now)) done p
     go true q =
-        let same : p ≡ suc w.server.drawn = eqb-true p (suc w.server.drawn) q in
+        let same : p ≡ next_id w.server = eqb-true p (next_id w.server) q in
         let new : CircuitEntry = record { address = address; end = (make_master now (first_end true true w.setup)).end } in
-        let is : address ≡ w.node.own = sym (ap (λ (c : CircuitEntry). c.address) (upd_same w.server.circuit_at (suc w.server.drawn) new)) ∙ (ap (λ z. ((occurs w (Calls address now)).server.circuit_at z).address) (sym same) ∙ home) in
+        let is : address ≡ w.node.own = sym (ap (λ (c : CircuitEntry). c.address) (upd_same w.server.circuit_at (next_id w.server) new)) ∙ (ap (λ z. ((occurs w (Calls address now)).server.circuit_at z).address) (sym same) ∙ home) in
         record {
           index = length w.frames;
-          there = last_at w.frames (call_frame address (suc w.server.drawn)) ∙ ap₂ (λ a z. Some (call_frame a z)) is (sym same);
+          there = last_at w.frames (call_frame address (next_id w.server)) ∙ ap₂ (λ a z. Some (call_frame a z)) is (sym same);
           answered = λ i. absurd (true≢false (sym i ∙ below (length w.frames) (omega arith)));
         }
     go false q =
-        let n' : p ≢ suc w.server.drawn = eqb-false p (suc w.server.drawn) q in
+        let n' : p ≢ next_id w.server = eqb-false p (next_id w.server) q in
         let b : Before p w (occurs w (Calls address now)) = o.up p n' in
         asked_stays w (occurs w (Calls address now)) done p o (k p (sym b.address ∙ home) (b.alive l) (b.calling n))
 
@@ -255,22 +256,21 @@ start_called w done i p now g ok lower below = go (nat_eq (slave_of w.node w.ser
     old : nat_eq (slave_of w.node w.server.own p) 0 ≡ false → HasSlave w p
     old z =
         let x : ℕ = slave_of w.node w.server.own p in
-        let h : (is_of (w.node.circuit_at x) w.server.own p ≡ true) × (lives (node_end w x) ≡ true) = and_parts (is_of (w.node.circuit_at x) w.server.own p) (lives (node_end w x)) (least_passes (λ i. is_of (w.node.circuit_at i) w.server.own p && lives (node_end w i)) (upwards 0 w.node.drawn) (eqb-false x 0 z)) in
+        let h : (is_of (w.node.circuit_at x) w.server.own p ≡ true) × (lives (node_end w x) ≡ true) = and_parts (is_of (w.node.circuit_at x) w.server.own p) (lives (node_end w x)) (least_passes (λ i. is_of (w.node.circuit_at i) w.server.own p && lives (node_end w i)) (ids w.node) (eqb-false x 0 z)) in
         let y : (nat_eq (w.node.circuit_at x).address w.server.own ≡ true) × (nat_eq (node_end w x).peer p ≡ true) = and_parts (nat_eq (w.node.circuit_at x).address w.server.own) (nat_eq (node_end w x).peer p) h.0 in
         record {
           slave = x;
-          some = eqb-false x 0 z;
-          drawn = ⊎_elim {C = x ≤ w.node.drawn} (λ l. absurd (false≢true (sym (ap (λ (c : CircuitEntry). lives c.end) (ok.none_node x (inr l))) ∙ h.1))) (λ l. l) (cases_lt w.node.drawn x);
+          drawn = ⊎_elim {C = is_drawn w.node x ≡ true} (λ l. absurd (false≢true (sym (ap (λ (c : CircuitEntry). lives c.end) (ok.none_node x l)) ∙ h.1))) (λ l. l) (drawn_or w.node x);
           address = eqb-true (w.node.circuit_at x).address w.server.own y.0;
           peer = eqb-true (node_end w x).peer p y.1;
         }
 
     go : (a : Bool) → nat_eq (slave_of w.node w.server.own p) 0 ≡ a → (b : Bool) →
-        HasSlave (cond a (cond b (put_circuit w false (suc w.node.drawn) (suc w.node.drawn) w.server.own (make_slave now p g (first_end false false w.other))) (with_table w false w.node (refusal w.server.own p ∷ []))) (at_end w false (slave_of w.node w.server.own p) (again_start now (node_end w (slave_of w.node w.server.own p))))) p
-        ⊎ IsRefused (cond a (cond b (put_circuit w false (suc w.node.drawn) (suc w.node.drawn) w.server.own (make_slave now p g (first_end false false w.other))) (with_table w false w.node (refusal w.server.own p ∷ []))) (at_end w false (slave_of w.node w.server.own p) (again_start now (node_end w (slave_of w.node w.server.own p))))) (i ∷ done) p
+        HasSlave (cond a (cond b (put_circuit w false (suc w.node.drawn) (next_id w.node) w.server.own (make_slave now p g (first_end false false w.other))) (with_table w false w.node (refusal w.server.own p ∷ []))) (at_end w false (slave_of w.node w.server.own p) (again_start now (node_end w (slave_of w.node w.server.own p))))) p
+        ⊎ IsRefused (cond a (cond b (put_circuit w false (suc w.node.drawn) (next_id w.node) w.server.own (make_slave now p g (first_end false false w.other))) (with_table w false w.node (refusal w.server.own p ∷ []))) (at_end w false (slave_of w.node w.server.own p) (again_start now (node_end w (slave_of w.node w.server.own p))))) (i ∷ done) p
     go true z true =
-        let is : (put_circuit w false (suc w.node.drawn) (suc w.node.drawn) w.server.own (make_slave now p g (first_end false false w.other))).node.circuit_at (suc w.node.drawn) ≡ record { address = w.server.own; end = (make_slave now p g (first_end false false w.other)).end } = upd_same w.node.circuit_at (suc w.node.drawn) (record { address = w.server.own; end = (make_slave now p g (first_end false false w.other)).end }) in
-        inl (record { slave = suc w.node.drawn; some = λ q. (let y : ⊥ = absurd (omega (arith, q)) in y); drawn = omega arith; address = ap (λ (c : CircuitEntry). c.address) is; peer = ap (λ (c : CircuitEntry). c.end.peer) is })
+        let is : (put_circuit w false (suc w.node.drawn) (next_id w.node) w.server.own (make_slave now p g (first_end false false w.other))).node.circuit_at (next_id w.node) ≡ record { address = w.server.own; end = (make_slave now p g (first_end false false w.other)).end } = upd_same w.node.circuit_at (next_id w.node) (record { address = w.server.own; end = (make_slave now p g (first_end false false w.other)).end }) in
+        inl (record { slave = next_id w.node; drawn = next_drawn w.node.first w.node.drawn; address = ap (λ (c : CircuitEntry). c.address) is; peer = ap (λ (c : CircuitEntry). c.end.peer) is })
     go true z false = inr (record { index = length w.frames; there = last_at w.frames (refusal w.server.own p); new = new })
     go false z b = inl (slave_stays w (at_end w false (slave_of w.node w.server.own p) (again_start now (node_end w (slave_of w.node w.server.own p)))) p (node_onward w (slave_of w.node w.server.own p) (again_start now (node_end w (slave_of w.node w.server.own p))) (kin_again now (node_end w (slave_of w.node w.server.own p))).peer) (old z))
 
@@ -367,8 +367,8 @@ lapses_onward w true x r = onward_cond w (lives (server_end w x)) (at_end w true
 lapses_onward w false x r = onward_cond w (lives (node_end w x)) (at_end w false x (lapse r (node_end w x))) w (λ l. node_onward w x (lapse r (node_end w x)) refl) (onward_same w)
 
 stops_onward : (w : World) (b : Bool) (to d s r : ℕ) → Onward Any w (occurs w (Stops b to d s r))
-stops_onward w true to d s r = record { server_own = refl; node_own = refl; more = stray_stop true to d s r ∷ []; frames = refl; up = λ p a. record { address = refl; alive = λ h. h; calling = λ h. h }; down = λ q l. record { address = refl; peer = refl }; drawn = omega arith }
-stops_onward w false to d s r = record { server_own = refl; node_own = refl; more = stray_stop false to d s r ∷ []; frames = refl; up = λ p a. record { address = refl; alive = λ h. h; calling = λ h. h }; down = λ q l. record { address = refl; peer = refl }; drawn = omega arith }
+stops_onward w true to d s r = record { server_own = refl; node_own = refl; more = stray_stop true to d s r ∷ []; frames = refl; up = λ p a. record { address = refl; alive = λ h. h; calling = λ h. h }; down = λ q l. record { address = refl; peer = refl }; drawn = λ y l. l }
+stops_onward w false to d s r = record { server_own = refl; node_own = refl; more = stray_stop false to d s r ∷ []; frames = refl; up = λ p a. record { address = refl; alive = λ h. h; calling = λ h. h }; down = λ q l. record { address = refl; peer = refl }; drawn = λ y l. l }
 
 injects_onward : (w : World) (b : Bool) (from : ℕ) (bit : Bool) (d s now : ℕ) (g : Agreed) (m : Sent) → Onward Any w (occurs w (Injects b from bit d s now g m))
 injects_onward w b from bit d s now g m = go (nat_eq from w.server.own || nat_eq from w.node.own)
@@ -415,5 +415,5 @@ pub go_on_called : (es : List WorldEvent) (w : World) (done : List ℕ) → Worl
 go_on_called [] w done ok kd k c o = c
 go_on_called (e ∷ es) w done ok kd k c o = go_on_called es (occurs w e) (done_after w done e) (occurs_ok w ok e) (occurs_kinds w kd e) (occurs_carried w done ok kd k e o.0) (occurs_called w done ok k.below c e) o.1
 
-pub open_called : (s n : ℕ) (u v : Setup) → Called (open_world s n u v) []
-open_called s n u v p home l r = absurd (false≢true l)
+pub open_called : (s n i j : ℕ) (u v : Setup) → Called (open_world s n i j u v) []
+open_called s n i j u v p home l r = absurd (false≢true l)

@@ -2,7 +2,6 @@
 use Rattle.std.proofs.Common.{◌≡◌, ◌≢◌, ℕ, suc, ◌≤◌, inl, ⊎_elim, sym, ap, ap₂, ◌∙◌, refl, subst, Bool, true, false, not, cond, ◌&&◌, ◌||◌, List, [], ◌∷◌, length, Option, Some, None, nat_eq, nat_lt, slice_get, eqb-true, eq-eqb, ne_eqb}
 use Rattle.std.proofs.lemmas.Bool.{true≢false, false≢true, and_parts, and_from, or_left, eqb-false}
 use Rattle.lat_model.specs.sessions.Slots.{Slot}
-use Rattle.lat_model.specs.Lists.{upwards}
 use Rattle.lat_model.specs.numbers.Link.{Link, Frame, fresh}
 use Rattle.lat_model.specs.numbers.NetOk.{FrameOf}
 use Rattle.lat_model.specs.ends.End.{Mark, Sent, Run, CallStart, ReplyStart, Stopped, End, Step, lives}
@@ -14,6 +13,7 @@ use Rattle.lat_model.specs.circuits.Events.{deliver_in}
 use Rattle.lat_model.specs.circuits.WorldOk.{WorldOk, Replied, ByNode, ByServer, FromSender}
 use Rattle.lat_model.proofs.numbers.Net.{each_at}
 use Rattle.lat_model.proofs.circuits.Follows.{world_whole}
+use Rattle.lat_model.specs.circuits.Ids.{is_known, next_id, ids}
 use Rattle.lat_laws.specs.rounds.Lossless.{is_side, is_in}
 use Rattle.lat_laws.specs.rounds.Flight.{Flow}
 use Rattle.lat_laws.specs.rounds.Carried.{flying, server_end, node_end, Coupled, Offered, NamesSender, Came, Carried, Kinds, done_with}
@@ -87,7 +87,7 @@ module _ (w : World) (done : List ℕ) (i t : ℕ) (g : Agreed) (ok : WorldOk w)
           (λ y a l r b q z. absurd (true≢false (sym (ap (λ u. (server_end w u).running) (sym q) ∙ tells.0) ∙ r)))
           (λ y a r n b q z. absurd (no_way _ (named (subst (λ u. lives (node_end w u) ≡ true) (ap (λ u. (server_end w u).peer) (sym q) ∙ sym tells.1) n)) h))
           (λ y a l r b q z. absurd (false≢true b))
-          (λ y n m a c l r b q z. absurd (false≢true b))
+          (λ y m a c l r b q z. absurd (false≢true b))
           (λ z l. absurd (no_way _ (named l) h))
 
   -- a RUN of the node
@@ -113,7 +113,7 @@ module _ (w : World) (done : List ℕ) (i t : ℕ) (g : Agreed) (ok : WorldOk w)
           (λ y a r n b c z. absurd (false≢true b))
           (λ y a l r b c z. let same : d ≡ y = says.0.destination ∙ ap (λ u. (node_end w u).peer) c ∙ (ok.replied y a r).peer in
           absurd (no_way _ (named (ap (λ u. (w.server.circuit_at u).address) same ∙ a) (ap (λ u. lives (server_end w u)) same ∙ l) (ap (λ u. (server_end w u).running) same ∙ r) (ap (λ u. (server_end w u).peer) same ∙ sym c)) h))
-          (λ y n m a c l r b z u x. cc)
+          (λ y m a c l r b z u x. cc)
           (λ z a l r p. absurd (no_way _ (named a l r p) h))
 
   -- a STOP of the server
@@ -139,7 +139,7 @@ module _ (w : World) (done : List ℕ) (i t : ℕ) (g : Agreed) (ok : WorldOk w)
           (λ y a l q b c z. refl)
           (λ y a q n b c z. refl)
           (λ y a l q b c z. absurd (false≢true b))
-          (λ y n m a c l q b z. absurd (false≢true b))
+          (λ y m a c l q b z. absurd (false≢true b))
           tt
 
   -- a STOP of the node
@@ -174,7 +174,7 @@ module _ (w : World) (done : List ℕ) (i t : ℕ) (g : Agreed) (ok : WorldOk w)
                 let same : d ≡ y = (tells n).1 ∙ ap (λ j. (node_end w j).peer) c ∙ (ok.replied y a x).peer in
                 no_way _ (and_from _ _ (and_from _ _ (eq-eqb _ _ (ap (λ j. (w.server.circuit_at j).address) same ∙ a)) (or_left _ _ (eq-eqb _ _ (ap (λ j. (server_end w j).peer) same ∙ sym c ∙ sym (tells n).0)))) (ap (λ j. lives (server_end w j)) same ∙ l)) h),
           ))
-          (λ y n m a c l x b z u v. cc)
+          (λ y m a c l x b z u v. cc)
           tt
 
   -- a reply
@@ -220,7 +220,7 @@ module _ (w : World) (done : List ℕ) (i t : ℕ) (g : Agreed) (ok : WorldOk w)
           (λ y a l x b c z. refl)
           (λ y a x n b c z. refl)
           (λ y a l x b c z. (refl, λ u v. cc))
-          (λ y n m a c l x b z u v. (let same : d ≡ (node_end w y).peer = says.destination ∙ ap (λ j. (node_end w j).peer) z in
+          (λ y m a c l x b z u v. (let same : d ≡ (node_end w y).peer = says.destination ∙ ap (λ j. (node_end w j).peer) z in
           no_way _ (named (ap (λ j. (w.server.circuit_at j).address) same ∙ c) (ap (λ j. lives (server_end w j)) same ∙ l) (ap (λ j. (server_end w j).running) same ∙ x)) h))
           (λ u a l. running_then a l (server_end w d).running refl)
         where
@@ -244,8 +244,8 @@ module _ (w : World) (done : List ℕ) (i t : ℕ) (g : Agreed) (ok : WorldOk w)
       source : s ≡ p
       source = each_at (λ (y : Wired). NamesSender w y.by_server y.circuit y.to y.destination y.source y.sent) w.frames i (record { by_server = true; circuit = p; to = to; destination = d; source = s; sent = CallStart }) k.tells e
 
-      low : p ≤ w.server.drawn
-      low = each_at (λ (y : Wired). y.circuit ≤ (table w y.by_server).drawn) w.frames i (record { by_server = true; circuit = p; to = to; destination = d; source = s; sent = CallStart }) k.low e
+      low : is_known w.server p ≡ true
+      low = each_at (λ (y : Wired). is_known (table w y.by_server) y.circuit ≡ true) w.frames i (record { by_server = true; circuit = p; to = to; destination = d; source = s; sent = CallStart }) k.low e
 
       below : (j : ℕ) → length w.frames ≤ j → is_in j (i ∷ done) ≡ false
       below = below_more w done i (place_low w.frames i (record { by_server = true; circuit = p; to = to; destination = d; source = s; sent = CallStart }) e) k.below
@@ -262,10 +262,10 @@ module _ (w : World) (done : List ℕ) (i t : ℕ) (g : Agreed) (ok : WorldOk w)
           same : j ≡ i → slice_get w.frames j ≡ Some f → record { by_server = true; circuit = p; to = to; destination = d; source = s; sent = CallStart } ≡ f
           same z q = let r : Some (record { by_server = true; circuit = p; to = to; destination = d; source = s; sent = CallStart }) ≡ Some f = sym e ∙ ap (slice_get w.frames) (sym z) ∙ q in cc
 
-      go : (b : Bool) → nat_eq (slave_of w.node w.server.own s) 0 ≡ b → (c : Bool) → Carried (cond b (cond c (put_circuit w false (suc w.node.drawn) (suc w.node.drawn) w.server.own (make_slave t s g (first_end false false w.other))) (with_table w false w.node (wire_all false 0 w.server.own s (Stopped 7 ∷ [])))) (at_end w false (slave_of w.node w.server.own s) (again_start t (node_end w (slave_of w.node w.server.own s))))) (i ∷ done)
-      go true q true = make_carried w done (i ∷ done) w.server.own s t g ok k below up_now down_now came_now (λ h. subst (λ z. z ≤ w.server.drawn) (sym source) low)
+      go : (b : Bool) → nat_eq (slave_of w.node w.server.own s) 0 ≡ b → (c : Bool) → Carried (cond b (cond c (put_circuit w false (suc w.node.drawn) (next_id w.node) w.server.own (make_slave t s g (first_end false false w.other))) (with_table w false w.node (wire_all false 0 w.server.own s (Stopped 7 ∷ [])))) (at_end w false (slave_of w.node w.server.own s) (again_start t (node_end w (slave_of w.node w.server.own s))))) (i ∷ done)
+      go true q true = make_carried w done (i ∷ done) w.server.own s t g ok k below up_now down_now came_now (λ h. subst (λ z. is_known w.server z ≡ true) (sym source) low)
       go true q false = refuse_carried w done (i ∷ done) w.server.own s ok k below up_now down_now came_now
-      go false q c = again_carried w done i (slave_of w.node w.server.own s) t p to d s ok k e turn (and_parts _ _ (least_passes (λ j. is_of (w.node.circuit_at j) w.server.own s && lives (w.node.circuit_at j).end) (upwards 0 w.node.drawn) (eqb-false _ 0 q))).1
+      go false q c = again_carried w done i (slave_of w.node w.server.own s) t p to d s ok k e turn (and_parts _ _ (least_passes (λ j. is_of (w.node.circuit_at j) w.server.own s && lives (w.node.circuit_at j).end) (ids w.node) (eqb-false _ 0 q))).1
 
   -- a frame that was sent elsewhere
   elsewhere : (v : Wired) → slice_get w.frames i ≡ Some v → (v.to ≡ (table w (not v.by_server)).own → ⊥) → Carried w (i ∷ done)
@@ -276,7 +276,7 @@ module _ (w : World) (done : List ℕ) (i t : ℕ) (g : Agreed) (ok : WorldOk w)
     runs = λ p a l r. subst (λ z. Coupled (server_end w p) (node_end w (server_end w p).peer) z (flying w (i ∷ done) false (server_end w p).peer)) (sym (same true p)) (subst (λ z. Coupled (server_end w p) (node_end w (server_end w p).peer) (flying w done true p) z) (sym (same false (server_end w p).peer)) (k.runs p a l r));
     ups = λ p a r n. subst (λ z. Flow (server_end w p).half.link (node_end w (server_end w p).peer).half.link z) (sym (same true p)) (k.ups p a r n);
     downs = λ p a l r. subst (λ z. Flow (node_end w (server_end w p).peer).half.link (server_end w p).half.link z) (sym (same false (server_end w p).peer)) (k.downs p a l r);
-    offered = λ q z d a b l r. subst (λ y. Offered (node_end w q) y) (sym (same false q)) (k.offered q z d a b l r);
+    offered = λ q d a b l r. subst (λ y. Offered (node_end w q) y) (sym (same false q)) (k.offered q d a b l r);
     peers = k.peers;
     tells = k.tells;
     came = λ j u h d. ⊎_elim {C = Came w u.by_server u.circuit u.to u.destination u.sent} (λ z. subst (λ (y : Wired). Came w y.by_server y.circuit y.to y.destination y.sent) (this j u z h) (mine v.by_server v.sent n)) (λ z. k.came j u h z) (in_cases i j done d);
@@ -314,10 +314,10 @@ module _ (w : World) (done : List ℕ) (i t : ℕ) (g : Agreed) (ok : WorldOk w)
 
   -- a reply of the server, or a START of the node: nobody hears it
   unheard_up : (p to d s : ℕ) → slice_get w.frames i ≡ Some (record { by_server = true; circuit = p; to = to; destination = d; source = s; sent = ReplyStart }) → Turn w done (record { by_server = true; circuit = p; to = to; destination = d; source = s; sent = ReplyStart }) i → Carried w (i ∷ done)
-  unheard_up p to d s e turn = relabel w done i (record { by_server = true; circuit = p; to = to; destination = d; source = s; sent = ReplyStart }) k e turn (λ y a l x b c z. refl) (λ y a x n b c z. refl) (λ y a l x b c z. absurd (false≢true b)) (λ y n m a c l x b z. absurd (false≢true b)) tt
+  unheard_up p to d s e turn = relabel w done i (record { by_server = true; circuit = p; to = to; destination = d; source = s; sent = ReplyStart }) k e turn (λ y a l x b c z. refl) (λ y a x n b c z. refl) (λ y a l x b c z. absurd (false≢true b)) (λ y m a c l x b z. absurd (false≢true b)) tt
 
   unheard_down : (q to d s : ℕ) → slice_get w.frames i ≡ Some (record { by_server = false; circuit = q; to = to; destination = d; source = s; sent = CallStart }) → Turn w done (record { by_server = false; circuit = q; to = to; destination = d; source = s; sent = CallStart }) i → Carried w (i ∷ done)
-  unheard_down q to d s e turn = relabel w done i (record { by_server = false; circuit = q; to = to; destination = d; source = s; sent = CallStart }) k e turn (λ y a l x b c z. refl) (λ y a x n b c z. refl) (λ y a l x b c z. (refl, λ u v. cc)) (λ y n m a c l x b z u v. cc) tt
+  unheard_down q to d s e turn = relabel w done i (record { by_server = false; circuit = q; to = to; destination = d; source = s; sent = CallStart }) k e turn (λ y a l x b c z. refl) (λ y a x n b c z. refl) (λ y a l x b c z. (refl, λ u v. cc)) (λ y m a c l x b z u v. cc) tt
 
   -- a frame to the other end
   home_carried : (b : Bool) (p to d s : ℕ) (m : Sent) → slice_get w.frames i ≡ Some (record { by_server = b; circuit = p; to = to; destination = d; source = s; sent = m }) → Turn w done (record { by_server = b; circuit = p; to = to; destination = d; source = s; sent = m }) i → to ≡ (table w (not b)).own → Carried (arrive w (not b) (table w b).own b d s t g m) (i ∷ done)

@@ -1,9 +1,9 @@
 -- Frames of foreign addresses keep what is in flight between the two ends.
-use Rattle.std.proofs.Common.{◌≡◌, ◌≢◌, ℕ, zero, suc, ◌+◌, ◌<◌, ◌≤◌, inl, ⊎_elim, sym, ap, ◌∙◌, refl, subst, arith, Bool, true, false, not, cond, ◌&&◌, ◌||◌, List, [], ◌∷◌, ◌++◌, length, Option, Some, None, nat_eq, nat_lt, slice_get, eqb-true, append-nil, length-append}
+use Rattle.std.proofs.Common.{◌≡◌, ◌≢◌, ℕ, zero, suc, ◌+◌, ◌<◌, inl, ⊎_elim, sym, ap, ◌∙◌, refl, subst, arith, Bool, true, false, not, cond, ◌&&◌, ◌||◌, List, [], ◌∷◌, ◌++◌, length, Option, Some, None, nat_eq, nat_lt, slice_get, eqb-true, append-nil, length-append}
 use Rattle.std.proofs.lemmas.Bool.{true≢false, false≢true, and_parts, eqb-false, cases_lt}
 use Rattle.lat_model.specs.sessions.Slots.{Slot}
 use Rattle.lat_model.specs.sessions.Hearing.{hear_all}
-use Rattle.lat_model.specs.Lists.{Each, upwards}
+use Rattle.lat_model.specs.Lists.{Each}
 use Rattle.lat_model.specs.numbers.Link.{Link, Frame, fresh, is_unsent, is_next, ack_in}
 use Rattle.lat_model.specs.ends.End.{Sent, Run, CallStart, ReplyStart, Stopped, End, Step, still, lives, finish, occasion}
 use Rattle.lat_model.specs.ends.Timers.{note_empty}
@@ -19,6 +19,8 @@ use Rattle.lat_model.proofs.sessions.Words.{upd_same, upd_other}
 use Rattle.lat_model.proofs.numbers.Net.{each_imp, each_append, each_at}
 use Rattle.lat_model.proofs.circuits.Kin.{Kin, kin_run, kin_again, kin_stop}
 use Rattle.lat_model.proofs.circuits.Begins.{server_alive}
+use Rattle.lat_model.specs.circuits.Ids.{next_id, ids, is_known}
+use Rattle.lat_model.proofs.circuits.Ids.{drawn_known, drawn_some}
 use Rattle.lat_laws.specs.rounds.Lossless.{is_in}
 use Rattle.lat_laws.specs.rounds.Flight.{Flow, Old}
 use Rattle.lat_laws.specs.rounds.Carried.{flying, server_end, node_end, Coupled, Offered, NamesSender, Came, Carried, Kinds}
@@ -97,7 +99,7 @@ node_foreign w done x st ok k l n kin more = Nodes.node_step_carried w done done
     (λ j f g i. inl i)
 
 -- and one of the server, whose peer may be told just now
-module _ (w : World) (done : List ℕ) (x : ℕ) (st : Step) (ok : WorldOk w) (k : Carried w done) (low : x ≤ w.server.drawn) (l : lives (server_end w x) ≡ true) (n : (w.server.circuit_at x).address ≡ w.node.own → ⊥)
+module _ (w : World) (done : List ℕ) (x : ℕ) (st : Step) (ok : WorldOk w) (k : Carried w done) (low : is_known w.server x ≡ true) (l : lives (server_end w x) ≡ true) (n : (w.server.circuit_at x).address ≡ w.node.own → ⊥)
     (some : x ≢ 0)
     (truly : Each (λ s. (r : ℕ) → s ≡ Stopped r → lives st.end ≡ false) st.sent)
     (no_call : Each (λ s. s ≡ CallStart → ⊥) st.sent) where
@@ -164,7 +166,7 @@ module _ (w : World) (done : List ℕ) (x : ℕ) (st : Step) (ok : WorldOk w) (k
   pub server_foreign : Carried (at_end w true x st) done
   server_foreign = record {
     below = λ j h. k.below j (omega (arith, h, length-append w.frames news));
-    low = each_append (λ (f : Wired). f.circuit ≤ (table v f.by_server).drawn) w.frames news (each_imp (λ (f : Wired). f.circuit ≤ (table w f.by_server).drawn) (λ (f : Wired). f.circuit ≤ (table v f.by_server).drawn) (λ f. drawn f.circuit f.by_server) w.frames k.low) (new_low st.sent);
+    low = each_append (λ (f : Wired). is_known (table v f.by_server) f.circuit ≡ true) w.frames news (each_imp (λ (f : Wired). is_known (table w f.by_server) f.circuit ≡ true) (λ (f : Wired). is_known (table v f.by_server) f.circuit ≡ true) (λ f. drawn f.circuit f.by_server) w.frames k.low) (new_low st.sent);
     calling = λ p a h r. (let e : v.server.circuit_at p ≡ w.server.circuit_at p = there p (other p a) in
         subst (λ (u : CircuitEntry). Flow u.end.half.link fresh (flying v done true p)) (sym e) (subst (λ u. Flow (server_end w p).half.link fresh u) (sym (up p (other p a))) (k.calling p (ap (λ (u : CircuitEntry). u.address) (sym e) ∙ a) (ap (λ (u : CircuitEntry). lives u.end) (sym e) ∙ h) (ap (λ (u : CircuitEntry). u.end.running) (sym e) ∙ r))));
     runs = λ p a h r. (let e : v.server.circuit_at p ≡ w.server.circuit_at p = there p (other p a) in
@@ -177,18 +179,18 @@ module _ (w : World) (done : List ℕ) (x : ℕ) (st : Step) (ok : WorldOk w) (k
     downs = λ p a h r. (let e : v.server.circuit_at p ≡ w.server.circuit_at p = there p (other p a) in
         subst (λ (u : CircuitEntry). Flow (node_end w u.end.peer).half.link u.end.half.link (flying v done false u.end.peer)) (sym e)
         (subst (λ u. Flow (node_end w (server_end w p).peer).half.link (server_end w p).half.link u) (sym (down (server_end w p).peer)) (k.downs p (ap (λ (u : CircuitEntry). u.address) (sym e) ∙ a) (ap (λ (u : CircuitEntry). lives u.end) (sym e) ∙ h) (ap (λ (u : CircuitEntry). u.end.running) (sym e) ∙ r))));
-    offered = λ q m d a b h r. (let e : v.server.circuit_at (node_end w q).peer ≡ w.server.circuit_at (node_end w q).peer = there (node_end w q).peer (other (node_end w q).peer b) in
-        subst (λ u. Offered (node_end w q) u) (sym (down q)) (k.offered q m d a (ap (λ (u : CircuitEntry). u.address) (sym e) ∙ b) (ap (λ (u : CircuitEntry). lives u.end) (sym e) ∙ h) (ap (λ (u : CircuitEntry). u.end.running) (sym e) ∙ r)));
+    offered = λ q d a b h r. (let e : v.server.circuit_at (node_end w q).peer ≡ w.server.circuit_at (node_end w q).peer = there (node_end w q).peer (other (node_end w q).peer b) in
+        subst (λ u. Offered (node_end w q) u) (sym (down q)) (k.offered q d a (ap (λ (u : CircuitEntry). u.address) (sym e) ∙ b) (ap (λ (u : CircuitEntry). lives u.end) (sym e) ∙ h) (ap (λ (u : CircuitEntry). u.end.running) (sym e) ∙ r)));
     peers = k.peers;
     tells = each_append (λ (f : Wired). NamesSender v f.by_server f.circuit f.to f.destination f.source f.sent) w.frames news (both_tells w.frames ok.says k.tells) (new_tells st.sent truly no_call);
     came = λ j f h i. let q : slice_get w.frames j ≡ Some f = place w.frames j f (short j i) h in came f.by_server f.circuit f.to f.destination f.source f.sent (each_at (λ (y : Wired). FromSender w y.by_server y.circuit y.to y.destination y.source y.sent) w.frames j f ok.says q) (k.came j f q i);
   }
     where
-      drawn : (y : ℕ) (b : Bool) → y ≤ (table w b).drawn → y ≤ (table v b).drawn
+      drawn : (y : ℕ) (b : Bool) → is_known (table w b) y ≡ true → is_known (table v b) y ≡ true
       drawn y true h = h
       drawn y false h = h
 
-      new_low : (ss : List Sent) → Each (λ (f : Wired). f.circuit ≤ (table v f.by_server).drawn) (wire_all true x (w.server.circuit_at x).address st.end.peer ss)
+      new_low : (ss : List Sent) → Each (λ (f : Wired). is_known (table v f.by_server) f.circuit ≡ true) (wire_all true x (w.server.circuit_at x).address st.end.peer ss)
       new_low [] = tt
       new_low (s ∷ ss) = (low, new_low ss)
 
@@ -296,7 +298,7 @@ again_link t e = go (lives e && not e.heard_run) (lives e)
     go false false = refl
 
 silent_foreign : (w : World) (done : List ℕ) (x : ℕ) (st : Step) → WorldOk w → Carried w done → lives (server_end w x) ≡ true → ((w.server.circuit_at x).address ≡ w.node.own → ⊥) → st.sent ≡ [] → Carried (at_end w true x st) done
-silent_foreign w done x st ok k l n q = server_foreign w done x st ok k (server_alive w x ok l).1 l n (server_alive w x ok l).0 (subst (λ z. Each (λ s. (r : ℕ) → s ≡ Stopped r → lives st.end ≡ false) z) (sym q) tt) (subst (λ z. Each (λ s. s ≡ CallStart → ⊥) z) (sym q) tt)
+silent_foreign w done x st ok k l n q = server_foreign w done x st ok k (drawn_known w.server x (server_alive w x ok l)) l n (drawn_some w.server.first w.server.drawn x (server_alive w x ok l)) (subst (λ z. Each (λ s. (r : ℕ) → s ≡ Stopped r → lives st.end ≡ false) z) (sym q) tt) (subst (λ z. Each (λ s. s ≡ CallStart → ⊥) z) (sym q) tt)
 
 start_foreign : (w : World) (done : List ℕ) (from s t : ℕ) (g : Agreed) → WorldOk w → Carried w done → (from ≡ w.server.own → ⊥) → Carried (start_in w from s t g) done
 start_foreign w done from s t g ok k n = go (nat_eq x 0) refl (nat_lt (Arriving.living w.node) 8 && nat_lt w.node.drawn 65535)
@@ -307,11 +309,11 @@ start_foreign w done from s t g ok k n = go (nat_eq x 0) refl (nat_lt (Arriving.
     test : ℕ → Bool
     test j = is_of (w.node.circuit_at j) from s && lives (w.node.circuit_at j).end
 
-    go : (b : Bool) → nat_eq x 0 ≡ b → (c : Bool) → Carried (cond b (cond c (put_circuit w false (suc w.node.drawn) (suc w.node.drawn) from (make_slave t s g (first_end false false w.other))) (with_table w false w.node (wire_all false 0 from s (Stopped 7 ∷ [])))) (at_end w false x (again_start t (node_end w x)))) done
+    go : (b : Bool) → nat_eq x 0 ≡ b → (c : Bool) → Carried (cond b (cond c (put_circuit w false (suc w.node.drawn) (next_id w.node) from (make_slave t s g (first_end false false w.other))) (with_table w false w.node (wire_all false 0 from s (Stopped 7 ∷ [])))) (at_end w false x (again_start t (node_end w x)))) done
     go true q true = make_carried w done done from s t g ok k k.below (λ p b f. f) (λ q. refl) k.came (λ h. absurd (n h))
     go true q false = refuse_carried w done done from s ok k k.below (λ p b f. f) (λ q. refl) k.came
     go false q c =
-        let h : (is_of (w.node.circuit_at x) from s ≡ true) × (lives (node_end w x) ≡ true) = and_parts (is_of (w.node.circuit_at x) from s) (lives (node_end w x)) (least_passes test (upwards 0 w.node.drawn) (eqb-false x 0 q)) in
+        let h : (is_of (w.node.circuit_at x) from s ≡ true) × (lives (node_end w x) ≡ true) = and_parts (is_of (w.node.circuit_at x) from s) (lives (node_end w x)) (least_passes test (ids w.node) (eqb-false x 0 q)) in
         let a : (nat_eq (w.node.circuit_at x).address from ≡ true) × (nat_eq (node_end w x).peer s ≡ true) = and_parts (nat_eq (w.node.circuit_at x).address from) (nat_eq (node_end w x).peer s) h.0 in
         node_foreign w done x (again_start t (node_end w x)) ok k h.1 (λ o. n (sym (eqb-true (w.node.circuit_at x).address from a.0) ∙ o)) (kin_again t (node_end w x)) (more_same (node_end w x) (again_start t (node_end w x)).end (again_link t (node_end w x)))
 
@@ -326,7 +328,7 @@ arrive_foreign w done ok kd k true from bit d s t g (Run mark ask f) n o =
     let l : (is_of c from s ≡ true) × (lives c.end ≡ true) = and_parts (is_of c from s) (lives c.end) b.0 in
     let i : (nat_eq c.address from ≡ true) × (nat_eq c.end.peer s ≡ true) = and_parts (nat_eq c.address from) (nat_eq c.end.peer s) l.0 in
     let z : Breaks st = run_breaks t ask f c.end (kd.masters d) in
-    server_foreign w done d st ok k (server_alive w d ok l.1).1 l.1 (λ y. o (sym (eqb-true c.address from i.0) ∙ y)) (server_alive w d ok l.1).0 z.truly z.no_call)) k
+    server_foreign w done d st ok k (drawn_known w.server d (server_alive w d ok l.1)) l.1 (λ y. o (sym (eqb-true c.address from i.0) ∙ y)) (drawn_some w.server.first w.server.drawn d (server_alive w d ok l.1)) z.truly z.no_call)) k
 arrive_foreign w done ok kd k false from bit d s t g (Run mark ask f) n o =
     let c : CircuitEntry = w.node.circuit_at d in
     let st : Step = (run_end t ask f c.end).step in

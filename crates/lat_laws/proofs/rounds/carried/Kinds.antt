@@ -1,7 +1,7 @@
 -- Each event keeps the circuits of the server masters, and those of the node slaves that run.
 use Rattle.std.proofs.Common.{◌≡◌, ℕ, suc, sym, ◌∙◌, refl, Bool, true, false, not, cond, ◌&&◌, ◌||◌, List, [], ◌∷◌, Option, Some, None, nat_eq, nat_lt, slice_get}
 use Rattle.std.proofs.lemmas.Bool.{true≢false, false≢true, and_parts, eqb-false}
-use Rattle.lat_model.specs.Lists.{upwards, least}
+use Rattle.lat_model.specs.Lists.{least}
 use Rattle.lat_model.specs.ends.End.{Sent, Run, CallStart, ReplyStart, Stopped, End, Step, still, lives, call_end, finish, lapse}
 use Rattle.lat_model.specs.ends.Timers.{note_empty, time_step}
 use Rattle.lat_model.specs.ends.Run.{run_end}
@@ -12,6 +12,7 @@ use Rattle.lat_model.specs.circuits.Events.{WorldEvent, Calls, Locally, Times, M
 use Rattle.lat_model.proofs.sessions.Words.{upd_all}
 use Rattle.lat_model.proofs.circuits.Kin.{Kin, kin_time, kin_run, kin_again, kin_stop}
 use Rattle.lat_model.proofs.circuits.Begins.{kin_call}
+use Rattle.lat_model.specs.circuits.Ids.{next_id, ids}
 use Rattle.lat_laws.specs.rounds.Carried.{server_end, node_end, Kinds}
 
 kinds_cond : (c : Bool) (v w : World) → (c ≡ true → Kinds v) → Kinds w → Kinds (cond c v w)
@@ -37,13 +38,13 @@ node_kinds w x st m r k =
 node_kin : (w : World) (x : ℕ) (st : Step) → lives (node_end w x) ≡ true → Kin (node_end w x) st.end → Kinds w → Kinds (at_end w false x st)
 node_kin w x st l kin k = node_kinds w x st kin.master (λ h. kin.running ∙ k.runs x l) k
 
-make_kinds : (w : World) (from source now : ℕ) (g : Agreed) → Kinds w → Kinds (put_circuit w false (suc w.node.drawn) (suc w.node.drawn) from (make_slave now source g (first_end false false w.other)))
+make_kinds : (w : World) (from source now : ℕ) (g : Agreed) → Kinds w → Kinds (put_circuit w false (suc w.node.drawn) (next_id w.node) from (make_slave now source g (first_end false false w.other)))
 make_kinds w from source now g k =
     let c' : CircuitEntry = record { address = from; end = (make_slave now source g (first_end false false w.other)).end } in
     record {
       masters = k.masters;
-      slaves = λ y. upd_all (λ (z : CircuitEntry). z.end.master ≡ false) w.node.circuit_at (suc w.node.drawn) c' refl k.slaves y;
-      runs = λ y. upd_all Slave w.node.circuit_at (suc w.node.drawn) c' (λ h. refl) k.runs y;
+      slaves = λ y. upd_all (λ (z : CircuitEntry). z.end.master ≡ false) w.node.circuit_at (next_id w.node) c' refl k.slaves y;
+      runs = λ y. upd_all Slave w.node.circuit_at (next_id w.node) c' (λ h. refl) k.runs y;
     }
 
 stop_kin : (now r : ℕ) (e : End) → (lives e ≡ true → e.running ≡ true) → lives (hear_stop now r e).end ≡ true → (hear_stop now r e).end.running ≡ true
@@ -78,10 +79,10 @@ start_kinds w from s now g k = go (nat_eq x 0) refl (nat_lt (living w.node) 8 &&
     test : ℕ → Bool
     test i = is_of (w.node.circuit_at i) from s && lives (w.node.circuit_at i).end
 
-    go : (b : Bool) → nat_eq x 0 ≡ b → (c : Bool) → Kinds (cond b (cond c (put_circuit w false (suc w.node.drawn) (suc w.node.drawn) from (make_slave now s g (first_end false false w.other))) (with_table w false w.node (record { by_server = false; circuit = 0; to = from; destination = s; source = 0; sent = Stopped 7 } ∷ []))) (at_end w false x (again_start now (node_end w x))))
+    go : (b : Bool) → nat_eq x 0 ≡ b → (c : Bool) → Kinds (cond b (cond c (put_circuit w false (suc w.node.drawn) (next_id w.node) from (make_slave now s g (first_end false false w.other))) (with_table w false w.node (record { by_server = false; circuit = 0; to = from; destination = s; source = 0; sent = Stopped 7 } ∷ []))) (at_end w false x (again_start now (node_end w x))))
     go true q true = make_kinds w from s now g k
     go true q false = record { masters = k.masters; slaves = k.slaves; runs = k.runs }
-    go false q c = node_kin w x (again_start now (node_end w x)) (and_parts (is_of (w.node.circuit_at x) from s) (lives (node_end w x)) (least_passes test (upwards 0 w.node.drawn) (eqb-false x 0 q))).1 (kin_again now (node_end w x)) k
+    go false q c = node_kin w x (again_start now (node_end w x)) (and_parts (is_of (w.node.circuit_at x) from s) (lives (node_end w x)) (least_passes test (ids w.node) (eqb-false x 0 q))).1 (kin_again now (node_end w x)) k
 
 arrive_kinds : (w : World) → Kinds w → (b : Bool) (from : ℕ) (bit : Bool) (d s now : ℕ) (g : Agreed) (m : Sent) → Kinds (arrive w b from bit d s now g m)
 arrive_kinds w k true from bit d s now g (Run mark a f) = kinds_cond (is_of (w.server.circuit_at d) from s && lives (server_end w d) && (server_end w d).running && cond bit (not (server_end w d).master) (server_end w d).master) (at_end w true d (run_end now a f (server_end w d)).step) w (λ h. server_kinds w d (run_end now a f (server_end w d)).step (kin_run now a f (server_end w d)).master k) k
@@ -107,7 +108,7 @@ deliver_kinds w k now g None = k
 deliver_kinds w k now g (Some p) = kinds_cond (nat_eq p.to (table w (not p.by_server)).own) (arrive w (not p.by_server) (table w p.by_server).own p.by_server p.destination p.source now g p.sent) w (λ h. arrive_kinds w k (not p.by_server) (table w p.by_server).own p.by_server p.destination p.source now g p.sent) k
 
 pub occurs_kinds : (w : World) → Kinds w → (e : WorldEvent) → Kinds (occurs w e)
-occurs_kinds w k (Calls address now) = record { masters = λ y. upd_all (λ (z : CircuitEntry). z.end.master ≡ true) w.server.circuit_at (suc w.server.drawn) (record { address = address; end = record (first_end true true w.setup) { moment = now; due_at = now; sent_at = now; start_at = now } }) refl k.masters y; slaves = k.slaves; runs = k.runs }
+occurs_kinds w k (Calls address now) = record { masters = λ y. upd_all (λ (z : CircuitEntry). z.end.master ≡ true) w.server.circuit_at (next_id w.server) (record { address = address; end = record (first_end true true w.setup) { moment = now; due_at = now; sent_at = now; start_at = now } }) refl k.masters y; slaves = k.slaves; runs = k.runs }
 occurs_kinds w k (Locally true x c) = kinds_cond (lives (server_end w x)) (at_end w true x (still (call_end c (server_end w x)))) w (λ l. server_kinds w x (still (call_end c (server_end w x))) refl k) k
 occurs_kinds w k (Locally false x c) = kinds_cond (lives (node_end w x)) (at_end w false x (still (call_end c (node_end w x)))) w (λ l. node_kin w x (still (call_end c (node_end w x))) l (kin_call c (node_end w x)) k) k
 occurs_kinds w k (Times true x now) = kinds_cond (lives (server_end w x)) (at_end w true x (time_step now (server_end w x))) w (λ l. server_kinds w x (time_step now (server_end w x)) (kin_time now (server_end w x)).master k) k
@@ -131,5 +132,5 @@ pub go_on_kinds : (es : List WorldEvent) (w : World) → Kinds w → Kinds (go_o
 go_on_kinds [] w k = k
 go_on_kinds (e ∷ es) w k = go_on_kinds es (occurs w e) (occurs_kinds w k e)
 
-pub open_kinds : (s n : ℕ) (u v : Setup) → Kinds (open_world s n u v)
-open_kinds s n u v = record { masters = λ x. refl; slaves = λ x. refl; runs = λ x h. absurd (false≢true h) }
+pub open_kinds : (s n i j : ℕ) (u v : Setup) → Kinds (open_world s n i j u v)
+open_kinds s n i j u v = record { masters = λ x. refl; slaves = λ x. refl; runs = λ x h. absurd (false≢true h) }

@@ -1,5 +1,5 @@
 -- The first reply: from now on both ends of the circuit are coupled.
-use Rattle.std.proofs.Common.{◌≡◌, ◌≢◌, ℕ, ◌≤◌, inl, ⊎_elim, sym, ap, ◌∙◌, refl, subst, arith, Bool, true, false, cond, ◌&&◌, List, [], ◌∷◌, ◌++◌, length, Some, nat_eq, slice_get, eqb-true, ne_eqb, append-nil}
+use Rattle.std.proofs.Common.{◌≡◌, ◌≢◌, ℕ, inl, ⊎_elim, sym, ap, ◌∙◌, refl, subst, arith, Bool, true, false, cond, ◌&&◌, List, [], ◌∷◌, ◌++◌, length, Some, nat_eq, slice_get, eqb-true, ne_eqb, append-nil}
 use Rattle.std.proofs.lemmas.Bool.{true≢false, false≢true, eqb-false}
 use Rattle.lat_model.specs.sessions.Slots.{Slot}
 use Rattle.lat_model.specs.Lists.{Each}
@@ -13,6 +13,7 @@ use Rattle.lat_model.specs.circuits.World.{CircuitEntry, Wired, World, table, at
 use Rattle.lat_model.specs.circuits.WorldOk.{WorldOk, FromSender, Idle, void_half}
 use Rattle.lat_model.proofs.sessions.Words.{upd_same, upd_other, upd_field}
 use Rattle.lat_model.proofs.numbers.Net.{each_imp, each_at}
+use Rattle.lat_model.specs.circuits.Ids.{is_drawn, is_known}
 use Rattle.lat_laws.specs.rounds.Flight.{Flow, Old}
 use Rattle.lat_laws.specs.rounds.Carried.{flying, flying_from, has_stop_sent, server_end, node_end, Coupled, Offered, NamesSender, Came, Carried}
 use Rattle.lat_laws.proofs.rounds.carried.Runs.{fly_same, fly_first, place_low, below_more, in_cases}
@@ -28,7 +29,7 @@ module _ (w : World) (done : List ℕ) (i x q to s t : ℕ) (g : Agreed) (ok : W
     (address : (w.server.circuit_at x).address ≡ w.node.own)
     (waits : (w.server.circuit_at x).end.running ≡ false)
     (some : q ≢ 0)
-    (drawn : q ≤ w.node.drawn)
+    (drawn : is_drawn w.node q ≡ true)
     (own : (w.node.circuit_at q).address ≡ w.server.own)
     (peer : (node_end w q).peer ≡ x) where
   abbrev f : Wired
@@ -76,7 +77,7 @@ module _ (w : World) (done : List ℕ) (i x q to s t : ℕ) (g : Agreed) (ok : W
 
   -- the slave's frames are all in flight: this is its first
   offer : Offered (node_end w q) (flying w done false q)
-  offer = k.offered q some drawn own (ap (λ z. (w.server.circuit_at z).address) peer ∙ address) (ap (λ z. lives (server_end w z)) peer ∙ l) (ap (λ z. (server_end w z).running) peer ∙ waits)
+  offer = k.offered q drawn own (ap (λ z. (w.server.circuit_at z).address) peer ∙ address) (ap (λ z. lives (server_end w z)) peer ∙ l) (ap (λ z. (server_end w z).running) peer ∙ waits)
 
   rest : flying w now false q ≡ offer.rest
   rest = ⊎_elim {C = flying w now false q ≡ offer.rest}
@@ -172,12 +173,12 @@ module _ (w : World) (done : List ℕ) (i x q to s t : ℕ) (g : Agreed) (ok : W
           subst (λ (u : CircuitEntry). Flow (node_end w u.end.peer).half.link u.end.half.link (flying v now false u.end.peer)) (sym z)
           (subst (λ u. Flow (node_end w (server_end w p).peer).half.link (server_end w p).half.link u) (sym (down_now (server_end w p).peer m)) (k.downs p a0 (ap (λ (u : CircuitEntry). lives u.end) (sym z) ∙ h) r0))
 
-  offered : (y : ℕ) → y ≢ 0 → y ≤ w.node.drawn → (w.node.circuit_at y).address ≡ w.server.own → (v.server.circuit_at (node_end w y).peer).address ≡ w.node.own → lives (server_end v (node_end w y).peer) ≡ true → (server_end v (node_end w y).peer).running ≡ false → Offered (node_end w y) (flying v now false y)
-  offered y n d a b h r =
+  offered : (y : ℕ) → is_drawn w.node y ≡ true → (w.node.circuit_at y).address ≡ w.server.own → (v.server.circuit_at (node_end w y).peer).address ≡ w.node.own → lives (server_end v (node_end w y).peer) ≡ true → (server_end v (node_end w y).peer).running ≡ false → Offered (node_end w y) (flying v now false y)
+  offered y d a b h r =
       let p : ℕ = (node_end w y).peer in
       let m : p ≡ x → ⊥ = λ u. true≢false (sym (ap (λ z. (server_end v z).running) u ∙ ap (λ (z : CircuitEntry). z.end.running) here) ∙ r) in
       let z : v.server.circuit_at p ≡ w.server.circuit_at p = there p m in
-      subst (λ u. Offered (node_end w y) u) (sym (down_now y (λ u. m (ap (λ d. (node_end w d).peer) u ∙ peer)))) (k.offered y n d a (ap (λ (u : CircuitEntry). u.address) (sym z) ∙ b) (ap (λ (u : CircuitEntry). lives u.end) (sym z) ∙ h) (ap (λ (u : CircuitEntry). u.end.running) (sym z) ∙ r))
+      subst (λ u. Offered (node_end w y) u) (sym (down_now y (λ u. m (ap (λ d. (node_end w d).peer) u ∙ peer)))) (k.offered y d a (ap (λ (u : CircuitEntry). u.address) (sym z) ∙ b) (ap (λ (u : CircuitEntry). lives u.end) (sym z) ∙ h) (ap (λ (u : CircuitEntry). u.end.running) (sym z) ∙ r))
 
   tells : (b : Bool) (y u d o : ℕ) (m : Sent) → NamesSender w b y u d o m → NamesSender v b y u d o m
   tells true y u d o (Run mark ask h) z = λ a. go (nat_eq y x) refl (z a)
@@ -229,7 +230,7 @@ module _ (w : World) (done : List ℕ) (i x q to s t : ℕ) (g : Agreed) (ok : W
   pub first_reply_carried : Carried (at_end w true x (record { end = reply_end t q g (w.server.circuit_at x).end; sent = [] })) (i ∷ done)
   first_reply_carried = record {
     below = λ j h. below_more w done i (place_low w.frames i f place) k.below j (omega (arith, h, ap length frames));
-    low = subst (λ z. Each (λ (u : Wired). u.circuit ≤ (table v u.by_server).drawn) z) (sym frames) (each_imp (λ (u : Wired). u.circuit ≤ (table w u.by_server).drawn) (λ (u : Wired). u.circuit ≤ (table v u.by_server).drawn) (λ u. drawn_same u.circuit u.by_server) w.frames k.low);
+    low = subst (λ z. Each (λ (u : Wired). is_known (table v u.by_server) u.circuit ≡ true) z) (sym frames) (each_imp (λ (u : Wired). is_known (table w u.by_server) u.circuit ≡ true) (λ (u : Wired). is_known (table v u.by_server) u.circuit ≡ true) (λ u. drawn_same u.circuit u.by_server) w.frames k.low);
     calling = calling;
     runs = runs;
     ups = ups;
@@ -240,7 +241,7 @@ module _ (w : World) (done : List ℕ) (i x q to s t : ℕ) (g : Agreed) (ok : W
     came = λ j u h d. ⊎_elim {C = Came v u.by_server u.circuit u.to u.destination u.sent} (λ z. subst (λ (y : Wired). Came v y.by_server y.circuit y.to y.destination y.sent) (same j u z (old_place j u h)) mine) (λ z. came u.by_server u.circuit u.to u.destination u.source u.sent (each_at (λ (y : Wired). FromSender w y.by_server y.circuit y.to y.destination y.source y.sent) w.frames j u ok.says (old_place j u h)) (k.came j u (old_place j u h) z)) (in_cases i j done d);
   }
     where
-      drawn_same : (y : ℕ) (b : Bool) → y ≤ (table w b).drawn → y ≤ (table v b).drawn
+      drawn_same : (y : ℕ) (b : Bool) → is_known (table w b) y ≡ true → is_known (table v b) y ≡ true
       drawn_same y true h = h
       drawn_same y false h = h
 

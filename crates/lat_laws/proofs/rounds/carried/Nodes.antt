@@ -1,5 +1,5 @@
 -- A step of a circuit of the node, which may hear a frame, keeps what is in flight.
-use Rattle.std.proofs.Common.{◌≡◌, ◌≢◌, ℕ, ◌+◌, ◌<◌, ◌≤◌, ◌⊎◌, ⊎_elim, sym, ap, ◌∙◌, refl, subst, arith, Bool, true, false, cond, List, [], ◌∷◌, ◌++◌, length, Some, nat_eq, slice_get, eqb-true, append-nil, length-append}
+use Rattle.std.proofs.Common.{◌≡◌, ℕ, ◌+◌, ◌<◌, ◌≤◌, ◌⊎◌, ⊎_elim, sym, ap, ◌∙◌, refl, subst, arith, Bool, true, false, cond, List, [], ◌∷◌, ◌++◌, length, Some, nat_eq, slice_get, eqb-true, append-nil, length-append}
 use Rattle.std.proofs.lemmas.Bool.{true≢false, false≢true, eqb-false, cases_lt}
 use Rattle.lat_model.specs.sessions.Slots.{Slot}
 use Rattle.lat_model.specs.Lists.{Each}
@@ -12,6 +12,8 @@ use Rattle.lat_model.proofs.sessions.Words.{upd_same, upd_other, upd_field}
 use Rattle.lat_model.proofs.numbers.Net.{each_imp, each_append}
 use Rattle.lat_model.proofs.circuits.Kin.{Kin}
 use Rattle.lat_model.proofs.circuits.Begins.{node_alive}
+use Rattle.lat_model.specs.circuits.Ids.{is_drawn, is_known}
+use Rattle.lat_model.proofs.circuits.Ids.{drawn_known}
 use Rattle.lat_laws.specs.rounds.Lossless.{is_in}
 use Rattle.lat_laws.specs.rounds.Flight.{Flow, Clear, Old}
 use Rattle.lat_laws.specs.rounds.Carried.{flying, flying_from, has_stop_sent, server_end, node_end, Both, Coupled, Offered, NamesSender, Came, Carried}
@@ -154,11 +156,11 @@ module _ (w : World) (done : List ℕ) (now : List ℕ) (x : ℕ) (st : Step) (o
           let n : m.peer ≡ x → ⊥ = eqb-false m.peer x i0 in
           subst (λ (z : CircuitEntry). Flow z.end.half.link m.half.link (flying v now false m.peer)) (sym (there m.peer n)) (subst (λ z. Flow (node_end w m.peer).half.link m.half.link z) (sym (down_other m.peer n)) old)
 
-  offered : (q : ℕ) → q ≢ 0 → q ≤ w.node.drawn → (v.node.circuit_at q).address ≡ w.server.own → (w.server.circuit_at (node_end v q).peer).address ≡ w.node.own → lives (server_end w (node_end v q).peer) ≡ true → (server_end w (node_end v q).peer).running ≡ false → Offered (node_end v q) (flying v now false q)
-  offered q z d a b h r = go (nat_eq q x) refl
+  offered : (q : ℕ) → is_drawn w.node q ≡ true → (v.node.circuit_at q).address ≡ w.server.own → (w.server.circuit_at (node_end v q).peer).address ≡ w.node.own → lives (server_end w (node_end v q).peer) ≡ true → (server_end w (node_end v q).peer).running ≡ false → Offered (node_end v q) (flying v now false q)
+  offered q d a b h r = go (nat_eq q x) refl
     where
       old : Offered (node_end w q) (flying w done false q)
-      old = k.offered q z d (sym (address q) ∙ a) (ap (λ y. (w.server.circuit_at y).address) (sym (peer q)) ∙ b) (ap (λ y. lives (server_end w y)) (sym (peer q)) ∙ h) (ap (λ y. (server_end w y).running) (sym (peer q)) ∙ r)
+      old = k.offered q d (sym (address q) ∙ a) (ap (λ y. (w.server.circuit_at y).address) (sym (peer q)) ∙ b) (ap (λ y. lives (server_end w y)) (sym (peer q)) ∙ h) (ap (λ y. (server_end w y).running) (sym (peer q)) ∙ r)
 
       go : (t : Bool) → nat_eq q x ≡ t → Offered (node_end v q) (flying v now false q)
       go true i0 =
@@ -214,13 +216,13 @@ module _ (w : World) (done : List ℕ) (now : List ℕ) (x : ℕ) (st : Step) (o
   old_came true y to d (Stopped r) h = tt
   old_came false y to d (Stopped r) h = tt
 
-  drawn : (y : ℕ) (b : Bool) → y ≤ (table w b).drawn → y ≤ (table v b).drawn
+  drawn : (y : ℕ) (b : Bool) → is_known (table w b) y ≡ true → is_known (table v b) y ≡ true
   drawn y true h = h
   drawn y false h = h
 
-  new_low : (ss : List Sent) → Each (λ (f : Wired). f.circuit ≤ (table v f.by_server).drawn) (wire_all false x c.address st.end.peer ss)
+  new_low : (ss : List Sent) → Each (λ (f : Wired). is_known (table v f.by_server) f.circuit ≡ true) (wire_all false x c.address st.end.peer ss)
   new_low [] = tt
-  new_low (s ∷ ss) = ((node_alive w x ok l).1, new_low ss)
+  new_low (s ∷ ss) = (drawn_known w.node x (node_alive w x ok l), new_low ss)
 
   short : (j : ℕ) → is_in j now ≡ true → j < length w.frames
   short j i = ⊎_elim {C = j < length w.frames} (λ z. z) (λ z. absurd (true≢false (sym i ∙ below j z))) (cases_lt j (length w.frames))
@@ -228,13 +230,13 @@ module _ (w : World) (done : List ℕ) (now : List ℕ) (x : ℕ) (st : Step) (o
   pub node_step_carried : Carried (at_end w false x st) now
   node_step_carried = record {
     below = λ j h. below j (omega (arith, h, length-append w.frames news));
-    low = each_append (λ f. f.circuit ≤ (table v f.by_server).drawn) w.frames news (each_imp (λ f. f.circuit ≤ (table w f.by_server).drawn) (λ f. f.circuit ≤ (table v f.by_server).drawn) (λ f. drawn f.circuit f.by_server) w.frames k.low) (new_low st.sent);
+    low = each_append (λ f. is_known (table v f.by_server) f.circuit ≡ true) w.frames news (each_imp (λ f. is_known (table w f.by_server) f.circuit ≡ true) (λ f. is_known (table v f.by_server) f.circuit ≡ true) (λ f. drawn f.circuit f.by_server) w.frames k.low) (new_low st.sent);
     calling = calling;
     runs = runs;
     ups = ups;
     downs = downs;
     offered = offered;
-    peers = λ q n d a. subst (λ z. z ≤ w.server.drawn) (sym (peer q)) (k.peers q n d (sym (address q) ∙ a));
+    peers = λ q d a. subst (λ z. is_known w.server z ≡ true) (sym (peer q)) (k.peers q d (sym (address q) ∙ a));
     tells = each_append (λ f. NamesSender v f.by_server f.circuit f.to f.destination f.source f.sent) w.frames news (each_imp (λ f. NamesSender w f.by_server f.circuit f.to f.destination f.source f.sent) (λ f. NamesSender v f.by_server f.circuit f.to f.destination f.source f.sent) (λ f. old_tells f.by_server f.circuit f.to f.destination f.source f.sent) w.frames k.tells) (new_tells st.sent);
     came = λ j f g i. let q : slice_get w.frames j ≡ Some f = front_place w.frames news j f (short j i) g in
         ⊎_elim {C = Came v f.by_server f.circuit f.to f.destination f.sent} (λ z. old_came f.by_server f.circuit f.to f.destination f.sent (k.came j f q z)) (λ z. z) (came_now j f q i);

@@ -1,5 +1,5 @@
 -- Every run in which frames come in order keeps what is in flight; and each frame that comes in its turn is young.
-use Rattle.std.proofs.Common.{◌≡◌, ℕ, ◌<◌, ◌≤◌, arith, sym, ap, ap₂, ◌∙◌, refl, subst, Bool, true, false, cond, ◌||◌, List, [], ◌∷◌, Some, nat_eq, slice_get}
+use Rattle.std.proofs.Common.{◌≡◌, ℕ, ◌<◌, sym, ap, ap₂, ◌∙◌, refl, subst, Bool, true, false, cond, ◌||◌, List, [], ◌∷◌, Some, nat_eq, slice_get, true≢false}
 use Rattle.std.proofs.lemmas.Bool.{false≢true, eqb-false}
 use Rattle.lat_model.specs.ends.End.{Mark, Run, lives}
 use Rattle.lat_model.specs.ends.Starting.{Setup}
@@ -13,6 +13,7 @@ use Rattle.lat_model.specs.circuits.Together.{Together}
 use Rattle.lat_model.specs.circuits.WorldOk.{WorldOk, ByServer, FromSender, void_half}
 use Rattle.lat_model.proofs.numbers.Net.{each_at}
 use Rattle.lat_model.proofs.circuits.Arrives.{occurs_ok}
+use Rattle.lat_model.proofs.circuits.Ids.{none_drawn}
 use Rattle.lat_laws.specs.rounds.Lossless.{is_in}
 use Rattle.lat_laws.specs.rounds.Carried.{Both, Coupled, NamesSender, Carried, Kinds, IsNext, flying, has_stop_sent, server_end, node_end, done_after, InTurn, Orderly, done_all}
 use Rattle.lat_laws.specs.rounds.Flight.{Flow}
@@ -46,22 +47,19 @@ pub go_on_carried : (es : List WorldEvent) (w : World) (done : List ℕ) → Wor
 go_on_carried [] w done ok kd k o = k
 go_on_carried (e ∷ es) w done ok kd k o = go_on_carried es (occurs w e) (done_after w done e) (occurs_ok w ok e) (occurs_kinds w kd e) (occurs_carried w done ok kd k e o.0) o.1
 
-pub open_carried : (s n : ℕ) (u v : Setup) → Carried (open_world s n u v) []
-open_carried s n u v = record {
-  below = λ j h. refl;
+pub open_carried : (s n i j : ℕ) (u v : Setup) → Carried (open_world s n i j u v) []
+open_carried s n i j u v = record {
+  below = λ k h. refl;
   low = tt;
   calling = λ p a l r. absurd (false≢true l);
   runs = λ p a l r. absurd (false≢true r);
   ups = λ p a r. absurd (false≢true r);
   downs = λ p a l r. absurd (false≢true r);
-  offered = λ q z d a b l r. absurd (z (none q d));
-  peers = λ q z d a. absurd (z (none q d));
+  offered = λ q d a b l r. absurd (true≢false (sym d ∙ none_drawn j q));
+  peers = λ q d a. absurd (true≢false (sym d ∙ none_drawn j q));
   tells = tt;
-  came = λ j f h i. absurd (false≢true i);
+  came = λ k f h l. absurd (false≢true l);
 }
-  where
-    none : (q : ℕ) → q ≤ 0 → q ≡ 0
-    none q d = omega arith
 
 -- RUNs that come in their turn are young
 

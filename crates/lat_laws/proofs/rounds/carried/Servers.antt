@@ -12,6 +12,8 @@ use Rattle.lat_model.proofs.sessions.Words.{upd_same, upd_other, upd_field}
 use Rattle.lat_model.proofs.numbers.Net.{each_imp, each_append, prefix_length}
 use Rattle.lat_model.proofs.circuits.Kin.{Kin}
 use Rattle.lat_model.proofs.circuits.Begins.{server_alive}
+use Rattle.lat_model.specs.circuits.Ids.{is_drawn, is_known}
+use Rattle.lat_model.proofs.circuits.Ids.{drawn_known, drawn_some}
 use Rattle.lat_laws.specs.rounds.Lossless.{is_in}
 use Rattle.lat_laws.specs.rounds.Flight.{EndsTaking, Rises, Flow, ShowsTaken, LinkSound, Old}
 use Rattle.lat_laws.specs.rounds.Carried.{flying, flying_from, has_stop_sent, server_end, node_end, Both, Coupled, Offered, NamesSender, Came, Carried}
@@ -211,8 +213,8 @@ module _ (w : World) (done : List ℕ) (now : List ℕ) (x : ℕ) (st : Step) (o
           let m : c.address ≡ w.node.own → e.running ≡ true → e.peer ≡ q → ⊥ = λ u t y. n (sym (ok.replied p a1 r1).peer ∙ ap (λ z. (node_end w z).peer) (sym y) ∙ (ok.replied x u t).peer) in
           subst (λ (z : CircuitEntry). Flow (node_end w q).half.link z.end.half.link (flying w now false q)) (sym (there p n)) (subst (λ z. Flow (node_end w q).half.link (server_end w p).half.link z) (sym (down_now q (ok.replied p a1 r1).some m)) old)
 
-  offered : (q : ℕ) → q ≢ 0 → q ≤ w.node.drawn → (w.node.circuit_at q).address ≡ w.server.own → (v.server.circuit_at (node_end w q).peer).address ≡ w.node.own → lives (server_end v (node_end w q).peer) ≡ true → (server_end v (node_end w q).peer).running ≡ false → Offered (node_end w q) (flying v now false q)
-  offered q n d a b h r = subst (λ z. Offered (node_end w q) z) (sym (down q ∙ down_now q n other)) (k.offered q n d a (sym (address (node_end w q).peer) ∙ b) (lived (node_end w q).peer h) (sym (running (node_end w q).peer) ∙ r))
+  offered : (q : ℕ) → is_drawn w.node q ≡ true → (w.node.circuit_at q).address ≡ w.server.own → (v.server.circuit_at (node_end w q).peer).address ≡ w.node.own → lives (server_end v (node_end w q).peer) ≡ true → (server_end v (node_end w q).peer).running ≡ false → Offered (node_end w q) (flying v now false q)
+  offered q d a b h r = subst (λ z. Offered (node_end w q) z) (sym (down q ∙ down_now q (drawn_some w.node.first w.node.drawn q d) other)) (k.offered q d a (sym (address (node_end w q).peer) ∙ b) (lived (node_end w q).peer h) (sym (running (node_end w q).peer) ∙ r))
     where
       other : c.address ≡ w.node.own → e.running ≡ true → e.peer ≡ q → ⊥
       other u t y = true≢false (sym t ∙ ap (λ z. (server_end w z).running) (sym (ok.replied x u t).peer ∙ ap (λ z. (node_end w z).peer) y) ∙ sym (running (node_end w q).peer) ∙ r)
@@ -230,7 +232,7 @@ module _ (w : World) (done : List ℕ) (now : List ℕ) (x : ℕ) (st : Step) (o
   new_tells : (ss : List Sent) → Each (Truly e st.end) ss → Each (λ f. NamesSender v f.by_server f.circuit f.to f.destination f.source f.sent) (wire_all true x c.address st.end.peer ss)
   new_tells [] h = tt
   new_tells (Run mark ask f ∷ ss) h = (λ t. (running x ∙ h.0, kin.peer ∙ sym (peer x)), new_tells ss h.1)
-  new_tells (Stopped r ∷ ss) h = ((ap (λ (z : CircuitEntry). lives z.end) here ∙ h.0, refl, (server_alive w x ok l).0), new_tells ss h.1)
+  new_tells (Stopped r ∷ ss) h = ((ap (λ (z : CircuitEntry). lives z.end) here ∙ h.0, refl, drawn_some w.server.first w.server.drawn x (server_alive w x ok l)), new_tells ss h.1)
   new_tells (CallStart ∷ ss) h = (refl, new_tells ss h.1)
   new_tells (ReplyStart ∷ ss) h = (tt, new_tells ss h.1)
 
@@ -251,7 +253,7 @@ module _ (w : World) (done : List ℕ) (now : List ℕ) (x : ℕ) (st : Step) (o
   pub server_step_carried : Carried (at_end w true x st) now
   server_step_carried = record {
     below = λ j h. below j (omega (arith, h, length-append w.frames news));
-    low = each_append (λ f. f.circuit ≤ (table v f.by_server).drawn) w.frames news (each_imp (λ f. f.circuit ≤ (table w f.by_server).drawn) (λ f. f.circuit ≤ (table v f.by_server).drawn) (λ f. drawn f.circuit f.by_server) w.frames k.low) (new_low st.sent);
+    low = each_append (λ f. is_known (table v f.by_server) f.circuit ≡ true) w.frames news (each_imp (λ f. is_known (table w f.by_server) f.circuit ≡ true) (λ f. is_known (table v f.by_server) f.circuit ≡ true) (λ f. drawn f.circuit f.by_server) w.frames k.low) (new_low st.sent);
     calling = calling;
     runs = runs;
     ups = ups;
@@ -263,13 +265,13 @@ module _ (w : World) (done : List ℕ) (now : List ℕ) (x : ℕ) (st : Step) (o
         ⊎_elim {C = Came v f.by_server f.circuit f.to f.destination f.sent} (λ z. old_came f.by_server f.circuit f.to f.destination f.sent (k.came j f q z)) (λ z. z) (came_now j f q i);
   }
     where
-      drawn : (y : ℕ) (b : Bool) → y ≤ (table w b).drawn → y ≤ (table v b).drawn
+      drawn : (y : ℕ) (b : Bool) → is_known (table w b) y ≡ true → is_known (table v b) y ≡ true
       drawn y true h = h
       drawn y false h = h
 
-      new_low : (ss : List Sent) → Each (λ (f : Wired). f.circuit ≤ (table v f.by_server).drawn) (wire_all true x c.address st.end.peer ss)
+      new_low : (ss : List Sent) → Each (λ (f : Wired). is_known (table v f.by_server) f.circuit ≡ true) (wire_all true x c.address st.end.peer ss)
       new_low [] = tt
-      new_low (s ∷ ss) = ((server_alive w x ok l).1, new_low ss)
+      new_low (s ∷ ss) = (drawn_known w.server x (server_alive w x ok l), new_low ss)
 
       short : (j : ℕ) → is_in j now ≡ true → j < length w.frames
       short j i = ⊎_elim {C = j < length w.frames} (λ z. z) (λ z. absurd (true≢false (sym i ∙ below j z))) (cases_lt j (length w.frames))

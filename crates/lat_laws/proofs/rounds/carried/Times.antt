@@ -13,6 +13,7 @@ use Rattle.lat_model.proofs.circuits.Begins.{kin_call, server_alive}
 use Rattle.lat_model.proofs.circuits.Worlds.{joint_decides}
 use Rattle.lat_model.proofs.numbers.Net.{prefix_length}
 use Rattle.lat_model.specs.circuits.Together.{Together}
+use Rattle.lat_model.proofs.circuits.Ids.{drawn_some}
 use Rattle.lat_laws.specs.rounds.Flight.{LinkSound}
 use Rattle.lat_laws.specs.rounds.Carried.{flying, server_end, node_end, Carried}
 use Rattle.lat_laws.proofs.rounds.flight.Sending.{Sends, quiet_sends, time_sends, finish_sends}
@@ -57,7 +58,7 @@ node_sends : (w : World) (done : List ℕ) (x : ℕ) (st : Step) → WorldOk w �
 node_sends w done x st ok l kin s t k = Nodes.node_step_carried w done done x st ok l kin
     (λ h. record { flow = λ b fs f. s.flow b fs (node_sound w x ok h) f; clear = s.clear })
     (record { came = omega (arith, ap length s.came); known = omega (arith, s.known) })
-    (λ h a d. t.stops l d (server_alive w (node_end w x).peer ok a).0) k k.below (λ q. refl) (λ p n b f. f)
+    (λ h a d. t.stops l d (drawn_some w.server.first w.server.drawn (node_end w x).peer (server_alive w (node_end w x).peer ok a))) k k.below (λ q. refl) (λ p n b f. f)
     (λ p h r i f. Servers.receiver_flow (server_end w p).half.link (node_end w x).half.link st.end.half.link (flying w done true p) s.came s.known f)
     (λ j f g i. inl i)
 

@@ -1,10 +1,11 @@
 -- A frame that is delivered and changes no circuit keeps what is in flight.
-use Rattle.std.proofs.Common.{◌≡◌, ◌≢◌, ℕ, ◌≤◌, ◌⊎◌, inl, inr, ⊎_elim, sym, ap, ◌∙◌, refl, subst, Bool, true, false, ◌&&◌, List, ◌∷◌, Some, nat_eq, slice_get, eqb-true}
+use Rattle.std.proofs.Common.{◌≡◌, ℕ, ◌⊎◌, inl, inr, ⊎_elim, sym, ap, ◌∙◌, refl, subst, Bool, true, false, ◌&&◌, List, ◌∷◌, Some, nat_eq, slice_get, eqb-true}
 use Rattle.std.proofs.lemmas.Bool.{true≢false, false≢true, and_parts}
 use Rattle.lat_model.specs.sessions.Slots.{Slot}
 use Rattle.lat_model.specs.numbers.Link.{Link, fresh}
 use Rattle.lat_model.specs.ends.End.{Sent, Run, CallStart, ReplyStart, Stopped, End, lives}
 use Rattle.lat_model.specs.circuits.World.{Wired, World}
+use Rattle.lat_model.specs.circuits.Ids.{is_drawn}
 use Rattle.lat_laws.specs.rounds.Lossless.{is_side, is_in}
 use Rattle.lat_laws.specs.rounds.Flight.{Flow}
 use Rattle.lat_laws.specs.rounds.Carried.{is_of_line, flying, flying_from, has_stop_sent, IsNext, server_end, node_end, Both, Offered, Came, Carried}
@@ -80,7 +81,7 @@ pub relabel : (w : World) (done : List ℕ) (i : ℕ) (v : Wired) → Carried w 
     -- of its slave: it is no frame of it
     ((p : ℕ) → (w.server.circuit_at p).address ≡ w.node.own → lives (server_end w p) ≡ true → (server_end w p).running ≡ true → is_side false v.by_server ≡ true → v.circuit ≡ (server_end w p).peer → v.to ≡ w.server.own → (is_run v.sent ≡ false) × ((r : ℕ) → v.sent ≡ Stopped r → ⊥)) →
     -- of a slave whose master waits
-    ((q : ℕ) → q ≢ 0 → q ≤ w.node.drawn → (w.node.circuit_at q).address ≡ w.server.own → (w.server.circuit_at (node_end w q).peer).address ≡ w.node.own → lives (server_end w (node_end w q).peer) ≡ true → (server_end w (node_end w q).peer).running ≡ false → is_side false v.by_server ≡ true → v.circuit ≡ q → v.to ≡ w.server.own → v.sent ≡ ReplyStart → ⊥) →
+    ((q : ℕ) → is_drawn w.node q ≡ true → (w.node.circuit_at q).address ≡ w.server.own → (w.server.circuit_at (node_end w q).peer).address ≡ w.node.own → lives (server_end w (node_end w q).peer) ≡ true → (server_end w (node_end w q).peer).running ≡ false → is_side false v.by_server ≡ true → v.circuit ≡ q → v.to ≡ w.server.own → v.sent ≡ ReplyStart → ⊥) →
     Came w v.by_server v.circuit v.to v.destination v.sent →
     Carried w (i ∷ done)
 relabel w done i v k e t hc hu hd ho hm = record {
@@ -98,7 +99,7 @@ relabel w done i v k e t hc hu hd ho hm = record {
   };
   ups = λ p a r s. flow_after w.node.own true p v (flying w done true p) (flying w (i ∷ done) true p) (server_end w p).half.link (node_end w (server_end w p).peer).half.link (flies w done i v w.node.own true p e t) (hu p a r s) (k.ups p a r s);
   downs = λ p a l r. flow_after w.server.own false (server_end w p).peer v (flying w done false (server_end w p).peer) (flying w (i ∷ done) false (server_end w p).peer) (node_end w (server_end w p).peer).half.link (server_end w p).half.link (flies w done i v w.server.own false (server_end w p).peer e t) (λ x y z. (hd p a l r x y z).0) (k.downs p a l r);
-  offered = λ q n d a b l r. offers (flying w done false q) (flying w (i ∷ done) false q) (node_end w q) (flies w done i v w.server.own false q e t) (ho q n d a b l r) (k.offered q n d a b l r);
+  offered = λ q d a b l r. offers (flying w done false q) (flying w (i ∷ done) false q) (node_end w q) (flies w done i v w.server.own false q e t) (ho q d a b l r) (k.offered q d a b l r);
   peers = k.peers;
   tells = k.tells;
   came = λ j u g h. ⊎_elim {C = Came w u.by_server u.circuit u.to u.destination u.sent} (λ z. subst (λ (x : Wired). Came w x.by_server x.circuit x.to x.destination x.sent) (same j u z g) hm) (λ z. k.came j u g z) (in_cases i j done h);

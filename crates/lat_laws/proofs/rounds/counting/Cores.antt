@@ -20,7 +20,7 @@ EventAllows A (Attends line flag) = (id : ℕ) → A (Attend id flag)
 EventAllows A (Closes line) = (id : ℕ) → A (Close id)
 EventAllows A _ = Unit {0}
 
-module _ (n : ℕ) (side : Bool) (R : ℕ → Sessions → Sessions → Type 0) (A : Call → Type 0) (P : Core → Type 0) (h : Holds n side R A P) where
+module _ (n : ℕ → Bool) (side : Bool) (R : ℕ → Sessions → Sessions → Type 0) (A : Call → Type 0) (P : Core → Type 0) (h : Holds n side R A P) where
   pub times_hold : (k : Side) (xs : List ℕ) (d : Doing) → P d.core → P (time_each k xs d).core
   times_hold k [] d p = p
   times_hold k (x ∷ xs) d p = times_hold k xs (then_doing d (λ c. acts k c (time_at k.server c.circuits x c.moment))) (h.turns d.core (acts k d.core (time_at k.server d.core.circuits x d.core.moment)).core p refl (time_turned n side R h.kept k.server d.core.circuits x d.core.moment))

@@ -1,5 +1,6 @@
 -- Where nothing was put on a circuit, rounds put nothing.
-use Rattle.std.proofs.Common.{◌≡◌, ℕ, suc, ◌+◌, ◌<◌, refl, arith, Bool, true, false, not, cond, ◌&&◌, [], nat_eq, nat_lt}
+use Rattle.std.proofs.Common.{◌≡◌, ℕ, suc, ◌+◌, refl, Bool, true, false, not, cond, ◌&&◌, [], nat_eq, nat_lt}
+use Rattle.std.proofs.lemmas.Bool.{false≢true}
 use Rattle.lat_model.specs.sessions.Session.{Session, waits, take_open}
 use Rattle.lat_model.specs.sessions.Sessions.{Sessions, named, held}
 use Rattle.lat_model.specs.sessions.Packing.{first_form, next_form, formed}
@@ -27,7 +28,7 @@ empties_cond false e f g p q = q
 at_place : (e : Sessions) (k : ℕ) (s : Session) → (Empty e → s.put ≡ []) → Empty e → (j : ℕ) → (updated e.session k s j).put ≡ []
 at_place e k s h u = upd_all (λ (z : Session). z.put ≡ []) e.session k s (h u) u
 
-pub empties_kept : (side : Bool) → KeptByActs 0 side (λ x. Empties)
+pub empties_kept : (side : Bool) → KeptByActs (λ x. false) side (λ x. Empties)
 empties_kept side = record {
   same = λ x e u. u;
   after = λ x a b c p q u. q (p u);
@@ -47,14 +48,14 @@ empties_call e (Take id m) a = empties_cond (take_open (named e id)) e (touch e 
 empties_call e (Answer id) a = empties_cond (not e.master && waits (named e id)) e (answer e id) e (at_place e (e.at_id id) (record (named e id) { accepted = true }) (λ u. u (e.at_id id))) (λ u. u)
 empties_call e (RejectAsk id reason) a = empties_cond (not e.master && waits (named e id)) e (reject e id reason) e (at_place e (e.at_id id) (record (named e id) { rejects = true; reason = reason }) (λ u. u (e.at_id id))) (λ u. u)
 
--- of the circuits behind the n-th
-abbrev pub EmptyPast : ℕ → Core → Type 0
-EmptyPast n c = (x : ℕ) → n < x → Empty (sessions_in c x)
+-- of the circuits but these
+abbrev pub EmptyPast : (ℕ → Bool) → Core → Type 0
+EmptyPast n c = (x : ℕ) → n x ≡ false → Empty (sessions_in c x)
 
-pub empties_hold : (n : ℕ) (side : Bool) → Holds 0 side (λ x. Empties) InRounds (EmptyPast n)
+pub empties_hold : (n : ℕ → Bool) (side : Bool) → Holds (λ x. false) side (λ x. Empties) InRounds (EmptyPast n)
 empties_hold n side = record {
   kept = empties_kept side;
   calls = λ x. empties_call;
-  drawn = λ c p. omega arith;
+  drawn = λ c p x l. absurd (false≢true l);
   turns = λ c d p s t x l. t.at x (p x l);
 }

@@ -1,8 +1,9 @@
 -- A round only goes on with each session of the circuits that were drawn before it.
-use Rattle.std.proofs.Common.{ℕ, ◌≤◌, Bool, true, false, not, cond, List, [], ◌∷◌, Option, Some, None, slice_get}
+use Rattle.std.proofs.Common.{ℕ, Bool, true, false, not, cond, List, [], ◌∷◌, Option, Some, None, slice_get, ◌≡◌}
 use Rattle.lat_model.specs.sessions.Sessions.{Sessions}
 use Rattle.lat_model.specs.sessions.Calls.{Connect, Answer}
 use Rattle.lat_model.specs.Lists.{upwards}
+use Rattle.lat_model.specs.circuits.Ids.{is_drawn}
 use Rattle.lat_machines.specs.values.Events.{Event, Time, Takes}
 use Rattle.lat_machines.specs.cores.Cores.{Core}
 use Rattle.lat_machines.specs.cores.Lines.{has_session}
@@ -14,18 +15,18 @@ use Rattle.lat_laws.proofs.rounds.counting.Servers.{server_holds}
 use Rattle.lat_laws.proofs.rounds.counting.Nodes.{node_holds}
 use Rattle.lat_laws.proofs.rounds.counting.Stays.{Goes, goes_kept, InRounds, goes_call}
 
-abbrev pub Drawn : ℕ → ℕ → Sessions → Sessions → Type 0
-Drawn n x e f = x ≤ n → Goes e f
+abbrev pub Drawn : (ℕ → Bool) → ℕ → Sessions → Sessions → Type 0
+Drawn n x e f = n x ≡ true → Goes e f
 
 abbrev pub On : Core → Core → Type 0
-On c d = Turned (Drawn c.circuits.drawn) c.circuits d.circuits
+On c d = Turned (Drawn (is_drawn c.circuits)) c.circuits d.circuits
 
-pub on_holds : (side : Bool) (c : Core) → Holds c.circuits.drawn side (Drawn c.circuits.drawn) InRounds (On c)
+pub on_holds : (side : Bool) (c : Core) → Holds (is_drawn c.circuits) side (Drawn (is_drawn c.circuits)) InRounds (On c)
 on_holds side c = record {
-  kept = goes_kept c.circuits.drawn side;
+  kept = goes_kept (is_drawn c.circuits) side;
   calls = λ x e k a l. goes_call e k a;
   drawn = λ d p. p.drawn;
-  turns = λ d f p s t. turned_then c.circuits.drawn side (Drawn c.circuits.drawn) (goes_kept c.circuits.drawn side) c.circuits d.circuits f.circuits p t;
+  turns = λ d f p s t. turned_then (is_drawn c.circuits) side (Drawn (is_drawn c.circuits)) (goes_kept (is_drawn c.circuits) side) c.circuits d.circuits f.circuits p t;
 }
 
 pub record Forth (w : Machines) (v : Machines) : Type 0 where
@@ -34,21 +35,21 @@ pub record Forth (w : Machines) (v : Machines) : Type 0 where
 
 pub forth_same : (w : Machines) → Forth w w
 forth_same w = record {
-  server = turned_same w.server.core.circuits.drawn true (Drawn w.server.core.circuits.drawn) (goes_kept w.server.core.circuits.drawn true) w.server.core.circuits;
-  node = turned_same w.node.core.circuits.drawn true (Drawn w.node.core.circuits.drawn) (goes_kept w.node.core.circuits.drawn true) w.node.core.circuits;
+  server = turned_same (is_drawn w.server.core.circuits) true (Drawn (is_drawn w.server.core.circuits)) (goes_kept (is_drawn w.server.core.circuits) true) w.server.core.circuits;
+  node = turned_same (is_drawn w.node.core.circuits) true (Drawn (is_drawn w.node.core.circuits)) (goes_kept (is_drawn w.node.core.circuits) true) w.node.core.circuits;
 }
 
 pub tell_forth : (u : Setups) (w v : Machines) (b : Bool) (e : Event) (rates : List ℕ) → EventAllows InRounds e → Forth w v → Forth w (tell u v b e rates)
 tell_forth u w v true e rates a f = record {
-  server = server_holds w.server.core.circuits.drawn (Drawn w.server.core.circuits.drawn) InRounds (On w.server.core) (on_holds true w.server.core) u.server
-      (λ line x service key request c p. turned_then w.server.core.circuits.drawn true (Drawn w.server.core.circuits.drawn) (goes_kept w.server.core.circuits.drawn true) w.server.core.circuits c.circuits _ p (local_turned w.server.core.circuits.drawn true (Drawn w.server.core.circuits.drawn) (goes_kept w.server.core.circuits.drawn true) true c.circuits x (Connect service request) (λ l. goes_call (c.circuits.circuit_at x).end.half.sessions (Connect service request) tt)))
+  server = server_holds (is_drawn w.server.core.circuits) (Drawn (is_drawn w.server.core.circuits)) InRounds (On w.server.core) (on_holds true w.server.core) u.server
+      (λ line x service key request c p. turned_then (is_drawn w.server.core.circuits) true (Drawn (is_drawn w.server.core.circuits)) (goes_kept (is_drawn w.server.core.circuits) true) w.server.core.circuits c.circuits _ p (local_turned (is_drawn w.server.core.circuits) true (Drawn (is_drawn w.server.core.circuits)) (goes_kept (is_drawn w.server.core.circuits) true) true c.circuits x (Connect service request) (λ l. goes_call (c.circuits.circuit_at x).end.half.sessions (Connect service request) tt)))
       v.server e a f.server;
   node = f.node;
 }
 tell_forth u w v false e rates a f = record {
   server = f.server;
-  node = node_holds w.node.core.circuits.drawn (Drawn w.node.core.circuits.drawn) InRounds (On w.node.core) (on_holds false w.node.core) u.node
-      (λ st x id line request q p. turned_then w.node.core.circuits.drawn false (Drawn w.node.core.circuits.drawn) (goes_kept w.node.core.circuits.drawn false) w.node.core.circuits st.core.circuits _ p (local_turned w.node.core.circuits.drawn false (Drawn w.node.core.circuits.drawn) (goes_kept w.node.core.circuits.drawn false) false st.core.circuits x (Answer id) (λ l. goes_call (st.core.circuits.circuit_at x).end.half.sessions (Answer id) tt)))
+  node = node_holds (is_drawn w.node.core.circuits) (Drawn (is_drawn w.node.core.circuits)) InRounds (On w.node.core) (on_holds false w.node.core) u.node
+      (λ st x id line request q p. turned_then (is_drawn w.node.core.circuits) false (Drawn (is_drawn w.node.core.circuits)) (goes_kept (is_drawn w.node.core.circuits) false) w.node.core.circuits st.core.circuits _ p (local_turned (is_drawn w.node.core.circuits) false (Drawn (is_drawn w.node.core.circuits)) (goes_kept (is_drawn w.node.core.circuits) false) false st.core.circuits x (Answer id) (λ l. goes_call (st.core.circuits.circuit_at x).end.half.sessions (Answer id) tt)))
       (λ id reason. tt) rates v.node e a f.node;
 }
 

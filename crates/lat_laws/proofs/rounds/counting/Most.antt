@@ -1,11 +1,13 @@
 -- How far both ends of a circuit can come, in terms of the report's rows.
-use Rattle.std.proofs.Common.{◌≡◌, ℕ, ◌+◌, ◌*◌, ◌≤◌, sym, ap, ◌∙◌, subst, refl, inl, inr, ⊎_elim, arith, true, false, cond, [], length}
-use Rattle.std.proofs.lemmas.Bool.{true≢false, cases_lt}
+use Rattle.std.proofs.Common.{◌≡◌, ℕ, ◌+◌, ◌*◌, ◌≤◌, sym, ap, ◌∙◌, subst, ⊎_elim, arith, true, false, cond, [], length}
+use Rattle.std.proofs.lemmas.Bool.{true≢false}
 use Rattle.lat_model.specs.sessions.Session.{blank}
 use Rattle.lat_model.specs.sessions.Joined.{Joined}
 use Rattle.lat_model.specs.circuits.World.{CircuitEntry, Table}
 use Rattle.lat_model.specs.circuits.Together.{Together, flat}
 use Rattle.lat_model.specs.circuits.WorldOk.{Replied, void_half}
+use Rattle.lat_model.proofs.circuits.Ids.{drawn_or, zero_undrawn}
+use Rattle.lat_model.specs.circuits.Ids.{is_drawn}
 use Rattle.lat_machines.specs.world.Machines.{Setups, Machines}
 use Rattle.lat_machines.specs.world.Reports.{report}
 use Rattle.lat_machines.specs.world.Safe.{Fit}
@@ -25,8 +27,8 @@ pub record Matched (u : Setups) (w : Machines) (p : ℕ) : Type 0 where
   pub together : Together (w.server.core.circuits.circuit_at p).end.half (w.node.core.circuits.circuit_at (peer_at w p)).end.half []
   pub plain : BothPlain (sessions_at w true p) (sessions_at w false (peer_at w p))
   pub first : (sessions_in w.node.core 0).session 0 ≡ blank
-  pub drawn : peer_at w p ≤ w.node.core.circuits.drawn
-  pub here : p ≤ w.server.core.circuits.drawn
+  pub drawn : is_drawn w.node.core.circuits (peer_at w p) ≡ true
+  pub here : is_drawn w.server.core.circuits p ≡ true
 
 pub matched_at : (u : Setups) (w : Machines) (p : ℕ) → Fit u → Usual u → Reached u w → (w.server.core.circuits.circuit_at p).address ≡ u.node.own → (w.server.core.circuits.circuit_at p).end.running ≡ true → Matched u w p
 matched_at u w p f s r = subst (λ (t : Table). Asks t w.node.core.circuits) k.beside.ties.server (subst (λ (t : Table). Asks k.world.server t) k.beside.ties.node here)
@@ -46,9 +48,9 @@ matched_at u w p f s r = subst (λ (t : Table). Asks t w.node.core.circuits) k.b
           paired = record { home = a; runs = n; address = i.address ∙ k.beside.ties.server_own; peer = i.peer; slave = t.joined.slave; good = t.joined.slave_ok };
           together = t;
           plain = subst (λ c. BothPlain (server_end k.world p).half.sessions (cond c (node_end k.world (server_end k.world p).peer).half (void_half false)).sessions) n (k.beside.plain p home);
-          first = ap (λ (c : CircuitEntry). c.end.half.sessions.session 0) (k.beside.good.none_node 0 (inl refl));
+          first = ap (λ (c : CircuitEntry). c.end.half.sessions.session 0) (k.beside.good.none_node 0 (zero_undrawn k.world.node.first k.world.node.drawn));
           drawn = i.drawn;
-          here = ⊎_elim {C = p ≤ k.world.server.drawn} (λ l. absurd (true≢false (sym n ∙ ap (λ (c : CircuitEntry). c.end.running) (k.beside.good.none_server p (inr l))))) (λ l. l) (cases_lt k.world.server.drawn p);
+          here = ⊎_elim {C = is_drawn k.world.server p ≡ true} (λ l. absurd (true≢false (sym n ∙ ap (λ (c : CircuitEntry). c.end.running) (k.beside.good.none_server p l)))) (λ l. l) (drawn_or k.world.server p);
         }
 
 pub both_most : (u : Setups) (w : Machines) (p : ℕ) → Matched u w p → ServerSeated w.server.core → NodeSeated w.node.core → both w p ≤ 6 * length (report u w).sessions + 2 * put_in (report u w).sessions

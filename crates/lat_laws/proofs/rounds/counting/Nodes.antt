@@ -7,6 +7,7 @@ use Rattle.lat_model.specs.sessions.Sessions.{Sessions}
 use Rattle.lat_model.specs.sessions.Calls.{Call, RejectAsk}
 use Rattle.lat_model.specs.Lists.{upwards}
 use Rattle.lat_model.specs.ends.End.{lives}
+use Rattle.lat_model.specs.circuits.Ids.{ids}
 use Rattle.lat_machines.specs.values.Names.{Name, same}
 use Rattle.lat_machines.specs.values.Addresses.{everyone}
 use Rattle.lat_machines.specs.values.Messages.{Head, StartInfo, RunMessage, WideMessage, StartMessage, StopMessage}
@@ -22,7 +23,7 @@ use Rattle.lat_machines.specs.node.Node.{NodeConfig, Node, NodeStep, node_side, 
 use Rattle.lat_laws.proofs.rounds.counting.Tables.{Turned, Holds, turned_same, run_turned, stop_turned, start_turned, outlived_turned}
 use Rattle.lat_laws.proofs.rounds.counting.Cores.{EventAllows, times_hold, line_holds, local_holds, put_holds, set_holds, attend_holds, take_holds, close_holds, ends_hold}
 
-module _ (n : ℕ) (R : ℕ → Sessions → Sessions → Type 0) (A : Call → Type 0) (P : Core → Type 0) (h : Holds n false R A P) (config : NodeConfig) (accepts : (st : Node) (x id line : ℕ) (request : Option ℕ) → waits (asked_at st x id) ≡ true → P st.core → P (judged config st x id request (Accepts line)).core) (refuses : (id reason : ℕ) → A (RejectAsk id reason)) where
+module _ (n : ℕ → Bool) (R : ℕ → Sessions → Sessions → Type 0) (A : Call → Type 0) (P : Core → Type 0) (h : Holds n false R A P) (config : NodeConfig) (accepts : (st : Node) (x id line : ℕ) (request : Option ℕ) → waits (asked_at st x id) ≡ true → P st.core → P (judged config st x id request (Accepts line)).core) (refuses : (id reason : ℕ) → A (RejectAsk id reason)) where
   judged_holds : (st : Node) (x id : ℕ) (request : Option ℕ) (v : Verdict) → waits (asked_at st x id) ≡ true → P st.core → P (judged config st x id request v).core
   judged_holds st x id request (Rejects reason) w p = local_holds n false R A P h (node_side config) st.core x (RejectAsk id reason) (refuses id reason) p
   judged_holds st x id request (Accepts line) w p = accepts st x id line request w p
@@ -67,8 +68,8 @@ module _ (n : ℕ) (R : ℕ → Sessions → Sessions → Type 0) (A : Call → 
   way_holds : (st : Node) (from source : ℕ) → P st.core → P (makes_way config st from source).core
   way_holds st from source p = go config.prompt
     where
-      go : (b : Bool) → P (with_circuits st.core (cond b (outlive from source (upwards 0 st.core.circuits.drawn) st.core.circuits) st.core.circuits))
-      go true = h.turns st.core _ p refl (outlived_turned n false R h.kept from source (upwards 0 st.core.circuits.drawn) st.core.circuits)
+      go : (b : Bool) → P (with_circuits st.core (cond b (outlive from source (ids st.core.circuits) st.core.circuits) st.core.circuits))
+      go true = h.turns st.core _ p refl (outlived_turned n false R h.kept from source (ids st.core.circuits) st.core.circuits)
       go false = h.turns st.core _ p refl (turned_same n false R h.kept st.core.circuits)
 
   step_cond : (b : Bool) (s t : NodeStep) → P s.state.core → P t.state.core → P (cond b s t).state.core
@@ -112,7 +113,7 @@ module _ (n : ℕ) (R : ℕ → Sessions → Sessions → Type 0) (A : Call → 
   node_holds rates st (Hears from (Whole v) k now) a p =
       let s : Node = record st { core = at_moment now st.core } in
       step_cond (nat_eq from everyone) (tells s Ignored) (hears_value config rates s from v k) (moment_holds st.core now p) (value_holds rates s from v k (moment_holds st.core now p))
-  node_holds rates st (Time now) a p = times_hold n false R A P h (node_side config) (upwards 0 st.core.circuits.drawn) (rests (at_moment now st.core)) (moment_holds st.core now p)
+  node_holds rates st (Time now) a p = times_hold n false R A P h (node_side config) (ids st.core.circuits) (rests (at_moment now st.core)) (moment_holds st.core now p)
   node_holds rates st (Connects line service) a p = p
   node_holds rates st (Puts line bytes) a p = line_holds n false R A P h config.lines st.core line (λ s. put_on (node_side config) st.core s bytes) p (λ s. put_holds n false R A P h (node_side config) st.core s bytes a p)
   node_holds rates st (Sets line setting) a p = line_holds n false R A P h config.lines st.core line (λ s. set_on (node_side config) st.core s setting) p (λ s. set_holds n false R A P h (node_side config) st.core s setting a p)
@@ -124,4 +125,4 @@ module _ (n : ℕ) (R : ℕ → Sessions → Sessions → Type 0) (A : Call → 
   node_holds rates st Announces a p = p
   node_holds rates st (Avoids line) a p = p
   node_holds rates st (Readies line ready) a p = p
-  node_holds rates st Halts a p = ends_hold n false R A P h (node_side config) 3 (upwards 0 st.core.circuits.drawn) (rests st.core) p
+  node_holds rates st Halts a p = ends_hold n false R A P h (node_side config) 3 (ids st.core.circuits) (rests st.core) p

@@ -28,7 +28,7 @@ makes_cond : (b : Bool) (e f g : Sessions) → Makes e f → Makes e g → Makes
 makes_cond true e f g p q = p
 makes_cond false e f g p q = q
 
-pub makes_kept : KeptByActs 0 true (λ x. Makes)
+pub makes_kept : KeptByActs (λ x. false) true (λ x. Makes)
 makes_kept = record {
   same = λ x. makes_same;
   after = λ x. makes_then;
@@ -81,7 +81,7 @@ hides_at e k s h j u = go (nat_eq j k) refl
 same_unseen : (s t : Session) → t.accepted ≡ s.accepted → t.put ≡ s.put → t.taken ≡ s.taken → t.closed ≡ s.closed → Unseen s → Unseen t
 same_unseen s t a p n c u = record { accepted = a ∙ u.accepted; put = p ∙ u.put; taken = n ∙ u.taken; closed = c ∙ u.closed }
 
-pub hides_kept : KeptByActs 0 false (λ x. Hides)
+pub hides_kept : KeptByActs (λ x. false) false (λ x. Hides)
 hides_kept = record {
   same = λ x. hides_same;
   after = λ x. hides_then;

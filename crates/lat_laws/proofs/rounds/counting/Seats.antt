@@ -1,6 +1,6 @@
 -- In every run of the two machines each session that a server made has its seat, and each that a node accepted.
 use Rattle.std.proofs.Common.{◌≡◌, ◌≢◌, ℕ, suc, ◌<◌, ◌≤◌, ◌⊎◌, inl, inr, ⊎_elim, refl, sym, ap, ◌∙◌, subst, arith, Bool, true, false, not, cond, ◌&&◌, ◌||◌, List, [], ◌∷◌, ◌++◌, Option, Some, None, nat_eq, nat_lt, eqb-true, eq-eqb, slice_get}
-use Rattle.std.proofs.lemmas.Bool.{true≢false, or_left, or_right, cases_lt}
+use Rattle.std.proofs.lemmas.Bool.{true≢false, or_left, or_right, cases_lt, false≢true}
 use Rattle.lat_model.specs.sessions.Session.{waits}
 use Rattle.lat_model.specs.sessions.Sessions.{Sessions, named, held, least_free}
 use Rattle.lat_model.specs.sessions.Calls.{Connect, Answer, call, connect, answer}
@@ -61,11 +61,11 @@ pub record ServerGood (c : Core) : Type 0 where
   pub masters : (x : ℕ) → (sessions_in c x).master ≡ true
   pub seated : ServerSeated c
 
-server_all : Holds 0 true (λ x. Makes) NoConnect ServerGood
+server_all : Holds (λ x. false) true (λ x. Makes) NoConnect ServerGood
 server_all = record {
   kept = makes_kept;
   calls = λ x. makes_call;
-  drawn = λ c p. omega arith;
+  drawn = λ c p x l. absurd (false≢true l);
   turns = λ c d p s t. record {
     masters = λ x. (t.at x).master (p.masters x);
     seated = λ x k l m. ap (λ ss. is_in k (serials_on x ss)) s ∙ p.seated x k l (omega (arith, m, (t.at x).made (p.masters x)));
@@ -124,11 +124,11 @@ connects_good config line x service key request c p = record { masters = λ y. (
 
 -- at a node
 
-node_all : Holds 0 false (λ x. Hides) NoAnswer NodeSeated
+node_all : Holds (λ x. false) false (λ x. Hides) NoAnswer NodeSeated
 node_all = record {
   kept = hides_kept;
   calls = λ x. hides_call;
-  drawn = λ c p. omega arith;
+  drawn = λ c p x l. absurd (false≢true l);
   turns = λ c d p s t x k n. t.at x k (p x k (ap (λ ss. is_in k (serials_on x ss)) (sym s) ∙ n));
 }
 
@@ -224,8 +224,8 @@ pub record AllSeated (w : Machines) : Type 0 where
   pub node : NodeSeated w.node.core
 
 tell_seated : (u : Setups) (w : Machines) (b : Bool) (e : Event) (rates : List ℕ) → AllSeated w → AllSeated (tell u w b e rates)
-tell_seated u w true e rates a = record { server = server_holds 0 (λ x. Makes) NoConnect ServerGood server_all u.server (connects_good u.server) w.server e (any_connect e) a.server; node = a.node }
-tell_seated u w false e rates a = record { server = a.server; node = node_holds 0 (λ x. Hides) NoAnswer NodeSeated node_all u.node (λ st x id line request q p. accepts_good u.node st x id line request q p) (λ id reason. tt) rates w.node e (any_answer e) a.node }
+tell_seated u w true e rates a = record { server = server_holds (λ z. false) (λ x. Makes) NoConnect ServerGood server_all u.server (connects_good u.server) w.server e (any_connect e) a.server; node = a.node }
+tell_seated u w false e rates a = record { server = a.server; node = node_holds (λ z. false) (λ x. Hides) NoAnswer NodeSeated node_all u.node (λ st x id line request q p. accepts_good u.node st x id line request q p) (λ id reason. tt) rates w.node e (any_answer e) a.node }
 
 pub seated_cond : (b : Bool) (w v : Machines) → AllSeated w → AllSeated v → AllSeated (cond b w v)
 seated_cond true w v p q = p

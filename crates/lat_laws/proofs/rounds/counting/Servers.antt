@@ -1,9 +1,10 @@
 -- What holds of a server's core behind each event.
-use Rattle.std.proofs.Common.{ℕ, suc, refl, Bool, true, false, cond, List, [], ◌∷◌, ◌++◌, Option, Some, None, nat_eq, nat_lt}
+use Rattle.std.proofs.Common.{ℕ, refl, Bool, true, false, cond, List, [], ◌∷◌, ◌++◌, Option, Some, None, nat_eq, nat_lt}
 use Rattle.lat_model.specs.sessions.Sessions.{Sessions, least_free}
 use Rattle.lat_model.specs.sessions.Calls.{Call}
 use Rattle.lat_model.specs.Lists.{updated, upwards}
 use Rattle.lat_model.specs.circuits.Arriving.{living}
+use Rattle.lat_model.specs.circuits.Ids.{ids, next_id}
 use Rattle.lat_machines.specs.values.Names.{Name}
 use Rattle.lat_machines.specs.values.Addresses.{everyone}
 use Rattle.lat_machines.specs.values.Messages.{RunMessage, WideMessage, StartMessage, StopMessage}
@@ -24,12 +25,12 @@ use Rattle.lat_machines.specs.server.Server.{ServerConfig, Server, ServerStep, s
 use Rattle.lat_laws.proofs.rounds.counting.Tables.{Holds, turned_same, call_turned, run_turned, stop_turned, reply_turned}
 use Rattle.lat_laws.proofs.rounds.counting.Cores.{EventAllows, times_hold, line_holds, put_holds, set_holds, attend_holds, take_holds, close_holds, ends_hold}
 
-module _ (n : ℕ) (R : ℕ → Sessions → Sessions → Type 0) (A : Call → Type 0) (P : Core → Type 0) (h : Holds n true R A P) (config : ServerConfig) (connects : (line x : ℕ) (service : Name) (key : Option Key) (request : Option ℕ) (c : Core) → P c → P (connects_on config line x service key request c).core) where
+module _ (n : ℕ → Bool) (R : ℕ → Sessions → Sessions → Type 0) (A : Call → Type 0) (P : Core → Type 0) (h : Holds n true R A P) (config : ServerConfig) (connects : (line x : ℕ) (service : Name) (key : Option Key) (request : Option ℕ) (c : Core) → P c → P (connects_on config line x service key request c).core) where
   opens_hold : (line address : ℕ) (node service : Name) (key : Option Key) (request : Option ℕ) (c : Core) → P c → P (opens config line address node service key request c).core
   opens_hold line address node service key request c p = go (nat_eq (circuit_to c address) 0)
     where
       named : Core
-      named = record c { names = updated c.names (suc c.circuits.drawn) node }
+      named = record c { names = updated c.names (next_id c.circuits) node }
 
       made : Doing
       made = acts (server_side config) named (call_at (setup_of config.timing) named.circuits address named.moment)
@@ -54,9 +55,9 @@ module _ (n : ℕ) (R : ℕ → Sessions → Sessions → Type 0) (A : Call → 
           let d : Doing = opens config line b.from b.node service None None st.core in
           let o : P d.core = opens_hold line b.from b.node service None None st.core p in
           step_cond (nat_eq x 0)
-          (cond (nat_lt (living st.core.circuits) 8) (cond (nat_lt st.core.circuits.drawn 65535) (does st (Connected (suc st.core.circuits.drawn) 1) d) (tells st IdsOut)) (tells st CircuitsFull))
+          (cond (nat_lt (living st.core.circuits) 8) (cond (nat_lt st.core.circuits.drawn 65535) (does st (Connected (next_id st.core.circuits) 1) d) (tells st IdsOut)) (tells st CircuitsFull))
           (cond (has_room st.core x) (does st (Connected x (least_free (st.core.circuits.circuit_at x).end.half.sessions)) d) (tells st SessionsFull))
-          (step_cond (nat_lt (living st.core.circuits) 8) (cond (nat_lt st.core.circuits.drawn 65535) (does st (Connected (suc st.core.circuits.drawn) 1) d) (tells st IdsOut)) (tells st CircuitsFull) (step_cond (nat_lt st.core.circuits.drawn 65535) (does st (Connected (suc st.core.circuits.drawn) 1) d) (tells st IdsOut) o p) p)
+          (step_cond (nat_lt (living st.core.circuits) 8) (cond (nat_lt st.core.circuits.drawn 65535) (does st (Connected (next_id st.core.circuits) 1) d) (tells st IdsOut)) (tells st CircuitsFull) (step_cond (nat_lt st.core.circuits.drawn 65535) (does st (Connected (next_id st.core.circuits) 1) d) (tells st IdsOut) o p) p)
           (step_cond (has_room st.core x) (does st (Connected x (least_free (st.core.circuits.circuit_at x).end.half.sessions)) d) (tells st SessionsFull) o p)
 
       go : (a b : Bool) (o : Option Best) → P (cond a (cond b (tells st Busy) (elim o [ None ↦ solicits_for config st service | Some b ↦ connects_to config st line service b ])) (tells st NoLine)).state.core
@@ -99,7 +100,7 @@ module _ (n : ℕ) (R : ℕ → Sessions → Sessions → Type 0) (A : Call → 
   event_holds st (Hears from (Whole v) k now) a p =
       let s : Server = record st { core = at_moment now st.core } in
       step_cond (nat_eq from everyone) (tells s Ignored) (hears_value config s from v k) (moment_holds st.core now p) (value_holds s from v k (moment_holds st.core now p))
-  event_holds st (Time now) a p = times_hold n true R A P h (server_side config) (upwards 0 st.core.circuits.drawn) (rests (at_moment now st.core)) (moment_holds st.core now p)
+  event_holds st (Time now) a p = times_hold n true R A P h (server_side config) (ids st.core.circuits) (rests (at_moment now st.core)) (moment_holds st.core now p)
   event_holds st (Connects line service) a p = step_cond st.halted (tells st Halted) (connect_event config st line service) p (connect_holds st line service p)
   event_holds st (Puts line bytes) a p = line_holds n true R A P h config.lines st.core line (λ s. put_on (server_side config) st.core s bytes) p (λ s. put_holds n true R A P h (server_side config) st.core s bytes a p)
   event_holds st (Sets line setting) a p = line_holds n true R A P h config.lines st.core line (λ s. set_on (server_side config) st.core s setting) p (λ s. set_holds n true R A P h (server_side config) st.core s setting a p)
@@ -111,7 +112,7 @@ module _ (n : ℕ) (R : ℕ → Sessions → Sessions → Type 0) (A : Call → 
   event_holds st Announces a p = p
   event_holds st (Avoids line) a p = p
   event_holds st (Readies line ready) a p = p
-  event_holds st Halts a p = ends_hold n true R A P h (server_side config) 3 (upwards 0 st.core.circuits.drawn) (rests st.core) p
+  event_holds st Halts a p = ends_hold n true R A P h (server_side config) 3 (ids st.core.circuits) (rests st.core) p
 
   -- the grant pass
 

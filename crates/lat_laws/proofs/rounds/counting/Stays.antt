@@ -226,15 +226,15 @@ goes_heard e k x g p = record { past = past_at e k (heard (e.session k) x) (blan
 goes_asked : (e : Sessions) (x : Slot) (service : List ℕ) (request : Option ℕ) → e.master ≡ false → Goes e (ask_in e x service request)
 goes_asked e x service request m p = record { past = past_new e (asked_session e x service request) p; each = one_new e (asked_session e x service request) p refl refl; rises = asked_rises e x service request }
 
--- of all circuits up to the n-th
-pub goes_kept : (n : ℕ) (side : Bool) → KeptByActs n side (λ x e f. x ≤ n → Goes e f)
+-- of these circuits
+pub goes_kept : (n : ℕ → Bool) (side : Bool) → KeptByActs n side (λ x e f. n x ≡ true → Goes e f)
 goes_kept n side = record {
   same = λ x e l. goes_same e;
   after = λ x a b c p q l. goes_then a b c (p l) (q l);
   packs = λ x room e l. pack_by Goes goes_same goes_then goes_form room e;
   hears = λ x slots e l. hear_by Goes goes_same goes_then goes_asked goes_heard slots e;
   agrees = λ x k e l p. record { past = p; each = λ j. one_same (e.session j); rises = rises_same e (record e { agreed = k }) refl refl refl };
-  news = λ x e k c l m. absurd (omega (arith, l, m));
+  news = λ x e k c l m. absurd (true≢false (sym m ∙ l));
 }
 
 -- the calls of rounds

@@ -21,6 +21,8 @@ use Rattle.lat_model.proofs.numbers.Net.{each_at}
 use Rattle.lat_model.proofs.circuits.Kin.{Kin, kin_time, kin_run, kin_stop, kin_finish}
 use Rattle.lat_model.proofs.circuits.Begins.{kin_call}
 use Rattle.lat_model.proofs.circuits.Arrives.{Fair, says_fair, occurs_ok}
+use Rattle.lat_model.specs.circuits.Ids.{next_id}
+use Rattle.lat_model.proofs.circuits.Ids.{drawn_apart}
 use Rattle.lat_laws.specs.rounds.Idle.{NoStops}
 use Rattle.lat_laws.specs.rounds.Plain.{Plain, BothPlain, WorldPlain, ShortCall, ShortWorldEvent}
 use Rattle.lat_laws.proofs.rounds.plain.Calls.{agree_plain}
@@ -134,7 +136,7 @@ calls_plain : (w : World) → WorldPlain w → (address now : ℕ) → WorldPlai
 calls_plain w pl address now p h = go (nat_eq p x) h (pl p)
   where
     x : ℕ
-    x = suc w.server.drawn
+    x = next_id w.server
 
     c' : CircuitEntry
     c' = record { address = address; end = record (first_end true true w.setup) { moment = now; due_at = now; sent_at = now; start_at = now } }
@@ -143,7 +145,7 @@ calls_plain w pl address now p h = go (nat_eq p x) h (pl p)
     go true h k = record { master = void_plain true (min w.setup.sessions 64) w.setup.ceiling; slave = void_plain false 0 0; stops = λ g a b. (refl, refl) }
     go false h k = k h
 
-make_plain : (w : World) → WorldOk w → WorldPlain w → (from source now : ℕ) (g : Agreed) → WorldPlain (put_circuit w false (suc w.node.drawn) (suc w.node.drawn) from (make_slave now source g (first_end false false w.other)))
+make_plain : (w : World) → WorldOk w → WorldPlain w → (from source now : ℕ) (g : Agreed) → WorldPlain (put_circuit w false (suc w.node.drawn) (next_id w.node) from (make_slave now source g (first_end false false w.other)))
 make_plain w ok pl from source now g p h = go m.running refl (pl p h)
   where
     m : End
@@ -152,8 +154,8 @@ make_plain w ok pl from source now g p h = go m.running refl (pl p h)
     c' : CircuitEntry
     c' = record { address = from; end = (make_slave now source g (first_end false false w.other)).end }
 
-    go : (r : Bool) → m.running ≡ r → BothPlain m.half.sessions (cond r (w.node.circuit_at m.peer).end.half (void_half false)).sessions → BothPlain m.half.sessions (cond r (cond (nat_eq m.peer (suc w.node.drawn)) c' (w.node.circuit_at m.peer)).end.half (void_half false)).sessions
-    go true r k = subst (λ (z : CircuitEntry). BothPlain m.half.sessions z.end.half.sessions) (sym (upd_other w.node.circuit_at (suc w.node.drawn) c' m.peer (λ i. absurd (omega (arith, i, (ok.replied p h r).drawn))))) k
+    go : (r : Bool) → m.running ≡ r → BothPlain m.half.sessions (cond r (w.node.circuit_at m.peer).end.half (void_half false)).sessions → BothPlain m.half.sessions (cond r (cond (nat_eq m.peer (next_id w.node)) c' (w.node.circuit_at m.peer)).end.half (void_half false)).sessions
+    go true r k = subst (λ (z : CircuitEntry). BothPlain m.half.sessions z.end.half.sessions) (sym (upd_other w.node.circuit_at (next_id w.node) c' m.peer (drawn_apart w.node.first w.node.drawn m.peer (ok.replied p h r).drawn))) k
     go false r k = k
 
 -- the first reply
@@ -293,7 +295,7 @@ start_in_plain w ok pl from s now g = go (nat_eq (slave_of w.node from s) 0) (na
     k : ℕ
     k = slave_of w.node from s
 
-    go : (b c : Bool) → WorldPlain (cond b (cond c (put_circuit w false (suc w.node.drawn) (suc w.node.drawn) from (make_slave now s g (first_end false false w.other))) (with_table w false w.node (record { by_server = false; circuit = 0; to = from; destination = s; source = 0; sent = Stopped 7 } ∷ []))) (at_end w false k (again_start now (w.node.circuit_at k).end)))
+    go : (b c : Bool) → WorldPlain (cond b (cond c (put_circuit w false (suc w.node.drawn) (next_id w.node) from (make_slave now s g (first_end false false w.other))) (with_table w false w.node (record { by_server = false; circuit = 0; to = from; destination = s; source = 0; sent = Stopped 7 } ∷ []))) (at_end w false k (again_start now (w.node.circuit_at k).end)))
     go true true = make_plain w ok pl from s now g
     go true false = pl
     go false c = node_same w k (again_start now (w.node.circuit_at k).end) ok pl (again_same now (w.node.circuit_at k).end)
@@ -374,5 +376,5 @@ pub go_on_plain : (es : List WorldEvent) (w : World) → WorldOk w → WorldPlai
 go_on_plain [] w ok pl h = pl
 go_on_plain (e ∷ es) w ok pl h = go_on_plain es (occurs w e) (occurs_ok w ok e) (occurs_plain w ok pl e h.0) h.1
 
-pub open_plain : (s n : ℕ) (u v : Setup) → WorldPlain (open_world s n u v)
-open_plain s n u v p h = record { master = void_plain true (min u.sessions 64) u.ceiling; slave = void_plain false 0 0; stops = λ g a b. (refl, refl) }
+pub open_plain : (s n i j : ℕ) (u v : Setup) → WorldPlain (open_world s n i j u v)
+open_plain s n i j u v p h = record { master = void_plain true (min u.sessions 64) u.ceiling; slave = void_plain false 0 0; stops = λ g a b. (refl, refl) }

@@ -10,6 +10,7 @@ use Rattle.lat_model.specs.sessions.Joined.{Joined, slots_of}
 use Rattle.lat_model.specs.Lists.{upwards}
 use Rattle.lat_model.specs.ends.End.{lives}
 use Rattle.lat_model.specs.circuits.World.{Table}
+use Rattle.lat_model.specs.circuits.Ids.{is_drawn}
 use Rattle.lat_machines.specs.cores.Cores.{Seat, Core}
 use Rattle.lat_machines.specs.cores.Lines.{line_exists}
 use Rattle.lat_machines.specs.world.Machines.{Setups, Machines, core_of}
@@ -42,7 +43,7 @@ line_in lines line h =
 abbrev after_takes : Setups → Bool → Machines → Core
 after_takes u b w = core_of (take_lines u b (upwards 0 (lines_of u b)) w) b
 
-pub side_takes : (u : Setups) (b : Bool) (w : Machines) (x : ℕ) → 0 < u.server.timing.sessions → BothSeated u w → EndOk (sess (core_of w b).circuits x) → ((k : ℕ) → Waits_few ((sess (core_of w b).circuits x).session k)) → x ≤ (core_of w b).circuits.drawn → lives ((after_takes u b w).circuits.circuit_at x).end ≡ true → (k : ℕ) → free ((sess (after_takes u b w).circuits x).session k) ≡ false → ((sess (after_takes u b w).circuits x).session k).closed ≡ false → ((sess (after_takes u b w).circuits x).session k).accepted ≡ true → All_out ((sess (after_takes u b w).circuits x).session k)
+pub side_takes : (u : Setups) (b : Bool) (w : Machines) (x : ℕ) → 0 < u.server.timing.sessions → BothSeated u w → EndOk (sess (core_of w b).circuits x) → ((k : ℕ) → Waits_few ((sess (core_of w b).circuits x).session k)) → is_drawn (core_of w b).circuits x ≡ true → lives ((after_takes u b w).circuits.circuit_at x).end ≡ true → (k : ℕ) → free ((sess (after_takes u b w).circuits x).session k) ≡ false → ((sess (after_takes u b w).circuits x).session k).closed ≡ false → ((sess (after_takes u b w).circuits x).session k).accepted ≡ true → All_out ((sess (after_takes u b w).circuits x).session k)
 side_takes u b w x pos h ok few xd lv k fr cl ac = ⊎_elim {B = ((sess d.circuits x).session k).came ≡ []} {C = All_out ((sess d.circuits x).session k)} old (λ q. none_waits ((sess d.circuits x).session k) q) ((l.table.sessions x xd).each k)
   where
     c : Core
@@ -194,8 +195,8 @@ pub record Taking (u : Setups) (w : Machines) (p : ℕ) (q : ℕ) : Type 0 where
   pub slave : Plain (end_sessions w false q)
   pub master_low : (end_sessions w true p).ceiling ≤ 15
   pub slave_low : (end_sessions w false q).ceiling ≤ 15
-  pub master_drawn : p ≤ w.server.core.circuits.drawn
-  pub slave_drawn : q ≤ w.node.core.circuits.drawn
+  pub master_drawn : is_drawn w.server.core.circuits p ≡ true
+  pub slave_drawn : is_drawn w.node.core.circuits q ≡ true
   pub up_after : List TaggedSlot
   pub down_after : List TaggedSlot
   pub joined_after : Joined (end_sessions (take_both u w) true p) (end_sessions (take_both u w) false q) up_after down_after
@@ -221,4 +222,4 @@ all_taken u w p q t = (master_taken (end_sessions d true p) (end_sessions d fals
     up k = subst (λ (c : Core). Held_out ((sess c.circuits p).session k)) (sym here) (λ f c a. side_takes u true w p t.sessions t.seated t.joined.master_ok (few_master (end_sessions w true p) (end_sessions w false q) t.up t.down t.joined t.slave t.master_low) t.master_drawn (ap (λ (c : Core). lives (c.circuits.circuit_at p).end) (sym here) ∙ t.master_lives) k f c a)
 
     down : (k : ℕ) → Held_out ((end_sessions d false q).session k)
-    down k f c a = side_takes u false mid q t.sessions (take_lines_seated u true (upwards 0 u.server.lines) w t.sessions t.seated) (subst (λ (c : Core). EndOk (sess c.circuits q)) (sym there) t.joined.slave_ok) (λ k. subst (λ (c : Core). Waits_few ((sess c.circuits q).session k)) (sym there) (few_slave (end_sessions w true p) (end_sessions w false q) t.up t.down t.joined t.master t.slave_low k)) (subst (λ (c : Core). q ≤ c.circuits.drawn) (sym there) t.slave_drawn) t.slave_lives k f c a
+    down k f c a = side_takes u false mid q t.sessions (take_lines_seated u true (upwards 0 u.server.lines) w t.sessions t.seated) (subst (λ (c : Core). EndOk (sess c.circuits q)) (sym there) t.joined.slave_ok) (λ k. subst (λ (c : Core). Waits_few ((sess c.circuits q).session k)) (sym there) (few_slave (end_sessions w true p) (end_sessions w false q) t.up t.down t.joined t.master t.slave_low k)) (subst (λ (c : Core). is_drawn c.circuits q ≡ true) (sym there) t.slave_drawn) t.slave_lives k f c a

@@ -13,6 +13,7 @@ use Rattle.lat_model.specs.ends.Starting.{make_slave, again_start, hear_stop}
 use Rattle.lat_model.specs.circuits.World.{CircuitEntry, Table, first_end}
 use Rattle.lat_model.specs.circuits.Arriving.{living, slave_of}
 use Rattle.lat_model.proofs.sessions.Words.{upd_other}
+use Rattle.lat_model.specs.circuits.Ids.{ids, next_id}
 use Rattle.lat_machines.specs.values.Names.{Name, same}
 use Rattle.lat_machines.specs.values.Addresses.{everyone}
 use Rattle.lat_machines.specs.values.Messages.{Head, StartInfo, RunMessage, WideMessage, StartMessage, StopMessage}
@@ -209,8 +210,8 @@ start_answered config st from source info g = go (nat_eq (slave_of t from source
     t : Table
     t = st.core.circuits
 
-    go : (a b : Bool) → Answered (hears_start config st from source info (cond a (cond b (Makes (suc t.drawn)) Refuses) (Repeats (slave_of t from source)))).state.core.circuits
-    go true true = put_answered false t (suc t.drawn) (suc t.drawn) from (make_slave st.core.moment source (agreed_by config.timing info) (first_end false false (setup_of config.timing))) (λ l k. refl) g
+    go : (a b : Bool) → Answered (hears_start config st from source info (cond a (cond b (Makes (next_id t)) Refuses) (Repeats (slave_of t from source)))).state.core.circuits
+    go true true = put_answered false t (suc t.drawn) (next_id t) from (make_slave st.core.moment source (agreed_by config.timing info) (first_end false false (setup_of config.timing))) (λ l k. refl) g
     go true false = g
     go false b = steps_answered t (slave_of t from source) (again_start st.core.moment (t.circuit_at (slave_of t from source)).end) (again_end st.core.moment (t.circuit_at (slave_of t from source)).end (g (slave_of t from source))) g
 
@@ -253,8 +254,8 @@ outlived_answered from source (x ∷ xs) t g = outlived_answered from source xs 
 way_answered : (config : NodeConfig) (st : Node) (from source : ℕ) → Answered st.core.circuits → Answered (makes_way config st from source).core.circuits
 way_answered config st from source g = go config.prompt
   where
-    go : (b : Bool) → Answered (cond b (outlive from source (upwards 0 st.core.circuits.drawn) st.core.circuits) st.core.circuits)
-    go true = outlived_answered from source (upwards 0 st.core.circuits.drawn) st.core.circuits g
+    go : (b : Bool) → Answered (cond b (outlive from source (ids st.core.circuits) st.core.circuits) st.core.circuits)
+    go true = outlived_answered from source (ids st.core.circuits) st.core.circuits g
     go false = g
 
 node_cond : (n : Bool) (s t : NodeStep) → Answered s.state.core.circuits → Answered t.state.core.circuits → Answered (cond n s t).state.core.circuits
@@ -295,7 +296,7 @@ node_answered config rates st (Hears from (Malformed field at) k now) r = r.answ
 node_answered config rates st (Hears from (Whole v) k now) r =
     let s : Node = record st { core = at_moment now st.core } in
     node_cond (nat_eq from everyone) (N.tells s Ignored) (N.hears_value config rates s from v k) r.answered (value_answered config rates s from v k (record { seated = moment_seated config st.core now r.seated; answered = r.answered }))
-node_answered config rates st (Time now) r = times_answered config (upwards 0 st.core.circuits.drawn) (rests (at_moment now st.core)) r.answered
+node_answered config rates st (Time now) r = times_answered config (ids st.core.circuits) (rests (at_moment now st.core)) r.answered
 node_answered config rates st (Connects line service) r = r.answered
 node_answered config rates st (Puts line bytes) r = line_answered config.lines st.core line (λ s. put_on (node_side config) st.core s bytes) r.answered (λ s. call_if config st.core r s (put_open (session_of st.core s)) (Put s.id bytes) _ Closed)
 node_answered config rates st (Sets line setting) r = line_answered config.lines st.core line (λ s. set_on (node_side config) st.core s setting) r.answered (λ s. said_cond (put_open (session_of st.core s)) _ (says st.core Closed) (call_if config st.core r s _ (Set s.id setting) _ _) r.answered)
@@ -307,7 +308,7 @@ node_answered config rates st (Withdraws id) r = withdraw_answered config st (re
 node_answered config rates st Announces r = r.answered
 node_answered config rates st (Avoids line) r = r.answered
 node_answered config rates st (Readies line ready) r = r.answered
-node_answered config rates st Halts r = ends_answered config 3 (upwards 0 st.core.circuits.drawn) (rests st.core) r.answered
+node_answered config rates st Halts r = ends_answered config 3 (ids st.core.circuits) (rests st.core) r.answered
 
 -- in every run
 

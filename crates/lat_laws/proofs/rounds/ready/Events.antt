@@ -1,5 +1,5 @@
 -- Each event of a core keeps its seats.
-use Rattle.std.proofs.Common.{◌≡◌, ℕ, suc, ◌<◌, sym, ap, ◌∙◌, refl, subst, arith, Bool, true, false, not, cond, ◌&&◌, List, [], ◌∷◌, ◌++◌, Option, Some, None, nat_eq, nat_lt, slice_get, find}
+use Rattle.std.proofs.Common.{◌≡◌, ℕ, ◌<◌, sym, ap, ◌∙◌, refl, subst, arith, Bool, true, false, not, cond, ◌&&◌, List, [], ◌∷◌, ◌++◌, Option, Some, None, nat_eq, nat_lt, slice_get, find}
 use Rattle.std.proofs.lemmas.Bool.{true≢false, false≢true}
 use Rattle.lat_model.specs.sessions.Slots.{Slot}
 use Rattle.lat_model.specs.sessions.Session.{put_open, take_open}
@@ -8,6 +8,7 @@ use Rattle.lat_model.specs.sessions.Calls.{Call, Put, Set, Attend, Take, Close}
 use Rattle.lat_model.specs.Lists.{upwards, Each}
 use Rattle.lat_model.specs.circuits.World.{Table}
 use Rattle.lat_model.specs.circuits.Arriving.{living, slave_of}
+use Rattle.lat_model.specs.circuits.Ids.{ids, next_id}
 use Rattle.lat_machines.specs.values.Names.{Name, same}
 use Rattle.lat_machines.specs.values.Addresses.{everyone}
 use Rattle.lat_machines.specs.values.Messages.{Head, StartInfo, RunMessage, WideMessage, StartMessage, StopMessage}
@@ -91,10 +92,10 @@ connect_event_seated config st line service pos r = go (line_exists config.lines
         let x : ℕ = circuit_to st.core b.from in
         let d : Doing = opens config line b.from b.node service None None st.core in
         steady_cond config.lines (nat_eq x 0)
-        (cond (nat_lt (living st.core.circuits) 8) (cond (nat_lt st.core.circuits.drawn 65535) (does st (Connected (suc st.core.circuits.drawn) 1) d) (tells st IdsOut)) (tells st CircuitsFull))
+        (cond (nat_lt (living st.core.circuits) 8) (cond (nat_lt st.core.circuits.drawn 65535) (does st (Connected (next_id st.core.circuits) 1) d) (tells st IdsOut)) (tells st CircuitsFull))
         (cond (has_room st.core x) (does st (Connected x (least_free (st.core.circuits.circuit_at x).end.half.sessions)) d) (tells st SessionsFull))
-        (λ i. steady_cond config.lines (nat_lt (living st.core.circuits) 8) (cond (nat_lt st.core.circuits.drawn 65535) (does st (Connected (suc st.core.circuits.drawn) 1) d) (tells st IdsOut)) (tells st CircuitsFull)
-        (λ j. steady_cond config.lines (nat_lt st.core.circuits.drawn 65535) (does st (Connected (suc st.core.circuits.drawn) 1) d) (tells st IdsOut)
+        (λ i. steady_cond config.lines (nat_lt (living st.core.circuits) 8) (cond (nat_lt st.core.circuits.drawn 65535) (does st (Connected (next_id st.core.circuits) 1) d) (tells st IdsOut)) (tells st CircuitsFull)
+        (λ j. steady_cond config.lines (nat_lt st.core.circuits.drawn 65535) (does st (Connected (next_id st.core.circuits) 1) d) (tells st IdsOut)
         (λ k. opens_seated config line b.from b.node service None None st.core pos r (ap (λ z. cond z (may_call st.core) (has_room st.core x)) i ∙ both (nat_lt (living st.core.circuits) 8) (nat_lt st.core.circuits.drawn 65535) j k) ex fr)
         (λ k. r))
         (λ j. r))
@@ -144,7 +145,7 @@ event_seated config st (Hears from (Whole v) k now) pos r =
     let s : Server = record st { core = at_moment now st.core } in
     let h : Seated true config.lines s.core = table_seated true config.lines st.core (at_moment now st.core) refl refl r in
     steady_cond config.lines (nat_eq from everyone) (tells s Ignored) (hears_value config s from v k) (λ y. h) (λ y. value_seated config s from v k h)
-event_seated config st (Time now) pos r = times_seated true config.lines (server_side config) (upwards 0 st.core.circuits.drawn) (rests (at_moment now st.core)) (table_seated true config.lines st.core (at_moment now st.core) refl refl r)
+event_seated config st (Time now) pos r = times_seated true config.lines (server_side config) (ids st.core.circuits) (rests (at_moment now st.core)) (table_seated true config.lines st.core (at_moment now st.core) refl refl r)
 event_seated config st (Connects line service) pos r = steady_cond config.lines st.halted (tells st Halted) (connect_event config st line service) (λ i. r) (λ i. connect_event_seated config st line service pos r)
 event_seated config st (Puts line bytes) pos r = put_seated true config.lines (server_side config) st.core line bytes r
 event_seated config st (Sets line setting) pos r = set_seated true config.lines (server_side config) st.core line setting r
@@ -156,7 +157,7 @@ event_seated config st (Withdraws id) pos r = r
 event_seated config st Announces pos r = r
 event_seated config st (Avoids line) pos r = r
 event_seated config st (Readies line ready) pos r = r
-event_seated config st Halts pos r = ends_seated true config.lines (server_side config) 3 (upwards 0 st.core.circuits.drawn) (rests st.core) r
+event_seated config st Halts pos r = ends_seated true config.lines (server_side config) 3 (ids st.core.circuits) (rests st.core) r
 
 -- the grant pass
 
@@ -215,8 +216,8 @@ start_seated config st from source info r = go (nat_eq (slave_of st.core.circuit
     t : Table
     t = st.core.circuits
 
-    go : (a b : Bool) → Seated false config.lines (hears_start config st from source info (cond a (cond b (Makes (suc t.drawn)) Refuses) (Repeats (slave_of t from source)))).state.core
-    go true true = seated_later false config.lines st.core (hears_start config st from source info (Makes (suc t.drawn))).state.core refl (make_later (setup_of config.timing) t from source st.core.moment (agreed_by config.timing info)) r
+    go : (a b : Bool) → Seated false config.lines (hears_start config st from source info (cond a (cond b (Makes (next_id t)) Refuses) (Repeats (slave_of t from source)))).state.core
+    go true true = seated_later false config.lines st.core (hears_start config st from source info (Makes (next_id t))).state.core refl (make_later (setup_of config.timing) t from source st.core.moment (agreed_by config.timing info)) r
     go true false = table_seated false config.lines st.core (hears_start config st from source info Refuses).state.core refl refl r
     go false b = seated_later false config.lines st.core (hears_start config st from source info (Repeats (slave_of t from source))).state.core refl (again_at_later t (slave_of t from source) st.core.moment) r
 
@@ -224,8 +225,8 @@ start_seated config st from source info r = go (nat_eq (slave_of st.core.circuit
 way_seated : (config : NodeConfig) (st : Node) (from source : ℕ) → Seated false config.lines st.core → Seated false config.lines (makes_way config st from source).core
 way_seated config st from source r = go config.prompt
   where
-    go : (b : Bool) → Seated false config.lines (with_circuits st.core (cond b (outlive from source (upwards 0 st.core.circuits.drawn) st.core.circuits) st.core.circuits))
-    go true = seated_later false config.lines st.core (with_circuits st.core (outlive from source (upwards 0 st.core.circuits.drawn) st.core.circuits)) refl (outlive_later from source (upwards 0 st.core.circuits.drawn) st.core.circuits) r
+    go : (b : Bool) → Seated false config.lines (with_circuits st.core (cond b (outlive from source (ids st.core.circuits) st.core.circuits) st.core.circuits))
+    go true = seated_later false config.lines st.core (with_circuits st.core (outlive from source (ids st.core.circuits) st.core.circuits)) refl (outlive_later from source (ids st.core.circuits) st.core.circuits) r
     go false = r
 
 node_value_seated : (config : NodeConfig) (rates : List ℕ) (st : Node) (from : ℕ) (v : Value) (k : Option Numbers) → Seated false config.lines st.core → Seated false config.lines (N.hears_value config rates st from v k).state.core
@@ -260,7 +261,7 @@ node_seated config rates st (Hears from (Whole v) k now) r =
     let s : Node = record st { core = at_moment now st.core } in
     let h : Seated false config.lines s.core = table_seated false config.lines st.core (at_moment now st.core) refl refl r in
     node_cond config.lines (nat_eq from everyone) (N.tells s Ignored) (N.hears_value config rates s from v k) h (node_value_seated config rates s from v k h)
-node_seated config rates st (Time now) r = times_seated false config.lines (node_side config) (upwards 0 st.core.circuits.drawn) (rests (at_moment now st.core)) (table_seated false config.lines st.core (at_moment now st.core) refl refl r)
+node_seated config rates st (Time now) r = times_seated false config.lines (node_side config) (ids st.core.circuits) (rests (at_moment now st.core)) (table_seated false config.lines st.core (at_moment now st.core) refl refl r)
 node_seated config rates st (Connects line service) r = r
 node_seated config rates st (Puts line bytes) r = put_seated false config.lines (node_side config) st.core line bytes r
 node_seated config rates st (Sets line setting) r = set_seated false config.lines (node_side config) st.core line setting r
@@ -272,7 +273,7 @@ node_seated config rates st (Withdraws id) r = withdraw_seated config st (reques
 node_seated config rates st Announces r = r
 node_seated config rates st (Avoids line) r = r
 node_seated config rates st (Readies line ready) r = r
-node_seated config rates st Halts r = ends_seated false config.lines (node_side config) 3 (upwards 0 st.core.circuits.drawn) (rests st.core) r
+node_seated config rates st Halts r = ends_seated false config.lines (node_side config) 3 (ids st.core.circuits) (rests st.core) r
 
 -- both
 

@@ -12,6 +12,7 @@ use Rattle.lat_model.specs.circuits.World.{CircuitEntry, first_end}
 use Rattle.lat_model.specs.circuits.WorldOk.{Idle}
 use Rattle.lat_model.specs.circuits.Arriving.{living, slave_of}
 use Rattle.lat_model.proofs.circuits.Kin.{Calm, idle_calm, calm_time, calm_again, calm_stop, idle_call}
+use Rattle.lat_model.specs.circuits.Ids.{next_id}
 use Rattle.lat_machines.specs.values.Messages.{Head, StartInfo, RunMessage, WideMessage, StartMessage, StopMessage}
 use Rattle.lat_machines.specs.values.Timing.{agreed_by}
 use Rattle.lat_machines.specs.values.Events.{Numbers, Event, Hears, Time, Connects, Puts, Sets, Takes, Attends, Closes, Requests, Withdraws, Announces, is_heard, Avoids, Readies, Halts}
@@ -165,8 +166,8 @@ node_idles config S low = record {
     again_heard : (now : ℕ) (e : End) → e.heard_run ≡ true → (again_start now e).end.heard_run ≡ true
     again_heard now e q = (calm_again now e).heard_run ∙ q
 
-    starts : (c : Core) (from source : ℕ) (info : StartInfo) → CoreIdle c → (a b : Bool) → CoreIdle (with_circuits c (start_at (setup_of config.timing) c.circuits from source c.moment (agreed_by config.timing info) (cond a (cond b (Makes (suc c.circuits.drawn)) Refuses) (Repeats (slave_of c.circuits from source)))).table)
-    starts c from source info g true true = put_idle false c (suc c.circuits.drawn) (suc c.circuits.drawn) from (make_slave c.moment source (agreed_by config.timing info) (first_end false false (setup_of config.timing))) (λ q. record { link = refl; agreed = min info.sessions (min config.timing.sessions 64); ceiling = config.timing.ceiling; agreed_low = omega arith; ceiling_low = low; sessions = refl; heard_run = refl; master = refl }) g
+    starts : (c : Core) (from source : ℕ) (info : StartInfo) → CoreIdle c → (a b : Bool) → CoreIdle (with_circuits c (start_at (setup_of config.timing) c.circuits from source c.moment (agreed_by config.timing info) (cond a (cond b (Makes (next_id c.circuits)) Refuses) (Repeats (slave_of c.circuits from source)))).table)
+    starts c from source info g true true = put_idle false c (suc c.circuits.drawn) (next_id c.circuits) from (make_slave c.moment source (agreed_by config.timing info) (first_end false false (setup_of config.timing))) (λ q. record { link = refl; agreed = min info.sessions (min config.timing.sessions 64); ceiling = config.timing.ceiling; agreed_low = omega arith; ceiling_low = low; sessions = refl; heard_run = refl; master = refl }) g
     starts c from source info g true false = g
     starts c from source info g false b =
         let x : ℕ = slave_of c.circuits from source in

@@ -13,6 +13,7 @@ use Rattle.lat_model.specs.circuits.World.{CircuitEntry, first_end}
 use Rattle.lat_model.specs.circuits.Arriving.{living, slave_of}
 use Rattle.lat_model.proofs.sessions.Words.{upd_all}
 use Rattle.lat_model.proofs.circuits.Kin.{Kin, kin_time, kin_run}
+use Rattle.lat_model.specs.circuits.Ids.{next_id}
 use Rattle.lat_machines.specs.values.Messages.{Head, StartInfo}
 use Rattle.lat_machines.specs.values.Timing.{Timing, is_wide, agreed_by}
 use Rattle.lat_machines.specs.values.Events.{Numbers}
@@ -188,7 +189,7 @@ server_fits u = record {
     stops = stop_fits (ways_of u true) true;
     ends = end_fits (ways_of u true) true;
   };
-  opens = λ c address g. put_fits (ways_of u true) true c (suc c.circuits.drawn) (suc c.circuits.drawn) address (called (setup_of u.server.timing) c.moment) (record { ceiling = refl; due = omega arith; window = λ q. absurd (false≢true q); room = λ q a. absurd (false≢true q); timer = λ q a. refl }) g;
+  opens = λ c address g. put_fits (ways_of u true) true c (suc c.circuits.drawn) (next_id c.circuits) address (called (setup_of u.server.timing) c.moment) (record { ceiling = refl; due = omega arith; window = λ q. absurd (false≢true q); room = λ q a. absurd (false≢true q); timer = λ q a. refl }) g;
   replies = λ c from to source info s g. replies c from to source info s g;
 }
   where
@@ -222,8 +223,8 @@ node_fits u = record {
     p : Ways
     p = ways_of u false
 
-    go : (c : Core) (from source : ℕ) (info : StartInfo) → StartSays p from true info → CoreFits p c → (a b : Bool) → CoreFits p (with_circuits c (start_at (setup_of u.node.timing) c.circuits from source c.moment (agreed_by u.node.timing info) (cond a (cond b (Makes (suc c.circuits.drawn)) Refuses) (Repeats (slave_of c.circuits from source)))).table)
-    go c from source info s g true true = put_fits p false c (suc c.circuits.drawn) (suc c.circuits.drawn) from (make_slave c.moment source (agreed_by u.node.timing info) (first_end false false (setup_of u.node.timing))) (record { ceiling = refl; due = omega arith; window = λ q. agreed_window u.node.timing info; room = λ q a. agreed_room u.node.timing info (s.size a); timer = λ q a. s.timer a refl refl }) g
+    go : (c : Core) (from source : ℕ) (info : StartInfo) → StartSays p from true info → CoreFits p c → (a b : Bool) → CoreFits p (with_circuits c (start_at (setup_of u.node.timing) c.circuits from source c.moment (agreed_by u.node.timing info) (cond a (cond b (Makes (next_id c.circuits)) Refuses) (Repeats (slave_of c.circuits from source)))).table)
+    go c from source info s g true true = put_fits p false c (suc c.circuits.drawn) (next_id c.circuits) from (make_slave c.moment source (agreed_by u.node.timing info) (first_end false false (setup_of u.node.timing))) (record { ceiling = refl; due = omega arith; window = λ q. agreed_window u.node.timing info; room = λ q a. agreed_room u.node.timing info (s.size a); timer = λ q a. s.timer a refl refl }) g
     go c from source info s g true false = g
     go c from source info s g false b = steps_fit p false c (slave_of c.circuits from source) (again_start c.moment (c.circuits.circuit_at (slave_of c.circuits from source)).end) (again_fits p c.moment c.moment (c.circuits.circuit_at (slave_of c.circuits from source)).address (c.circuits.circuit_at (slave_of c.circuits from source)).end (g (slave_of c.circuits from source))) g
 

@@ -9,6 +9,7 @@ use Rattle.lat_model.specs.numbers.Link.{Frame}
 use Rattle.lat_model.specs.ends.End.{Sent, Run, CallStart, ReplyStart, Stopped}
 use Rattle.lat_model.specs.circuits.World.{Wired}
 use Rattle.lat_model.specs.circuits.Arriving.{living}
+use Rattle.lat_model.specs.circuits.Ids.{ids, next_id}
 use Rattle.lat_machines.specs.values.Names.{Name, same}
 use Rattle.lat_machines.specs.values.Addresses.{everyone}
 use Rattle.lat_machines.specs.values.Messages.{RunMessage, WideMessage, StartMessage, StopMessage, Head}
@@ -83,7 +84,7 @@ opens_fine : (config : ServerConfig) (line address : ℕ) (node service : Name) 
 opens_fine config line address node service key request c = go (nat_eq (circuit_to c address) 0)
   where
     named : Core
-    named = record c { names = updated c.names (suc c.circuits.drawn) node }
+    named = record c { names = updated c.names (next_id c.circuits) node }
 
     made : Doing
     made = acts (server_side config) named (call_at (setup_of config.timing) named.circuits address named.moment)
@@ -118,9 +119,9 @@ connect_fine config st line service = go (line_exists config.lines line) (has_se
         let d : Doing = opens config line b.from b.node service None None st.core in
         let o : FramesFine t d.frames = opens_fine config line b.from b.node service None None st.core in
         steady_cond t (nat_eq x 0)
-        (cond (nat_lt (living st.core.circuits) 8) (cond (nat_lt st.core.circuits.drawn 65535) (does st (Connected (suc st.core.circuits.drawn) 1) d) (tells st IdsOut)) (tells st CircuitsFull))
+        (cond (nat_lt (living st.core.circuits) 8) (cond (nat_lt st.core.circuits.drawn 65535) (does st (Connected (next_id st.core.circuits) 1) d) (tells st IdsOut)) (tells st CircuitsFull))
         (cond (has_room st.core x) (does st (Connected x (least_free (st.core.circuits.circuit_at x).end.half.sessions)) d) (tells st SessionsFull))
-        (steady_cond t (nat_lt (living st.core.circuits) 8) (cond (nat_lt st.core.circuits.drawn 65535) (does st (Connected (suc st.core.circuits.drawn) 1) d) (tells st IdsOut)) (tells st CircuitsFull) (steady_cond t (nat_lt st.core.circuits.drawn 65535) (does st (Connected (suc st.core.circuits.drawn) 1) d) (tells st IdsOut) o tt) tt)
+        (steady_cond t (nat_lt (living st.core.circuits) 8) (cond (nat_lt st.core.circuits.drawn 65535) (does st (Connected (next_id st.core.circuits) 1) d) (tells st IdsOut)) (tells st CircuitsFull) (steady_cond t (nat_lt st.core.circuits.drawn 65535) (does st (Connected (next_id st.core.circuits) 1) d) (tells st IdsOut) o tt) tt)
         (steady_cond t (has_room st.core x) (does st (Connected x (least_free (st.core.circuits.circuit_at x).end.half.sessions)) d) (tells st SessionsFull) o tt)
 
     go : (n m : Bool) (o : Option Best) → FramesFine t (cond n (cond m (tells st Busy) (elim o [ None ↦ solicits_for config st service | Some b ↦ connects_to config st line service b ])) (tells st NoLine)).frames
@@ -160,7 +161,7 @@ event_fine config st (Hears from (Malformed field at) k now) = tt
 event_fine config st (Hears from (Whole v) k now) =
     let s : Server = record st { core = at_moment now st.core } in
     steady_cond config.timing.timer (nat_eq from everyone) (tells s Ignored) (hears_value config s from v k) tt (value_fine config s from v k)
-event_fine config st (Time now) = times_fine (server_side config) (upwards 0 st.core.circuits.drawn) (rests (at_moment now st.core)) tt
+event_fine config st (Time now) = times_fine (server_side config) (ids st.core.circuits) (rests (at_moment now st.core)) tt
 event_fine config st (Connects line service) = steady_cond config.timing.timer st.halted (tells st Halted) (connect_event config st line service) tt (connect_fine config st line service)
 event_fine config st (Puts line bytes) = tt
 event_fine config st (Sets line setting) = tt
@@ -172,7 +173,7 @@ event_fine config st (Withdraws id) = tt
 event_fine config st Announces = tt
 event_fine config st (Avoids line) = tt
 event_fine config st (Readies line ready) = tt
-event_fine config st Halts = ends_fine (server_side config) 3 (upwards 0 st.core.circuits.drawn) (rests st.core) tt
+event_fine config st Halts = ends_fine (server_side config) 3 (ids st.core.circuits) (rests st.core) tt
 
 grants_fine : (config : ServerConfig) (line : ℕ) (o : Option Name) (g : Option Request) (p : Passing) → FramesFine config.timing.timer p.frames → FramesFine config.timing.timer (grants_by config line o g p).frames
 grants_fine config line None g p r = r
@@ -230,7 +231,7 @@ node_fine config rates st (Hears from (Malformed field at) k now) = tt
 node_fine config rates st (Hears from (Whole v) k now) =
     let s : Node = record st { core = at_moment now st.core } in
     node_cond config.timing.timer (nat_eq from everyone) (N.tells s Ignored) (N.hears_value config rates s from v k) tt (node_value_fine config rates s from v k)
-node_fine config rates st (Time now) = times_fine (node_side config) (upwards 0 st.core.circuits.drawn) (rests (at_moment now st.core)) tt
+node_fine config rates st (Time now) = times_fine (node_side config) (ids st.core.circuits) (rests (at_moment now st.core)) tt
 node_fine config rates st (Connects line service) = tt
 node_fine config rates st (Puts line bytes) = tt
 node_fine config rates st (Sets line setting) = tt
@@ -242,7 +243,7 @@ node_fine config rates st (Withdraws id) = withdraw_fine config st (request_of i
 node_fine config rates st Announces = quiet_fine config.timing.timer st.halted _ (tt, tt)
 node_fine config rates st (Avoids line) = tt
 node_fine config rates st (Readies line ready) = tt
-node_fine config rates st Halts = more_fine config.timing.timer (ends_all (node_side config) 3 st.core).frames (farewell config st.halted) (ends_fine (node_side config) 3 (upwards 0 st.core.circuits.drawn) (rests st.core) tt) (go st.halted)
+node_fine config rates st Halts = more_fine config.timing.timer (ends_all (node_side config) 3 st.core).frames (farewell config st.halted) (ends_fine (node_side config) 3 (ids st.core.circuits) (rests st.core) tt) (go st.halted)
   where
     go : (n : Bool) → FramesFine config.timing.timer (farewell config n)
     go true = tt

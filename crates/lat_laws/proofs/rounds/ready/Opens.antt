@@ -24,12 +24,14 @@ use Rattle.lat_laws.proofs.rounds.ready.Tables.{call_at_later, local_later}
 use Rattle.lat_laws.proofs.rounds.ready.Seats.{over_parts, over_none, holds_seat, seated_later, Seats, seats_more}
 use Rattle.std.specs.List.{list_any}
 use Rattle.lat_model.specs.sessions.Calls as Calls
+use Rattle.lat_model.proofs.circuits.Ids.{drawn_or}
+use Rattle.lat_model.specs.circuits.Ids.{is_drawn, next_id, ids}
 
 abbrev sess : Table → ℕ → Sessions
 sess t x = (t.circuit_at x).end.half.sessions
 
-pub drawn_of : (m : Bool) (t : Table) (x : ℕ) → Drawn m t → lives (t.circuit_at x).end ≡ true → x ≤ t.drawn
-drawn_of m t x g l = ⊎_elim {C = x ≤ t.drawn} (λ h. absurd (true≢false (sym l ∙ g.new x h))) (λ h. h) (cases_lt t.drawn x)
+pub drawn_of : (m : Bool) (t : Table) (x : ℕ) → Drawn m t → lives (t.circuit_at x).end ≡ true → is_drawn t x ≡ true
+drawn_of m t x g l = ⊎_elim {C = is_drawn t x ≡ true} (λ h. absurd (true≢false (sym l ∙ g.new x h))) (λ h. h) (drawn_or t x)
 
 -- the circuit of the seat gets these sessions
 abbrev with_sessions : End → Sessions → Step
@@ -64,7 +66,7 @@ accepts_seats m b lines c s z r g = record {
     found = λ y. upd_all (λ (w : CircuitEntry). Found w.end.half.sessions) t.circuit_at s.circuit new r.found g.found y;
     held = λ y k q. held y k (nat_eq y s.circuit) refl q;
   };
-  drawn = refl;
+  drawn = λ y l. l;
   alive = λ y. alive y (nat_eq y s.circuit) refl;
   made = λ y. made y (nat_eq y s.circuit) refl;
   old = λ y k n. old y k (nat_eq y s.circuit) refl n;
@@ -89,15 +91,15 @@ accepts_seats m b lines c s z r g = record {
     at : (seated_core b c s z).circuits.circuit_at s.circuit ≡ new
     at = upd_same t.circuit_at s.circuit new
 
-    here : s.circuit ≤ t.drawn
+    here : is_drawn t s.circuit ≡ true
     here = drawn_of m t s.circuit g r.alive
 
     alive : (y : ℕ) (a : Bool) → nat_eq y s.circuit ≡ a → lives (cond a new (t.circuit_at y)).end ≡ lives (t.circuit_at y).end
     alive y true q = ap (λ w. lives (t.circuit_at w).end) (sym (eqb-true y s.circuit q))
     alive y false q = refl
 
-    held : (y k : ℕ) (a : Bool) → nat_eq y s.circuit ≡ a → ((cond a new (t.circuit_at y)).end.half.sessions.session k).accepted ≡ true → y ≤ t.drawn
-    held y k true q h = subst (λ w. w ≤ t.drawn) (sym (eqb-true y s.circuit q)) here
+    held : (y k : ℕ) (a : Bool) → nat_eq y s.circuit ≡ a → ((cond a new (t.circuit_at y)).end.half.sessions.session k).accepted ≡ true → is_drawn t y ≡ true
+    held y k true q h = subst (λ w. is_drawn t w ≡ true) (sym (eqb-true y s.circuit q)) here
     held y k false q h = g.held y k h
 
     made : (y : ℕ) (a : Bool) → nat_eq y s.circuit ≡ a → (sess t y).made ≤ (cond a new (t.circuit_at y)).end.half.sessions.made
@@ -196,7 +198,7 @@ pub opens_seated : (config : ServerConfig) (line address : ℕ) (node service : 
 opens_seated config line address node service key request c pos h can ex fr = go (nat_eq (circuit_to c address) 0) refl can
   where
     named_core : Core
-    named_core = record c { names = updated c.names (suc c.circuits.drawn) node }
+    named_core = record c { names = updated c.names (next_id c.circuits) node }
 
     made : Doing
     made = acts (server_side config) named_core (call_at (setup_of config.timing) named_core.circuits address named_core.moment)
@@ -205,7 +207,7 @@ opens_seated config line address node service key request c pos h can ex fr = go
     after d = (connects_on config line (circuit_to d.core address) service key request d.core).core
 
     go : (b : Bool) → nat_eq (circuit_to c address) 0 ≡ b → cond b (may_call c) (has_room c (circuit_to c address)) ≡ true → Seated true config.lines (after (cond b made (rests c)))
-    go false i can = connect_seated config line (circuit_to c address) service key request c h (and_parts (nat_eq (c.circuits.circuit_at (circuit_to c address)).address address) (lives (c.circuits.circuit_at (circuit_to c address)).end) (least_true (test_of c.circuits address) 0 c.circuits.drawn (eqb-false (circuit_to c address) 0 i))).1 can ex fr
+    go false i can = connect_seated config line (circuit_to c address) service key request c h (and_parts (nat_eq (c.circuits.circuit_at (circuit_to c address)).address address) (lives (c.circuits.circuit_at (circuit_to c address)).end) (least_true (test_of c.circuits address) (ids c.circuits) (eqb-false (circuit_to c address) 0 i))).1 can ex fr
     go true i can =
         let k : Called named_core address (with_circuits named_core (call_at (setup_of config.timing) named_core.circuits address named_core.moment).table) = call_opens (setup_of config.timing) named_core address named_core.moment pos (record { masters = h.good.masters; new = h.good.new }) (eqb-true (circuit_to c address) 0 i) can in
         let l : LaterTable true c.circuits made.core.circuits = call_at_later (setup_of config.timing) c.circuits address c.moment in
@@ -354,7 +356,7 @@ judged_answering config st x id request service w h = by request
     on_line true q = refuse_answering config x id 7 st.core h
     on_line false q =
         let n : l ≢ 0 = eqb-false l 0 q in
-        answer_answering config st x id request l w (line_from config.lines l (omega (arith, n)) (omega (arith, least_in (λ line. not (has_session st.core line)) 0 config.lines))) (not-true (has_session st.core l) (least_true (λ line. not (has_session st.core line)) 0 config.lines n)) h
+        answer_answering config st x id request l w (line_from config.lines l (omega (arith, n)) (omega (arith, least_in (λ line. not (has_session st.core line)) 0 config.lines))) (not-true (has_session st.core l) (least_true (λ line. not (has_session st.core line)) (upwards 0 config.lines) n)) h
 
     either : (b : Bool) (n : ℕ) → Answering config.lines x (judged config st x id request (cond b (on_free_line l) (Rejects n))).core
     either true n = on_line (nat_eq l 0) refl

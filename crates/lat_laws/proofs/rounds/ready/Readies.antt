@@ -1,6 +1,6 @@
 -- The ends of a circuit behind a round: ready for the next.
 use Rattle.std.proofs.Common.{◌≡◌, ℕ, ◌+◌, ◌*◌, ◌<◌, ◌≤◌, inl, inr, ⊎_elim, sym, ap, ◌∙◌, refl, subst, arith, true, false, cond, List, []}
-use Rattle.std.proofs.lemmas.Bool.{cases_lt, false≢true}
+use Rattle.std.proofs.lemmas.Bool.{false≢true}
 use Rattle.lat_model.specs.Lists.{upwards}
 use Rattle.lat_model.specs.ends.End.{End, lives}
 use Rattle.lat_model.specs.circuits.World.{CircuitEntry, Table, World}
@@ -15,6 +15,8 @@ use Rattle.lat_laws.specs.rounds.Settles.{Usual}
 use Rattle.lat_laws.specs.rounds.Rounds.{take_lines, take_both, next_moment}
 use Rattle.lat_laws.specs.rounds.Idle.{AllAnswered, AllTaken}
 use Rattle.lat_model.specs.sessions.EndOk.{EndOk}
+use Rattle.lat_model.proofs.circuits.Ids.{drawn_or}
+use Rattle.lat_model.specs.circuits.Ids.{is_drawn}
 use Rattle.lat_laws.specs.rounds.Measure.{weights}
 use Rattle.lat_laws.specs.rounds.Plain.{BothPlain, WorldPlain}
 use Rattle.lat_laws.specs.rounds.Progress.{Still, Ready}
@@ -50,16 +52,16 @@ pub record IsRunning (u : Setups) (m : Machines) (p : ℕ) : Type 0 where
 pub record Coupling (u : Setups) (m : Machines) (p : ℕ) : Type 0 where
   pub together : Together (up_end m p).half (down_end m (up_end m p).peer).half []
   pub plain : BothPlain (up_end m p).half.sessions (down_end m (up_end m p).peer).half.sessions
-  pub drawn : p ≤ m.server.core.circuits.drawn
-  pub slave_drawn : (up_end m p).peer ≤ m.node.core.circuits.drawn
+  pub drawn : is_drawn m.server.core.circuits p ≡ true
+  pub slave_drawn : is_drawn m.node.core.circuits (up_end m p).peer ≡ true
   pub slave_address : (m.node.core.circuits.circuit_at (up_end m p).peer).address ≡ u.server.own
 
 pub coupling : (u : Setups) (m : Machines) (w : World) (done : List ℕ) (p : ℕ) → Known u m w done → IsRunning u m p → Coupling u m p
 coupling u m w done p k r = record {
   together = subst (λ (t : Table). Together (t.circuit_at p).end.half (m.node.core.circuits.circuit_at (t.circuit_at p).end.peer).end.half []) k.ties.server (subst (λ (t : Table). Together (server_end w p).half (t.circuit_at (server_end w p).peer).end.half []) k.ties.node (subst (λ b. Together (server_end w p).half (cond b (node_end w (server_end w p).peer).half (void_half false)) []) run (k.good.matched p home)));
   plain = subst (λ (t : Table). BothPlain (t.circuit_at p).end.half.sessions (m.node.core.circuits.circuit_at (t.circuit_at p).end.peer).end.half.sessions) k.ties.server (subst (λ (t : Table). BothPlain (server_end w p).half.sessions (t.circuit_at (server_end w p).peer).end.half.sessions) k.ties.node (subst (λ b. BothPlain (server_end w p).half.sessions (cond b (node_end w (server_end w p).peer).half (void_half false)).sessions) run (k.plain p home)));
-  drawn = ⊎_elim {C = p ≤ m.server.core.circuits.drawn} (λ l. absurd (false≢true (sym (ap (λ (c : CircuitEntry). c.end.running) (k.good.none_server p (inr (subst (λ (t : Table). t.drawn < p) (sym k.ties.server) l)))) ∙ run))) (λ l. l) (cases_lt m.server.core.circuits.drawn p);
-  slave_drawn = subst (λ (t : Table). (t.circuit_at p).end.peer ≤ m.node.core.circuits.drawn) k.ties.server (subst (λ (t : Table). (server_end w p).peer ≤ t.drawn) k.ties.node rep.drawn);
+  drawn = ⊎_elim {C = is_drawn m.server.core.circuits p ≡ true} (λ l. absurd (false≢true (sym (ap (λ (c : CircuitEntry). c.end.running) (k.good.none_server p (subst (λ (t : Table). is_drawn t p ≡ false) (sym k.ties.server) l))) ∙ run))) (λ l. l) (drawn_or m.server.core.circuits p);
+  slave_drawn = subst (λ (t : Table). is_drawn m.node.core.circuits (t.circuit_at p).end.peer ≡ true) k.ties.server (subst (λ (t : Table). is_drawn t (server_end w p).peer ≡ true) k.ties.node rep.drawn);
   slave_address = subst (λ (t : Table). (m.node.core.circuits.circuit_at (t.circuit_at p).end.peer).address ≡ u.server.own) k.ties.server (subst (λ (t : Table). (t.circuit_at (server_end w p).peer).address ≡ u.server.own) k.ties.node (rep.address ∙ k.ties.server_own));
 }
   where
@@ -73,8 +75,8 @@ coupling u m w done p k r = record {
     rep = k.good.replied p home run
 
 -- the take phase leaves a circuit but for its sessions
-pub take_faces : (u : Setups) (m : Machines) (p q : ℕ) → p ≤ m.server.core.circuits.drawn → q ≤ m.node.core.circuits.drawn → Face (m.server.core.circuits.circuit_at p) ((take_both u m).server.core.circuits.circuit_at p) × Face (m.node.core.circuits.circuit_at q) ((take_both u m).node.core.circuits.circuit_at q)
-take_faces u m p q pd qd = (subst (λ (c : Core). Face (m.server.core.circuits.circuit_at p) (c.circuits.circuit_at p)) (sym here) (up.table.face p pd), subst (λ (c : Core). Face (c.circuits.circuit_at q) ((take_both u m).node.core.circuits.circuit_at q)) there (down.table.face q (subst (λ (c : Core). q ≤ c.circuits.drawn) (sym there) qd)))
+pub take_faces : (u : Setups) (m : Machines) (p q : ℕ) → is_drawn m.server.core.circuits p ≡ true → is_drawn m.node.core.circuits q ≡ true → Face (m.server.core.circuits.circuit_at p) ((take_both u m).server.core.circuits.circuit_at p) × Face (m.node.core.circuits.circuit_at q) ((take_both u m).node.core.circuits.circuit_at q)
+take_faces u m p q pd qd = (subst (λ (c : Core). Face (m.server.core.circuits.circuit_at p) (c.circuits.circuit_at p)) (sym here) (up.table.face p pd), subst (λ (c : Core). Face (c.circuits.circuit_at q) ((take_both u m).node.core.circuits.circuit_at q)) there (down.table.face q (subst (λ (c : Core). is_drawn c.circuits q ≡ true) (sym there) qd)))
   where
     mid : Machines
     mid = take_lines u true (upwards 0 u.server.lines) m
@@ -92,8 +94,8 @@ take_faces u m p q pd qd = (subst (λ (c : Core). Face (m.server.core.circuits.c
     down = take_lines_took u false (upwards 0 u.node.lines) mid
 
 -- and brings no end forward or back
-pub take_weights : (u : Setups) (m : Machines) (p q : ℕ) → p ≤ m.server.core.circuits.drawn → q ≤ m.node.core.circuits.drawn → EndOk (up_end m p).half.sessions → EndOk (down_end m q).half.sessions → (weights (up_end (take_both u m) p).half.sessions ≡ weights (up_end m p).half.sessions) × (weights (down_end (take_both u m) q).half.sessions ≡ weights (down_end m q).half.sessions)
-take_weights u m p q pd qd po qo = (ap (λ (c : Core). weights (c.circuits.circuit_at p).end.half.sessions) here ∙ (up.table.sessions p pd).weigh po, (down.table.sessions q (subst (λ (c : Core). q ≤ c.circuits.drawn) (sym there) qd)).weigh (subst (λ (c : Core). EndOk (c.circuits.circuit_at q).end.half.sessions) (sym there) qo) ∙ ap (λ (c : Core). weights (c.circuits.circuit_at q).end.half.sessions) there)
+pub take_weights : (u : Setups) (m : Machines) (p q : ℕ) → is_drawn m.server.core.circuits p ≡ true → is_drawn m.node.core.circuits q ≡ true → EndOk (up_end m p).half.sessions → EndOk (down_end m q).half.sessions → (weights (up_end (take_both u m) p).half.sessions ≡ weights (up_end m p).half.sessions) × (weights (down_end (take_both u m) q).half.sessions ≡ weights (down_end m q).half.sessions)
+take_weights u m p q pd qd po qo = (ap (λ (c : Core). weights (c.circuits.circuit_at p).end.half.sessions) here ∙ (up.table.sessions p pd).weigh po, (down.table.sessions q (subst (λ (c : Core). is_drawn c.circuits q ≡ true) (sym there) qd)).weigh (subst (λ (c : Core). EndOk (c.circuits.circuit_at q).end.half.sessions) (sym there) qo) ∙ ap (λ (c : Core). weights (c.circuits.circuit_at q).end.half.sessions) there)
   where
     mid : Machines
     mid = take_lines u true (upwards 0 u.server.lines) m

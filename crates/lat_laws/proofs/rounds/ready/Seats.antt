@@ -5,6 +5,7 @@ use Rattle.lat_model.specs.sessions.Session.{Session, free}
 use Rattle.lat_model.specs.sessions.Sessions.{Sessions}
 use Rattle.lat_model.specs.ends.End.{lives}
 use Rattle.lat_model.specs.circuits.World.{Table}
+use Rattle.lat_model.specs.circuits.Ids.{is_drawn, IdsStay}
 use Rattle.lat_machines.specs.cores.Cores.{Seat, no_seat, Core}
 use Rattle.lat_machines.specs.cores.Lines.{end_of, session_of, over, last_on, seat_at, has_session}
 use Rattle.lat_laws.specs.rounds.Seated.{SessionsLater, Drawn, LaterTable, IsSeat, HasSeat, Placed, Seated}
@@ -29,7 +30,7 @@ seated_later m lines c d q l s = record {
   good = l.good s.good;
   seat = λ x k lv fr ac.
       let a : ((sess c.circuits x).session k).accepted ≡ true = l.accepts x k ac in
-      let xd : x ≤ c.circuits.drawn = s.good.held x k a in
+      let xd : is_drawn c.circuits x ≡ true = s.good.held x k a in
       let h : HasSeat c x k = s.seat x k (l.live x xd lv) ((l.sessions x xd).frees k ((s.good.found x).held k a) fr) a in
       record { seat = h.seat; is_seat = subst (IsSeat h.seat) (sym q) h.is_seat; circuit = h.circuit; serial = h.serial };
   placed = λ t i. placed t (s.placed t (subst (IsSeat t) q i));
@@ -42,7 +43,7 @@ seated_later m lines c d q l s = record {
     placed t p =
         let k : SessionsLater (sess c.circuits t.circuit) (sess d.circuits t.circuit) = l.sessions t.circuit p.drawn in
         record {
-          drawn = omega (arith, p.drawn, l.drawn);
+          drawn = l.drawn t.circuit p.drawn;
           made = omega (arith, p.made, k.made);
           id = k.ids t.serial p.made ∙ p.id;
           accepted = k.keeps t.serial p.made p.accepted;
@@ -75,7 +76,7 @@ last_more line s (x ∷ xs) y = last_more line (cond (nat_eq x.line line) x s) x
 pub record Seats (m : Bool) (lines : ℕ) (c : Core) (d : Core) (s : Seat) : Type 0 where
   pub seats : d.seats ≡ c.seats ++ s ∷ []
   pub good : Drawn m d.circuits
-  pub drawn : d.circuits.drawn ≡ c.circuits.drawn
+  pub drawn : IdsStay c.circuits d.circuits
   pub alive : (y : ℕ) → lives (d.circuits.circuit_at y).end ≡ lives (c.circuits.circuit_at y).end
   pub made : (y : ℕ) → (sess c.circuits y).made ≤ (sess d.circuits y).made
   pub old : (y k : ℕ) → (y ≡ s.circuit → k ≡ s.serial → ⊥) → (sess d.circuits y).session k ≡ (sess c.circuits y).session k
@@ -130,7 +131,7 @@ seats_more m lines c d s r h = record {
 
     placed : (t : Seat) → Placed lines c t → Placed lines d t
     placed t p = record {
-      drawn = omega (arith, p.drawn, r.drawn);
+      drawn = r.drawn t.circuit p.drawn;
       made = omega (arith, p.made, r.made t.circuit);
       id = ap (λ (z : Session). z.id) (same t p) ∙ p.id;
       accepted = ap (λ (z : Session). z.accepted) (same t p) ∙ p.accepted;

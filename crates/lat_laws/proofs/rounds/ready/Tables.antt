@@ -10,6 +10,8 @@ use Rattle.lat_model.specs.ends.Starting.{Agreed, Setup, make_slave, again_start
 use Rattle.lat_model.specs.circuits.World.{CircuitEntry, Table, first_end}
 use Rattle.lat_model.specs.circuits.Arriving.{is_of}
 use Rattle.lat_model.proofs.sessions.Words.{upd_other, upd_all}
+use Rattle.lat_model.proofs.circuits.Ids.{drawn_apart, drawn_behind, undrawn_before, undrawn_other}
+use Rattle.lat_model.specs.circuits.Ids.{is_drawn, next_id}
 use Rattle.lat_machines.specs.values.Messages.{Head}
 use Rattle.lat_machines.specs.values.Events.{Numbers}
 use Rattle.lat_machines.specs.values.Answers.{Again, Running, Ended}
@@ -19,13 +21,13 @@ use Rattle.lat_laws.specs.rounds.Seated.{Found, SessionsLater, LaterTable}
 use Rattle.lat_laws.proofs.rounds.ready.Laters.{later_same, later_then, accepts_none, call_later, time_later, run_later, reply_later, stop_later, again_leaves}
 
 pub table_same : (m : Bool) (t : Table) → LaterTable m t t
-table_same m t = record { drawn = omega arith; live = λ x l h. h; sessions = λ x l. later_same (t.circuit_at x).end.half.sessions; accepts = λ x k h. h; good = λ g. g; alone = λ e g x. omega arith }
+table_same m t = record { drawn = λ x l. l; live = λ x l h. h; sessions = λ x l. later_same (t.circuit_at x).end.half.sessions; accepts = λ x k h. h; good = λ g. g; alone = λ e g x. omega arith }
 
 pub table_then : (m : Bool) (t v w : Table) → LaterTable m t v → LaterTable m v w → LaterTable m t w
 table_then m t v w p q = record {
-  drawn = omega (arith, p.drawn, q.drawn);
-  live = λ x l h. p.live x l (q.live x (omega (arith, l, p.drawn)) h);
-  sessions = λ x l. later_then (t.circuit_at x).end.half.sessions (v.circuit_at x).end.half.sessions (w.circuit_at x).end.half.sessions (p.sessions x l) (q.sessions x (omega (arith, l, p.drawn)));
+  drawn = λ x l. q.drawn x (p.drawn x l);
+  live = λ x l h. p.live x l (q.live x (p.drawn x l) h);
+  sessions = λ x l. later_then (t.circuit_at x).end.half.sessions (v.circuit_at x).end.half.sessions (w.circuit_at x).end.half.sessions (p.sessions x l) (q.sessions x (p.drawn x l));
   accepts = λ x k h. p.accepts x k (q.accepts x k h);
   good = λ g. q.good (p.good g);
   alone = λ e g x. omega (arith, p.alone e g x, q.alone e (p.good g) x);
@@ -34,7 +36,7 @@ table_then m t v w p q = record {
 -- a step of one circuit
 pub steps_later : (m b : Bool) (t : Table) (x : ℕ) (s : Step) → (lives s.end ≡ true → lives (t.circuit_at x).end ≡ true) → SessionsLater (t.circuit_at x).end.half.sessions s.end.half.sessions → LaterTable m t (steps_at b t x s).table
 steps_later m b t x s h l = record {
-  drawn = omega arith;
+  drawn = λ y l. l;
   live = λ y d q. live y (nat_eq y x) refl q;
   sessions = λ y d. sessions y (nat_eq y x) refl;
   accepts = λ y k q. (sessions y (nat_eq y x) refl).accepts k q;
@@ -66,26 +68,26 @@ steps_later m b t x s h l = record {
     dead k d false q = q
 
 -- a circuit more, whose sessions are none
-pub fresh_later : (m b : Bool) (t : Table) (address : ℕ) (s : Step) → s.end.half.sessions.master ≡ m → Found s.end.half.sessions → ((k : ℕ) → (s.end.half.sessions.session k).accepted ≡ false) → s.end.half.sessions.made ≡ 0 → LaterTable m t (put_at b t (suc t.drawn) (suc t.drawn) address s).table
+pub fresh_later : (m b : Bool) (t : Table) (address : ℕ) (s : Step) → s.end.half.sessions.master ≡ m → Found s.end.half.sessions → ((k : ℕ) → (s.end.half.sessions.session k).accepted ≡ false) → s.end.half.sessions.made ≡ 0 → LaterTable m t (put_at b t (suc t.drawn) (next_id t) address s).table
 fresh_later m b t address s e f n z = record {
-  drawn = omega arith;
+  drawn = drawn_behind t.first t.drawn;
   live = λ y d q. sym (ap (λ (z : CircuitEntry). lives z.end) (old y d)) ∙ q;
   sessions = λ y d. subst (λ (z : CircuitEntry). SessionsLater (t.circuit_at y).end.half.sessions z.end.half.sessions) (sym (old y d)) (later_same (t.circuit_at y).end.half.sessions);
-  accepts = λ y k q. accepts y k (nat_eq y (suc t.drawn)) q;
+  accepts = λ y k q. accepts y k (nat_eq y (next_id t)) q;
   good = λ g. record {
-    masters = λ y. upd_all (λ (z : CircuitEntry). z.end.half.sessions.master ≡ m) t.circuit_at (suc t.drawn) new e g.masters y;
-    new = λ k d. ap (λ (z : CircuitEntry). lives z.end) (upd_other t.circuit_at (suc t.drawn) new k (λ q. absurd (omega (arith, q, d)))) ∙ g.new k (omega (arith, d));
-    found = λ y. upd_all (λ (z : CircuitEntry). Found z.end.half.sessions) t.circuit_at (suc t.drawn) new f g.found y;
-    held = λ y k q. (let d : y ≤ t.drawn = g.held y k (accepts y k (nat_eq y (suc t.drawn)) q) in omega (arith, d));
+    masters = λ y. upd_all (λ (z : CircuitEntry). z.end.half.sessions.master ≡ m) t.circuit_at (next_id t) new e g.masters y;
+    new = λ k d. ap (λ (z : CircuitEntry). lives z.end) (upd_other t.circuit_at (next_id t) new k (undrawn_other t.first t.drawn k d)) ∙ g.new k (undrawn_before t.first t.drawn k d);
+    found = λ y. upd_all (λ (z : CircuitEntry). Found z.end.half.sessions) t.circuit_at (next_id t) new f g.found y;
+    held = λ y k q. drawn_behind t.first t.drawn y (g.held y k (accepts y k (nat_eq y (next_id t)) q));
   };
-  alone = λ q g y. made y (nat_eq y (suc t.drawn));
+  alone = λ q g y. made y (nat_eq y (next_id t));
 }
   where
     new : CircuitEntry
     new = record { address = address; end = s.end }
 
-    old : (y : ℕ) → y ≤ t.drawn → (put_at b t (suc t.drawn) (suc t.drawn) address s).table.circuit_at y ≡ t.circuit_at y
-    old y d = upd_other t.circuit_at (suc t.drawn) new y (λ q. absurd (omega (arith, q, d)))
+    old : (y : ℕ) → is_drawn t y ≡ true → (put_at b t (suc t.drawn) (next_id t) address s).table.circuit_at y ≡ t.circuit_at y
+    old y d = upd_other t.circuit_at (next_id t) new y (drawn_apart t.first t.drawn y d)
 
     made : (y : ℕ) (c : Bool) → (cond c new (t.circuit_at y)).end.half.sessions.made ≤ (t.circuit_at y).end.half.sessions.made
     made y true = omega (arith, z)
@@ -98,7 +100,7 @@ fresh_later m b t address s e f n z = record {
 pub call_at_later : (u : Setup) (t : Table) (address now : ℕ) → LaterTable true t (call_at u t address now).table
 call_at_later u t address now = fresh_later true true t address (called u now) refl (record { made = λ i. omega arith; named = λ i n. absurd (n refl); none = refl; held = λ k q. absurd (false≢true q); asked = λ q. absurd (true≢false q); agreed = omega arith; holds = λ k q. absurd (true≢false q); within = λ i q. refl }) (λ k. refl) refl
 
-pub make_later : (u : Setup) (t : Table) (from source now : ℕ) (g : Agreed) → LaterTable false t (put_at false t (suc t.drawn) (suc t.drawn) from (make_slave now source g (first_end false false u))).table
+pub make_later : (u : Setup) (t : Table) (from source now : ℕ) (g : Agreed) → LaterTable false t (put_at false t (suc t.drawn) (next_id t) from (make_slave now source g (first_end false false u))).table
 make_later u t from source now g = fresh_later false false t from (make_slave now source g (first_end false false u)) refl (record { made = λ i. omega arith; named = λ i n. absurd (n refl); none = refl; held = λ k q. absurd (false≢true q); asked = λ m k n l. absurd (omega (arith, n, l)); agreed = omega arith; holds = λ k q. absurd (true≢false q); within = λ i q. refl }) (λ k. refl) refl
 
 act_cond : (m n : Bool) (t : Table) (a b : Acted) → (n ≡ true → LaterTable m t a.table) → (n ≡ false → LaterTable m t b.table) → LaterTable m t (cond n a b).table

@@ -10,6 +10,7 @@ use Rattle.lat_model.specs.ends.End.{Step, lives, call_end}
 use Rattle.lat_model.specs.ends.Timers.{note_empty}
 use Rattle.lat_model.specs.circuits.World.{CircuitEntry, Table}
 use Rattle.lat_model.proofs.sessions.Words.{upd_same}
+use Rattle.lat_model.specs.circuits.Ids.{is_drawn}
 use Rattle.lat_machines.specs.values.Answers as Answers
 use Rattle.lat_machines.specs.values.Answers.{Closed, NoLine}
 use Rattle.lat_machines.specs.values.Events.{Takes}
@@ -200,8 +201,8 @@ turns_take u b (line ∷ lines) w s pos h i ok few n lv fr cl = ⊎_elim {B = In
     rest : TookCore c1 d
     rest = take_lines_took u b lines w1
 
-    drawn1 : s.circuit ≤ c1.circuits.drawn
-    drawn1 = omega (arith, p.drawn, first.table.drawn)
+    drawn1 : is_drawn c1.circuits s.circuit ≡ true
+    drawn1 = first.table.drawn s.circuit p.drawn
 
     step1 : TookOr (session_of c s) (session_of c1 s)
     step1 = (first.table.sessions s.circuit p.drawn).each s.serial
@@ -215,8 +216,8 @@ turns_take u b (line ∷ lines) w s pos h i ok few n lv fr cl = ⊎_elim {B = In
     told : Machines
     told = tell u w b (Takes line 4096) []
 
-    drawn_said : s.circuit ≤ said.circuits.drawn
-    drawn_said = omega (arith, p.drawn, (line_took (side_of u b) (lines_of u b) c line 4096).table.drawn)
+    drawn_said : is_drawn said.circuits s.circuit ≡ true
+    drawn_said = (line_took (side_of u b) (lines_of u b) c line 4096).table.drawn s.circuit p.drawn
 
     -- it was open just before
     at_turn : s.line ≡ line → over c s ≡ false → (session_of c s).closed ≡ false → All_out (session_of d s)

@@ -11,6 +11,8 @@ use Rattle.lat_model.specs.ends.Starting.{Setup}
 use Rattle.lat_model.specs.circuits.World.{CircuitEntry, Table}
 use Rattle.lat_model.proofs.sessions.Words.{upd_other}
 use Rattle.lat_model.proofs.sessions.Locals.{called}
+use Rattle.lat_model.specs.circuits.Ids.{is_drawn, next_id, IdsStay}
+use Rattle.lat_model.proofs.circuits.Ids.{drawn_apart, drawn_behind}
 use Rattle.lat_machines.specs.values.Names.{Name}
 use Rattle.lat_machines.specs.values.Keys.{Key}
 use Rattle.lat_machines.specs.values.Answers.{Closed, NoLine}
@@ -52,10 +54,10 @@ pub record Face (c : CircuitEntry) (d : CircuitEntry) : Type 0 where
   pub heard_run : d.end.heard_run ≡ c.end.heard_run
 
 pub record TookTable (t : Table) (v : Table) : Type 0 where
-  pub drawn : t.drawn ≤ v.drawn
-  pub face : (x : ℕ) → x ≤ t.drawn → Face (t.circuit_at x) (v.circuit_at x)
-  pub live : (x : ℕ) → x ≤ t.drawn → lives (v.circuit_at x).end ≡ lives (t.circuit_at x).end
-  pub sessions : (x : ℕ) → x ≤ t.drawn → Took (sess t x) (sess v x)
+  pub drawn : IdsStay t v
+  pub face : (x : ℕ) → is_drawn t x ≡ true → Face (t.circuit_at x) (v.circuit_at x)
+  pub live : (x : ℕ) → is_drawn t x ≡ true → lives (v.circuit_at x).end ≡ lives (t.circuit_at x).end
+  pub sessions : (x : ℕ) → is_drawn t x ≡ true → Took (sess t x) (sess v x)
 
 pub record TookCore (c : Core) (d : Core) : Type 0 where
   pub table : TookTable c.circuits d.circuits
@@ -83,14 +85,14 @@ took_then a b c p q = record {
 }
 
 pub table_took : (t : Table) → TookTable t t
-table_took t = record { drawn = omega arith; face = λ x l. face_same (t.circuit_at x); live = λ x l. refl; sessions = λ x l. took_same (sess t x) }
+table_took t = record { drawn = λ x l. l; face = λ x l. face_same (t.circuit_at x); live = λ x l. refl; sessions = λ x l. took_same (sess t x) }
 
 tables_then : (t v w : Table) → TookTable t v → TookTable v w → TookTable t w
 tables_then t v w p q = record {
-  drawn = omega (arith, p.drawn, q.drawn);
-  face = λ x l. (let a : Face (t.circuit_at x) (v.circuit_at x) = p.face x l in let b : Face (v.circuit_at x) (w.circuit_at x) = q.face x (omega (arith, l, p.drawn)) in record { address = b.address ∙ a.address; running = b.running ∙ a.running; peer = b.peer ∙ a.peer; link = b.link ∙ a.link; heard_run = b.heard_run ∙ a.heard_run });
-  live = λ x l. q.live x (omega (arith, l, p.drawn)) ∙ p.live x l;
-  sessions = λ x l. took_then (sess t x) (sess v x) (sess w x) (p.sessions x l) (q.sessions x (omega (arith, l, p.drawn)));
+  drawn = λ x l. q.drawn x (p.drawn x l);
+  face = λ x l. (let a : Face (t.circuit_at x) (v.circuit_at x) = p.face x l in let b : Face (v.circuit_at x) (w.circuit_at x) = q.face x (p.drawn x l) in record { address = b.address ∙ a.address; running = b.running ∙ a.running; peer = b.peer ∙ a.peer; link = b.link ∙ a.link; heard_run = b.heard_run ∙ a.heard_run });
+  live = λ x l. q.live x (p.drawn x l) ∙ p.live x l;
+  sessions = λ x l. took_then (sess t x) (sess v x) (sess w x) (p.sessions x l) (q.sessions x (p.drawn x l));
 }
 
 pub core_took : (c : Core) → TookCore c c
@@ -150,19 +152,19 @@ local_took b t x c h = go (lives (t.circuit_at x).end)
     sessions y false q = took_same (sess t y)
 
     go : (l : Bool) → TookTable t (cond {A = Acts.Acted} l (steps_at b t x s) (idle t)).table
-    go true = record { drawn = omega arith; face = λ y l. face y (nat_eq y x) refl; live = λ y l. live y (nat_eq y x) refl; sessions = λ y l. sessions y (nat_eq y x) refl }
+    go true = record { drawn = λ y l. l; face = λ y l. face y (nat_eq y x) refl; live = λ y l. live y (nat_eq y x) refl; sessions = λ y l. sessions y (nat_eq y x) refl }
     go false = table_took t
 
 call_took : (u : Setup) (t : Table) (address now : ℕ) → TookTable t (call_at u t address now).table
 call_took u t address now = record {
-  drawn = omega arith;
+  drawn = drawn_behind t.first t.drawn;
   face = λ x l. subst (λ z. Face (t.circuit_at x) z) (sym (old x l)) (face_same (t.circuit_at x));
   live = λ x l. ap (λ (z : CircuitEntry). lives z.end) (old x l);
   sessions = λ x l. subst (λ (z : CircuitEntry). Took (sess t x) z.end.half.sessions) (sym (old x l)) (took_same (sess t x));
 }
   where
-    old : (x : ℕ) → x ≤ t.drawn → (call_at u t address now).table.circuit_at x ≡ t.circuit_at x
-    old x l = upd_other t.circuit_at (suc t.drawn) (record { address = address; end = (Acts.called u now).end }) x (λ q. absurd (omega (arith, q, l)))
+    old : (x : ℕ) → is_drawn t x ≡ true → (call_at u t address now).table.circuit_at x ≡ t.circuit_at x
+    old x l = upd_other t.circuit_at (next_id t) (record { address = address; end = (Acts.called u now).end }) x (drawn_apart t.first t.drawn x l)
 
 -- opening a session
 
@@ -170,7 +172,7 @@ pub opens_took : (config : ServerConfig) (line address : ℕ) (node service : Na
 opens_took config line address node service key request c = go (nat_eq (circuit_to c address) 0)
   where
     named_core : Core
-    named_core = record c { names = updated c.names (suc c.circuits.drawn) node }
+    named_core = record c { names = updated c.names (next_id c.circuits) node }
 
     made : Doing
     made = acts (server_side config) named_core (call_at (setup_of config.timing) named_core.circuits address named_core.moment)

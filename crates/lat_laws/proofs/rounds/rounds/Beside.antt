@@ -362,11 +362,11 @@ open_besides u f =
       ties = b.ties;
       apart = b.apart;
       fits = b.fits;
-      good = open_world_ok u.server.own u.node.own (setup_of u.server.timing) (setup_of u.node.timing) f.apart f.server_ceiling f.node_ceiling;
-      kinds = open_kinds u.server.own u.node.own (setup_of u.server.timing) (setup_of u.node.timing);
-      plain = open_plain u.server.own u.node.own (setup_of u.server.timing) (setup_of u.node.timing);
-      carried = open_carried u.server.own u.node.own (setup_of u.server.timing) (setup_of u.node.timing);
-      called = open_called u.server.own u.node.own (setup_of u.server.timing) (setup_of u.node.timing);
+      good = open_world_ok u.server.own u.node.own u.server.first u.node.first (setup_of u.server.timing) (setup_of u.node.timing) f.apart f.server_ceiling f.node_ceiling;
+      kinds = open_kinds u.server.own u.node.own u.server.first u.node.first (setup_of u.server.timing) (setup_of u.node.timing);
+      plain = open_plain u.server.own u.node.own u.server.first u.node.first (setup_of u.server.timing) (setup_of u.node.timing);
+      carried = open_carried u.server.own u.node.own u.server.first u.node.first (setup_of u.server.timing) (setup_of u.node.timing);
+      called = open_called u.server.own u.node.own u.server.first u.node.first (setup_of u.server.timing) (setup_of u.node.timing);
       awake = refl;
     }
 

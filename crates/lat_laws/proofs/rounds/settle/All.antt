@@ -1,8 +1,9 @@
 -- The theorem: rounds bring all that was put.
-use Rattle.std.proofs.Common.{◌≡◌, ℕ, ◌≤◌, ◌⊎◌, inl, inr, ⊎_elim, sym, ◌∙◌, refl, arith, true, false, List, ◌∷◌}
-use Rattle.std.proofs.lemmas.Bool.{cases_lt}
+use Rattle.std.proofs.Common.{◌≡◌, ℕ, ◌≤◌, ◌⊎◌, inl, inr, ⊎_elim, sym, ◌∙◌, refl, arith, true, false, List, ◌∷◌, Bool}
 use Rattle.lat_model.specs.Lists.{upwards}
 use Rattle.lat_model.specs.ends.End.{lives}
+use Rattle.lat_model.proofs.circuits.Ids.{drawn_or}
+use Rattle.lat_model.specs.circuits.Ids.{is_drawn}
 use Rattle.lat_machines.specs.cores.Cores.{Seat}
 use Rattle.lat_machines.specs.world.Machines.{Setups, Machines}
 use Rattle.lat_machines.specs.world.Reports.{row}
@@ -65,14 +66,14 @@ module _ (u : Setups) (now : ℕ) (w : Machines) (r : List (List ℕ)) (more : L
   moved_end : Moved u m end
   moved_end = moved_then u m z end (moved_takes u m) (moved_rounds u more t z)
 
-  bare_end : Bare m.server.core.circuits.drawn m.node.core.circuits.drawn end
+  bare_end : Bare (is_drawn m.server.core.circuits) (is_drawn m.node.core.circuits) end
   bare_end =
-      let n : ℕ = m.server.core.circuits.drawn in
-      let k : ℕ = m.node.core.circuits.drawn in
+      let n : ℕ → Bool = is_drawn m.server.core.circuits in
+      let k : ℕ → Bool = is_drawn m.node.core.circuits in
       let s : Machines = take_lines u true (upwards 0 u.server.lines) m in
       rounds_bare u n k more t z (lines_bare u n k false (upwards 0 u.node.lines) s (lines_bare u n k true (upwards 0 u.server.lines) m (bare_here u m b.fit b.usual reached_m)))
 
-  runs_first : p ≤ m.server.core.circuits.drawn → (end.server.core.circuits.circuit_at p).address ≡ u.node.own → lives (up_end end p) ≡ true → Runs u p t z more
+  runs_first : is_drawn m.server.core.circuits p ≡ true → (end.server.core.circuits.circuit_at p).address ≡ u.node.own → lives (up_end end p) ≡ true → Runs u p t z more
   runs_first d home l =
       let a : (m.server.core.circuits.circuit_at p).address ≡ u.node.own = sym (address_on u p m end moved_end d) ∙ home in
       let run : (up_end m p).running ≡ true = all_run u m p b.fit b.usual reached_m whole.0 a (lived_up u p m end moved_end d l) in
@@ -97,7 +98,7 @@ module _ (u : Setups) (now : ℕ) (w : Machines) (r : List (List ℕ)) (more : L
   first home l = ⊎_elim {C = Runs u p t z more ⊎ ((s : Seat) → s.circuit ≡ p → IsOpen u end s → IsSettled (row u end s))}
       (λ late. inr (λ s at o. late_settled u b.fit b.usual m end reached_m reached_end moved_end bare_end p late home s at))
       (λ d. inl (runs_first d home l))
-      (cases_lt m.server.core.circuits.drawn p)
+      (drawn_or m.server.core.circuits p)
 
 pub all_settle : RoundsSettle
 all_settle = rounds_settle Runs rounding (λ u now w r more p b h home l. first u now w r more p b h home l)

@@ -10,6 +10,7 @@ use Rattle.lat_model.specs.ends.Run.{RunBroke, ack_end, body_end, after_run, run
 use Rattle.lat_model.specs.ends.Timers.{note_empty}
 use Rattle.lat_model.specs.circuits.World.{CircuitEntry, Table}
 use Rattle.lat_model.proofs.sessions.Words.{upd_same}
+use Rattle.lat_model.specs.circuits.Ids.{is_drawn}
 use Rattle.lat_machines.specs.values.Addresses.{everyone}
 use Rattle.lat_machines.specs.values.Messages.{Head, RunMessage, WideMessage}
 use Rattle.lat_machines.specs.values.Frames.{Value, OfCircuit, Whole}
@@ -29,9 +30,9 @@ use Rattle.lat_laws.proofs.rounds.counting.Nodes.{asked_holds}
 use Rattle.lat_laws.proofs.rounds.counting.Forth.{Drawn, On, on_holds}
 
 -- what is answered throws no end back
-asked_more : (config : NodeConfig) (x q : ℕ) (st : Node) → q ≤ st.core.circuits.drawn → Past (sessions_in st.core q) → Low (sessions_in st.core q) → weights (sessions_in st.core q) ≤ weights (sessions_in (answers_asked config x st).core q)
+asked_more : (config : NodeConfig) (x q : ℕ) (st : Node) → is_drawn st.core.circuits q ≡ true → Past (sessions_in st.core q) → Low (sessions_in st.core q) → weights (sessions_in st.core q) ≤ weights (sessions_in (answers_asked config x st).core q)
 asked_more config x q st d p l =
-    let n : ℕ = st.core.circuits.drawn in
+    let n : ℕ → Bool = is_drawn st.core.circuits in
     let t : On st.core (answers_asked config x st).core = asked_holds n (Drawn n) InRounds (On st.core) (on_holds false st.core) config
     (λ s y id line request w h. turned_then n false (Drawn n) (goes_kept n false) st.core.circuits s.core.circuits _ h (local_turned n false (Drawn n) (goes_kept n false) false s.core.circuits y (Answer id) (λ k. goes_call (s.core.circuits.circuit_at y).end.half.sessions (Answer id) tt)))
     (λ id reason. tt) x st (turned_same n false (Drawn n) (goes_kept n false) st.core.circuits) in
@@ -41,7 +42,7 @@ asked_more config x q st d p l =
 abbrev pub bare_numbers : Link (List Slot) → Option Numbers
 bare_numbers l = Some (record { number = (bare_frame l).number; acknowledgement = (bare_frame l).acknowledgement })
 
-module _ (config : NodeConfig) (st : Node) (q p from W : ℕ) (wide y : Bool) (l : Link (List Slot)) (named : names st.core.circuits from q p ≡ true) (fits : fits_kind (st.core.circuits.circuit_at q).end true wide ≡ true) (drawn : q ≤ st.core.circuits.drawn) (past : Past (sessions_in st.core q)) (low : Low (sessions_in st.core q)) (brings : (t : ℕ) → W ≤ weights (run_end t false (bare_frame l) (st.core.circuits.circuit_at q).end).step.end.half.sessions) where
+module _ (config : NodeConfig) (st : Node) (q p from W : ℕ) (wide y : Bool) (l : Link (List Slot)) (named : names st.core.circuits from q p ≡ true) (fits : fits_kind (st.core.circuits.circuit_at q).end true wide ≡ true) (drawn : is_drawn st.core.circuits q ≡ true) (past : Past (sessions_in st.core q)) (low : Low (sessions_in st.core q)) (brings : (t : ℕ) → W ≤ weights (run_end t false (bare_frame l) (st.core.circuits.circuit_at q).end).step.end.half.sessions) where
   abbrev h : Head
   h = run_head true y false q p (bare_frame l)
 
@@ -68,17 +69,17 @@ module _ (config : NodeConfig) (st : Node) (q p from W : ℕ) (wide y : Bool) (l
       ∙ ap (λ (c : CircuitEntry). c.end.half.sessions) (upd_same t.circuit_at q (record { address = (t.circuit_at q).address; end = (note_empty e (run_end now false (bare_frame l) e).step).end }))
 
   onto : Onto (sessions_in st.core q) (sessions_in heard.state.core q)
-  onto = (run_turned t.drawn false (Drawn t.drawn) (goes_kept t.drawn false) false t from wide h [] (bare_numbers l) now).at q drawn past
+  onto = (run_turned (is_drawn t) false (Drawn (is_drawn t)) (goes_kept (is_drawn t) false) false t from wide h [] (bare_numbers l) now).at q drawn past
 
   more : (b : Bool) → weights (sessions_in heard.state.core q) ≤ weights (sessions_in (cond b (answers_asked config q heard.state) heard.state).core q)
-  more true = asked_more config q q heard.state (let z : t.drawn ≤ heard.state.core.circuits.drawn = (run_turned t.drawn false (Drawn t.drawn) (goes_kept t.drawn false) false t from wide h [] (bare_numbers l) now).drawn in omega (arith, z, drawn)) onto.past (onto.rises low).0
+  more true = asked_more config q q heard.state ((run_turned (is_drawn t) false (Drawn (is_drawn t)) (goes_kept (is_drawn t) false) false t from wide h [] (bare_numbers l) now).drawn q drawn) onto.past (onto.rises low).0
   more false = omega arith
 
   pub run_brings : W ≤ weights (sessions_in (hears_run config st from wide h [] (bare_numbers l)).state.core q)
   run_brings = omega (arith, brings now, ap weights sessions_is, more (names st.core.circuits from q p))
 
 -- the same of a value, at its moment
-pub hears_bare : (config : NodeConfig) (rates : List ℕ) (st : Node) (q p from now W : ℕ) (z y : Bool) (l : Link (List Slot)) → nat_eq from everyone ≡ false → names st.core.circuits from q p ≡ true → fits_kind (st.core.circuits.circuit_at q).end true z ≡ true → q ≤ st.core.circuits.drawn → Past (sessions_in st.core q) → Low (sessions_in st.core q) → ((t : ℕ) → W ≤ weights (run_end t false (bare_frame l) (st.core.circuits.circuit_at q).end).step.end.half.sessions) → W ≤ weights (sessions_in (node_step config rates st (Hears from (Whole (OfCircuit (cond z (WideMessage (run_head true y false q p (bare_frame l)) []) (RunMessage (run_head true y false q p (bare_frame l)) [])))) (bare_numbers l) now)).state.core q)
+pub hears_bare : (config : NodeConfig) (rates : List ℕ) (st : Node) (q p from now W : ℕ) (z y : Bool) (l : Link (List Slot)) → nat_eq from everyone ≡ false → names st.core.circuits from q p ≡ true → fits_kind (st.core.circuits.circuit_at q).end true z ≡ true → is_drawn st.core.circuits q ≡ true → Past (sessions_in st.core q) → Low (sessions_in st.core q) → ((t : ℕ) → W ≤ weights (run_end t false (bare_frame l) (st.core.circuits.circuit_at q).end).step.end.half.sessions) → W ≤ weights (sessions_in (node_step config rates st (Hears from (Whole (OfCircuit (cond z (WideMessage (run_head true y false q p (bare_frame l)) []) (RunMessage (run_head true y false q p (bare_frame l)) [])))) (bare_numbers l) now)).state.core q)
 hears_bare config rates st q p from now W z y l other named fits drawn past low brings = subst (λ b. W ≤ weights (sessions_in (cond b (N.tells s Ignored) (hears_value config rates s from (value z) (bare_numbers l))).state.core q)) (sym other) (go z fits)
   where
     s : Node

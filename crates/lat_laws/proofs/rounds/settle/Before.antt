@@ -1,10 +1,12 @@
 -- What is known of a circuit at the start of each round but the first, and so what the round brings.
-use Rattle.std.proofs.Common.{◌≡◌, ◌≢◌, ℕ, zero, suc, ◌<◌, ◌≤◌, inl, sym, ap, ◌∙◌, refl, subst, arith, Bool, true, false, List, [], ◌∷◌, None}
+use Rattle.std.proofs.Common.{◌≡◌, ◌≢◌, ℕ, zero, suc, ◌<◌, ◌≤◌, sym, ap, ◌∙◌, refl, subst, arith, Bool, true, false, List, [], ◌∷◌, None}
 use Rattle.std.proofs.lemmas.Bool.{true≢false}
 use Rattle.lat_model.specs.Lists.{upwards}
 use Rattle.lat_model.specs.ends.End.{End, lives}
 use Rattle.lat_model.specs.ends.Timers.{time_step}
 use Rattle.lat_model.specs.circuits.World.{CircuitEntry, Table}
+use Rattle.lat_model.specs.circuits.Ids.{is_drawn}
+use Rattle.lat_model.proofs.circuits.Ids.{zero_undrawn}
 use Rattle.lat_machines.specs.values.Events.{Time}
 use Rattle.lat_machines.specs.world.Machines.{Setups, Machines, Does, happens}
 use Rattle.lat_machines.specs.world.Home.{Connection, connects_all}
@@ -63,7 +65,7 @@ coupled u m p f s r i = let k : Follows u m = reached_follows u m f s r in coupl
 pub some_circuit : (u : Setups) (m : Machines) (p : ℕ) → Fit u → Usual u → Reached u m → (up_end m p).running ≡ true → p ≢ 0
 some_circuit u m p f s r run z =
     let k : Follows u m = reached_follows u m f s r in
-    let e : (k.world.server.circuit_at p).end.running ≡ false = ap (λ (c : CircuitEntry). c.end.running) (k.beside.good.none_server p (inl z)) in
+    let e : (k.world.server.circuit_at p).end.running ≡ false = ap (λ (c : CircuitEntry). c.end.running) (k.beside.good.none_server p (ap (is_drawn k.world.server) z ∙ zero_undrawn k.world.server.first k.world.server.drawn)) in
     true≢false (sym run ∙ (ap (λ (t : Table). (t.circuit_at p).end.running) (sym k.beside.ties.server) ∙ e))
 
 pub some_peer : (u : Setups) (m : Machines) (p : ℕ) → Fit u → Usual u → Reached u m → IsRunning u m p → (up_end m p).peer ≢ 0
@@ -245,11 +247,11 @@ module _ (u : Setups) (p : ℕ) (now : ℕ) (w : Machines) (r : List (List ℕ))
       more_than zero z = absurd (z refl)
       more_than (suc n) z = omega arith
 
-  slave_drawn_timed : peer_at both_timed p ≤ both_timed.node.core.circuits.drawn
+  slave_drawn_timed : is_drawn both_timed.node.core.circuits (peer_at both_timed p) ≡ true
   slave_drawn_timed = (coupled u both_timed p o.fit o.usual reached_timed (record { address = runs_timed.address; running = runs_timed.end.0 })).slave_drawn
 
   pub forms_down : lives (time_step then_now (down_end w q)).end ≡ true
-  forms_down = ap (λ (c : CircuitEntry). lives c.end) (sym timed_there) ∙ lived_down u q both_timed all_come (moved_deliveries u then_now r both_timed) (subst (λ z. z ≤ both_timed.node.core.circuits.drawn) runs_timed.end.1 slave_drawn_timed) slave_come
+  forms_down = ap (λ (c : CircuitEntry). lives c.end) (sym timed_there) ∙ lived_down u q both_timed all_come (moved_deliveries u then_now r both_timed) (subst (λ z. is_drawn both_timed.node.core.circuits z ≡ true) runs_timed.end.1 slave_drawn_timed) slave_come
 
   pub brings : Brings then_now (up_end w p) (down_end w q)
   brings = go (down_end w q).heard_run refl

@@ -12,6 +12,7 @@ use Rattle.lat_model.specs.ends.Run.{run_end}
 use Rattle.lat_model.specs.ends.Timers.{time_step}
 use Rattle.lat_model.specs.circuits.World.{CircuitEntry, Table}
 use Rattle.lat_model.proofs.circuits.Kin.{kin_time}
+use Rattle.lat_model.specs.circuits.Ids.{is_drawn}
 use Rattle.lat_machines.specs.values.Events.{Time}
 use Rattle.lat_machines.specs.values.Frames.{OutFrame}
 use Rattle.lat_machines.specs.cores.Cores.{Core, Side, at_moment, passes_time}
@@ -118,7 +119,7 @@ module _ (u : Setups) (p : ℕ) (now : ℕ) (w : Machines) (r : List (List ℕ))
   rise_down v a h f =
       let x : Matched u v p = matched v a h in
       let ok : EndOk (sessions_at v false q) = subst (λ z. EndOk (sessions_at v false z)) h.end.1 x.paired.good in
-      let d : q ≤ v.node.core.circuits.drawn = subst (λ z. z ≤ v.node.core.circuits.drawn) h.end.1 x.drawn in
+      let d : is_drawn v.node.core.circuits q ≡ true = subst (λ z. is_drawn v.node.core.circuits z ≡ true) h.end.1 x.drawn in
       let g : Onto (sessions_at v false q) (sessions_at next false q) = f.node.at q d ok.past in
       (g.rises ok.serial_made).1
 
@@ -239,7 +240,7 @@ module _ (u : Setups) (p : ℕ) (now : ℕ) (w : Machines) (r : List (List ℕ))
     reached = reached_timed u p now w r more o;
     runs = runs_timed u p now w r more o;
     has = record {
-      drawn = subst (λ z. z ≤ m.node.core.circuits.drawn) (runs_timed u p now w r more o).end.1 (matched m (reached_timed u p now w r more o) (runs_timed u p now w r more o)).drawn;
+      drawn = subst (λ z. is_drawn m.node.core.circuits z ≡ true) (runs_timed u p now w r more o).end.1 (matched m (reached_timed u p now w r more o) (runs_timed u p now w r more o)).drawn;
       address = ap (λ (c : CircuitEntry). c.address) (timed_there u p now w r more o) ∙ slave.address;
       end = (ap (λ (c : CircuitEntry). c.end.master) (timed_there u p now w r more o) ∙ slave.master, ap (λ (c : CircuitEntry). c.end.peer) (timed_there u p now w r more o) ∙ slave.peer);
     };

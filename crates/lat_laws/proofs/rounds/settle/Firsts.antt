@@ -42,7 +42,7 @@ waits_none u m w p h n home l r = ⊎_elim {C = ⊥} slave refused (a.answered (
 
     slave : HasSlave w p → ⊥
     slave x =
-        let o : Offered (node_end w x.slave) (flying w (done_of u m) false x.slave) = h.carried.offered x.slave x.some x.drawn x.address (ap (λ z. (w.server.circuit_at z).address) x.peer ∙ home) (ap (λ z. lives (server_end w z)) x.peer ∙ l) (ap (λ z. (server_end w z).running) x.peer ∙ r) in
+        let o : Offered (node_end w x.slave) (flying w (done_of u m) false x.slave) = h.carried.offered x.slave x.drawn x.address (ap (λ z. (w.server.circuit_at z).address) x.peer ∙ home) (ap (λ z. lives (server_end w z)) x.peer ∙ l) (ap (λ z. (server_end w z).running) x.peer ∙ r) in
         none_offered (flying w (done_of u m) false x.slave) o.rest (nothing_flies u m w h n false x.slave) o.parts
 
 pub all_run : (u : Setups) (m : Machines) (p : ℕ) → Fit u → Usual u → Reached u m → undelivered u m ≡ None → (m.server.core.circuits.circuit_at p).address ≡ u.node.own → lives (m.server.core.circuits.circuit_at p).end ≡ true → (m.server.core.circuits.circuit_at p).end.running ≡ true

@@ -1,6 +1,6 @@
 -- In a circuit that was called in rounds nothing is put, and so nothing heard.
-use Rattle.std.proofs.Common.{◌≡◌, ℕ, ◌<◌, ◌≤◌, inl, inr, ⊎_elim, sym, ap, ◌∙◌, refl, subst, arith, Bool, true, false, cond, List, [], ◌++◌, length, nat_eq, eqb-true}
-use Rattle.std.proofs.lemmas.Bool.{true≢false, and_parts, eqb-false, cases_lt}
+use Rattle.std.proofs.Common.{◌≡◌, ℕ, ◌≤◌, ⊎_elim, sym, ap, ◌∙◌, refl, subst, arith, Bool, true, false, cond, List, [], ◌++◌, length, nat_eq, eqb-true}
+use Rattle.std.proofs.lemmas.Bool.{true≢false, and_parts, eqb-false}
 use Rattle.lat_model.specs.sessions.Slots.{Item, items}
 use Rattle.lat_model.specs.sessions.Session.{Session, blank}
 use Rattle.lat_model.specs.sessions.Sessions.{Sessions, of_generation}
@@ -10,6 +10,8 @@ use Rattle.lat_model.specs.ends.Starting.{void_sessions}
 use Rattle.lat_model.specs.circuits.World.{CircuitEntry, Table}
 use Rattle.lat_model.specs.circuits.WorldOk.{void_half}
 use Rattle.lat_model.specs.circuits.Together.{Together, flat}
+use Rattle.lat_model.proofs.circuits.Ids.{drawn_or, known_drawn, none_left, zero_undrawn, drawn_some}
+use Rattle.lat_model.specs.circuits.Ids.{is_drawn, is_known}
 use Rattle.lat_machines.specs.cores.Cores.{Seat, no_seat}
 use Rattle.lat_machines.specs.cores.Lines.{end_of, session_of}
 use Rattle.lat_machines.specs.world.Machines.{Setups, Machines}
@@ -30,7 +32,6 @@ use Rattle.lat_laws.proofs.rounds.row.Bare.{bare_settled}
 use Rattle.lat_laws.proofs.rounds.row.Settle.{reached_seated}
 use Rattle.lat_laws.proofs.rounds.settle.Steady.{HasEnd, SlaveOf}
 use Rattle.lat_laws.proofs.rounds.settle.Walks.{slave_on}
-use Rattle.lat_laws.proofs.rounds.settle.Before.{some_peer}
 
 -- the other end put nothing, so nothing is heard
 
@@ -63,16 +64,16 @@ slave_hears_none m s up down j e k = go (nat_eq g 0) refl
         no_more (items (s.session k).came) (omega (arith, l, ap (λ (z : List Item). length z) (e (m.serial_of (s.session k).generation))))
 
 -- no circuit that wasn't drawn has any
-pub bare_here : (u : Setups) (m : Machines) → Fit u → Usual u → Reached u m → Bare m.server.core.circuits.drawn m.node.core.circuits.drawn m
+pub bare_here : (u : Setups) (m : Machines) → Fit u → Usual u → Reached u m → Bare (is_drawn m.server.core.circuits) (is_drawn m.node.core.circuits) m
 bare_here u m f s r = record {
-  server = λ x l k. subst (λ (t : Table). t.drawn < x → ((t.circuit_at x).end.half.sessions.session k).put ≡ []) c.beside.ties.server (λ y. ap (λ (e : CircuitEntry). (e.end.half.sessions.session k).put) (c.beside.good.none_server x (inr y))) l;
-  node = λ x l k. subst (λ (t : Table). t.drawn < x → ((t.circuit_at x).end.half.sessions.session k).put ≡ []) c.beside.ties.node (λ y. ap (λ (e : CircuitEntry). (e.end.half.sessions.session k).put) (c.beside.good.none_node x (inr y))) l;
+  server = λ x l k. subst (λ (t : Table). is_drawn t x ≡ false → ((t.circuit_at x).end.half.sessions.session k).put ≡ []) c.beside.ties.server (λ y. ap (λ (e : CircuitEntry). (e.end.half.sessions.session k).put) (c.beside.good.none_server x y)) l;
+  node = λ x l k. subst (λ (t : Table). is_drawn t x ≡ false → ((t.circuit_at x).end.half.sessions.session k).put ≡ []) c.beside.ties.node (λ y. ap (λ (e : CircuitEntry). (e.end.half.sessions.session k).put) (c.beside.good.none_node x y)) l;
 }
   where
     c : Follows u m
     c = reached_follows u m f s r
 
-module _ (u : Setups) (fit : Fit u) (usual : Usual u) (m v : Machines) (rm : Reached u m) (rv : Reached u v) (moved : Moved u m v) (bare : Bare m.server.core.circuits.drawn m.node.core.circuits.drawn v) (p : ℕ) (late : m.server.core.circuits.drawn < p) (home : (v.server.core.circuits.circuit_at p).address ≡ u.node.own) where
+module _ (u : Setups) (fit : Fit u) (usual : Usual u) (m v : Machines) (rm : Reached u m) (rv : Reached u v) (moved : Moved u m v) (bare : Bare (is_drawn m.server.core.circuits) (is_drawn m.node.core.circuits) v) (p : ℕ) (late : is_drawn m.server.core.circuits p ≡ false) (home : (v.server.core.circuits.circuit_at p).address ≡ u.node.own) where
   abbrev q : ℕ
   q = peer_at v p
 
@@ -83,8 +84,8 @@ module _ (u : Setups) (fit : Fit u) (usual : Usual u) (m v : Machines) (rm : Rea
   up_empty = bare.server p late
 
   -- its slave was made in rounds too
-  slave_late : (v.server.core.circuits.circuit_at p).end.running ≡ true → m.node.core.circuits.drawn < q
-  slave_late run = ⊎_elim {C = m.node.core.circuits.drawn < q} (λ l. l) (λ l. absurd (none l)) (cases_lt m.node.core.circuits.drawn q)
+  slave_late : (v.server.core.circuits.circuit_at p).end.running ≡ true → is_drawn m.node.core.circuits q ≡ false
+  slave_late run = ⊎_elim {C = is_drawn m.node.core.circuits q ≡ false} (λ l. l) (λ l. absurd (none l)) (drawn_or m.node.core.circuits q)
     where
       x : Matched u v p
       x = matched_at u v p fit usual rv home run
@@ -92,17 +93,18 @@ module _ (u : Setups) (fit : Fit u) (usual : Usual u) (m v : Machines) (rm : Rea
       k : Follows u m
       k = reached_follows u m fit usual rm
 
-      none : peer_at v p ≤ m.node.core.circuits.drawn → ⊥
+      none : is_drawn m.node.core.circuits (peer_at v p) ≡ true → ⊥
       none l =
           let n : Table = m.node.core.circuits in
           let h : HasEnd q (n.circuit_at q).address (SlaveOf (n.circuit_at q).end.peer) v.node.core = slave_on u q (n.circuit_at q).address (n.circuit_at q).end.peer m v moved (record { drawn = l; address = refl; end = (sym (ap (λ (t : Table). (t.circuit_at q).end.master) k.beside.ties.node) ∙ k.beside.kinds.slaves q, refl) }) in
           let own : (n.circuit_at q).address ≡ u.server.own = sym h.address ∙ x.paired.address in
           let peer : (n.circuit_at q).end.peer ≡ p = sym h.end.1 ∙ x.paired.peer in
-          let low : (node_end k.world q).peer ≤ k.world.server.drawn = k.beside.carried.peers q (some_peer u v p fit usual rv (record { address = home; running = run })) (omega (arith, l, ap (λ (t : Table). t.drawn) k.beside.ties.node)) (ap (λ (t : Table). (t.circuit_at q).address) k.beside.ties.node ∙ (own ∙ sym k.beside.ties.server_own)) in
-          absurd (omega (arith, low, late, peer, ap (λ (t : Table). (t.circuit_at q).end.peer) k.beside.ties.node, ap (λ (t : Table). t.drawn) k.beside.ties.server))
+          let low : is_known k.world.server (node_end k.world q).peer ≡ true = k.beside.carried.peers q (ap (λ (t : Table). is_drawn t q) k.beside.ties.node ∙ l) (ap (λ (t : Table). (t.circuit_at q).address) k.beside.ties.node ∙ (own ∙ sym k.beside.ties.server_own)) in
+          let is : (node_end k.world q).peer ≡ p = ap (λ (t : Table). (t.circuit_at q).end.peer) k.beside.ties.node ∙ peer in
+          none_left m.server.core.circuits p (known_drawn m.server.core.circuits p (drawn_some v.server.core.circuits.first v.server.core.circuits.drawn p x.here) (ap (λ (t : Table). is_known t p) (sym k.beside.ties.server) ∙ subst (λ z. is_known k.world.server z ≡ true) is low)) late
 
   first_blank : (v.node.core.circuits.circuit_at 0).end.half.sessions.session 0 ≡ blank
-  first_blank = let k : Follows u v = reached_follows u v fit usual rv in sym (ap (λ (t : Table). (t.circuit_at 0).end.half.sessions.session 0) k.beside.ties.node) ∙ ap (λ (c : CircuitEntry). c.end.half.sessions.session 0) (k.beside.good.none_node 0 (inl refl))
+  first_blank = let k : Follows u v = reached_follows u v fit usual rv in sym (ap (λ (t : Table). (t.circuit_at 0).end.half.sessions.session 0) k.beside.ties.node) ∙ ap (λ (c : CircuitEntry). c.end.half.sessions.session 0) (k.beside.good.none_node 0 (zero_undrawn k.world.node.first k.world.node.drawn))
 
   -- without a partner
   alone : (s : Seat) → s.circuit ≡ p → items (session_of v.server.core s).came ≡ [] → partner u v s ≡ no_seat → IsSettled (row u v s)

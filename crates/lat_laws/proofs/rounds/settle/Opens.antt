@@ -1,11 +1,11 @@
 -- What a server's time event posts of one circuit begins with what the time of that circuit sends.
-use Rattle.std.proofs.Common.{◌≡◌, ◌≢◌, ℕ, zero, suc, ◌+◌, ◌<◌, ◌≤◌, sym, ap, ◌∙◌, refl, subst, arith, Bool, true, false, cond, List, [], ◌∷◌, ◌++◌, map, max, nat_eq, eqb-true}
-use Rattle.std.proofs.lemmas.Bool.{eqb-false}
+use Rattle.std.proofs.Common.{◌≡◌, ◌≢◌, ℕ, ◌<◌, ◌≤◌, sym, ap, ◌∙◌, subst, arith, Bool, true, false, cond, List, [], ◌∷◌, ◌++◌, map, max, inl, inr}
 use Rattle.std.proofs.lemmas.List.{append_assoc}
-use Rattle.lat_model.specs.Lists.{upwards}
 use Rattle.lat_model.specs.ends.End.{Sent, Step, lives}
 use Rattle.lat_model.specs.ends.Timers.{note_empty, time_step}
 use Rattle.lat_model.specs.circuits.World.{CircuitEntry, Wired, wire_all}
+use Rattle.lat_model.specs.circuits.Ids.{is_drawn, ids}
+use Rattle.lat_model.proofs.circuits.IdLists.{Once, id_once}
 use Rattle.lat_machines.specs.values.Frames.{OutFrame}
 use Rattle.lat_machines.specs.cores.Acts.{Acted, idle, steps_at, time_at}
 use Rattle.lat_machines.specs.cores.Cores.{Core, Side, Doing, rests, then_doing, acts, with_circuits, at_moment, time_each, passes_time, sent_frame}
@@ -76,30 +76,24 @@ own_begins k d x s rest l e h = (c, record { front = d.frames; back = map (sent_
 abbrev Result : Side → ℕ → Sent → ℕ → CircuitEntry → List OutFrame → Type 0
 Result k x s now z fs = (c : Core) × Begin x fs (sent_frame k c (wired k.server x z (time_step now z.end) s))
 
-times_begin : (k : Side) (n j : ℕ) (d : Doing) (x : ℕ) (s : Sent) (rest : List Sent) → n < x → x ≤ n + j → lives (d.core.circuits.circuit_at x).end ≡ true → (time_step d.core.moment (d.core.circuits.circuit_at x).end).sent ≡ s ∷ rest → NotOf x d.frames → Result k x s d.core.moment (d.core.circuits.circuit_at x) (time_each k (upwards n j) d).frames
-times_begin k n zero d x s rest a b l e h = absurd (omega (arith, a, b))
-times_begin k n (suc j) d x s rest a b l e h = go (nat_eq x (suc n)) refl (λ c y z w. times_begin k (suc n) j (one_time k (suc n) d) x s rest c (omega (arith, b)) y z w)
+times_begin : (k : Side) (xs : List ℕ) (d : Doing) (x : ℕ) (s : Sent) (rest : List Sent) → Once x xs → lives (d.core.circuits.circuit_at x).end ≡ true → (time_step d.core.moment (d.core.circuits.circuit_at x).end).sent ≡ s ∷ rest → NotOf x d.frames → Result k x s d.core.moment (d.core.circuits.circuit_at x) (time_each k xs d).frames
+times_begin k [] d x s rest a l e h = absurd a
+times_begin k (y ∷ xs) d x s rest (inl a) l e h =
+    let f : OutFrame = sent_frame k g.0 (wired k.server x (d.core.circuits.circuit_at x) (time_step d.core.moment (d.core.circuits.circuit_at x).end) s) in
+    (g.0, times_more k xs (one_time k y d) x f (subst (λ z. Begin x (one_time k z d).frames f) (sym a.0) g.1))
   where
-    now : ℕ
-    now = d.core.moment
-
-    go : (t : Bool) → nat_eq x (suc n) ≡ t →
-        (suc n < x → lives ((one_time k (suc n) d).core.circuits.circuit_at x).end ≡ true → (time_step d.core.moment ((one_time k (suc n) d).core.circuits.circuit_at x).end).sent ≡ s ∷ rest → NotOf x (one_time k (suc n) d).frames → Result k x s d.core.moment ((one_time k (suc n) d).core.circuits.circuit_at x) (time_each k (upwards (suc n) j) (one_time k (suc n) d)).frames) →
-        Result k x s d.core.moment (d.core.circuits.circuit_at x) (time_each k (upwards (suc n) j) (one_time k (suc n) d)).frames
-    go true q f =
-        let same : x ≡ suc n = eqb-true x (suc n) q in
-        let g : Result k x s d.core.moment (d.core.circuits.circuit_at x) (one_time k x d).frames = own_begins k d x s rest l e h in
-        (g.0, times_more k (upwards (suc n) j) (one_time k (suc n) d) x (sent_frame k g.0 (wired k.server x (d.core.circuits.circuit_at x) (time_step d.core.moment (d.core.circuits.circuit_at x).end) s)) (subst (λ y. Begin x (one_time k y d).frames (sent_frame k g.0 (wired k.server x (d.core.circuits.circuit_at x) (time_step d.core.moment (d.core.circuits.circuit_at x).end) s))) same g.1))
-    go false q f =
-        let n' : x ≢ suc n = eqb-false x (suc n) q in
-        let o : (one_time k (suc n) d).core.circuits.circuit_at x ≡ d.core.circuits.circuit_at x = time_other k d.core.circuits x (suc n) d.core.moment n' in
-        subst (λ z. Result k x s d.core.moment z (time_each k (upwards (suc n) j) (one_time k (suc n) d)).frames) o
-        (f (omega (arith, a, n')) (ap (λ (z : CircuitEntry). lives z.end) o ∙ l) (ap (λ (z : CircuitEntry). (time_step d.core.moment z.end).sent) o ∙ e) (other_apart k d x (suc n) n' h))
+    g : Result k x s d.core.moment (d.core.circuits.circuit_at x) (one_time k x d).frames
+    g = own_begins k d x s rest l e h
+times_begin k (y ∷ xs) d x s rest (inr a) l e h =
+    let n : x ≢ y = λ q. a.0 (sym q) in
+    let o : (one_time k y d).core.circuits.circuit_at x ≡ d.core.circuits.circuit_at x = time_other k d.core.circuits x y d.core.moment n in
+    subst (λ z. Result k x s d.core.moment z (time_each k xs (one_time k y d)).frames) o
+    (times_begin k xs (one_time k y d) x s rest a.1 (ap (λ (z : CircuitEntry). lives z.end) o ∙ l) (ap (λ (z : CircuitEntry). (time_step d.core.moment z.end).sent) o ∙ e) (other_apart k d x y n h))
 
 -- of a core whose moment is none later
-pub time_begins : (k : Side) (c : Core) (now x : ℕ) (s : Sent) (rest : List Sent) → c.moment ≤ now → 0 < x → x ≤ c.circuits.drawn → lives (c.circuits.circuit_at x).end ≡ true → (time_step now (c.circuits.circuit_at x).end).sent ≡ s ∷ rest → Result k x s now (c.circuits.circuit_at x) (passes_time k (at_moment now c)).frames
+pub time_begins : (k : Side) (c : Core) (now x : ℕ) (s : Sent) (rest : List Sent) → c.moment ≤ now → 0 < x → is_drawn c.circuits x ≡ true → lives (c.circuits.circuit_at x).end ≡ true → (time_step now (c.circuits.circuit_at x).end).sent ≡ s ∷ rest → Result k x s now (c.circuits.circuit_at x) (passes_time k (at_moment now c)).frames
 time_begins k c now x s rest m a b l e = subst (λ n. Result k x s n (c.circuits.circuit_at x) (passes_time k (at_moment now c)).frames) latest
-    (times_begin k 0 c.circuits.drawn (rests (at_moment now c)) x s rest a (omega (arith, b)) l (ap (λ n. (time_step n (c.circuits.circuit_at x).end).sent) latest ∙ e) tt)
+    (times_begin k (ids c.circuits) (rests (at_moment now c)) x s rest (id_once c.circuits.first c.circuits.drawn x b) l (ap (λ n. (time_step n (c.circuits.circuit_at x).end).sent) latest ∙ e) tt)
   where
     latest : max c.moment now ≡ now
     latest = omega (arith, m)

@@ -1,5 +1,5 @@
 -- A frame of a circuit of the server leaves alone the slaves of its other circuits, at a node that isn't prompt.
-use Rattle.std.proofs.Common.{◌≡◌, ◌≢◌, ℕ, suc, ◌+◌, ◌≤◌, ⊎_elim, sym, ap, ◌∙◌, refl, subst, arith, Bool, true, false, not, cond, ◌&&◌, ◌||◌, List, [], ◌∷◌, Option, Some, None, nat_eq, nat_lt, slice_get, eqb-true, ne_eqb, find}
+use Rattle.std.proofs.Common.{◌≡◌, ◌≢◌, ℕ, ◌+◌, ⊎_elim, sym, ap, ◌∙◌, refl, subst, Bool, true, false, not, cond, ◌&&◌, ◌||◌, List, [], ◌∷◌, Option, Some, None, nat_eq, nat_lt, slice_get, eqb-true, ne_eqb, find}
 use Rattle.std.proofs.lemmas.Bool.{true≢false, false≢true, and_parts, eqb-false}
 use Rattle.lat_model.specs.Lists.{upwards}
 use Rattle.lat_model.specs.sessions.Slots.{Slot}
@@ -14,6 +14,8 @@ use Rattle.lat_model.specs.circuits.WorldOk.{ByServer, FromSender}
 use Rattle.lat_model.specs.circuits.Arriving.{is_of, slave_of, living}
 use Rattle.lat_model.proofs.numbers.Net.{each_at}
 use Rattle.lat_model.proofs.sessions.Words.{upd_other}
+use Rattle.lat_model.specs.circuits.Ids.{is_drawn, next_id, ids}
+use Rattle.lat_model.proofs.circuits.Ids.{drawn_apart}
 use Rattle.lat_machines.specs.values.Names.{Name, same}
 use Rattle.lat_machines.specs.values.Addresses.{everyone}
 use Rattle.lat_machines.specs.values.Messages.{Head, StartInfo, RunMessage, WideMessage, StartMessage, StopMessage}
@@ -132,25 +134,25 @@ hears_run_else config st y from wide h slots k n = go (names st.core.circuits fr
     go true i = asked_else config y h.to s.state (not_named st.core.circuits y h.to from h.from n (named_of st.core.circuits from h.to h.from i)) ∙ heard
     go false i = heard
 
-start_else : (config : NodeConfig) (st : Node) (y from source : ℕ) (info : StartInfo) → y ≤ st.core.circuits.drawn → (st.core.circuits.circuit_at y).end.peer ≢ source → (hears_start config st from source info (start_fact st.core.circuits from source)).state.core.circuits.circuit_at y ≡ st.core.circuits.circuit_at y
+start_else : (config : NodeConfig) (st : Node) (y from source : ℕ) (info : StartInfo) → is_drawn st.core.circuits y ≡ true → (st.core.circuits.circuit_at y).end.peer ≢ source → (hears_start config st from source info (start_fact st.core.circuits from source)).state.core.circuits.circuit_at y ≡ st.core.circuits.circuit_at y
 start_else config st y from source info l n = go (nat_eq (slave_of t from source) 0) refl (nat_lt (living t) 8 && nat_lt t.drawn 65535)
   where
     t : Table
     t = st.core.circuits
 
-    go : (a : Bool) → nat_eq (slave_of st.core.circuits from source) 0 ≡ a → (b : Bool) → (hears_start config st from source info (cond a (cond b (Makes (suc st.core.circuits.drawn)) Refuses) (Repeats (slave_of st.core.circuits from source)))).state.core.circuits.circuit_at y ≡ st.core.circuits.circuit_at y
-    go true z true = upd_other st.core.circuits.circuit_at (suc st.core.circuits.drawn) _ y (λ q. absurd (omega (arith, q, l)))
+    go : (a : Bool) → nat_eq (slave_of st.core.circuits from source) 0 ≡ a → (b : Bool) → (hears_start config st from source info (cond a (cond b (Makes (next_id st.core.circuits)) Refuses) (Repeats (slave_of st.core.circuits from source)))).state.core.circuits.circuit_at y ≡ st.core.circuits.circuit_at y
+    go true z true = upd_other st.core.circuits.circuit_at (next_id st.core.circuits) _ y (drawn_apart st.core.circuits.first st.core.circuits.drawn y l)
     go true z false = refl
     go false z b =
         let x : ℕ = slave_of st.core.circuits from source in
-        steps_else st.core.circuits y x (again_start st.core.moment (st.core.circuits.circuit_at x).end) (not_named st.core.circuits y x from source n (and_parts (is_of (st.core.circuits.circuit_at x) from source) (lives (st.core.circuits.circuit_at x).end) (least_passes (λ i. is_of (st.core.circuits.circuit_at i) from source && lives (st.core.circuits.circuit_at i).end) (upwards 0 st.core.circuits.drawn) (eqb-false x 0 z))).0)
+        steps_else st.core.circuits y x (again_start st.core.moment (st.core.circuits.circuit_at x).end) (not_named st.core.circuits y x from source n (and_parts (is_of (st.core.circuits.circuit_at x) from source) (lives (st.core.circuits.circuit_at x).end) (least_passes (λ i. is_of (st.core.circuits.circuit_at i) from source && lives (st.core.circuits.circuit_at i).end) (ids st.core.circuits) (eqb-false x 0 z))).0)
 
 -- a node that isn't prompt ends no slave that a START follows
-starts_else : (config : NodeConfig) (st : Node) (y from source : ℕ) (info : StartInfo) → config.prompt ≡ false → y ≤ st.core.circuits.drawn → (st.core.circuits.circuit_at y).end.peer ≢ source → (starts config (makes_way config st from source) from source info).state.core.circuits.circuit_at y ≡ st.core.circuits.circuit_at y
+starts_else : (config : NodeConfig) (st : Node) (y from source : ℕ) (info : StartInfo) → config.prompt ≡ false → is_drawn st.core.circuits y ≡ true → (st.core.circuits.circuit_at y).end.peer ≢ source → (starts config (makes_way config st from source) from source info).state.core.circuits.circuit_at y ≡ st.core.circuits.circuit_at y
 starts_else config st y from source info p l n = subst (λ z. (starts config z from source info).state.core.circuits.circuit_at y ≡ st.core.circuits.circuit_at y) (sym same_node) (start_else config st y from source info l n)
   where
     same_node : makes_way config st from source ≡ st
-    same_node = ap (λ b. record st { core = with_circuits st.core (cond b (outlive from source (upwards 0 st.core.circuits.drawn) st.core.circuits) st.core.circuits) }) p
+    same_node = ap (λ b. record st { core = with_circuits st.core (cond b (outlive from source (ids st.core.circuits) st.core.circuits) st.core.circuits) }) p
 
 step_else : (st : Node) (y : ℕ) (n : Bool) (s t : NodeStep) → s.state.core.circuits.circuit_at y ≡ st.core.circuits.circuit_at y → t.state.core.circuits.circuit_at y ≡ st.core.circuits.circuit_at y → (cond n s t).state.core.circuits.circuit_at y ≡ st.core.circuits.circuit_at y
 step_else st y true s t p q = p
@@ -167,7 +169,7 @@ notice_else config rates st y from (AnnouncementNotice a) = refl
 notice_else config rates st y from (CommandNotice m) = refl
 notice_else config rates st y from (ResponseNotice r) = refl
 
-value_else : (config : NodeConfig) (rates : List ℕ) (st : Node) (y x from : ℕ) (v : Value) (k : Option Numbers) → config.prompt ≡ false → y ≤ st.core.circuits.drawn → (st.core.circuits.circuit_at y).end.peer ≢ x → Speaks x v → (hears_value config rates st from v k).state.core.circuits.circuit_at y ≡ st.core.circuits.circuit_at y
+value_else : (config : NodeConfig) (rates : List ℕ) (st : Node) (y x from : ℕ) (v : Value) (k : Option Numbers) → config.prompt ≡ false → is_drawn st.core.circuits y ≡ true → (st.core.circuits.circuit_at y).end.peer ≢ x → Speaks x v → (hears_value config rates st from v k).state.core.circuits.circuit_at y ≡ st.core.circuits.circuit_at y
 value_else config rates st y x from (OfCircuit (RunMessage h slots)) k p l n s = hears_run_else config st y from false h slots k (λ q. n (q ∙ s))
 value_else config rates st y x from (OfCircuit (WideMessage h slots)) k p l n s = hears_run_else config st y from true h slots k (λ q. n (q ∙ s))
 value_else config rates st y x from (OfCircuit (StartMessage true ask to source info)) k p l n s = step_else st y st.halted (turns_away config st from source) (starts config (makes_way config st from source) from source info) refl (starts_else config st y from source info p l (λ q. n (q ∙ s refl)))
@@ -175,7 +177,7 @@ value_else config rates st y x from (OfCircuit (StartMessage false ask to source
 value_else config rates st y x from (OfCircuit (StopMessage master ask to source reason text)) k p l n s = stop_else st.core.circuits y from to source st.core.moment reason (λ q. s.1 (sym s.0 ∙ q)) (λ q. n (q ∙ s.0))
 value_else config rates st y x from (OfNotice m) k p l n s = notice_else config rates st y from m
 
-pub node_else : (config : NodeConfig) (rates : List ℕ) (st : Node) (y x from now : ℕ) (v : Value) (k : Option Numbers) → config.prompt ≡ false → y ≤ st.core.circuits.drawn → (st.core.circuits.circuit_at y).end.peer ≢ x → Speaks x v → (node_step config rates st (Hears from (Whole v) k now)).state.core.circuits.circuit_at y ≡ st.core.circuits.circuit_at y
+pub node_else : (config : NodeConfig) (rates : List ℕ) (st : Node) (y x from now : ℕ) (v : Value) (k : Option Numbers) → config.prompt ≡ false → is_drawn st.core.circuits y ≡ true → (st.core.circuits.circuit_at y).end.peer ≢ x → Speaks x v → (node_step config rates st (Hears from (Whole v) k now)).state.core.circuits.circuit_at y ≡ st.core.circuits.circuit_at y
 node_else config rates st y x from now v k p l n s = go (nat_eq from everyone)
   where
     t : Node

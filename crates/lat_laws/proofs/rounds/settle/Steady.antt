@@ -1,5 +1,5 @@
 -- A circuit that runs keeps its peer, and one that has ended stays so.
-use Rattle.std.proofs.Common.{◌≡◌, ℕ, suc, ◌≤◌, refl, sym, ap, ◌∙◌, subst, arith, Bool, true, false, not, cond, ◌&&◌, ◌||◌, List, [], Option, nat_eq, nat_lt, eqb-true}
+use Rattle.std.proofs.Common.{◌≡◌, ℕ, suc, refl, sym, ap, ◌∙◌, subst, Bool, true, false, not, cond, ◌&&◌, ◌||◌, List, [], Option, nat_eq, nat_lt, eqb-true}
 use Rattle.std.proofs.lemmas.Bool.{true≢false, false≢true, and_parts, eqb-false}
 use Rattle.lat_model.specs.sessions.Slots.{Slot}
 use Rattle.lat_model.specs.sessions.Calls.{Call}
@@ -9,10 +9,11 @@ use Rattle.lat_model.specs.ends.Run.{run_end}
 use Rattle.lat_model.specs.ends.Starting.{Agreed, reply_end, make_slave, again_start, hear_reply, hear_stop}
 use Rattle.lat_model.specs.circuits.World.{CircuitEntry, Table, first_end}
 use Rattle.lat_model.specs.numbers.Link.{Frame}
-use Rattle.lat_model.specs.Lists.{upwards}
 use Rattle.lat_model.specs.circuits.Arriving.{is_of, living, slave_of}
 use Rattle.lat_model.proofs.sessions.Words.{upd_same, upd_other}
 use Rattle.lat_model.proofs.circuits.Kin.{Kin, kin_time, kin_run, kin_again, kin_stop}
+use Rattle.lat_model.specs.circuits.Ids.{is_drawn, next_id, ids}
+use Rattle.lat_model.proofs.circuits.Ids.{drawn_apart, drawn_behind}
 use Rattle.lat_machines.specs.values.Messages.{Head, StartInfo}
 use Rattle.lat_machines.specs.values.Events.{Numbers}
 use Rattle.lat_machines.specs.values.Answers.{Again, Running}
@@ -29,7 +30,7 @@ use Rattle.lat_laws.proofs.rounds.ready.Firsts.{Anything}
 
 -- the circuit x with this address, whose end is such a one
 pub record HasEnd (x : ℕ) (home : ℕ) (P : End → Type 0) (c : Core) : Type 0 where
-  pub drawn : x ≤ c.circuits.drawn
+  pub drawn : is_drawn c.circuits x ≡ true
   pub address : (c.circuits.circuit_at x).address ≡ home
   pub end : P (c.circuits.circuit_at x).end
 
@@ -82,11 +83,11 @@ module _ (P : End → Type 0) (k : KeepsEnd P) (x : ℕ) (home : ℕ) where
   heard_keeps c true a b f g = f refl
   heard_keeps c false a b f g = g
 
-  -- a circuit behind the last
-  new_keeps : (b : Bool) (c : Core) (a : ℕ) (s : Step) → At c → At (with_circuits c (put_at b c.circuits (suc c.circuits.drawn) (suc c.circuits.drawn) a s).table)
+  -- a new circuit
+  new_keeps : (b : Bool) (c : Core) (a : ℕ) (s : Step) → At c → At (with_circuits c (put_at b c.circuits (suc c.circuits.drawn) (next_id c.circuits) a s).table)
   new_keeps b c a s g =
-      let same : (put_at b c.circuits (suc c.circuits.drawn) (suc c.circuits.drawn) a s).table.circuit_at x ≡ c.circuits.circuit_at x = upd_other c.circuits.circuit_at (suc c.circuits.drawn) (record { address = a; end = s.end }) x (λ q. absurd (omega (arith, q, g.drawn))) in
-      record { drawn = omega (arith, g.drawn); address = ap (λ (z : CircuitEntry). z.address) same ∙ g.address; end = subst (λ (z : CircuitEntry). P z.end) (sym same) g.end }
+      let same : (put_at b c.circuits (suc c.circuits.drawn) (next_id c.circuits) a s).table.circuit_at x ≡ c.circuits.circuit_at x = upd_other c.circuits.circuit_at (next_id c.circuits) (record { address = a; end = s.end }) x (drawn_apart c.circuits.first c.circuits.drawn x g.drawn) in
+      record { drawn = drawn_behind c.circuits.first c.circuits.drawn x g.drawn; address = ap (λ (z : CircuitEntry). z.address) same ∙ g.address; end = subst (λ (z : CircuitEntry). P z.end) (sym same) g.end }
 
   alive_at : (c : Core) (y : ℕ) (s : Step) (b : Bool) → lives (c.circuits.circuit_at y).end ≡ true → ((e : End) → lives e ≡ true → P e → e ≡ (c.circuits.circuit_at y).end → P s.end) → At c → At (with_circuits c (steps_at b c.circuits y s).table)
   alive_at c y s b l h g = steps_keep b c y s (λ e q p. h e (ap lives q ∙ l) p q) g
@@ -148,13 +149,13 @@ module _ (P : End → Type 0) (k : KeepsEnd P) (x : ℕ) (home : ℕ) where
     starts = λ c from source info s g. starts c from source info g (nat_eq (slave_of c.circuits from source) 0) refl (nat_lt (living c.circuits) 8 && nat_lt c.circuits.drawn 65535);
   }
     where
-      starts : (c : Core) (from source : ℕ) (info : StartInfo) → At c → (a : Bool) → nat_eq (slave_of c.circuits from source) 0 ≡ a → (b : Bool) → At (with_circuits c (start_at (setup_of config.timing) c.circuits from source c.moment (agreed_by config.timing info) (cond a (cond b (Makes (suc c.circuits.drawn)) Refuses) (Repeats (slave_of c.circuits from source)))).table)
+      starts : (c : Core) (from source : ℕ) (info : StartInfo) → At c → (a : Bool) → nat_eq (slave_of c.circuits from source) 0 ≡ a → (b : Bool) → At (with_circuits c (start_at (setup_of config.timing) c.circuits from source c.moment (agreed_by config.timing info) (cond a (cond b (Makes (next_id c.circuits)) Refuses) (Repeats (slave_of c.circuits from source)))).table)
       starts c from source info g true z true = new_keeps false c from (make_slave c.moment source (agreed_by config.timing info) (first_end false false (setup_of config.timing))) g
       starts c from source info g true z false = record { drawn = g.drawn; address = g.address; end = g.end }
       starts c from source info g false z b =
           let y : ℕ = slave_of c.circuits from source in
           let s : Step = again_start c.moment (c.circuits.circuit_at y).end in
-          alive_at c y s false (and_parts (is_of (c.circuits.circuit_at y) from source) (lives (c.circuits.circuit_at y).end) (least_passes (λ i. is_of (c.circuits.circuit_at i) from source && lives (c.circuits.circuit_at i).end) (upwards 0 c.circuits.drawn) (eqb-false y 0 z))).1
+          alive_at c y s false (and_parts (is_of (c.circuits.circuit_at y) from source) (lives (c.circuits.circuit_at y).end) (least_passes (λ i. is_of (c.circuits.circuit_at i) from source && lives (c.circuits.circuit_at i).end) (ids c.circuits) (eqb-false y 0 z))).1
           (λ e l p q. subst (λ w. P (again_start c.moment w).end) q (again c.moment e l p)) g
 
   server_any : (config : ServerConfig) (r : (n s : ℕ) (g : Agreed) (e : End) → lives e ≡ true → P e → P (hear_reply n s g e).end) (n : ℕ) → (server_steady config r).acts.within n ≡ true

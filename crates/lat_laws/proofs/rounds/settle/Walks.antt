@@ -1,7 +1,8 @@
 -- What the moves of the two machines keep of a circuit.
-use Rattle.std.proofs.Common.{◌≡◌, ℕ, ◌≤◌, refl, sym, ◌∙◌, subst, Bool, true, false, not, cond, List, [], ◌∷◌, Option, Some, None, slice_get}
+use Rattle.std.proofs.Common.{◌≡◌, ℕ, refl, sym, ◌∙◌, subst, Bool, true, false, not, cond, List, [], ◌∷◌, Option, Some, None, slice_get}
 use Rattle.std.proofs.lemmas.Bool.{true≢false}
 use Rattle.lat_model.specs.ends.End.{lives}
+use Rattle.lat_model.specs.circuits.Ids.{is_drawn}
 use Rattle.lat_machines.specs.values.Events.{Event, Hears, is_heard}
 use Rattle.lat_machines.specs.cores.Cores.{Core}
 use Rattle.lat_machines.specs.world.Machines.{Setups, Posted, Machines, Move, Does, HearsFrame, HearsForeign, tell, is_for_other, heard_as, counted, marked_delivered, comes, is_own, happens, run}
@@ -93,14 +94,14 @@ pub ended_down : (u : Setups) (q home : ℕ) (w v : Machines) → Moved u w v �
 ended_down u q home w v m h = down_moved u (HasEnd q home Ended) (ended_node u q home) w v m h
 
 -- what lives behind moves lived before them
-pub lived_up : (u : Setups) (p : ℕ) (w v : Machines) → Moved u w v → p ≤ w.server.core.circuits.drawn → lives (v.server.core.circuits.circuit_at p).end ≡ true → lives (w.server.core.circuits.circuit_at p).end ≡ true
+pub lived_up : (u : Setups) (p : ℕ) (w v : Machines) → Moved u w v → is_drawn w.server.core.circuits p ≡ true → lives (v.server.core.circuits.circuit_at p).end ≡ true → lives (w.server.core.circuits.circuit_at p).end ≡ true
 lived_up u p w v m d l = go (lives (w.server.core.circuits.circuit_at p).end) refl
   where
     go : (b : Bool) → lives (w.server.core.circuits.circuit_at p).end ≡ b → lives (w.server.core.circuits.circuit_at p).end ≡ true
     go true q = q
     go false q = absurd (true≢false (sym l ∙ (ended_up u p (w.server.core.circuits.circuit_at p).address w v m (record { drawn = d; address = refl; end = q })).end))
 
-pub lived_down : (u : Setups) (q : ℕ) (w v : Machines) → Moved u w v → q ≤ w.node.core.circuits.drawn → lives (v.node.core.circuits.circuit_at q).end ≡ true → lives (w.node.core.circuits.circuit_at q).end ≡ true
+pub lived_down : (u : Setups) (q : ℕ) (w v : Machines) → Moved u w v → is_drawn w.node.core.circuits q ≡ true → lives (v.node.core.circuits.circuit_at q).end ≡ true → lives (w.node.core.circuits.circuit_at q).end ≡ true
 lived_down u q w v m d l = go (lives (w.node.core.circuits.circuit_at q).end) refl
   where
     go : (b : Bool) → lives (w.node.core.circuits.circuit_at q).end ≡ b → lives (w.node.core.circuits.circuit_at q).end ≡ true
@@ -108,5 +109,5 @@ lived_down u q w v m d l = go (lives (w.node.core.circuits.circuit_at q).end) re
     go false r = absurd (true≢false (sym l ∙ (ended_down u q (w.node.core.circuits.circuit_at q).address w v m (record { drawn = d; address = refl; end = r })).end))
 
 -- a circuit that was drawn keeps its address
-pub address_on : (u : Setups) (p : ℕ) (w v : Machines) → Moved u w v → p ≤ w.server.core.circuits.drawn → (v.server.core.circuits.circuit_at p).address ≡ (w.server.core.circuits.circuit_at p).address
+pub address_on : (u : Setups) (p : ℕ) (w v : Machines) → Moved u w v → is_drawn w.server.core.circuits p ≡ true → (v.server.core.circuits.circuit_at p).address ≡ (w.server.core.circuits.circuit_at p).address
 address_on u p w v m d = (up_moved u (HasEnd p (w.server.core.circuits.circuit_at p).address AnyEnd) (server_always AnyEnd any_keeps p (w.server.core.circuits.circuit_at p).address u.server (λ n s g e l x. tt)) w v m (record { drawn = d; address = refl; end = tt })).address

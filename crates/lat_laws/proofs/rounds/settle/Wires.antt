@@ -1,5 +1,5 @@
 -- The take phase posts no frame of a circuit that was drawn before it.
-use Rattle.std.proofs.Common.{◌≡◌, ◌≢◌, ℕ, zero, suc, ◌≤◌, ◌⊎◌, inl, inr, ⊎_elim, sym, ap, ◌∙◌, refl, subst, arith, Bool, true, false, cond, List, [], ◌∷◌, ◌++◌, map, Option, Some, None, nat_eq, slice_get}
+use Rattle.std.proofs.Common.{◌≡◌, ◌≢◌, ℕ, zero, suc, ◌⊎◌, inl, inr, ⊎_elim, sym, ap, ◌∙◌, refl, subst, Bool, true, false, cond, List, [], ◌∷◌, ◌++◌, map, Option, Some, None, nat_eq, slice_get}
 use Rattle.std.proofs.lemmas.Bool.{true≢false}
 use Rattle.std.proofs.lemmas.List.{append_assoc}
 use Rattle.lat_model.specs.Lists.{Each, updated, upwards}
@@ -23,6 +23,8 @@ use Rattle.lat_laws.proofs.rounds.rounds.Empty.{Emptied}
 use Rattle.lat_laws.proofs.rounds.ready.Takes.{take_line_took, take_line_other}
 use Rattle.lat_laws.proofs.rounds.ready.Tooks.{TookCore, line_took}
 use Rattle.lat_model.proofs.numbers.Net.{each_at}
+use Rattle.lat_model.specs.circuits.Ids.{is_drawn, next_id, IdsStay}
+use Rattle.lat_model.proofs.circuits.Ids.{drawn_apart}
 use Rattle.lat_laws.proofs.rounds.shape.Passes.{PassStays, lines_stay}
 
 abbrev pub NotOf : ℕ → List OutFrame → Type 0
@@ -39,11 +41,11 @@ connects_none config line y service key request c = acts_none (server_side confi
     go true = refl
     go false = refl
 
-opens_apart : (config : ServerConfig) (line address : ℕ) (node service : Name) (key : Option Key) (request : Option ℕ) (c : Core) (x : ℕ) → x ≤ c.circuits.drawn → NotOf x (opens config line address node service key request c).frames
+opens_apart : (config : ServerConfig) (line address : ℕ) (node service : Name) (key : Option Key) (request : Option ℕ) (c : Core) (x : ℕ) → is_drawn c.circuits x ≡ true → NotOf x (opens config line address node service key request c).frames
 opens_apart config line address node service key request c x l = go (nat_eq (circuit_to c address) 0)
   where
     named : Core
-    named = record c { names = updated c.names (suc c.circuits.drawn) node }
+    named = record c { names = updated c.names (next_id c.circuits) node }
 
     made : Doing
     made = acts (server_side config) named (call_at (setup_of config.timing) named.circuits address named.moment)
@@ -52,19 +54,19 @@ opens_apart config line address node service key request c x l = go (nat_eq (cir
     behind d h = subst (λ z. NotOf x (d.frames ++ z)) (sym (connects_none config line (circuit_to d.core address) service key request d.core)) (subst (NotOf x) (sym (append_nil d.frames)) h)
 
     go : (b : Bool) → NotOf x ((cond b made (rests c)).frames ++ (connects_on config line (circuit_to (cond b made (rests c)).core address) service key request (cond b made (rests c)).core).frames)
-    go true = behind made ((λ q. absurd (omega (arith, q, l))), tt)
+    go true = behind made ((λ q. drawn_apart c.circuits.first c.circuits.drawn x l (sym q)), tt)
     go false = behind (rests c) tt
 
-line_apart : (config : ServerConfig) (line : ℕ) (o : Option Name) (g : Option Request) (p : Passing) (x : ℕ) → x ≢ 0 → x ≤ p.state.core.circuits.drawn → NotOf x p.frames → NotOf x (grants_by config line o g p).frames
+line_apart : (config : ServerConfig) (line : ℕ) (o : Option Name) (g : Option Request) (p : Passing) (x : ℕ) → x ≢ 0 → is_drawn p.state.core.circuits x ≡ true → NotOf x p.frames → NotOf x (grants_by config line o g p).frames
 line_apart config line None g p x n l h = h
 line_apart config line (Some service) None p x n l h = h
 line_apart config line (Some service) (Some g) p x n l h = each_more (λ (f : OutFrame). f.circuit ≢ x) p.frames _ h ((λ q. n (sym q)), opens_apart config line g.from g.key.node service (Some g.key) (Some g.key.request) p.state.core x l)
 
-pub pass_apart : (config : ServerConfig) (lines : List ℕ) (p : Passing) (x : ℕ) → x ≢ 0 → x ≤ p.state.core.circuits.drawn → NotOf x p.frames → NotOf x (grant_lines config lines p).frames
+pub pass_apart : (config : ServerConfig) (lines : List ℕ) (p : Passing) (x : ℕ) → x ≢ 0 → is_drawn p.state.core.circuits x ≡ true → NotOf x p.frames → NotOf x (grant_lines config lines p).frames
 pass_apart config [] p x n l h = h
 pass_apart config (line ∷ lines) p x n l h =
     let s : PassStays p.state.core (grant_line config p line).state.core x = lines_stay config (line ∷ []) p x l in
-    pass_apart config lines (grant_line config p line) x n (let a : p.state.core.circuits.drawn ≤ (grant_line config p line).state.core.circuits.drawn = s.drawn in omega (arith, a, l))
+    pass_apart config lines (grant_line config p line) x n (s.drawn x l)
     (line_apart config line (offer_on line config.offers) (grantable p.state line (offer_on line config.offers)) p x n l h)
 
 -- what is posted is the server's, and of no such circuit
@@ -94,19 +96,19 @@ posted_apart x [] h = tt
 posted_apart x (f ∷ fs) h = ((refl, h.0), posted_apart x fs h.1)
 
 -- a Take itself posts nothing, and makes no circuits
-tell_posts : (u : Setups) (w : Machines) (b : Bool) (line x : ℕ) → x ≢ 0 → x ≤ w.server.core.circuits.drawn → Posts x w (tell u w b (Takes line 4096) [])
+tell_posts : (u : Setups) (w : Machines) (b : Bool) (line x : ℕ) → x ≢ 0 → is_drawn w.server.core.circuits x ≡ true → Posts x w (tell u w b (Takes line 4096) [])
 tell_posts u w true line x n l =
     let p : Passing = record { state = finished_requests (server_event u.server w.server (Takes line 4096)).state; frames = [] } in
     let t : TookCore w.server.core p.state.core = line_took (server_side u.server) u.server.lines w.server.core line 4096 in
     record {
       more = post_all true (grant_lines u.server (upwards 0 u.server.lines) p).frames;
       posts = refl;
-      apart = posted_apart x (grant_lines u.server (upwards 0 u.server.lines) p).frames (pass_apart u.server (upwards 0 u.server.lines) p x n (let a : w.server.core.circuits.drawn ≤ p.state.core.circuits.drawn = t.table.drawn in omega (arith, a, l)) tt);
+      apart = posted_apart x (grant_lines u.server (upwards 0 u.server.lines) p).frames (pass_apart u.server (upwards 0 u.server.lines) p x n (t.table.drawn x l) tt);
       delivered = refl;
     }
 tell_posts u w false line x n l = record { more = []; posts = refl; apart = tt; delivered = refl }
 
-line_posts : (u : Setups) (w : Machines) (b : Bool) (line x : ℕ) → x ≢ 0 → x ≤ w.server.core.circuits.drawn → Posts x w (take_line u b line w)
+line_posts : (u : Setups) (w : Machines) (b : Bool) (line x : ℕ) → x ≢ 0 → is_drawn w.server.core.circuits x ≡ true → Posts x w (take_line u b line w)
 line_posts u w b line x n l = go (has_session (core_of w b) line)
   where
     go : (h : Bool) → Posts x w (cond h (tell u w b (Takes line 4096) []) w)
@@ -114,28 +116,26 @@ line_posts u w b line x n l = go (has_session (core_of w b) line)
     go false = posts_none x w
 
 -- the server's circuits are no fewer
-line_drawn : (u : Setups) (b : Bool) (line : ℕ) (w : Machines) → w.server.core.circuits.drawn ≤ (take_line u b line w).server.core.circuits.drawn
+line_drawn : (u : Setups) (b : Bool) (line : ℕ) (w : Machines) → IdsStay w.server.core.circuits (take_line u b line w).server.core.circuits
 line_drawn u true line w = (take_line_took u true line w).table.drawn
-line_drawn u false line w = (let e : (take_line u false line w).server.core.circuits.drawn ≡ w.server.core.circuits.drawn = ap (λ (c : Core). c.circuits.drawn) (take_line_other u false line w) in omega (arith, e))
+line_drawn u false line w = subst (λ (c : Core). IdsStay w.server.core.circuits c.circuits) (sym (take_line_other u false line w)) (λ x l. l)
 
-lines_post : (u : Setups) (b : Bool) (lines : List ℕ) (w : Machines) (x : ℕ) → x ≢ 0 → x ≤ w.server.core.circuits.drawn → Posts x w (take_lines u b lines w)
+lines_post : (u : Setups) (b : Bool) (lines : List ℕ) (w : Machines) (x : ℕ) → x ≢ 0 → is_drawn w.server.core.circuits x ≡ true → Posts x w (take_lines u b lines w)
 lines_post u b [] w x n l = posts_none x w
 lines_post u b (line ∷ lines) w x n l =
     let v : Machines = take_line u b line w in
-    posts_then x w v (take_lines u b lines v) (line_posts u w b line x n l) (lines_post u b lines v x n (let a : w.server.core.circuits.drawn ≤ v.server.core.circuits.drawn = line_drawn u b line w in omega (arith, a, l)))
+    posts_then x w v (take_lines u b lines v) (line_posts u w b line x n l) (lines_post u b lines v x n (line_drawn u b line w x l))
 
-lines_drawn : (u : Setups) (b : Bool) (lines : List ℕ) (w : Machines) → w.server.core.circuits.drawn ≤ (take_lines u b lines w).server.core.circuits.drawn
-lines_drawn u b [] w = omega arith
+lines_drawn : (u : Setups) (b : Bool) (lines : List ℕ) (w : Machines) → IdsStay w.server.core.circuits (take_lines u b lines w).server.core.circuits
+lines_drawn u b [] w = λ x l. l
 lines_drawn u b (line ∷ lines) w =
     let v : Machines = take_line u b line w in
-    let a : w.server.core.circuits.drawn ≤ v.server.core.circuits.drawn = line_drawn u b line w in
-    let c : v.server.core.circuits.drawn ≤ (take_lines u b lines v).server.core.circuits.drawn = lines_drawn u b lines v in
-    omega (arith, a, c)
+    λ x l. lines_drawn u b lines v x (line_drawn u b line w x l)
 
-pub takes_post : (u : Setups) (w : Machines) (x : ℕ) → x ≢ 0 → x ≤ w.server.core.circuits.drawn → Posts x w (take_both u w)
+pub takes_post : (u : Setups) (w : Machines) (x : ℕ) → x ≢ 0 → is_drawn w.server.core.circuits x ≡ true → Posts x w (take_both u w)
 takes_post u w x n l =
     let v : Machines = take_lines u true (upwards 0 u.server.lines) w in
-    posts_then x w v (take_both u w) (lines_post u true (upwards 0 u.server.lines) w x n l) (lines_post u false (upwards 0 u.node.lines) v x n (let a : w.server.core.circuits.drawn ≤ v.server.core.circuits.drawn = lines_drawn u true (upwards 0 u.server.lines) w in omega (arith, a, l)))
+    posts_then x w v (take_both u w) (lines_post u true (upwards 0 u.server.lines) w x n l) (lines_post u false (upwards 0 u.node.lines) v x n (lines_drawn u true (upwards 0 u.server.lines) w x l))
 
 -- a frame was posted before, or is one of the rest
 pub either_part : {A : Type 0} → (P : A → Type 0) (xs ys : List A) (k : ℕ) (f : A) → slice_get (xs ++ ys) k ≡ Some f → Each P ys → (slice_get xs k ≡ Some f) ⊎ P f
@@ -144,12 +144,12 @@ either_part P (x ∷ xs) ys zero f e h = inl e
 either_part P (x ∷ xs) ys (suc k) f e h = either_part P xs ys k f e h
 
 -- so what was delivered whole is whole behind it
-pub takes_empty_up : (u : Setups) (w : Machines) (x : ℕ) → x ≢ 0 → x ≤ w.server.core.circuits.drawn → Emptied u w true x → Emptied u (take_both u w) true x
+pub takes_empty_up : (u : Setups) (w : Machines) (x : ℕ) → x ≢ 0 → is_drawn w.server.core.circuits x ≡ true → Emptied u w true x → Emptied u (take_both u w) true x
 takes_empty_up u w x n l h k f there other by circuit =
     let p : Posts x w (take_both u w) = takes_post u w x n l in
     subst (λ z. is_in k z ≡ true) (sym p.delivered) (⊎_elim {C = is_in k w.delivered ≡ true} (λ a. h k f a other by circuit) (λ a. absurd (a.1 circuit)) (either_part (Apart x) w.posts p.more k f (ap (λ z. slice_get z k) (sym p.posts) ∙ there) p.apart))
 
-pub takes_empty_down : (u : Setups) (w : Machines) (x y : ℕ) → y ≢ 0 → y ≤ w.server.core.circuits.drawn → Emptied u w false x → Emptied u (take_both u w) false x
+pub takes_empty_down : (u : Setups) (w : Machines) (x y : ℕ) → y ≢ 0 → is_drawn w.server.core.circuits y ≡ true → Emptied u w false x → Emptied u (take_both u w) false x
 takes_empty_down u w x y n l h k f there other by circuit =
     let p : Posts y w (take_both u w) = takes_post u w y n l in
     subst (λ z. is_in k z ≡ true) (sym p.delivered) (⊎_elim {C = is_in k w.delivered ≡ true} (λ a. h k f a other by circuit) (λ a. absurd (true≢false (sym a.0 ∙ by))) (either_part (Apart y) w.posts p.more k f (ap (λ z. slice_get z k) (sym p.posts) ∙ there) p.apart))

@@ -1,5 +1,5 @@
 -- A server opens a session: its line session is the last under its id, and is held.
-use Rattle.std.proofs.Common.{◌≡◌, ℕ, suc, ◌<◌, inl, inr, ⊎_elim, refl, sym, ap, ap₂, ◌∙◌, subst, arith, Bool, true, false, not, cond, ◌&&◌, ◌||◌, List, [], ◌∷◌, ◌++◌, Option, nat_eq, eqb-true, eq-eqb}
+use Rattle.std.proofs.Common.{◌≡◌, ℕ, suc, ◌<◌, inl, inr, ⊎_elim, refl, sym, ap, ap₂, ◌∙◌, subst, arith, Bool, true, false, not, cond, ◌&&◌, ◌||◌, List, [], ◌∷◌, ◌++◌, Option, nat_eq, eqb-true, eq-eqb, ◌≢◌}
 use Rattle.std.proofs.lemmas.Bool.{and_parts, or_parts, true≢false, not-false, eqb-false}
 use Rattle.lat_model.specs.sessions.Session.{free}
 use Rattle.lat_model.specs.sessions.Sessions.{Sessions, least_free}
@@ -9,6 +9,8 @@ use Rattle.lat_model.specs.ends.End.{Step, lives}
 use Rattle.lat_model.specs.ends.Timers.{note_empty}
 use Rattle.lat_model.specs.circuits.World.{CircuitEntry, Table}
 use Rattle.lat_model.proofs.sessions.Words.{upd_same, upd_other}
+use Rattle.lat_model.specs.circuits.Ids.{next_id, ids}
+use Rattle.lat_model.proofs.circuits.Ids.{drawn_apart}
 use Rattle.lat_machines.specs.values.Names.{Name}
 use Rattle.lat_machines.specs.values.Keys.{Key}
 use Rattle.lat_machines.specs.cores.Acts.{Acted, idle, steps_at, call_at, called, local_at}
@@ -101,12 +103,12 @@ module _ (config : ServerConfig) (line x : ℕ) (service : Name) (key : Option K
 
 -- a session opened, on a circuit that is called where none lives
 
-none_serial : (x i : ℕ) (xs : List Seat) → ((s : Seat) → IsSeat s xs → s.circuit < x) → last_serial x i 0 xs ≡ 0
+none_serial : (x i : ℕ) (xs : List Seat) → ((s : Seat) → IsSeat s xs → s.circuit ≢ x) → last_serial x i 0 xs ≡ 0
 none_serial x i [] h = refl
 none_serial x i (s ∷ xs) h = ap (λ b. last_serial x i (cond (b && nat_eq s.id i) s.serial 0) xs) (off (nat_eq s.circuit x) refl) ∙ none_serial x i xs (λ t n. h t (inr n))
   where
     off : (b : Bool) → nat_eq s.circuit x ≡ b → nat_eq s.circuit x ≡ false
-    off true q = absurd (let e : s.circuit ≡ x = eqb-true s.circuit x q in let l : s.circuit < x = h s (inl refl) in omega (arith, e, l))
+    off true q = absurd (h s (inl refl) (eqb-true s.circuit x q))
     off false q = q
 
 called_rest : (config : ServerConfig) (address : ℕ) (c : Core) → Sound true config.lines c → Rest true (with_circuits c (call_at (setup_of config.timing) c.circuits address c.moment).table)
@@ -114,7 +116,7 @@ called_rest config address c h = record {
   good = turned.good;
   distinct = h.rest.distinct;
   ours = λ y n. (let p : Placed config.lines c y = h.seated.placed y n in ((turned.at y.circuit p.drawn).sessions.each y.serial p.made).ours (h.rest.ours y n));
-  named = λ w y i. named y i (nat_eq y (suc c.circuits.drawn)) refl;
+  named = λ w y i. named y i (nat_eq y (next_id c.circuits)) refl;
 }
   where
     t : Table
@@ -126,17 +128,17 @@ called_rest config address c h = record {
     new : CircuitEntry
     new = record { address = address; end = (called (setup_of config.timing) c.moment).end }
 
-    named : (y i : ℕ) (b : Bool) → nat_eq y (suc c.circuits.drawn) ≡ b → last_serial y i 0 c.seats ≡ (sess t y).at_id i
+    named : (y i : ℕ) (b : Bool) → nat_eq y (next_id c.circuits) ≡ b → last_serial y i 0 c.seats ≡ (sess t y).at_id i
     named y i true q =
-        none_serial y i c.seats (λ s n. (let p : Placed config.lines c s = h.seated.placed s n in let e : y ≡ suc c.circuits.drawn = eqb-true y (suc c.circuits.drawn) q in omega (arith, p.drawn, e)))
-        ∙ sym (ap (λ z. (sess t z).at_id i) (eqb-true y (suc c.circuits.drawn) q) ∙ ap (λ (z : CircuitEntry). z.end.half.sessions.at_id i) (upd_same c.circuits.circuit_at (suc c.circuits.drawn) new))
-    named y i false q = h.rest.named refl y i ∙ sym (ap (λ (z : CircuitEntry). z.end.half.sessions.at_id i) (upd_other c.circuits.circuit_at (suc c.circuits.drawn) new y (eqb-false y (suc c.circuits.drawn) q)))
+        none_serial y i c.seats (λ s n. (let p : Placed config.lines c s = h.seated.placed s n in let e : y ≡ next_id c.circuits = eqb-true y (next_id c.circuits) q in λ z. drawn_apart c.circuits.first c.circuits.drawn s.circuit p.drawn (z ∙ e)))
+        ∙ sym (ap (λ z. (sess t z).at_id i) (eqb-true y (next_id c.circuits) q) ∙ ap (λ (z : CircuitEntry). z.end.half.sessions.at_id i) (upd_same c.circuits.circuit_at (next_id c.circuits) new))
+    named y i false q = h.rest.named refl y i ∙ sym (ap (λ (z : CircuitEntry). z.end.half.sessions.at_id i) (upd_other c.circuits.circuit_at (next_id c.circuits) new y (eqb-false y (next_id c.circuits) q)))
 
 opens_rest : (config : ServerConfig) (line address : ℕ) (node service : Name) (key : Option Key) (request : Option ℕ) (c : Core) → 0 < config.timing.sessions → can_open c address ≡ true → Sound true config.lines c → Opens true c (opens config line address node service key request c).core
 opens_rest config line address node service key request c pos can h = go (nat_eq (circuit_to c address) 0) refl can
   where
     named_core : Core
-    named_core = record c { names = updated c.names (suc c.circuits.drawn) node }
+    named_core = record c { names = updated c.names (next_id c.circuits) node }
 
     made : Doing
     made = acts (server_side config) named_core (call_at (setup_of config.timing) named_core.circuits address named_core.moment)
@@ -145,7 +147,7 @@ opens_rest config line address node service key request c pos can h = go (nat_eq
     after d = (connects_on config line (circuit_to d.core address) service key request d.core).core
 
     go : (b : Bool) → nat_eq (circuit_to c address) 0 ≡ b → cond b (may_call c) (has_room c (circuit_to c address)) ≡ true → Opens true c (after (cond b made (rests c)))
-    go false i can = connects_rest config line (circuit_to c address) service key request c h (and_parts (nat_eq (c.circuits.circuit_at (circuit_to c address)).address address) (lives (c.circuits.circuit_at (circuit_to c address)).end) (least_true (test_of c.circuits address) 0 c.circuits.drawn (eqb-false (circuit_to c address) 0 i))).1 can
+    go false i can = connects_rest config line (circuit_to c address) service key request c h (and_parts (nat_eq (c.circuits.circuit_at (circuit_to c address)).address address) (lives (c.circuits.circuit_at (circuit_to c address)).end) (least_true (test_of c.circuits address) (ids c.circuits) (eqb-false (circuit_to c address) 0 i))).1 can
     go true i can =
         let k : Called named_core address (with_circuits named_core (call_at (setup_of config.timing) named_core.circuits address named_core.moment).table) = call_opens (setup_of config.timing) named_core address named_core.moment pos (record { masters = h.seated.good.masters; new = h.seated.good.new }) (eqb-true (circuit_to c address) 0 i) can in
         let r : Rest true (with_circuits c (call_at (setup_of config.timing) c.circuits address c.moment).table) = called_rest config address c h in
@@ -161,7 +163,7 @@ opens_turned : (config : ServerConfig) (line address : ℕ) (node service : Name
 opens_turned config line address node service key request c h = go (nat_eq (circuit_to c address) 0)
   where
     named_core : Core
-    named_core = record c { names = updated c.names (suc c.circuits.drawn) node }
+    named_core = record c { names = updated c.names (next_id c.circuits) node }
 
     made : Doing
     made = acts (server_side config) named_core (call_at (setup_of config.timing) named_core.circuits address named_core.moment)

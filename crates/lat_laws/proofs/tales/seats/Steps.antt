@@ -1,9 +1,10 @@
 -- What an event that puts and takes nothing leaves of a core, and what follows any event of a server.
-use Rattle.std.proofs.Common.{ℕ, suc, ◌<◌, refl, sym, Bool, true, false, cond, ◌&&◌, nat_eq, nat_lt, List}
+use Rattle.std.proofs.Common.{ℕ, ◌<◌, refl, sym, Bool, true, false, cond, ◌&&◌, nat_eq, nat_lt, List}
 use Rattle.std.proofs.lemmas.Bool.{true≢false}
 use Rattle.lat_model.specs.ends.Starting.{Agreed, Setup}
 use Rattle.lat_model.specs.circuits.World.{Table}
 use Rattle.lat_model.specs.circuits.Arriving.{living, slave_of}
+use Rattle.lat_model.specs.circuits.Ids.{next_id}
 use Rattle.lat_machines.specs.values.Events.{Event}
 use Rattle.lat_machines.specs.cores.Cores.{Core, with_circuits, setup_of}
 use Rattle.lat_machines.specs.cores.Hearing.{hear_reply_at, Makes, Repeats, Refuses, start_fact, start_at, outlive_at}
@@ -30,7 +31,7 @@ server_acts config c pos = record {
 start_later : (u : Setup) (t : Table) (from source now : ℕ) (g : Agreed) → LaterTable false t (start_at u t from source now g (start_fact t from source)).table
 start_later u t from source now g = go (nat_eq (slave_of t from source) 0) (nat_lt (living t) 8 && nat_lt t.drawn 65535)
   where
-    go : (a b : Bool) → LaterTable false t (start_at u t from source now g (cond a (cond b (Makes (suc t.drawn)) Refuses) (Repeats (slave_of t from source)))).table
+    go : (a b : Bool) → LaterTable false t (start_at u t from source now g (cond a (cond b (Makes (next_id t)) Refuses) (Repeats (slave_of t from source)))).table
     go true true = make_later u t from source now g
     go true false = table_same false t
     go false b = again_at_later t (slave_of t from source) now

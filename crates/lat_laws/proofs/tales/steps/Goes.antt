@@ -344,15 +344,15 @@ hears_go (x ∷ xs) e = go (hear_slot e x) refl (λ f. hears_go xs f)
     go None q ih = goes_same e
     go (Some f) q ih = goes_then e f (hear_all xs f).after (slot_goes e f x q) (ih f)
 
--- of all circuits up to the n-th
-pub goes_kept : (n : ℕ) (side : Bool) → KeptByActs n side (λ x e f. x ≤ n → Goes e f)
+-- of these circuits
+pub goes_kept : (n : ℕ → Bool) (side : Bool) → KeptByActs n side (λ x e f. n x ≡ true → Goes e f)
 goes_kept n side = record {
   same = λ x e l. goes_same e;
   after = λ x a b c p q l. goes_then a b c (p l) (q l);
   packs = λ x room e l. pack_by Goes goes_same goes_then goes_form room e;
   hears = λ x slots e l. hears_go slots e;
   agrees = λ x k e l g. record { good = record { none = g.none; past = g.past; at_made = g.at_made; asked = g.asked; within = g.within; unseen = g.unseen; silent = g.silent }; made = omega arith; master = refl; each = λ j m. one_same (e.session j) };
-  news = λ x e k c l m. absurd (omega (arith, l, m));
+  news = λ x e k c l m. absurd (true≢false (sym m ∙ l));
 }
 
 -- calls that put and take nothing

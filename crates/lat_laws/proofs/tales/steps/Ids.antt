@@ -1,5 +1,5 @@
 -- At a server no step gives an id to another session: only a session that is connected takes one.
-use Rattle.std.proofs.Common.{◌≡◌, ℕ, ◌≤◌, refl, sym, ◌∙◌, subst, arith, Bool, true, false, not, cond, ◌&&◌, ◌||◌, List, [], Option, nat_eq, nat_lt, eqb-true}
+use Rattle.std.proofs.Common.{◌≡◌, ℕ, refl, sym, ◌∙◌, subst, Bool, true, false, not, cond, ◌&&◌, ◌||◌, List, [], Option, nat_eq, nat_lt, eqb-true}
 use Rattle.std.proofs.lemmas.Bool.{true≢false}
 use Rattle.lat_model.specs.sessions.Slots.{Slot}
 use Rattle.lat_model.specs.sessions.Session.{waits, put_open, take_open}
@@ -18,7 +18,7 @@ use Rattle.lat_machines.specs.values.Events.{Numbers}
 use Rattle.lat_machines.specs.values.Answers.{Again, Running, Ended}
 use Rattle.lat_machines.specs.cores.Acts.{Acted, idle, steps_at, local_at, time_at, move_at, end_at}
 use Rattle.lat_machines.specs.cores.Hearing.{HeardAct, foreign, names, fits_kind, numbers_at, run_frame, run_at, hear_run, hear_stop_at, hear_reply_at}
-use Rattle.lat_laws.proofs.rounds.counting.Kept.{KeptByActs, to_time, to_run, to_stop, to_reply}
+use Rattle.lat_laws.proofs.rounds.counting.Kept.{KeptByActs, to_time, to_run, to_stop, to_reply, is_none}
 use Rattle.lat_laws.proofs.rounds.counting.Steps.{pack_by, hear_by}
 use Rattle.lat_laws.proofs.tales.steps.Tables.{sess}
 
@@ -46,16 +46,16 @@ ids_form e k room x o m = go (nat_eq (e.session k).generation 0)
     go false = record { master = m; ids = λ i. refl }
 
 abbrev Keeping : ℕ → Sessions → Sessions → Type 0
-Keeping x e f = x ≤ 0 → KeepsIds e f
+Keeping x e f = is_none x ≡ true → KeepsIds e f
 
-ids_kept : KeptByActs 0 true Keeping
+ids_kept : KeptByActs is_none true Keeping
 ids_kept = record {
   same = λ x e l. ids_same e;
   after = λ x a b c p q l. ids_then a b c (p l) (q l);
   packs = λ x room e l. pack_by KeepsIds ids_same ids_then ids_form room e;
   hears = λ x slots e l. hear_by KeepsIds ids_same ids_then (λ f y service request s m. absurd (true≢false (sym m ∙ s))) (λ f k y g m. record { master = m; ids = λ i. refl }) slots e;
   agrees = λ x k e l m. record { master = m; ids = λ i. refl };
-  news = λ x e k c l m. absurd (omega (arith, l, m));
+  news = λ x e k c l m. absurd (true≢false (sym m ∙ l));
 }
 
 ids_cond : (b : Bool) (e f : Sessions) → KeepsIds e f → KeepsIds e (cond b f e)
@@ -109,7 +109,7 @@ local_ids b t x c n =
     act_cond t (lives (t.circuit_at x).end) (steps_at b t x s) (idle t) (steps_ids b t x s (ids_call (sess t x) c n)) (table_same t)
 
 pub time_ids : (b : Bool) (t : Table) (x now : ℕ) → TableIds t (time_at b t x now).table
-time_ids b t x now = act_cond t (lives (t.circuit_at x).end) (steps_at b t x (time_step now (t.circuit_at x).end)) (idle t) (steps_ids b t x (time_step now (t.circuit_at x).end) (to_time 0 true Keeping ids_kept 0 now (t.circuit_at x).end (omega arith))) (table_same t)
+time_ids b t x now = act_cond t (lives (t.circuit_at x).end) (steps_at b t x (time_step now (t.circuit_at x).end)) (idle t) (steps_ids b t x (time_step now (t.circuit_at x).end) (to_time is_none true Keeping ids_kept 0 now (t.circuit_at x).end refl)) (table_same t)
 
 pub end_ids : (b : Bool) (t : Table) (x r : ℕ) → TableIds t (end_at b t x r).table
 end_ids b t x r = act_cond t (lives (t.circuit_at x).end) (steps_at b t x (finish r (t.circuit_at x).end)) (idle t) (steps_ids b t x (finish r (t.circuit_at x).end) (ids_same (sess t x))) (table_same t)
@@ -124,17 +124,17 @@ run_ids b t from wide h slots k now =
     let e : End = (t.circuit_at h.to).end in
     let f : Frame (List Slot) = run_frame (numbers_at e h k) slots in
     heard_cond t (names t from h.to h.from) (run_at b t h.to (fits_kind e h.master wide) now h.ask f) (foreign t)
-    (heard_cond t (fits_kind e h.master wide) _ _ (steps_ids b t h.to (run_end now h.ask f e).step (to_run 0 true Keeping ids_kept 0 now h.ask f e (omega arith))) (move_ids b t h.to now))
+    (heard_cond t (fits_kind e h.master wide) _ _ (steps_ids b t h.to (run_end now h.ask f e).step (to_run is_none true Keeping ids_kept 0 now h.ask f e refl)) (move_ids b t h.to now))
     (table_same t)
 
 pub stop_ids : (b : Bool) (t : Table) (from to source now reason : ℕ) → TableIds t (hear_stop_at b t from to source now reason).act.table
 stop_ids b t from to source now reason =
     let c : CircuitEntry = t.circuit_at to in
     heard_cond t (nat_eq c.address from && (nat_eq c.end.peer source || nat_eq source 0) && lives c.end) (record { act = steps_at b t to (hear_stop now reason c.end); answer = Ended reason }) (foreign t)
-    (steps_ids b t to (hear_stop now reason c.end) (to_stop 0 true Keeping ids_kept 0 now reason c.end (omega arith))) (table_same t)
+    (steps_ids b t to (hear_stop now reason c.end) (to_stop is_none true Keeping ids_kept 0 now reason c.end refl)) (table_same t)
 
 pub reply_ids : (t : Table) (from to source now : ℕ) (g : Agreed) → TableIds t (hear_reply_at t from to source now g).act.table
 reply_ids t from to source now g =
     let c : CircuitEntry = t.circuit_at to in
     heard_cond t (nat_eq c.address from && lives c.end && (not c.end.running || nat_eq c.end.peer source)) (record { act = steps_at true t to (hear_reply now source g c.end); answer = cond c.end.running Again Running }) (foreign t)
-    (steps_ids true t to (hear_reply now source g c.end) (to_reply 0 true Keeping ids_kept 0 now source g c.end (omega arith))) (table_same t)
+    (steps_ids true t to (hear_reply now source g c.end) (to_reply is_none true Keeping ids_kept 0 now source g c.end refl)) (table_same t)

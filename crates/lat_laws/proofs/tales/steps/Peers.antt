@@ -1,5 +1,5 @@
 -- A slave keeps the id of its peer, whatever is heard and called.
-use Rattle.std.proofs.Common.{◌≡◌, ℕ, suc, ◌≤◌, refl, sym, ap, ◌∙◌, arith, Bool, true, false, not, cond, ◌&&◌, ◌||◌, List, [], Option, nat_eq, nat_lt, eqb-true}
+use Rattle.std.proofs.Common.{◌≡◌, ℕ, refl, sym, ap, ◌∙◌, Bool, true, false, not, cond, ◌&&◌, ◌||◌, List, [], Option, nat_eq, nat_lt, eqb-true}
 use Rattle.lat_model.specs.sessions.Slots.{Slot}
 use Rattle.lat_model.specs.sessions.Calls.{Call, Answer, RejectAsk}
 use Rattle.lat_model.specs.numbers.Link.{Frame}
@@ -12,6 +12,8 @@ use Rattle.lat_model.specs.circuits.Arriving.{living, slave_of}
 use Rattle.lat_model.proofs.sessions.Words.{upd_other}
 use Rattle.lat_model.proofs.circuits.Kin.{kin_time, kin_run, kin_stop}
 use Rattle.lat_model.proofs.circuits.Begins.{kin_call}
+use Rattle.lat_model.proofs.circuits.Ids.{drawn_apart, drawn_behind}
+use Rattle.lat_model.specs.circuits.Ids.{is_drawn, next_id, IdsStay}
 use Rattle.lat_machines.specs.values.Messages.{Head}
 use Rattle.lat_machines.specs.values.Events.{Numbers, Event, Hears, Time, Connects, Puts, Sets, Takes, Attends, Closes, Requests, Withdraws, Announces, Avoids, Readies, Halts}
 use Rattle.lat_machines.specs.values.Answers.{Ended}
@@ -23,17 +25,17 @@ use Rattle.lat_laws.proofs.rounds.counting.Cores.{EventAllows}
 use Rattle.lat_laws.proofs.tales.steps.Walk.{NodeActs, node_keeps}
 
 pub record KeepsPeers (t : Table) (v : Table) : Type 0 where
-  pub drawn : t.drawn ≤ v.drawn
-  pub peer : (x : ℕ) → x ≤ t.drawn → (v.circuit_at x).end.peer ≡ (t.circuit_at x).end.peer
+  pub drawn : IdsStay t v
+  pub peer : (x : ℕ) → is_drawn t x ≡ true → (v.circuit_at x).end.peer ≡ (t.circuit_at x).end.peer
 
 peers_same : (t : Table) → KeepsPeers t t
-peers_same t = record { drawn = omega arith; peer = λ x l. refl }
+peers_same t = record { drawn = λ x l. l; peer = λ x l. refl }
 
 peers_then : (t v w : Table) → KeepsPeers t v → KeepsPeers v w → KeepsPeers t w
-peers_then t v w p q = record { drawn = omega (arith, p.drawn, q.drawn); peer = λ x l. q.peer x (omega (arith, l, p.drawn)) ∙ p.peer x l }
+peers_then t v w p q = record { drawn = λ x l. q.drawn x (p.drawn x l); peer = λ x l. q.peer x (p.drawn x l) ∙ p.peer x l }
 
 steps_peers : (t : Table) (x : ℕ) (s : Step) → s.end.peer ≡ (t.circuit_at x).end.peer → KeepsPeers t (steps_at false t x s).table
-steps_peers t x s h = record { drawn = omega arith; peer = λ y l. go y (nat_eq y x) refl }
+steps_peers t x s h = record { drawn = λ y l. l; peer = λ y l. go y (nat_eq y x) refl }
   where
     new : CircuitEntry
     new = record { address = (t.circuit_at x).address; end = (note_empty (t.circuit_at x).end s).end }
@@ -104,8 +106,8 @@ start_peers u t from source now g = go (nat_eq (slave_of t from source) 0) (nat_
     new : CircuitEntry
     new = record { address = from; end = (make_slave now source g (first_end false false u)).end }
 
-    go : (a b : Bool) → KeepsPeers t (start_at u t from source now g (cond a (cond b (Makes (suc t.drawn)) Refuses) (Repeats k))).table
-    go true true = record { drawn = omega arith; peer = λ x l. ap (λ (z : CircuitEntry). z.end.peer) (upd_other t.circuit_at (suc t.drawn) new x (λ q. absurd (omega (arith, q, l)))) }
+    go : (a b : Bool) → KeepsPeers t (start_at u t from source now g (cond a (cond b (Makes (next_id t)) Refuses) (Repeats k))).table
+    go true true = record { drawn = drawn_behind t.first t.drawn; peer = λ x l. ap (λ (z : CircuitEntry). z.end.peer) (upd_other t.circuit_at (next_id t) new x (drawn_apart t.first t.drawn x l)) }
     go true false = peers_same t
     go false b = steps_peers t k (again_start now (t.circuit_at k).end) (again_peer now (t.circuit_at k).end)
 

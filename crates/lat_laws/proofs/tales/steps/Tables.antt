@@ -1,6 +1,6 @@
 -- What an act that puts and takes nothing leaves of a table of circuits: one that doesn't live stays as it is, and one that
 -- runs keeps its peer.
-use Rattle.std.proofs.Common.{◌≡◌, ℕ, suc, ◌≤◌, refl, sym, ap, ◌∙◌, subst, arith, Bool, true, false, not, cond, ◌&&◌, ◌||◌, List, [], Option, nat_eq, nat_lt, eqb-true}
+use Rattle.std.proofs.Common.{◌≡◌, ℕ, suc, refl, sym, ap, ◌∙◌, subst, arith, Bool, true, false, not, cond, ◌&&◌, ◌||◌, List, [], Option, nat_eq, nat_lt, eqb-true}
 use Rattle.std.proofs.lemmas.Bool.{and_parts, true≢false, eqb-false}
 use Rattle.lat_model.specs.sessions.Slots.{Slot}
 use Rattle.lat_model.specs.sessions.Sessions.{Sessions}
@@ -15,13 +15,15 @@ use Rattle.lat_model.specs.circuits.Arriving.{is_of, living, slave_of}
 use Rattle.lat_model.proofs.sessions.Words.{upd_other, upd_all}
 use Rattle.lat_model.proofs.circuits.Kin.{Kin, kin_time, kin_run, kin_stop}
 use Rattle.lat_model.proofs.circuits.Begins.{kin_call}
+use Rattle.lat_model.proofs.circuits.Ids.{drawn_apart, drawn_behind}
+use Rattle.lat_model.specs.circuits.Ids.{is_drawn, next_id, IdsStay, ids}
 use Rattle.lat_machines.specs.values.Messages.{Head}
 use Rattle.lat_machines.specs.values.Events.{Numbers}
 use Rattle.lat_machines.specs.values.Answers.{Again, Running, Ended}
 use Rattle.lat_machines.specs.cores.Acts.{Acted, idle, put_at, steps_at, call_at, called, local_at, time_at, move_at, end_at}
 use Rattle.lat_machines.specs.cores.Hearing.{HeardAct, foreign, names, fits_kind, numbers_at, run_frame, run_at, hear_run, hear_stop_at, hear_reply_at, Repeats, Makes, Refuses, start_fact, start_at, follows, is_outlived, outlive_at}
 use Rattle.lat_machines.proofs.queue.Rooms.{least_true}
-use Rattle.lat_laws.proofs.rounds.counting.Kept.{to_time, to_run, to_again, to_stop, to_reply}
+use Rattle.lat_laws.proofs.rounds.counting.Kept.{to_time, to_run, to_again, to_stop, to_reply, is_none}
 use Rattle.lat_laws.proofs.tales.steps.Goes.{Good, Onto, Goes, goes_same, goes_kept, one_then, IsQuiet, goes_call, void_good}
 
 abbrev pub sess : Table → ℕ → Sessions
@@ -37,8 +39,8 @@ abbrev pub TableGood : Table → Type 0
 TableGood t = (x : ℕ) → Good (sess t x)
 
 pub record Turned (t : Table) (v : Table) : Type 0 where
-  pub drawn : t.drawn ≤ v.drawn
-  pub at : (x : ℕ) → x ≤ t.drawn → EntryGoes (t.circuit_at x) (v.circuit_at x)
+  pub drawn : IdsStay t v
+  pub at : (x : ℕ) → is_drawn t x ≡ true → EntryGoes (t.circuit_at x) (v.circuit_at x)
   pub good : TableGood v
 
 abbrev pub Turns : Table → Table → Type 0
@@ -64,12 +66,12 @@ entry_then c d e p q = record {
     }
 
 pub turned_same : (t : Table) → Turns t t
-turned_same t g = record { drawn = omega arith; at = λ x l. entry_same (t.circuit_at x) (g x); good = g }
+turned_same t g = record { drawn = λ x l. l; at = λ x l. entry_same (t.circuit_at x) (g x); good = g }
 
 pub turned_then : (t v w : Table) → Turned t v → Turned v w → Turned t w
 turned_then t v w p q = record {
-  drawn = omega (arith, p.drawn, q.drawn);
-  at = λ x l. entry_then (t.circuit_at x) (v.circuit_at x) (w.circuit_at x) (p.at x l) (q.at x (omega (arith, l, p.drawn)));
+  drawn = λ x l. q.drawn x (p.drawn x l);
+  at = λ x l. entry_then (t.circuit_at x) (v.circuit_at x) (w.circuit_at x) (p.at x l) (q.at x (p.drawn x l));
   good = q.good;
 }
 
@@ -82,7 +84,7 @@ kin_peer e f k r = (k.running ∙ r, k.peer)
 -- a step of a circuit that lives
 steps_turn : (b : Bool) (t : Table) (x : ℕ) (s : Step) → lives (t.circuit_at x).end ≡ true → KeepsPeer (t.circuit_at x).end s.end → Goes (sess t x) s.end.half.sessions → Turns t (steps_at b t x s).table
 steps_turn b t x s l k h g = record {
-  drawn = omega arith;
+  drawn = λ y l. l;
   at = λ y m. at y (nat_eq y x) refl;
   good = λ y. upd_all (λ (z : CircuitEntry). Good z.end.half.sessions) t.circuit_at x new (h (g x)).good g y;
 }
@@ -98,11 +100,11 @@ steps_turn b t x s l k h g = record {
     at y false q = entry_same (t.circuit_at y) (g y)
 
 -- a circuit more, without sessions
-fresh_turn : (b : Bool) (t : Table) (address : ℕ) (s : Step) → Good s.end.half.sessions → Turns t (put_at b t (suc t.drawn) (suc t.drawn) address s).table
+fresh_turn : (b : Bool) (t : Table) (address : ℕ) (s : Step) → Good s.end.half.sessions → Turns t (put_at b t (suc t.drawn) (next_id t) address s).table
 fresh_turn b t address s n g = record {
-  drawn = omega arith;
-  at = λ y m. subst (EntryGoes (t.circuit_at y)) (sym (upd_other t.circuit_at (suc t.drawn) new y (λ q. absurd (omega (arith, q, m))))) (entry_same (t.circuit_at y) (g y));
-  good = λ y. upd_all (λ (z : CircuitEntry). Good z.end.half.sessions) t.circuit_at (suc t.drawn) new n g y;
+  drawn = drawn_behind t.first t.drawn;
+  at = λ y m. subst (EntryGoes (t.circuit_at y)) (sym (upd_other t.circuit_at (next_id t) new y (drawn_apart t.first t.drawn y m))) (entry_same (t.circuit_at y) (g y));
+  good = λ y. upd_all (λ (z : CircuitEntry). Good z.end.half.sessions) t.circuit_at (next_id t) new n g y;
 }
   where
     new : CircuitEntry
@@ -119,22 +121,22 @@ heard_cond t false a b p q = q refl
 -- each act
 
 abbrev Going : ℕ → Sessions → Sessions → Type 0
-Going x e f = x ≤ 0 → Goes e f
+Going x e f = is_none x ≡ true → Goes e f
 
 time_goes : (now : ℕ) (e : End) → Goes e.half.sessions (time_step now e).end.half.sessions
-time_goes now e = to_time 0 true Going (goes_kept 0 true) 0 now e (omega arith)
+time_goes now e = to_time is_none true Going (goes_kept is_none true) 0 now e refl
 
 run_goes : (now : ℕ) (a : Bool) (f : Frame (List Slot)) (e : End) → Goes e.half.sessions (run_end now a f e).step.end.half.sessions
-run_goes now a f e = to_run 0 true Going (goes_kept 0 true) 0 now a f e (omega arith)
+run_goes now a f e = to_run is_none true Going (goes_kept is_none true) 0 now a f e refl
 
 again_goes : (now : ℕ) (e : End) → Goes e.half.sessions (again_start now e).end.half.sessions
-again_goes now e = to_again 0 true Going (goes_kept 0 true) 0 now e (omega arith)
+again_goes now e = to_again is_none true Going (goes_kept is_none true) 0 now e refl
 
 stop_goes : (now r : ℕ) (e : End) → Goes e.half.sessions (hear_stop now r e).end.half.sessions
-stop_goes now r e = to_stop 0 true Going (goes_kept 0 true) 0 now r e (omega arith)
+stop_goes now r e = to_stop is_none true Going (goes_kept is_none true) 0 now r e refl
 
 reply_goes : (now peer : ℕ) (g : Agreed) (e : End) → Goes e.half.sessions (hear_reply now peer g e).end.half.sessions
-reply_goes now peer g e = to_reply 0 true Going (goes_kept 0 true) 0 now peer g e (omega arith)
+reply_goes now peer g e = to_reply is_none true Going (goes_kept is_none true) 0 now peer g e refl
 
 peer_cond : (e : End) (b : Bool) (s t : Step) → (b ≡ true → KeepsPeer e s.end) → (b ≡ false → KeepsPeer e t.end) → KeepsPeer e (cond b s t).end
 peer_cond e true s t p q = p refl
@@ -208,10 +210,10 @@ start_turn u t from source now g = go (nat_eq (slave_of t from source) 0) refl (
     k : ℕ
     k = slave_of t from source
 
-    go : (a : Bool) → nat_eq (slave_of t from source) 0 ≡ a → (b : Bool) → Turns t (start_at u t from source now g (cond a (cond b (Makes (suc t.drawn)) Refuses) (Repeats k))).table
+    go : (a : Bool) → nat_eq (slave_of t from source) 0 ≡ a → (b : Bool) → Turns t (start_at u t from source now g (cond a (cond b (Makes (next_id t)) Refuses) (Repeats k))).table
     go true q true = fresh_turn false t from (make_slave now source g (first_end false false u)) (void_good false _ _)
     go true q false = turned_same t
     go false q b = steps_turn false t k (again_start now (t.circuit_at k).end) (alive q) (again_peer now (t.circuit_at k).end) (again_goes now (t.circuit_at k).end)
       where
         alive : nat_eq (slave_of t from source) 0 ≡ false → lives (t.circuit_at k).end ≡ true
-        alive q = (and_parts (is_of (t.circuit_at k) from source) (lives (t.circuit_at k).end) (least_true (λ i. is_of (t.circuit_at i) from source && lives (t.circuit_at i).end) 0 t.drawn (eqb-false k 0 q))).1
+        alive q = (and_parts (is_of (t.circuit_at k) from source) (lives (t.circuit_at k).end) (least_true (λ i. is_of (t.circuit_at i) from source && lives (t.circuit_at i).end) (ids t) (eqb-false k 0 q))).1

@@ -14,6 +14,7 @@ use Rattle.lat_model.specs.ends.Starting.{Agreed}
 use Rattle.lat_model.specs.circuits.World.{CircuitEntry, Table}
 use Rattle.lat_model.specs.circuits.Arriving.{living, slave_of}
 use Rattle.lat_model.proofs.sessions.Words.{upd_same}
+use Rattle.lat_model.specs.circuits.Ids.{ids, next_id}
 use Rattle.lat_machines.specs.values.Names.{Name, same}
 use Rattle.lat_machines.specs.values.Addresses.{everyone}
 use Rattle.lat_machines.specs.values.Messages.{Head, StartInfo, RunMessage, WideMessage, StartMessage, StopMessage}
@@ -142,10 +143,10 @@ module _ (config : ServerConfig) (A : Call → Type 0) (P : Core → Type 0) (Q 
           let x : ℕ = circuit_to st.core b.from in
           let d : Doing = opens config line b.from b.node service None None st.core in
           step_cond Q (nat_eq x 0)
-          (cond (nat_lt (living st.core.circuits) 8) (cond (nat_lt st.core.circuits.drawn 65535) (does st (Connected (suc st.core.circuits.drawn) 1) d) (tells st IdsOut)) (tells st CircuitsFull))
+          (cond (nat_lt (living st.core.circuits) 8) (cond (nat_lt st.core.circuits.drawn 65535) (does st (Connected (next_id st.core.circuits) 1) d) (tells st IdsOut)) (tells st CircuitsFull))
           (cond (has_room st.core x) (does st (Connected x (least_free (st.core.circuits.circuit_at x).end.half.sessions)) d) (tells st SessionsFull))
-          (λ i. step_cond Q (nat_lt (living st.core.circuits) 8) (cond (nat_lt st.core.circuits.drawn 65535) (does st (Connected (suc st.core.circuits.drawn) 1) d) (tells st IdsOut)) (tells st CircuitsFull)
-          (λ j. step_cond Q (nat_lt st.core.circuits.drawn 65535) (does st (Connected (suc st.core.circuits.drawn) 1) d) (tells st IdsOut)
+          (λ i. step_cond Q (nat_lt (living st.core.circuits) 8) (cond (nat_lt st.core.circuits.drawn 65535) (does st (Connected (next_id st.core.circuits) 1) d) (tells st IdsOut)) (tells st CircuitsFull)
+          (λ j. step_cond Q (nat_lt st.core.circuits.drawn 65535) (does st (Connected (next_id st.core.circuits) 1) d) (tells st IdsOut)
           (λ k. h.opens a line b.from b.node service None None st.core (ap (λ z. cond z (may_call st.core) (has_room st.core x)) i ∙ both_true (nat_lt (living st.core.circuits) 8) (nat_lt st.core.circuits.drawn 65535) j k) ex fr r)
           (λ k. r))
           (λ j. r))
@@ -191,7 +192,7 @@ module _ (config : ServerConfig) (A : Call → Type 0) (P : Core → Type 0) (Q 
       let t : Server = record st { core = at_moment now st.core } in
       let q : P t.core = h.acts.moment st.core now r in
       step_cond Q (nat_eq from everyone) (tells t Ignored) (hears_value config t from v k) (λ y. h.done _ q) (λ y. h.done _ (value_keeps t from v k q))
-  event_keeps st (Time now) a w r = h.done _ (times_keep A P (server_side config) h.acts (upwards 0 st.core.circuits.drawn) (rests (at_moment now st.core)) (h.acts.moment st.core now r))
+  event_keeps st (Time now) a w r = h.done _ (times_keep A P (server_side config) h.acts (ids st.core.circuits) (rests (at_moment now st.core)) (h.acts.moment st.core now r))
   event_keeps st (Connects line service) a w r = step_cond Q st.halted (tells st Halted) (connect_event config st line service) (λ y. h.done _ r) (λ y. connect_keeps st line service (a y) r)
   event_keeps st (Puts line bytes) a w r = h.done _ (put_keeps A P (server_side config) h.acts config.lines st.core line r bytes w)
   event_keeps st (Sets line setting) a w r = h.done _ (set_keeps A P (server_side config) h.acts config.lines st.core line r setting w)
@@ -203,7 +204,7 @@ module _ (config : ServerConfig) (A : Call → Type 0) (P : Core → Type 0) (Q 
   event_keeps st Announces a w r = h.done _ r
   event_keeps st (Avoids line) a w r = h.done _ r
   event_keeps st (Readies line ready) a w r = h.done _ r
-  event_keeps st Halts a w r = h.done _ (ends_keep A P (server_side config) h.acts 3 (upwards 0 st.core.circuits.drawn) (rests st.core) r)
+  event_keeps st Halts a w r = h.done _ (ends_keep A P (server_side config) h.acts 3 (ids st.core.circuits) (rests st.core) r)
 
   -- the grant pass
 
@@ -273,7 +274,7 @@ verdict_line config st service request line e = by request e
         let n : l ≢ 0 = eqb-false l 0 q in
         let m : l ≤ 0 + config.lines = least_in (λ y. not (has_session st.core y)) 0 config.lines in
         subst (λ y. (line_exists config.lines y ≡ true) × (has_session st.core y ≡ false)) (is_it r)
-        (and_from (nat_lt 0 l) (nat_le l config.lines) (lt-ltb 0 l (omega (arith, n))) (le-leb l config.lines (omega (arith, m))), not-true (has_session st.core l) (least_true (λ y. not (has_session st.core y)) 0 config.lines n))
+        (and_from (nat_lt 0 l) (nat_le l config.lines) (lt-ltb 0 l (omega (arith, n))) (le-leb l config.lines (omega (arith, m))), not-true (has_session st.core l) (least_true (λ y. not (has_session st.core y)) (upwards 0 config.lines) n))
 
     either : (b : Bool) (n : ℕ) → cond b (on_free_line l) (Rejects n) ≡ Accepts line → (line_exists config.lines line ≡ true) × (has_session st.core line ≡ false)
     either true n r = on_line (nat_eq l 0) refl r
@@ -339,7 +340,7 @@ module _ (config : NodeConfig) (A : Call → Type 0) (P : Core → Type 0) (Q : 
       t = st.core.circuits
 
       fact : Bool → Bool → StartFact
-      fact a b = cond a (cond b (Makes (suc t.drawn)) Refuses) (Repeats (slave_of t from source))
+      fact a b = cond a (cond b (Makes (next_id t)) Refuses) (Repeats (slave_of t from source))
 
       go : (a b : Bool) → P (with_circuits st.core (start_at (setup_of config.timing) t from source st.core.moment (agreed_by config.timing info) (fact a b)).table) → P (hears_start config st from source info (fact a b)).state.core
       go true true q = h.acts.renames _ _ q
@@ -354,8 +355,8 @@ module _ (config : NodeConfig) (A : Call → Type 0) (P : Core → Type 0) (Q : 
   way_keeps : (st : Node) (from source : ℕ) → P st.core → P (makes_way config st from source).core
   way_keeps st from source r = go config.prompt
     where
-      go : (n : Bool) → P (with_circuits st.core (cond n (outlive from source (upwards 0 st.core.circuits.drawn) st.core.circuits) st.core.circuits))
-      go true = outlive_keeps from source (upwards 0 st.core.circuits.drawn) st.core st.core.circuits r
+      go : (n : Bool) → P (with_circuits st.core (cond n (outlive from source (ids st.core.circuits) st.core.circuits) st.core.circuits))
+      go true = outlive_keeps from source (ids st.core.circuits) st.core st.core.circuits r
       go false = r
 
   node_value_keeps : (rates : List ℕ) (st : Node) (from : ℕ) (v : Value) (k : Option Numbers) → (st.halted ≡ false → O) → P st.core → Q (N.hears_value config rates st from v k).state.core
@@ -392,7 +393,7 @@ module _ (config : NodeConfig) (A : Call → Type 0) (P : Core → Type 0) (Q : 
       let t : Node = record st { core = at_moment now st.core } in
       let q : P t.core = h.acts.moment st.core now r in
       node_cond Q (nat_eq from everyone) (N.tells t Ignored) (N.hears_value config rates t from v k) (h.done _ q) (node_value_keeps rates t from v k a q)
-  node_keeps rates st (Time now) a w r = h.done _ (times_keep A P (node_side config) h.acts (upwards 0 st.core.circuits.drawn) (rests (at_moment now st.core)) (h.acts.moment st.core now r))
+  node_keeps rates st (Time now) a w r = h.done _ (times_keep A P (node_side config) h.acts (ids st.core.circuits) (rests (at_moment now st.core)) (h.acts.moment st.core now r))
   node_keeps rates st (Connects line service) a w r = h.done _ r
   node_keeps rates st (Puts line bytes) a w r = h.done _ (put_keeps A P (node_side config) h.acts config.lines st.core line r bytes w)
   node_keeps rates st (Sets line setting) a w r = h.done _ (set_keeps A P (node_side config) h.acts config.lines st.core line r setting w)
@@ -404,4 +405,4 @@ module _ (config : NodeConfig) (A : Call → Type 0) (P : Core → Type 0) (Q : 
   node_keeps rates st Announces a w r = h.done _ r
   node_keeps rates st (Avoids line) a w r = h.done _ r
   node_keeps rates st (Readies line ready) a w r = h.done _ r
-  node_keeps rates st Halts a w r = h.done _ (ends_keep A P (node_side config) h.acts 3 (upwards 0 st.core.circuits.drawn) (rests st.core) r)
+  node_keeps rates st Halts a w r = h.done _ (ends_keep A P (node_side config) h.acts 3 (ids st.core.circuits) (rests st.core) r)

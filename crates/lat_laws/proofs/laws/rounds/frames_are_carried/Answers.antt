@@ -6,4 +6,4 @@ use Rattle.lat_laws.proofs.rounds.carried.Runnings.{go_on_carried, open_carried}
 use Rattle.lat_laws.proofs.laws.rounds.frames_are_carried.Goals as goal
 
 pub returns : goal.returns
-returns c = λ s n u v es a h k o. go_on_carried es (open_world s n u v) [] (open_world_ok s n u v a h k) (open_kinds s n u v) (open_carried s n u v) o
+returns c = λ s n i j u v es a h k o. go_on_carried es (open_world s n i j u v) [] (open_world_ok s n i j u v a h k) (open_kinds s n i j u v) (open_carried s n i j u v) o
