@@ -4,10 +4,11 @@ pub mod Left
 pub mod Begun
 pub mod Running
 pub mod Answered
+pub mod RingItems
+pub mod SettingsHeld
 pub mod Heard
 pub mod Taken
 pub mod Stopped
-pub mod FormsBytes
 pub mod Texts
 pub mod Forms
 pub mod FormsAfter

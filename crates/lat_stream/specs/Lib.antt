@@ -5,3 +5,4 @@ pub mod Begins
 pub mod Steps
 pub mod Turns
 pub mod FormsOffer
+pub mod RingItems

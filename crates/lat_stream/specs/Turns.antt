@@ -58,10 +58,6 @@ leading [] = []
 leading (Byte b ∷ xs) = b ∷ leading xs
 leading (Set t ∷ xs) = []
 
-abbrev pub is_byte : Item → Bool
-is_byte (Byte b) = true
-is_byte (Set t) = false
-
 -- those that one slot takes
 abbrev pub next_bytes : ℕ → Kept → List ℕ
 next_bytes room k = take (min (min 255 k.size) (byte_room room)) (leading k.unframed)

@@ -12,7 +12,7 @@ ghost use Rattle.lat_stream.specs.Kept.{stream_of, item_of};
 ghost use Rattle.lat_stream.specs.Sound.{Sound};
 ghost use Rattle.lat_stream.specs.Steps.{can_take, state_running, rejected_for, took, closed};
 
-use crate::rings::{let_go, let_go_all, push_bytes};
+use crate::held::{let_go, let_go_all};
 use crate::stream::{Stream, UNFRAMED_ITEMS};
 use lat_base::{Item, SessionEnd, SessionState};
 
@@ -94,7 +94,7 @@ impl Stream {
               ++ map kept_items.Byte (take result bytes.now);
         } }
     {
-        push_bytes(&mut self.unframed, bytes)
+        self.unframed.push_bytes(bytes)
     }
 
     /// Takes a setting. Refused `Closed` where `put` is, else `Full` where 4,096 items wait to be framed.
@@ -132,7 +132,7 @@ impl Stream {
               ++ kept_items.Set setting ∷ [];
         } }
     {
-        self.unframed.push_back(Item::Set(setting));
+        self.unframed.push_setting(setting);
     }
 
     /// Asks for an attention with this flag, in place of one that still waits. Refused `Closed` where `put` is.

@@ -1,7 +1,6 @@
 //! The slots that a session forms.
 
 ghost use Rattle.std.specs.Prelude.{◌≡◌, ◌≢◌, ℕ, List, ◌+◌, ◌<◌, ◌≤◌, true, false, ◌++◌, ◌||◌, ◌&&◌, length, take, drop, min, nat_lt, None};
-ghost use Rattle.circular_buffer.specs.Buffer.{buffer};
 ghost use Rattle.lat_base.specs.Names.{IsName};
 ghost use Rattle.lat_base.specs.declared.state.SessionState.TheVariants as states;
 ghost use Rattle.lat_model.specs.Lists.{is_empty};
@@ -15,14 +14,13 @@ ghost use Rattle.lat_stream.specs.Kept.{stream_of};
 ghost use Rattle.lat_stream.specs.Sound.{Sound};
 ghost use Rattle.lat_stream.specs.Wire.{IsFormed};
 ghost use Rattle.lat_stream.specs.Turns.{Meets, turn_of, later_turn, data_turn, offer_at, start_slot, bytes_offer, credits_offer, kept_after};
-ghost use Rattle.lat_stream.specs.Turns.{spends, over, due, gave, framed, stopped, is_byte, leading, next_bytes};
+ghost use Rattle.lat_stream.specs.Turns.{spends, over, due, gave, framed, stopped, next_bytes};
 
 use crate::opening::Opening;
 use crate::stream::Stream;
 use crate::write::{
     start_len, write_attention, write_credits, write_setting, write_start, write_stop,
 };
-use circular_buffer::HeapCircularBuffer;
 use lat_base::{Item, Payload, SessionEnd, SessionState};
 use lat_slots::{SlotKind, write_slot_head, write_slot_pad};
 
@@ -146,7 +144,7 @@ impl Stream {
         let may_spend = self.credits.has_unused();
         match self.unframed.front() {
             Some(Item::Byte(_)) if may_spend => Turn::Bytes,
-            Some(Item::Set(setting)) if may_spend => Turn::Setting(*setting),
+            Some(Item::Set(setting)) if may_spend => Turn::Setting(setting),
             _ => Turn::Credits,
         }
     }
@@ -268,7 +266,7 @@ impl Stream {
         }
         let credits = self.give_due();
         self.spend();
-        self.unframed.pop_front();
+        self.unframed.drop_first(1);
         write_setting(out, self.peer, id, credits, setting);
         Formed::Slot
     }
@@ -285,14 +283,14 @@ impl Stream {
         ensures room { (length out.old ≤ length out.new)
             × (length out.new ≤ length out.old + room) }
     {
-        let count = leading_count(&self.unframed, most_bytes(self.size, room));
+        let count = self.unframed.leading(most_bytes(self.size, room));
         if count == 0 {
             return Formed::Unfit;
         }
         let credits = self.give_due();
         self.spend();
         write_slot_head(out, self.peer, id, count, SlotKind::DataA, credits);
-        move_bytes(&mut self.unframed, count, out);
+        self.unframed.move_bytes(count, out);
         write_slot_pad(out, count);
         Formed::Slot
     }
@@ -323,33 +321,4 @@ fn most_bytes(size: u8, room: u16) -> u8
 {
     let space = room.saturating_sub(4);
     u16::from(size).min(space - space % 2) as u8
-}
-
-// How many bytes stand first, up to `most`.
-fn leading_count(items: &HeapCircularBuffer<Item>, most: u8) -> u8
-    ensures { result ≡ length (take most (leading items.now.items)) }
-{
-    let first = items.iter().take(usize::from(most));
-    first.take_while(|item| is_byte(item)).count() as u8
-}
-
-fn is_byte(item: &Item) -> bool
-    ensures { result ≡ is_byte item.now }
-{
-    matches!(item, Item::Byte(_))
-}
-
-// Moves the first `count` items, which are bytes.
-fn move_bytes(items: &mut HeapCircularBuffer<Item>, count: u8, out: &mut Payload)
-    requires bytes { count ≤ length (leading items.old.items) }
-    requires room { length out.old + count ≤ 1500 }
-    ensures items { items.new ≡ buffer (drop count items.old.items) items.old.capacity }
-    ensures bytes { out.new ≡ out.old ++ take count (leading items.old.items) }
-{
-    for _ in 0..count {
-        let Some(Item::Byte(b)) = items.pop_front() else {
-            unreachable!()
-        };
-        out.push(b);
-    }
 }

@@ -8,13 +8,13 @@ ghost use Rattle.lat_model.specs.sessions.Slots as slots;
 ghost use Rattle.lat_model.specs.sessions.Session.{Session};
 ghost use Rattle.lat_model.specs.sessions.Hearing.{heard, behind_fits};
 ghost use Rattle.lat_stream.specs.Kept.{stream_of};
+ghost use Rattle.lat_stream.specs.RingItems.{settings_in};
 ghost use Rattle.lat_stream.specs.Sound.{Sound};
 ghost use Rattle.lat_stream.specs.Steps.{can_hear, can_pay, ended_if_done, held_more, kept_more, granted, silent};
 ghost use Rattle.lat_model.specs.Lists.{is_empty};
 
-use crate::rings::push_bytes;
 use crate::stream::Stream;
-use lat_base::{Item, SessionEnd, SessionState};
+use lat_base::{SessionEnd, SessionState};
 use lat_credit::{NoCredit, TooMany};
 
 /// A slot that breaks its circuit. See "Bad slots" in docs/PROTOCOL.md.
@@ -189,16 +189,17 @@ impl Stream {
             self.new ≡ kept_more (map kept_items.Byte bytes.now) self.old }
     {
         if !self.closed {
-            push_bytes(&mut self.heard, bytes);
+            self.heard.push_bytes(bytes);
         }
     }
 
+    // A setting, which is dropped where the session closed. There is room for one of each slot held.
     fn keep_setting(&mut self, setting: [u8; 5])
-        ensures { length self.old.heard + 1 ≤ 3825 →
+        ensures { length self.old.heard + 1 ≤ 3825 → settings_in self.old.heard < 15 →
             self.new ≡ kept_more (kept_items.Set setting ∷ []) self.old }
     {
         if !self.closed {
-            self.heard.push_back(Item::Set(setting));
+            self.heard.push_setting(setting);
         }
     }
 

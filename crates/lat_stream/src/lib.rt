@@ -4,9 +4,10 @@
 mod calls;
 mod forming;
 mod hearing;
+mod held;
 mod opening;
 mod request;
-mod rings;
+mod ring;
 mod stream;
 mod write;
 

@@ -11,8 +11,9 @@ ghost use Rattle.lat_stream.specs.Sound.{Sound};
 ghost use Rattle.lat_stream.specs.Steps.{can_put, can_take, can_hear};
 
 use crate::opening::Opening;
+use crate::ring::ItemRing;
 use circular_buffer::HeapCircularBuffer;
-use lat_base::{Item, Memory, Name, SessionEnd, SessionState};
+use lat_base::{Memory, Name, SessionEnd, SessionState};
 use lat_credit::Credits;
 use std::alloc::Global;
 use std::marker::Model;
@@ -43,8 +44,8 @@ pub struct Stream {
     pub(crate) credits: Credits,
     pub(crate) given: u64,
     pub(crate) used: u64,
-    pub(crate) unframed: HeapCircularBuffer<Item>,
-    pub(crate) heard: HeapCircularBuffer<Item>,
+    pub(crate) unframed: ItemRing,
+    pub(crate) heard: ItemRing,
     pub(crate) held: HeapCircularBuffer<u8>,
     pub(crate) end: Option<SessionEnd>,
 }
@@ -101,14 +102,18 @@ impl Model for Stream {
     } };
 
     ghost invariant = { λ a.
-        (a.unframed.capacity ≡ 4096) × (a.heard.capacity ≡ 3825) × (a.held.capacity ≡ 15)
+        (a.unframed.capacity ≡ 4096) × (a.unframed.settings ≡ 4096)
+        × (a.heard.capacity ≡ 3825) × (a.heard.settings ≡ 15) × (a.held.capacity ≡ 15)
         × (length a.held.items ≡ a.credits.held)
         × (a.ceiling ≡ a.credits.ceiling) × (1 ≤ a.ceiling) × (a.ceiling ≤ 15)
         × (a.state ≡ states.Asked → is_some a.start ≡ true) };
 }
 
 impl Stream {
-    /// A place for sessions, in which there was none yet. `ceiling` is 1 to 15.
+    /// A place for sessions, in which there was none yet. `ceiling` is 1 to 15. It takes room for all items and slots that
+    /// may ever wait: 8 KB for items that are bytes, 32 KB for 4,096 settings that were put, and little for the 15 settings
+    /// that may have been heard, as each stands in a held slot of its own. Nothing of it is written before an item comes,
+    /// and of the room for settings only as much as there ever wait. `Memory` where none is found.
     pub fn make(alloc: Global, ceiling: u8) -> Result<Stream, Memory>
         requires { (1 ≤ ceiling) × (ceiling ≤ 15) }
         ensures { IfOk result (λ k. (master : Bool) → k ≡ stream_of master ceiling blank) }
@@ -127,9 +132,9 @@ impl Stream {
             credits: Credits::make(ceiling),
             given: 0,
             used: 0,
-            unframed: HeapCircularBuffer::with_capacity(alloc, UNFRAMED_ITEMS)?,
-            heard: HeapCircularBuffer::with_capacity(alloc, HEARD_ITEMS)?,
             held: HeapCircularBuffer::with_capacity(alloc, HELD_SLOTS)?,
+            heard: ItemRing::with_capacity(alloc, HEARD_ITEMS, HELD_SLOTS)?,
+            unframed: ItemRing::with_capacity(alloc, UNFRAMED_ITEMS, UNFRAMED_ITEMS)?,
             end: None,
         })
     }

@@ -1,6 +1,6 @@
 use Rattle.std.proofs.Common.{◌≡◌, ◌≤◌, length}
 use Rattle.lat_stream.specs.Steps.{still_held}
-use Rattle.lat_stream.proofs.rings.let_go.Given as goal
+use Rattle.lat_stream.proofs.held.let_go.Given as goal
 
 abbrev pub invariant-loop-n : goal.invariant-loop-n
 invariant-loop-n l =

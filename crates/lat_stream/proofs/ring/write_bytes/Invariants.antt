@@ -1,6 +1,6 @@
 use Rattle.std.proofs.Common.{◌≡◌, length, map, take}
 use Rattle.lat_base.specs.declared.item.Item.TheVariants as kept_items
-use Rattle.lat_stream.proofs.rings.push_piece.Given as goal
+use Rattle.lat_stream.proofs.ring.write_bytes.Given as goal
 
 abbrev pub invariant-loop-i : goal.invariant-loop-i
-invariant-loop-i l = (take l.i l.items ≡ map kept_items.Byte (take l.i l.piece)) × (length l.items ≡ 64)
+invariant-loop-i l = (take l.i l.out ≡ map kept_items.Byte (take l.i l.bytes)) × (length l.out ≡ length l.bytes)
