@@ -1,5 +1,5 @@
 -- The circuit of an id among what is held, and that of the core.
-use Rattle.std.proofs.Common.{◌≡◌, ℕ, Bool, true, false, cond, ◌&&◌, ◌||◌, nat_eq, eq-eqb, ne_eqb, nat_lt, ◌<◌, ◌≤◌, is_none, List, [], ◌∷◌, length, map, Option, Some, None, slice_get, position, refl, sym, ap, subst, ◌∙◌, arith, MatchOption}
+use Rattle.std.proofs.Common.{◌≡◌, ℕ, Bool, true, false, cond, ◌&&◌, ◌||◌, nat_eq, eq-eqb, ne_eqb, nat_lt, ◌<◌, is_none, List, [], ◌∷◌, length, map, Option, Some, None, slice_get, position, refl, sym, ap, subst, ◌∙◌, MatchOption}
 use Rattle.std.specs.List.{find, list_any, position_or_len}
 use Rattle.std.specs.Borrow.{Bor}
 use Rattle.std.specs.Option.{is_some, option_map, option_copied, IfSome}
@@ -15,11 +15,10 @@ use Rattle.lat_machines.specs.cores.Hearing.{names}
 use Rattle.lat_session.specs.Table.{Table}
 use Rattle.lat_circuit.specs.Kept as circuit
 use Rattle.lat_circuit.specs.Stands as circuit_stands
-use Rattle.lat_lines.specs.circuits.Kept.{Kept, Holds, IsOwn, has_id}
+use Rattle.lat_lines.specs.circuits.Kept.{Kept, Holds, IsOwn, has_id, is_drawn}
 use Rattle.lat_lines.specs.circuits.Stands.{Stands, IsCircuit}
 use Rattle.lat_lines.specs.circuits.Info.{held_circuit, is_of_circuit}
 use Rattle.lat_lines.specs.circuits.Living.{lives_in, LivesAt}
-use Rattle.lat_lines.proofs.CircuitsHeld.{rising_above}
 
 -- what is found passes, and is one of them
 pub each_found : {X : Type 0} (P : X → Type 0) (p : X → Bool) (xs : List X) (x : X) → Each P xs → find p xs ≡ Some x → P x × (p x ≡ true)
@@ -156,12 +155,11 @@ alive_found k c p st = by (find (λ (q : circuit.Kept). is_none q.ended && p q) 
         lives_told q (c.circuits.circuit_at q.facts.id).end f.0.end ∙ (and_parts (is_none q.ended) (p q) f.1).0
 
 -- the ids that are held were drawn
-pub if_held : {B : Type 0} (k : Kept) (x : ℕ) (now : B → circuit.Kept) (r : Option B) → Holds k → option_map now r ≡ find (has_same x) k.held → IfSome r (λ b. (1 ≤ x) × (x ≤ k.drawn))
+pub if_held : {B : Type 0} (k : Kept) (x : ℕ) (now : B → circuit.Kept) (r : Option B) → Holds k → option_map now r ≡ find (has_same x) k.held → IfSome r (λ b. is_drawn k x ≡ true)
 if_held k x now None h e = tt
 if_held k x now (Some b) h e =
-    let f = each_found (λ (q : circuit.Kept). (0 < q.facts.id) × (q.facts.id ≤ k.drawn)) (has_same x) k.held (now b) (rising_above (λ (q : circuit.Kept). q.facts.id) 0 k.drawn k.held h.rising) (sym e) in
-    let same = eqb-true (now b).facts.id x f.1 in
-    (omega (arith, f.0.0, same), omega (arith, f.0.1, same))
+    let f = each_found (λ (q : circuit.Kept). is_drawn k q.facts.id ≡ true) (has_same x) k.held (now b) h.drawn (sym e) in
+    subst (λ i. is_drawn k i ≡ true) (eqb-true (now b).facts.id x f.1) f.0
 
 -- the side of a core's circuit
 pub side_of_found : (k : Kept) (c : Core) (x : ℕ) (q : circuit.Kept) → held_circuit k x ≡ Some q → IsOwn k q → Stands k c → (c.circuits.circuit_at x).end.half.sessions.master ≡ k.server

@@ -1,12 +1,12 @@
 -- Lists of circuits whose ids rise.
-use Rattle.std.proofs.Common.{◌≡◌, ℕ, zero, suc, ◌+◌, ◌<◌, ◌≤◌, Bool, true, false, cond, ◌||◌, nat_eq, ne_eqb, List, [], ◌∷◌, ◌++◌, map, Some, None, slice_get, slice_set, get_or, refl, sym, ap, subst, ◌∙◌, arith}
+use Rattle.std.proofs.Common.{◌≡◌, ℕ, zero, suc, ◌+◌, ◌<◌, ◌≤◌, Bool, true, false, cond, ◌||◌, nat_eq, List, [], ◌∷◌, ◌++◌, map, Some, None, slice_get, slice_set, get_or, refl, sym, ap, subst, ◌∙◌, arith}
 use Rattle.std.specs.List.{list_any, position, position_from, remove}
 use Rattle.std.proofs.lemmas.Bool.{false≢true, eq-eqb}
 use Rattle.std.proofs.lemmas.Option.{same_Some, none-some, slice_get-get_or}
 use Rattle.std.proofs.lemmas.List.Quantifiers.{position-Some}
 use Rattle.std.proofs.lemmas.Iterator.Adapters.{position_from-zero}
 use Rattle.lat_model.specs.Lists.{Each}
-use Rattle.lat_lines.specs.circuits.Kept.{Rising}
+use Rattle.lat_model.specs.circuits.Ids.{Rises}
 
 pub eqb_self : (x : ℕ) → nat_eq x x ≡ true
 eqb_self x = eq-eqb x x refl
@@ -42,41 +42,30 @@ each_pop P (y ∷ ys) x e = let i = each_pop P ys x e.1 in ((e.0, i.0), i.1)
 
 -- rising numbers
 
-pub rising_weaker : (a b last : ℕ) (xs : List ℕ) → a ≤ b → Rising b last xs → Rising a last xs
-rising_weaker a b last [] l r = tt
-rising_weaker a b last (x ∷ xs) l r = (omega (arith, l, r.0), r.1, r.2)
+pub rises_weaker : (a b : ℕ) (xs : List ℕ) → a ≤ b → Rises b xs → Rises a xs
+rises_weaker a b [] l r = tt
+rises_weaker a b (x ∷ xs) l r = (omega (arith, l, r.0), r.1)
 
-pub rising_push : (a last x : ℕ) (xs : List ℕ) → Rising a last xs → a ≤ last → last < x → Rising a x (xs ++ x ∷ [])
-rising_push a last x [] r l h = (omega (arith, l, h), omega arith, tt)
-rising_push a last x (y ∷ ys) r l h = (r.0, omega (arith, r.1, h), rising_push y last x ys r.2 r.1 h)
-
-pub rising_above : {X : Type 0} (f : X → ℕ) (a last : ℕ) (xs : List X) → Rising a last (map f xs) → Each (λ x. (a < f x) × (f x ≤ last)) xs
-rising_above f a last [] r = tt
-rising_above f a last (x ∷ xs) r =
-    ((r.0, r.1), each_weaker (λ y. (f x < f y) × (f y ≤ last)) (λ y. (a < f y) × (f y ≤ last)) xs (λ y h. (omega (arith, h.0, r.0), h.1)) (rising_above f (f x) last xs r.2))
-
--- a number below the first of them isn't among them
-pub rising_apart : (a last x : ℕ) (xs : List ℕ) → x ≤ a → Rising a last xs → list_any (nat_eq x) xs ≡ false
-rising_apart a last x [] l r = refl
-rising_apart a last x (y ∷ ys) l r =
-    ap (λ b. b || list_any (nat_eq x) ys) (ne_eqb x y (λ e. absurd (omega (arith, e, l, r.0)))) ∙ rising_apart y last x ys (omega (arith, l, r.0)) r.2
+pub rises_above : {X : Type 0} (f : X → ℕ) (a : ℕ) (xs : List X) → Rises a (map f xs) → Each (λ x. a < f x) xs
+rises_above f a [] r = tt
+rises_above f a (x ∷ xs) r = (r.0, each_weaker (λ y. f x < f y) (λ y. a < f y) xs (λ y h. omega (arith, h, r.0)) (rises_above f (f x) xs r.1))
 
 -- what holds of each after the one at a place was replaced, the others being of other numbers
-pub each_replaced : {X : Type 0} (f : X → ℕ) (P Q : X → Type 0) (a last : ℕ) (xs : List X) (at : ℕ) (q r : X)
-    → Rising a last (map f xs) → slice_get xs at ≡ Some q → Each P xs → Q r → ((y : X) → P y → (f y ≡ f q → ⊥) → Q y)
+pub each_replaced : {X : Type 0} (f : X → ℕ) (P Q : X → Type 0) (a : ℕ) (xs : List X) (at : ℕ) (q r : X)
+    → Rises a (map f xs) → slice_get xs at ≡ Some q → Each P xs → Q r → ((y : X) → P y → (f y ≡ f q → ⊥) → Q y)
     → Each Q (slice_set xs at r)
-each_replaced f P Q a last [] at q r rise h e here others = tt
-each_replaced {X} f P Q a last (x ∷ xs) zero q r rise h e here others =
+each_replaced f P Q a [] at q r rise h e here others = tt
+each_replaced {X} f P Q a (x ∷ xs) zero q r rise h e here others =
     let same : x ≡ q = same_Some x q h in
-    let above = rising_above f (f x) last xs rise.2 in
+    let above = rises_above f (f x) xs rise.1 in
     (here, both xs e.1 above)
   where
-    both : (ys : List X) → Each P ys → Each (λ y. (f x < f y) × (f y ≤ last)) ys → Each Q ys
+    both : (ys : List X) → Each P ys → Each (λ y. f x < f y) ys → Each Q ys
     both [] p g = tt
-    both (y ∷ ys) p g = (others y p.0 (λ z. absurd (omega (arith, g.0.0, z, ap f (same_Some x q h)))), both ys p.1 g.1)
-each_replaced f P Q a last (x ∷ xs) (suc at) q r rise h e here others =
-    let above = each_at (λ y. (f x < f y) × (f y ≤ last)) xs at q (rising_above f (f x) last xs rise.2) h in
-    (others x e.0 (λ z. absurd (omega (arith, above.0, z))), each_replaced f P Q (f x) last xs at q r rise.2 h e.1 here others)
+    both (y ∷ ys) p g = (others y p.0 (λ z. absurd (omega (arith, g.0, z, ap f (same_Some x q h)))), both ys p.1 g.1)
+each_replaced f P Q a (x ∷ xs) (suc at) q r rise h e here others =
+    let above = each_at (λ y. f x < f y) xs at q (rises_above f (f x) xs rise.1) h in
+    (others x e.0 (λ z. absurd (omega (arith, above, z))), each_replaced f P Q (f x) xs at q r rise.1 h e.1 here others)
 
 pub map_set_same : {X : Type 0} (f : X → ℕ) (xs : List X) (at : ℕ) (q r : X) → slice_get xs at ≡ Some q → f r ≡ f q → map f (slice_set xs at r) ≡ map f xs
 map_set_same f [] at q r h e = refl
@@ -123,11 +112,11 @@ each_remove P [] (suc at) e = tt
 each_remove P (x ∷ xs) zero e = e.1
 each_remove P (x ∷ xs) (suc at) e = (e.0, each_remove P xs at e.1)
 
-pub rising_remove : {X : Type 0} (f : X → ℕ) (a last : ℕ) (xs : List X) (at : ℕ) → Rising a last (map f xs) → Rising a last (map f (remove xs at))
-rising_remove f a last [] zero r = tt
-rising_remove f a last [] (suc at) r = tt
-rising_remove f a last (x ∷ xs) zero r = rising_weaker a (f x) last (map f xs) (omega (arith, r.0)) r.2
-rising_remove f a last (x ∷ xs) (suc at) r = (r.0, r.1, rising_remove f (f x) last xs at r.2)
+pub rises_remove : {X : Type 0} (f : X → ℕ) (a : ℕ) (xs : List X) (at : ℕ) → Rises a (map f xs) → Rises a (map f (remove xs at))
+rises_remove f a [] zero r = tt
+rises_remove f a [] (suc at) r = tt
+rises_remove f a (x ∷ xs) zero r = rises_weaker a (f x) (map f xs) (omega (arith, r.0)) r.1
+rises_remove f a (x ∷ xs) (suc at) r = (r.0, rises_remove f (f x) xs at r.1)
 
 -- the others are still there
 pub any_remove : {X : Type 0} (f : X → ℕ) (xs : List X) (at : ℕ) (q : X) (i : ℕ) → slice_get xs at ≡ Some q → nat_eq i (f q) ≡ false

@@ -1,12 +1,15 @@
 -- A line's session that is connected, on a circuit that lives or is called.
-use Rattle.std.proofs.Common.{◌≡◌, ◌≢◌, ℕ, zero, suc, ◌+◌, ◌≤◌, Bool, true, false, cond, ◌&&◌, nat_eq, nat_lt, ne_eqb, eqb-true, lt-ltb, min, [], ◌++◌, append-nil, map, Option, Some, None, Result, Ok, Err, refl, sym, ap, subst, ◌∙◌, arith}
+use Rattle.std.proofs.Common.{◌≡◌, ◌≢◌, ℕ, suc, ◌≤◌, Bool, true, false, cond, ◌&&◌, nat_eq, nat_lt, ne_eqb, eqb-true, lt-ltb, min, List, [], ◌∷◌, ◌++◌, append-nil, map, Option, Some, None, Result, Ok, Err, refl, sym, ap, subst, ◌∙◌, arith}
 use Rattle.std.proofs.lemmas.Bool.{true≢false, and_parts}
-use Rattle.lat_model.specs.Lists.{upwards, least}
+use Rattle.lat_model.specs.Lists.{Each, least}
 use Rattle.lat_model.specs.sessions.Calls.{Call, Connect}
 use Rattle.lat_model.specs.sessions.Sessions.{held, least_free}
 use Rattle.lat_model.specs.ends.End.{lives, call_end}
 use Rattle.lat_model.specs.circuits.Arriving.{living}
 use Rattle.lat_model.specs.circuits.World.{CircuitEntry, Table}
+use Rattle.lat_model.specs.circuits.Ids.{ids, next_id, is_drawn}
+use Rattle.lat_model.proofs.circuits.Ids.{drawn_some, drawn_apart, next_unknown}
+use Rattle.lat_model.proofs.circuits.IdLists.{Draw, draw, each_id}
 use Rattle.lat_machines.proofs.queue.Rooms.{least_true}
 use Rattle.lat_machines.specs.values.Names.{Name}
 use Rattle.lat_machines.specs.values.Keys as keys
@@ -25,7 +28,7 @@ use Rattle.lat_lines.proofs.CoresLater.{CoreOk, calling_later, calling_new, call
 -- the ids that an opening gives, by the way
 
 abbrev pub given_ids : Core → ℕ → Option ℕ → ℕ × ℕ
-given_ids c address None = (suc c.circuits.drawn, 1)
+given_ids c address None = (next_id c.circuits, 1)
 given_ids c address (Some x) = (circuit_to c address, least_free (c.circuits.circuit_at (circuit_to c address)).end.half.sessions)
 
 abbrev pub by_way : Core → ℕ → Result (Option ℕ) OpenFault → Result (ℕ × ℕ) OpenFault
@@ -41,7 +44,7 @@ opening_way c address = by (nat_eq x 0) (nat_lt (living c.circuits) 8) (nat_lt c
     ids : ℕ × ℕ
     ids = (x, least_free (c.circuits.circuit_at x).end.half.sessions)
 
-    by : (a b d r : Bool) → cond a (cond b (cond d (Ok (suc c.circuits.drawn, 1)) (Err IdsOut)) (Err CircuitsFull)) (cond r (Ok ids) (Err SessionsFull))
+    by : (a b d r : Bool) → cond a (cond b (cond d (Ok (next_id c.circuits, 1)) (Err IdsOut)) (Err CircuitsFull)) (cond r (Ok ids) (Err SessionsFull))
         ≡ by_way c address (cond a (cond b (cond d (Ok None) (Err IdsOut)) (Err CircuitsFull)) (cond r (Ok (Some x)) (Err SessionsFull)))
     by true true true r = refl
     by true true false r = refl
@@ -109,7 +112,7 @@ pub reached_living : (k : Side) (c : Core) (address x : ℕ) → CoreOk c → Jo
 reached_living k c address x ok j =
     let p : ℕ → Bool = λ i. nat_eq (c.circuits.circuit_at i).address address && lives (c.circuits.circuit_at i).end in
     let some : circuit_to c address ≢ 0 = λ e. true≢false (sym (ap (λ z. nat_eq z 0) e) ∙ j.some) in
-    let l : lives (c.circuits.circuit_at (circuit_to c address)).end ≡ true = (and_parts (nat_eq (c.circuits.circuit_at (circuit_to c address)).address address) (lives (c.circuits.circuit_at (circuit_to c address)).end) (least_true p 0 c.circuits.drawn some)).1 in
+    let l : lives (c.circuits.circuit_at (circuit_to c address)).end ≡ true = (and_parts (nat_eq (c.circuits.circuit_at (circuit_to c address)).address address) (lives (c.circuits.circuit_at (circuit_to c address)).end) (least_true p (ids c.circuits) some)).1 in
     record {
       lives = subst (λ z. lives (c.circuits.circuit_at z).end ≡ true) j.is l;
       room = subst (λ z. has_room c z ≡ true) j.is j.room;
@@ -117,31 +120,35 @@ reached_living k c address x ok j =
       later = λ a. calling_later k x a c ok;
     }
 
--- the first that passes is the new last one, where none passed before
-least_new : (p q : ℕ → Bool) (n m : ℕ) → least p (upwards n m) ≡ 0 → ((i : ℕ) → i ≤ n + m → q i ≡ p i) → q (suc (n + m)) ≡ true → least q (upwards n (suc m)) ≡ suc (n + m)
-least_new p q n zero none same new =
-    let here : q (suc n) ≡ true = subst (λ z. q (suc z) ≡ true) (omega arith) new in
-    ap (λ b. cond b (suc n) 0) here ∙ ap suc (omega arith)
-least_new p q n (suc m) none same new = by (p (suc n)) refl none (λ z. least_new p q (suc n) m z (λ i l. same i (omega (arith, l))) (subst (λ z. q (suc z) ≡ true) (omega arith) new))
+-- one id more is the first that passes, where none passed before
+least_new : (p q : ℕ → Bool) (x : ℕ) (front back : List ℕ) → least p (front ++ back) ≡ 0 → Each (λ i. (i ≢ 0) × (q i ≡ p i)) (front ++ back) → q x ≡ true → least q (front ++ x ∷ back) ≡ x
+least_new p q x [] back none same new = ap (λ b. cond b x (least q back)) new
+least_new p q x (y ∷ front) back none same new = by (p y) refl none (λ z. least_new p q x front back z same.1 new)
   where
-    by : (b : Bool) → p (suc n) ≡ b → cond b (suc n) (least p (upwards (suc n) m)) ≡ 0 → (least p (upwards (suc n) m) ≡ 0 → least q (upwards (suc n) (suc m)) ≡ suc (suc n + m)) → cond (q (suc n)) (suc n) (least q (upwards (suc n) (suc m))) ≡ suc (n + suc m)
-    by true e z ih = absurd (omega (arith, z))
-    by false e z ih = ap (λ b. cond b (suc n) (least q (upwards (suc n) (suc m)))) (same (suc n) (omega arith) ∙ e) ∙ ih z ∙ ap suc (omega arith)
+    by : (b : Bool) → p y ≡ b → cond b y (least p (front ++ back)) ≡ 0 → (least p (front ++ back) ≡ 0 → least q (front ++ x ∷ back) ≡ x) → cond (q y) y (least q (front ++ x ∷ back)) ≡ x
+    by true e z ih = absurd (same.0.0 z)
+    by false e z ih = ap (λ b. cond b y (least q (front ++ x ∷ back))) (same.0.1 ∙ e) ∙ ih z
 
 pub reached_called : (k : Side) (c : Core) (address : ℕ) (node : Name) → CoreOk c → nat_eq (circuit_to c address) 0 ≡ true → 1 ≤ k.timing.sessions
-    → Reached k c (called_core k address node c).core address (suc c.circuits.drawn)
+    → Reached k c (called_core k address node c).core address (next_id c.circuits)
 reached_called k c address node ok none some = record {
   lives = ap (λ z. lives z.end) new;
   room = ap (λ (z : CircuitEntry). nat_lt (held z.end.half.sessions) z.end.half.sessions.agreed) new ∙ lt-ltb 0 (min k.timing.sessions 64) (omega (arith, some));
-  found = least_new p q 0 c.circuits.drawn (eqb-true (circuit_to c address) 0 none) (λ i l. ap (λ (z : CircuitEntry). nat_eq z.address address && lives z.end) (old i (omega (arith, l)))) (subst (λ i. q (suc i) ≡ true) (omega arith) (ap (λ (z : CircuitEntry). nat_eq z.address address && lives z.end) new ∙ ap (λ b. b && true) (eqb_self address))) ∙ ap suc (omega arith);
-  later = λ a. calling_new k x a c d (called_later k address node c ok) (omega arith);
+  found =
+      ap (least q) r.behind
+      ∙ least_new p q x r.front r.back (ap (least p) (sym r.before) ∙ eqb-true (circuit_to c address) 0 none) (subst (Each (λ i. (i ≢ 0) × (q i ≡ p i))) r.before (each_id (λ i. (i ≢ 0) × (q i ≡ p i)) c.circuits.first c.circuits.drawn before))
+      (ap (λ (z : CircuitEntry). nat_eq z.address address && lives z.end) new ∙ ap (λ b. b && true) (eqb_self address));
+  later = λ a. calling_new k x a c d (called_later k address node c ok) (next_unknown c.circuits);
 }
   where
     d : Core
     d = (called_core k address node c).core
 
     x : ℕ
-    x = suc c.circuits.drawn
+    x = next_id c.circuits
+
+    r : Draw c.circuits.first c.circuits.drawn
+    r = draw c.circuits.first c.circuits.drawn
 
     entry : CircuitEntry
     entry = record { address = address; end = (called (setup_of k.timing) c.moment).end }
@@ -155,13 +162,19 @@ reached_called k c address node ok none some = record {
     new : d.circuits.circuit_at x ≡ entry
     new = ap (λ b. cond b entry (c.circuits.circuit_at x)) (eqb_self x)
 
-    old : (i : ℕ) → i ≤ c.circuits.drawn → d.circuits.circuit_at i ≡ c.circuits.circuit_at i
-    old i l = ap (λ b. cond b entry (c.circuits.circuit_at i)) (ne_eqb i x (λ e. absurd (omega (arith, e, l))))
+    old : (i : ℕ) → i ≢ x → d.circuits.circuit_at i ≡ c.circuits.circuit_at i
+    old i n = ap (λ b. cond b entry (c.circuits.circuit_at i)) (ne_eqb i x n)
+
+    before : (i : ℕ) → is_drawn c.circuits i ≡ true → (i ≢ 0) × (q i ≡ p i)
+    before i h = (
+      drawn_some c.circuits.first c.circuits.drawn i h,
+      ap (λ (z : CircuitEntry). nat_eq z.address address && lives z.end) (old i (drawn_apart c.circuits.first c.circuits.drawn i h)),
+    )
 
 -- its first id
-pub first_free : (k : Side) (c : Core) (address : ℕ) (node : Name) → least_free ((called_core k address node c).core.circuits.circuit_at (suc c.circuits.drawn)).end.half.sessions ≡ 1
+pub first_free : (k : Side) (c : Core) (address : ℕ) (node : Name) → least_free ((called_core k address node c).core.circuits.circuit_at (next_id c.circuits)).end.half.sessions ≡ 1
 first_free k c address node =
-    ap (λ b. least_free (cond b (record { address = address; end = (called (setup_of k.timing) c.moment).end }) (c.circuits.circuit_at (suc c.circuits.drawn))).end.half.sessions) (eqb_self (suc c.circuits.drawn))
+    ap (λ b. least_free (cond b (record { address = address; end = (called (setup_of k.timing) c.moment).end }) (c.circuits.circuit_at (next_id c.circuits))).end.half.sessions) (eqb_self (next_id c.circuits))
 
 -- what the machines do
 
@@ -200,7 +213,7 @@ calls_new config address node c e = ap (λ b. cond b (called_core (server_side c
 
 -- either way
 pub reached_by : (k : Side) (c : Core) (address : ℕ) (node : Name) (w : Option ℕ) → CoreOk c → way c address ≡ Ok w → (w ≡ None → 1 ≤ k.timing.sessions)
-    → Reached k c (reaches k address node w c).core address (reached c.circuits.drawn w)
+    → Reached k c (reaches k address node w c).core address (reached (next_id c.circuits) w)
 reached_by k c address node None ok e some = reached_called k c address node ok (called_way c address e) (some refl)
 reached_by k c address node (Some x) ok e some = reached_living k c address x ok (joins c address x e)
 
@@ -210,6 +223,6 @@ calls_by config c address node (Some x) e = calls_living config address node c (
 
 -- the ids that are given
 pub given_by : (k : Side) (c : Core) (address : ℕ) (node : Name) (w : Option ℕ) → way c address ≡ Ok w
-    → given_ids c address w ≡ (reached c.circuits.drawn w, least_free ((reaches k address node w c).core.circuits.circuit_at (reached c.circuits.drawn w)).end.half.sessions)
-given_by k c address node None e = ap (λ i. (suc c.circuits.drawn, i)) (sym (first_free k c address node))
+    → given_ids c address w ≡ (reached (next_id c.circuits) w, least_free ((reaches k address node w c).core.circuits.circuit_at (reached (next_id c.circuits) w)).end.half.sessions)
+given_by k c address node None e = ap (λ i. (next_id c.circuits, i)) (sym (first_free k c address node))
 given_by k c address node (Some x) e = ap (λ z. (z, least_free (c.circuits.circuit_at z).end.half.sessions)) (joins c address x e).is

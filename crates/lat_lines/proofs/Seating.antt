@@ -1,5 +1,5 @@
 -- A line that has no session has one from now on.
-use Rattle.std.proofs.Common.{◌≡◌, ◌≢◌, ℕ, suc, ◌+◌, Bool, true, false, not, cond, ◌&&◌, ◌||◌, ◌≤◌, nat_le, nat_eq, eq-eqb, eqb-true, List, [], ◌∷◌, ◌++◌, append_assoc, length, length-append, map, filter, find, Option, Some, None, refl, sym, ap, ap₂, subst, ◌∙◌, arith}
+use Rattle.std.proofs.Common.{◌≡◌, ◌≢◌, ℕ, suc, ◌+◌, Bool, true, false, not, cond, ◌&&◌, ◌||◌, nat_le, nat_eq, eq-eqb, eqb-true, List, [], ◌∷◌, ◌++◌, append_assoc, length, length-append, map, filter, find, Option, Some, None, refl, sym, ap, ap₂, subst, ◌∙◌, arith}
 use Rattle.std.specs.Option.{option_map, is_some}
 use Rattle.std.proofs.lemmas.Bool.{true≢false, not-false, eqb-false, or_parts, or_from}
 use Rattle.std.proofs.lemmas.List.{map-append}
@@ -9,6 +9,7 @@ use Rattle.lat_base.specs.declared.book.LineSession as base
 use Rattle.lat_model.specs.sessions.Slots.{items, credits, costs}
 use Rattle.lat_model.specs.sessions.Session.{Session, free, rejected, stopped, peer}
 use Rattle.lat_model.specs.ends.End.{lives}
+use Rattle.lat_model.specs.circuits.Ids.{is_drawn}
 use Rattle.lat_queue.specs.Histories.{some_key}
 use Rattle.lat_queue.specs.declared.key.Key.{Key}
 use Rattle.lat_machines.specs.values.Keys as keys
@@ -131,7 +132,7 @@ circuits_seated c ts [] e = tt
 circuits_seated c ts (q ∷ qs) e = (record { end = e.0.end; address = e.0.address; name = e.0.name }, circuits_seated c ts qs e.1)
 
 pub stands_seated : (k : circuits.Kept) (c : Core) (ts : List Seat) → stands.Stands k c → stands.Stands k (record c { seats = ts })
-stands_seated k c ts st = record { own = st.own; moment = st.moment; drawn = st.drawn; each = circuits_seated c ts k.held st.each; all = st.all }
+stands_seated k c ts st = record { own = st.own; moment = st.moment; first = st.first; drawn = st.drawn; each = circuits_seated c ts k.held st.each; all = st.all }
 
 -- The line of t has the session t from now on, and s is kept of it
 pub record Begins (k : Kept) (c : Core) (t : Seat) (s : own.Seat) : Type 0 where
@@ -219,7 +220,7 @@ told_of c n t s end = record {
 }
 
 pub begins : (k : Kept) (c : Core) (t : Seat) (key : Option Key) (u : base.LineSession) → Stands k c → has_session c t.line ≡ false → IsLine k.lines t.line → lives (end_of c t) ≡ true → Leads (sessions_of c t) t.id t.serial
-    → (1 ≤ t.circuit) × (t.circuit ≤ c.circuits.drawn) → t.key ≡ some_key key
+    → is_drawn c.circuits t.circuit ≡ true → t.key ≡ some_key key
     → session_shown u ≡ session_begun (saturated (suc (length c.seats))) t.circuit t.id (telling_of c t.circuit t.id)
     → Begins k c t (record { line = t.line; key = key; session = u })
 begins k c t key u st h l alive leads drawn e is =

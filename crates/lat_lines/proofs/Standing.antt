@@ -24,10 +24,10 @@ no_last zero i = refl
 no_last (suc n) zero = refl
 no_last (suc n) (suc i) = no_last n i
 
-pub stands_new : (q : circuits.Kept) (n own : ℕ) (seats : List Seat) (last : List (Option base.LineSession)) (freed : List Key)
-    → stands.Stands q (open_core (circuits.side_of q) own) → seats ≡ [] → last ≡ replicate n None
-    → Stands (record { lines = n; circuits = q; seats = seats; last = last; made = 0; finished = 0; freed = freed }) (open_core (circuits.side_of q) own)
-stands_new q n own seats last freed h none all = record {
+pub stands_new : (q : circuits.Kept) (n own first : ℕ) (seats : List Seat) (last : List (Option base.LineSession)) (freed : List Key)
+    → stands.Stands q (open_core (circuits.side_of q) own first) → seats ≡ [] → last ≡ replicate n None
+    → Stands (record { lines = n; circuits = q; seats = seats; last = last; made = 0; finished = 0; freed = freed }) (open_core (circuits.side_of q) own first)
+stands_new q n own first seats last freed h none all = record {
   circuits = h;
   seated = record {
     seats = ap (map seat_shown) none;

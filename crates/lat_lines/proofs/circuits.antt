@@ -1,10 +1,11 @@
 pub mod Wires
 pub mod Places
 pub mod Ids
+pub mod Among
 pub mod Each
 pub mod Passing
 pub mod Begun
-pub mod Pushed
+pub mod Added
 pub mod Messages
 pub mod Calling
 pub mod Cleared

@@ -1,7 +1,8 @@
 -- Sessions that a server connects, and that a node accepts.
-use Rattle.std.specs.Prelude.{◌≡◌, ℕ, suc, ◌<◌, true, cond, length, [], ◌∷◌, ◌++◌, Option, Some, None, Result, Ok, Err, nat_eq, nat_lt}
+use Rattle.std.specs.Prelude.{◌≡◌, ℕ, ◌<◌, true, cond, length, [], ◌∷◌, ◌++◌, Option, Some, None, Result, Ok, Err, nat_eq, nat_lt}
 use Rattle.lat_model.specs.sessions.Calls.{Answer}
 use Rattle.lat_model.specs.sessions.Sessions.{least_free}
+use Rattle.lat_model.specs.circuits.Ids.{next_id}
 use Rattle.lat_model.specs.circuits.Arriving.{living}
 use Rattle.lat_machines.specs.values.Names.{Name}
 use Rattle.lat_machines.specs.cores.Cores.{Seat, Core, Side, Doing, rests, circuit_to}
@@ -21,7 +22,7 @@ abbrev pub opening : Core → ℕ → Result (ℕ × ℕ) OpenFault
 opening c address =
     cond (nat_eq (circuit_to c address) 0)
     (cond (nat_lt (living c.circuits) 8)
-    (cond (nat_lt c.circuits.drawn 65535) (Ok (suc c.circuits.drawn, 1)) (Err IdsOut))
+    (cond (nat_lt c.circuits.drawn 65535) (Ok (next_id c.circuits, 1)) (Err IdsOut))
     (Err CircuitsFull))
     (cond (has_room c (circuit_to c address))
     (Ok (circuit_to c address, least_free (c.circuits.circuit_at (circuit_to c address)).end.half.sessions))
@@ -46,10 +47,10 @@ abbrev pub reaches : Side → ℕ → Name → Option ℕ → Core → Doing
 reaches k address node None c = called_core k address node c
 reaches k address node (Some x) c = rests c
 
--- its id, behind the last one drawn
+-- its id, where the next one that is drawn has this id
 abbrev pub reached : ℕ → Option ℕ → ℕ
-reached drawn None = suc drawn
-reached drawn (Some x) = x
+reached next None = next
+reached next (Some x) = x
 
 -- a line has this session from now on
 abbrev pub seated_core : Core → Seat → Core

@@ -1,5 +1,5 @@
 -- Which cores the lines stand for.
-use Rattle.std.specs.Prelude.{◌≡◌, ℕ, suc, ◌-◌, ◌≤◌, ◌≢◌, false, cond, List, [], ◌∷◌, map, length, Option, Some, None, slice_get, option_map}
+use Rattle.std.specs.Prelude.{◌≡◌, ℕ, suc, ◌-◌, ◌≢◌, true, false, cond, List, [], ◌∷◌, map, length, Option, Some, None, slice_get, option_map}
 use Rattle.lat_base.specs.declared.outbox.OutFrame.{OutFrame}
 use Rattle.lat_base.specs.declared.book.LineSession as base
 use Rattle.lat_base.specs.declared.book.LineBook as base_book
@@ -7,6 +7,7 @@ use Rattle.lat_base.specs.declared.state.SessionEnd as base_end
 use Rattle.lat_base.specs.declared.state.SessionEnd.TheVariants as ends
 use Rattle.lat_model.specs.Lists.{Each}
 use Rattle.lat_model.specs.ends.End.{lives}
+use Rattle.lat_model.specs.circuits.Ids.{is_drawn}
 use Rattle.lat_machines.specs.values.Addresses.{address}
 use Rattle.lat_machines.specs.values.Keys as keys
 use Rattle.lat_machines.specs.cores.Books.{SessionEnd, EndedClosed, EndedRejected, EndedCircuit, LineSession, line_session, LineBook, book}
@@ -83,7 +84,7 @@ freed_between c d = freed_from c d c.seats
 -- what holds of each line session of a core
 pub record IsSeat (lines : ℕ) (c : Core) (s : Seat) : Type 0 where
   pub line : IsLine lines s.line
-  pub drawn : (1 ≤ s.circuit) × (s.circuit ≤ c.circuits.drawn)
+  pub drawn : is_drawn c.circuits s.circuit ≡ true
   pub session : IsAccepted (sessions_of c s) s.serial
   pub id : (session_of c s).id ≡ s.id
 
@@ -115,7 +116,7 @@ pub record Seated (k : Kept) (c : Core) : Type 0 where
 pub record Stands (k : Kept) (c : Core) : Type 0 where
   pub circuits : circuits.Stands k.circuits c
   pub seated : Seated k c
-  pub none : lives (c.circuits.circuit_at 0).end ≡ false  -- ids are drawn from 1 on
+  pub none : lives (c.circuits.circuit_at 0).end ≡ false  -- 0 is no id
 
 -- They did this of every core that they stood for: its frames went out in order, and the requests whose sessions became free
 -- are known

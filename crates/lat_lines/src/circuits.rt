@@ -37,7 +37,9 @@ pub struct Circuits {
     pub(crate) timing: Timing,
     /// A server's: this end is the master of each.
     pub(crate) server: bool,
-    /// The last id drawn.
+    /// The id of the circuit that is drawn first, 1 to 65,535.
+    pub(crate) first: u16,
+    /// How many were drawn.
     pub(crate) drawn: u16,
     /// In milliseconds.
     pub(crate) moment: u64,
@@ -54,6 +56,7 @@ impl Drop for Circuits {
             name,
             timing,
             server,
+            first,
             drawn,
             moment,
             held,
@@ -90,18 +93,24 @@ fn rooms(alloc: Global, sessions: u8) -> Result<Vec<CircuitRoom>, Memory>
 
 impl Circuits {
     /// No circuit yet, at moment 0, of a core with this address and name; a server's or a node's. The timing must be valid.
-    /// Takes the memory of eight circuits; `Memory` where none is found.
+    /// The first circuit will have the id `first`, 1 to 65,535. Takes the memory of eight circuits; `Memory` where none is
+    /// found.
     pub fn make(
         alloc: Global,
         own: Addr,
         name: Name,
         timing: Timing,
         server: bool,
+        first: u16,
     ) -> Result<Circuits, Memory>
         requires timing { IsTiming timing }
-        ensures stands { IfOk result (λ k. Stands k (open_core (side_of k) (address own.0))) }
-        ensures own { IfOk result (λ k.
-            (k.own ≡ own) × (k.name ≡ name) × (k.timing ≡ timing) × (k.server ≡ server)) }
+        requires first { (1 ≤ first) × (first ≤ 65535) }
+        ensures stands { IfOk result (λ k. Stands k (open_core (side_of k) (address own.0) first)) }
+        ensures own { IfOk result (λ k. (k.own ≡ own)
+            × (k.name ≡ name)
+            × (k.timing ≡ timing)
+            × (k.server ≡ server)
+            × (k.first ≡ first)) }
         ensures none { IfOk result (λ k. (k.held ≡ []) × (k.moment ≡ 0)) }
     {
         Ok(Circuits {
@@ -109,6 +118,7 @@ impl Circuits {
             name,
             timing,
             server,
+            first,
             drawn: 0,
             moment: 0,
             held: Vec::with_capacity(alloc, CIRCUITS)?,

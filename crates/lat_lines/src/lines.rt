@@ -74,29 +74,33 @@ fn no_last(alloc: Global, count: u8) -> Result<Vec<Option<LineSession>>, Memory>
 
 impl Lines {
     /// So many lines without a session, 1 to 64, of a core with this address and name at moment 0; a server's or a node's. The
-    /// timing must be valid. Takes all the memory that lines and circuits will need; `Memory` where none is found.
+    /// timing must be valid. Its first circuit will have the id `first`, 1 to 65,535. Takes all the memory that lines and circuits
+    /// will need; `Memory` where none is found. See "Circuits" in docs/PROTOCOL.md.
     pub fn make(
         alloc: Global,
         own: Addr,
         name: Name,
         timing: Timing,
         server: bool,
+        first: u16,
         count: u8,
     ) -> Result<Lines, Memory>
         requires timing { IsTiming timing }
+        requires first { (1 ≤ first) × (first ≤ 65535) }
         requires count { (1 ≤ count) × (count ≤ 64) }
-        ensures stands { IfOk result (λ k. Stands k (open_core (side_of k) (address own.0))) }
+        ensures stands { IfOk result (λ k. Stands k (open_core (side_of k) (address own.0) first)) }
         ensures own { IfOk result (λ k. (k.circuits.own ≡ own)
             × (k.circuits.name ≡ name)
             × (k.circuits.timing ≡ timing)
-            × (k.circuits.server ≡ server)) }
+            × (k.circuits.server ≡ server)
+            × (k.circuits.first ≡ first)) }
         ensures clear { IfOk result (λ k. IsClear k.circuits) }
         ensures lines { IfOk result (λ k. k.lines ≡ count) }
         ensures freed { IfOk result (λ k. k.freed ≡ []) }
     {
         Ok(Lines {
             count,
-            circuits: Circuits::make(alloc, own, name, timing, server)?,
+            circuits: Circuits::make(alloc, own, name, timing, server, first)?,
             seats: Vec::with_capacity(alloc, count as usize)?,
             last: no_last(alloc, count)?,
             made: 0,

@@ -12,7 +12,7 @@ ghost use Rattle.lat_machines.specs.server.Server.{ServerConfig, server_side, ha
 ghost use Rattle.lat_queue.specs.Histories.{key_shown, some_key};
 ghost use Rattle.lat_payload.specs.Frames.{Emits};
 ghost use Rattle.lat_frames.specs.Timings.{IsTiming};
-ghost use Rattle.lat_lines.specs.circuits.Kept.{side_of as circuits_side, IsClear, SameCore, SameCircuits, has_id};
+ghost use Rattle.lat_lines.specs.circuits.Kept.{side_of as circuits_side, next_id, IsClear, SameCore, SameCircuits, has_id};
 ghost use Rattle.lat_lines.specs.circuits.Stands.{calling, Simulates, Stands as CircuitsStand};
 ghost use Rattle.lat_lines.specs.circuits.Info.{telling};
 ghost use Rattle.lat_lines.specs.circuits.Living.{has_room_at};
@@ -192,7 +192,7 @@ fn reach(
     requires room { length out.old + 16 ≤ 256 }
     ensures did { Simulates (reaches (circuits_side circuits.old) (address peer.0) node.now way)
         circuits.old circuits.new out.old out.new }
-    ensures id { result ≡ reached circuits.old.drawn way }
+    ensures id { result ≡ reached (next_id circuits.old) way }
     ensures free { has_room_at circuits.new result ≡ true }
     ensures timing { way ≡ None → IsTiming circuits.old.timing }
     ensures core { SameCore circuits.old circuits.new }

@@ -5,6 +5,7 @@ use Rattle.lat_base.specs.declared.answer.Answer.TheVariants as base
 use Rattle.lat_base.specs.declared.outbox.OutFrame.{OutFrame}
 use Rattle.lat_model.specs.sessions.Sessions.{least_free}
 use Rattle.lat_model.specs.circuits.Arriving.{living}
+use Rattle.lat_model.specs.circuits.Ids.{next_id}
 use Rattle.lat_machines.specs.values.Addresses.{everyone}
 use Rattle.lat_machines.specs.values.Names.{Name}
 use Rattle.lat_machines.specs.values.Notices.{SolicitNotice}
@@ -79,8 +80,8 @@ connects_is config s line service b = by (nat_eq x 0) (nat_lt (living s.core.cir
     id : ℕ
     id = least_free (s.core.circuits.circuit_at x).end.half.sessions
 
-    by : (p q r t : Bool) → cond p (cond q (cond r (step (Connected (suc s.core.circuits.drawn) 1)) (tells s IdsOut)) (tells s CircuitsFull)) (cond t (step (Connected x id)) (tells s SessionsFull))
-        ≡ connected_by config s line service b (cond p (cond q (cond r (Ok (suc s.core.circuits.drawn, 1)) (Err faults.IdsOut)) (Err faults.CircuitsFull)) (cond t (Ok (x, id)) (Err faults.SessionsFull)))
+    by : (p q r t : Bool) → cond p (cond q (cond r (step (Connected (next_id s.core.circuits) 1)) (tells s IdsOut)) (tells s CircuitsFull)) (cond t (step (Connected x id)) (tells s SessionsFull))
+        ≡ connected_by config s line service b (cond p (cond q (cond r (Ok (next_id s.core.circuits, 1)) (Err faults.IdsOut)) (Err faults.CircuitsFull)) (cond t (Ok (x, id)) (Err faults.SessionsFull)))
     by true true true t = refl
     by true true false t = refl
     by true false r t = refl

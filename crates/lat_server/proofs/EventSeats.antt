@@ -1,7 +1,7 @@
 -- The line sessions after an event, before what follows it.
 use Rattle.std.proofs.Common.{◌≡◌, ℕ, suc, refl, sym, ◌∙◌, Bool, true, false, cond, List, [], ◌∷◌, ◌++◌, length, Option, Some, None, nat_eq, nat_lt}
 use Rattle.std.proofs.lemmas.List.{append-nil}
-use Rattle.lat_model.specs.Lists.{upwards}
+use Rattle.lat_model.specs.circuits.Ids.{ids, next_id}
 use Rattle.lat_model.specs.sessions.Sessions.{least_free}
 use Rattle.lat_model.specs.sessions.Session.{put_open, take_open, unframed}
 use Rattle.lat_model.specs.sessions.Calls.{Put, Set, Attend, Take, Close, put_count, took}
@@ -126,9 +126,9 @@ connect_seats config st line service = by (line_exists config.lines line) (has_s
         let o : Opening st.core None d.core = opening_of config line b.from b.node service None None st.core in
         let n : concluded.Connects st.core d.core = record { new = o.seat ∷ []; seats = o.seats; keyless = (o.key, tt) } in
         if (nat_eq x 0)
-        (cond (nat_lt (living st.core.circuits) 8) (cond (nat_lt st.core.circuits.drawn 65535) (does st (Connected (suc st.core.circuits.drawn) 1) d) (tells st IdsOut)) (tells st CircuitsFull))
+        (cond (nat_lt (living st.core.circuits) 8) (cond (nat_lt st.core.circuits.drawn 65535) (does st (Connected (next_id st.core.circuits) 1) d) (tells st IdsOut)) (tells st CircuitsFull))
         (cond (has_room st.core x) (does st (Connected x (least_free (st.core.circuits.circuit_at x).end.half.sessions)) d) (tells st SessionsFull))
-        (if (nat_lt (living st.core.circuits) 8) (cond (nat_lt st.core.circuits.drawn 65535) (does st (Connected (suc st.core.circuits.drawn) 1) d) (tells st IdsOut)) (tells st CircuitsFull) (if (nat_lt st.core.circuits.drawn 65535) (does st (Connected (suc st.core.circuits.drawn) 1) d) (tells st IdsOut) n none) none)
+        (if (nat_lt (living st.core.circuits) 8) (cond (nat_lt st.core.circuits.drawn 65535) (does st (Connected (next_id st.core.circuits) 1) d) (tells st IdsOut)) (tells st CircuitsFull) (if (nat_lt st.core.circuits.drawn 65535) (does st (Connected (next_id st.core.circuits) 1) d) (tells st IdsOut) n none) none)
         (if (has_room st.core x) (does st (Connected x (least_free (st.core.circuits.circuit_at x).end.half.sessions)) d) (tells st SessionsFull) n none)
 
     by : (n m : Bool) (o : Option Best) → concluded.Connects st.core (cond n (cond m (tells st Busy) (elim o [ None ↦ solicits_for config st service | Some b ↦ connects_to config st line service b ])) (tells st NoLine)).state.core
@@ -141,7 +141,7 @@ connect_seats config st line service = by (line_exists config.lines line) (has_s
 
 pub event_seats : (config : ServerConfig) (st : Server) (e : Event) → concluded.Connects st.core (server_event config st e).state.core
 event_seats config st (Hears from payload k now) = same st.core (hears config (record st { core = at_moment now st.core }) from payload k).state.core (hears_same config (record st { core = at_moment now st.core }) from payload k)
-event_seats config st (Time now) = same st.core (time_each (server_side config) (upwards 0 st.core.circuits.drawn) (rests (at_moment now st.core))).core (times_same (server_side config) (upwards 0 st.core.circuits.drawn) (rests (at_moment now st.core)))
+event_seats config st (Time now) = same st.core (time_each (server_side config) (ids st.core.circuits) (rests (at_moment now st.core))).core (times_same (server_side config) (ids st.core.circuits) (rests (at_moment now st.core)))
 event_seats config st (Connects line service) = by st.halted
   where
     by : (b : Bool) → concluded.Connects st.core (cond b (tells st Halted) (connect_event config st line service)).state.core
@@ -158,4 +158,4 @@ event_seats config st Announces = same st.core st.core refl
 event_seats config st (Avoids line) = same st.core st.core refl
 event_seats config st (Readies line ready) = same st.core st.core refl
 event_seats config st Halts =
-    same st.core (end_each (server_side config) reasons.halted (upwards 0 st.core.circuits.drawn) (rests st.core)).core (ends_same (server_side config) reasons.halted (upwards 0 st.core.circuits.drawn) (rests st.core))
+    same st.core (end_each (server_side config) reasons.halted (ids st.core.circuits) (rests st.core)).core (ends_same (server_side config) reasons.halted (ids st.core.circuits) (rests st.core))

@@ -109,4 +109,4 @@ grant_concluded m n c d h k s o i j g p =
     one : (t : Seat) → IsSeat m c t → (z : Option Key) → IsConcluded h z (over c t) → IsConcluded (h ++ Grants k s ∷ []) z (over d t)
     one t a None b = tt
     one t a (Some x) (inl e) = inl (done_stays x h (Grants k s) e)
-    one t a (Some x) (inr e) = inr (o.kept t a.drawn.1 e.0, granted_stays x h (Grants k s) (λ y. refl) e.1)
+    one t a (Some x) (inr e) = inr (o.kept t a.drawn e.0, granted_stays x h (Grants k s) (λ y. refl) e.1)

@@ -6,6 +6,7 @@ use Rattle.lat_base.specs.declared.addr.Addr.{Addr}
 use Rattle.lat_base.specs.declared.outbox.OutFrame.{OutFrame}
 use Rattle.lat_model.specs.sessions.Sessions.{least_free}
 use Rattle.lat_model.specs.circuits.Arriving.{living}
+use Rattle.lat_model.specs.circuits.Ids.{next_id}
 use Rattle.lat_model.specs.Lists.{upwards}
 use Rattle.lat_machines.specs.values.Addresses.{address}
 use Rattle.lat_machines.specs.values.Names.{Name}
@@ -36,8 +37,8 @@ use Rattle.lat_server.proofs.GrantLemmas.{not_true, granted_then, grant_conclude
 opening_ok : (c : Core) (x : ℕ) → can_open c x ≡ true → (ids : ℕ × ℕ) × (opening c x ≡ Ok ids)
 opening_ok c x h = by (nat_eq (circuit_to c x) 0) (nat_lt (living c.circuits) 8) (nat_lt c.circuits.drawn 65535) (has_room c (circuit_to c x)) h
   where
-    by : (p q r t : Bool) → cond p (q && r) t ≡ true → (ids : ℕ × ℕ) × (cond p (cond q (cond r (Ok (suc c.circuits.drawn, 1)) (Err faults.IdsOut)) (Err faults.CircuitsFull)) (cond t (Ok (circuit_to c x, least_free (c.circuits.circuit_at (circuit_to c x)).end.half.sessions)) (Err faults.SessionsFull)) ≡ Ok ids)
-    by true true true t h = ((suc c.circuits.drawn, 1), refl)
+    by : (p q r t : Bool) → cond p (q && r) t ≡ true → (ids : ℕ × ℕ) × (cond p (cond q (cond r (Ok (next_id c.circuits, 1)) (Err faults.IdsOut)) (Err faults.CircuitsFull)) (cond t (Ok (circuit_to c x, least_free (c.circuits.circuit_at (circuit_to c x)).end.half.sessions)) (Err faults.SessionsFull)) ≡ Ok ids)
+    by true true true t h = ((next_id c.circuits, 1), refl)
     by true true false t h = absurd (true≢false (sym h))
     by true false r t h = absurd (true≢false (sym h))
     by false q r true h = ((circuit_to c x, least_free (c.circuits.circuit_at (circuit_to c x)).end.half.sessions), refl)

@@ -12,12 +12,12 @@ use Rattle.lat_server.specs.Stands.{IsMachine, opening}
 use Rattle.lat_server.proofs.Connecting.{same_side}
 use Rattle.lat_server.proofs.Gates.{opened_as}
 
-pub is_opened : (k : Kept) → k.lines.circuits.server ≡ true → stands.Stands k.lines (open_core (lines.side_of k.lines) (address k.lines.circuits.own.0)) → dir.Stands k.directory [] → queue.Stands k.queue []
+pub is_opened : (k : Kept) → k.lines.circuits.server ≡ true → stands.Stands k.lines (open_core (lines.side_of k.lines) (address k.lines.circuits.own.0) k.lines.circuits.first) → dir.Stands k.directory [] → queue.Stands k.queue []
     → k.solicits ≡ 0 → k.gate ≡ open_gate → IsMachine k (opening k)
 is_opened k server ls ds qs none is = record {
   config = refl;
   state = record {
-    lines = subst (λ (z : Side). stands.Stands k.lines (open_core z (config_of k).own)) (sym (same_side k server)) ls;
+    lines = subst (λ (z : Side). stands.Stands k.lines (open_core z (config_of k).own k.lines.circuits.first)) (sym (same_side k server)) ls;
     directory = ds;
     queue = qs;
     solicits = none;

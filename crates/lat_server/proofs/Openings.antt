@@ -8,6 +8,8 @@ use Rattle.lat_model.specs.Lists.{updated, Each}
 use Rattle.lat_model.specs.ends.End.{lives, call_end}
 use Rattle.lat_model.specs.ends.Timers.{note_empty}
 use Rattle.lat_model.specs.circuits.World.{CircuitEntry, Table}
+use Rattle.lat_model.specs.circuits.Ids.{next_id, is_drawn}
+use Rattle.lat_model.proofs.circuits.Ids.{drawn_apart}
 use Rattle.lat_model.proofs.sessions.Words.{upd_same, upd_other}
 use Rattle.lat_machines.specs.values.Names.{Name}
 use Rattle.lat_machines.specs.values.Keys.{Key}
@@ -94,11 +96,11 @@ local_made t x service request l = by (lives (t.circuit_at x).end) refl l
 
 -- a circuit more
 
-call_held : (config : ServerConfig) (address : ℕ) (node : Name) (c : Core) (y k : ℕ) → y ≤ c.circuits.drawn → Held c.circuits y k → Held (calls_to config address node c).core.circuits y k
+call_held : (config : ServerConfig) (address : ℕ) (node : Name) (c : Core) (y k : ℕ) → is_drawn c.circuits y ≡ true → Held c.circuits y k → Held (calls_to config address node c).core.circuits y k
 call_held config address node c y k l h = by (nat_eq (circuit_to c address) 0)
   where
     named : Core
-    named = record c { names = updated c.names (suc c.circuits.drawn) node }
+    named = record c { names = updated c.names (next_id c.circuits) node }
 
     made : Doing
     made = acts (server_side config) named (call_at (setup_of config.timing) named.circuits address named.moment)
@@ -107,14 +109,14 @@ call_held config address node c y k l h = by (nat_eq (circuit_to c address) 0)
     new = record { address = address; end = (called (setup_of config.timing) c.moment).end }
 
     by : (b : Bool) → Held (cond b made (rests c)).core.circuits y k
-    by true = subst (λ (z : CircuitEntry). HeldIn z k) (sym (upd_other c.circuits.circuit_at (suc c.circuits.drawn) new y (λ q. absurd (omega (arith, q, l))))) h
+    by true = subst (λ (z : CircuitEntry). HeldIn z k) (sym (upd_other c.circuits.circuit_at (next_id c.circuits) new y (drawn_apart c.circuits.first c.circuits.drawn y l))) h
     by false = h
 
 call_seats : (config : ServerConfig) (address : ℕ) (node : Name) (c : Core) → (calls_to config address node c).core.seats ≡ c.seats
 call_seats config address node c = by (nat_eq (circuit_to c address) 0)
   where
     named : Core
-    named = record c { names = updated c.names (suc c.circuits.drawn) node }
+    named = record c { names = updated c.names (next_id c.circuits) node }
 
     by : (b : Bool) → (cond b (acts (server_side config) named (call_at (setup_of config.timing) named.circuits address named.moment)) (rests c)).core.seats ≡ c.seats
     by true = refl
@@ -126,7 +128,7 @@ pub record Opening (c : Core) (own : Option Key) (d : Core) : Type 0 where
   pub seat : Seat
   pub key : seat.key ≡ own
   pub seats : d.seats ≡ c.seats ++ seat ∷ []
-  pub kept : (s : Seat) → s.circuit ≤ c.circuits.drawn → over c s ≡ false → over d s ≡ false
+  pub kept : (s : Seat) → is_drawn c.circuits s.circuit ≡ true → over c s ≡ false → over d s ≡ false
   pub held : (lines : ℕ) → IsSeat lines d seat → over d seat ≡ false
 
 pub opening_of : (config : ServerConfig) (line address : ℕ) (node service : Name) (key : Option Key) (request : Option ℕ) (c : Core) → Opening c key (opens config line address node service key request c).core
@@ -152,13 +154,13 @@ opening_of config line address node service key request c = record {
 
 -- so it frees none
 
-none_freed : (lines : ℕ) (c d : Core) (ss : List Seat) → ((s : Seat) → s.circuit ≤ c.circuits.drawn → over c s ≡ false → over d s ≡ false) → Each (IsSeat lines c) ss → freed_from c d ss ≡ []
+none_freed : (lines : ℕ) (c d : Core) (ss : List Seat) → ((s : Seat) → is_drawn c.circuits s.circuit ≡ true → over c s ≡ false → over d s ≡ false) → Each (IsSeat lines c) ss → freed_from c d ss ≡ []
 none_freed lines c d [] h i = refl
 none_freed lines c d (s ∷ ss) h i = by (over c s) refl (none_freed lines c d ss h i.1)
   where
     by : (b : Bool) → over c s ≡ b → freed_from c d ss ≡ [] → cond b (freed_from c d ss) (cond (over d s) (freed_key s.key (freed_from c d ss)) (freed_from c d ss)) ≡ []
     by true q r = r
-    by false q r = ap (λ b. cond b (freed_key s.key (freed_from c d ss)) (freed_from c d ss)) (h s i.0.drawn.1 q) ∙ r
+    by false q r = ap (λ b. cond b (freed_key s.key (freed_from c d ss)) (freed_from c d ss)) (h s i.0.drawn q) ∙ r
 
 pub opening_frees_none : (lines : ℕ) (c d : Core) (key : Option Key) → Opening c key d → Each (IsSeat lines c) c.seats → freed_between c d ≡ []
 opening_frees_none lines c d key o i = none_freed lines c d c.seats o.kept i

@@ -33,7 +33,8 @@ config_same k l r s =
     let b : l.circuits.own ≡ k.lines.circuits.own = s.core.own in
     let c : l.circuits.name ≡ k.lines.circuits.name = s.core.name in
     let d : l.circuits.timing ≡ k.lines.circuits.timing = s.core.timing in
-    rw (a, b, c, d) refl
+    let e : l.circuits.first ≡ k.lines.circuits.first = s.core.first in
+    rw (a, b, c, d, e) refl
 
 -- a call on a line
 

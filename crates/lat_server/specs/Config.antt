@@ -21,6 +21,7 @@ config_shown config = record {
   groups = config.groups;
   timing = timing_shown config.timing;
   prompt = config.prompt;
+  first = config.first;
 }
 
 -- each offer names a line, and no line is in two
@@ -32,3 +33,4 @@ pub record IsConfig (config : ServerConfig) : Type 0 where
   pub lines : (1 ≤ config.lines) × (config.lines ≤ 32)
   pub offers : AreOffers config.lines config.offers
   pub timing : IsTiming config.timing
+  pub first : (1 ≤ config.first) × (config.first ≤ 65535)

@@ -29,6 +29,7 @@ config_of k = record {
   groups = k.directory.groups;
   timing = timing_shown k.lines.circuits.timing;
   prompt = k.prompt;
+  first = k.lines.circuits.first;
 }
 
 -- what holds of every server

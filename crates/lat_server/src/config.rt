@@ -62,8 +62,8 @@ impl Offers {
     }
 }
 
-/// What a server is made of. Valid where it has 1 to 32 lines, each offer names one of them, no line is in two offers, and
-/// the timing is valid.
+/// What a server is made of. Valid where it has 1 to 32 lines, each offer names one of them, no line is in two offers, the
+/// timing is valid, and the id of its first circuit isn't 0.
 pub struct ServerConfig {
     /// Its address.
     pub own: Addr,
@@ -77,6 +77,9 @@ pub struct ServerConfig {
     /// Whether it tells a station at once that its RUN names no circuit that lives here. See "How a circuit ends" in
     /// docs/PROTOCOL.md.
     pub prompt: bool,
+    /// The id of its first circuit, 1 to 65,535; the next ones follow it, 1 behind 65,535. See "Circuits" in
+    /// docs/PROTOCOL.md.
+    pub first: u16,
 }
 
 impl Drop for ServerConfig {
@@ -89,6 +92,7 @@ impl Drop for ServerConfig {
             groups,
             timing,
             prompt,
+            first,
         } = self;
     }
 }

@@ -106,6 +106,7 @@ impl ServerCore {
                 config.name,
                 config.timing,
                 true,
+                config.first,
                 config.lines,
             )?,
             offers: copy(alloc, offers)?,

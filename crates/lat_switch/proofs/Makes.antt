@@ -28,6 +28,7 @@ with_offers config offers = record {
   groups = config.groups;
   timing = timing_shown config.timing;
   prompt = config.prompt;
+  first = config.first;
 }
 
 pub inner_is : (config : SwitchConfig) (k : own.Kept) (offers : List Offer) → config_of k ≡ with_offers config offers → offers ≡ [] → config_of k ≡ inner_config config

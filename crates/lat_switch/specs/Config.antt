@@ -11,6 +11,7 @@ use Rattle.lat_switch.specs.Switch.{Switch}
 pub record IsConfig (config : SwitchConfig) : Type 0 where
   pub lines : (1 ≤ config.lines) × (config.lines ≤ 8)
   pub timing : IsTiming config.timing
+  pub first : (1 ≤ config.first) × (config.first ≤ 65535)
 
 -- its server: four lines for each of its own, none of which offers a service
 abbrev pub inner_config : SwitchConfig → ServerConfig
@@ -22,6 +23,7 @@ inner_config config = record {
   groups = config.groups;
   timing = timing_shown config.timing;
   prompt = config.prompt;
+  first = config.first;
 }
 
 abbrev pub open_switch : SwitchConfig → Switch

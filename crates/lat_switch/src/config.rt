@@ -3,7 +3,8 @@
 use lat_base::{Addr, Name};
 use lat_lines::Timing;
 
-/// What a switch is made of. Valid where it has 1 to 8 lines and the timing is valid. It has no offers.
+/// What a switch is made of. Valid where it has 1 to 8 lines, the timing is valid, and the id of its first circuit isn't 0. It
+/// has no offers.
 #[derive(Clone, Copy)]
 pub struct SwitchConfig {
     /// Its address.
@@ -16,4 +17,6 @@ pub struct SwitchConfig {
     pub timing: Timing,
     /// Whether it tells a station at once that its RUN names no circuit that lives here.
     pub prompt: bool,
+    /// The id of its first circuit, 1 to 65,535.
+    pub first: u16,
 }

@@ -44,6 +44,7 @@ impl SwitchCore {
             groups: config.groups,
             timing: config.timing,
             prompt: config.prompt,
+            first: config.first,
         };
         let inner = ServerCore::make(alloc, &server)?;
         let lines = opened_lines(alloc, config.lines)?;

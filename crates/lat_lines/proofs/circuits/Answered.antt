@@ -8,6 +8,7 @@ use Rattle.lat_model.specs.ends.End.{Step, lives}
 use Rattle.lat_model.specs.ends.Starting.{make_slave}
 use Rattle.lat_model.specs.circuits.Arriving.{living}
 use Rattle.lat_model.specs.circuits.World.{first_end}
+use Rattle.lat_model.specs.circuits.Ids as tables
 use Rattle.lat_machines.specs.values.Addresses.{address}
 use Rattle.lat_machines.specs.values.Messages.{StartInfo}
 use Rattle.lat_machines.specs.values.Timing.{agreed_by}
@@ -19,7 +20,7 @@ use Rattle.lat_payload.specs.Frames.{Emits}
 use Rattle.lat_circuit.specs.declared.config.CircuitConfig.{CircuitConfig}
 use Rattle.lat_circuit.specs.Kept as circuit
 use Rattle.lat_circuit.specs.Begins.{Begins, facts_answered}
-use Rattle.lat_lines.specs.circuits.Kept.{Kept, Holds, IsClear, ids, side_of}
+use Rattle.lat_lines.specs.circuits.Kept.{Kept, Holds, IsClear, ids, next_id, held_with, side_of}
 use Rattle.lat_lines.specs.circuits.Stands.{Stands, Simulates}
 use Rattle.lat_lines.specs.circuits.Hears.{start_core, new_fact}
 use Rattle.lat_lines.proofs.CircuitsHeld.{each_with, each_pop}
@@ -37,7 +38,7 @@ answers_step k now source info = make_slave now source (agreed_by (timing_shown 
 pub record Answered (k : Kept) (from : Addr) (source : ℕ) (info : StartInfo) (own_id size : ℕ) (q : circuit.Kept) (before after : List OutFrame) : Type 0 where
   pub holds : Holds k
   pub node : k.server ≡ false
-  pub next : own_id ≡ suc k.drawn
+  pub next : own_id ≡ next_id k
   pub places : k.timing.sessions ≤ size
   pub begins : Begins (answers_step k k.moment source info) (facts_answered (config_of k from info.name) own_id source info) size k.moment q before after
 
@@ -62,45 +63,45 @@ answered_holds k from source info own_id size rooms q before after b fewer each 
 
 -- what is known where a room was taken, and a circuit began in it
 pub record Begun (k : Kept) (from : Addr) (source : ℕ) (info : StartInfo) (rooms : List ℕ) (room : ℕ) (q : circuit.Kept) (before after : List OutFrame) : Type 0 where
-  pub answered : Answered k from source info (k.drawn + 1) room q before after
+  pub answered : Answered k from source info (next_id k) room q before after
   pub fewer : length rooms + 1 ≡ length k.rooms
   pub each : Each (λ n. k.timing.sessions ≤ n) rooms
 
-pub begun : (k : Kept) (from : Addr) (source : ℕ) (info : StartInfo) (config : CircuitConfig) (rooms : List ℕ) (room : ℕ) (q : circuit.Kept) (before after : List OutFrame)
-    → Holds k → k.server ≡ false → config ≡ config_of k from info.name → k.rooms ≡ rooms ++ room ∷ []
-    → Begins (make_slave k.moment source (agreed_by (timing_shown config.timing) info) (first_end false false (setup_of (timing_shown config.timing)))) (facts_answered config (k.drawn + 1) source info) room k.moment q before after
+pub begun : (k : Kept) (from : Addr) (source : ℕ) (info : StartInfo) (config : CircuitConfig) (own_id : ℕ) (rooms : List ℕ) (room : ℕ) (q : circuit.Kept) (before after : List OutFrame)
+    → Holds k → k.server ≡ false → config ≡ config_of k from info.name → own_id ≡ next_id k → k.rooms ≡ rooms ++ room ∷ []
+    → Begins (make_slave k.moment source (agreed_by (timing_shown config.timing) info) (first_end false false (setup_of (timing_shown config.timing)))) (facts_answered config own_id source info) room k.moment q before after
     → Begun k from source info rooms room q before after
-begun k from source info config rooms room q before after h node is taken b =
+begun k from source info config own_id rooms room q before after h node is next taken b =
     let i = each_pop (λ n. k.timing.sessions ≤ n) rooms room (subst (Each (λ n. k.timing.sessions ≤ n)) taken h.rooms) in
     record {
       answered = record {
         holds = h;
         node = node;
-        next = omega arith;
+        next = refl;
         places = i.1;
-        begins = subst (λ z. Begins (make_slave k.moment source (agreed_by (timing_shown z.timing) info) (first_end false false (setup_of (timing_shown z.timing)))) (facts_answered z (k.drawn + 1) source info) room k.moment q before after) is b;
+        begins = subst (λ z. Begins (make_slave k.moment source (agreed_by (timing_shown z.timing) info) (first_end false false (setup_of (timing_shown z.timing)))) (facts_answered z (next_id k) source info) room k.moment q before after) is (subst (λ z. Begins (make_slave k.moment source (agreed_by (timing_shown config.timing) info) (first_end false false (setup_of (timing_shown config.timing)))) (facts_answered config z source info) room k.moment q before after) next b);
       };
       fewer = omega (arith, ap length taken, length-append rooms (room ∷ []));
       each = i.0;
     }
 
-pub too_is : (k : Kept) (q : circuit.Kept) (rooms : List ℕ) (held : List circuit.Kept) → held ≡ k.held ++ q ∷ [] → record k { drawn = k.drawn + 1; held = held; rooms = rooms } ≡ held_too k q rooms
+pub too_is : (k : Kept) (q : circuit.Kept) (rooms : List ℕ) (held : List circuit.Kept) → held ≡ held_with q k.held → record k { drawn = k.drawn + 1; held = held; rooms = rooms } ≡ held_too k q rooms
 too_is k q rooms held is =
     let next : k.drawn + 1 ≡ suc k.drawn = omega arith in
     ap (λ n. record k { drawn = n; held = held; rooms = rooms }) next ∙ ap (λ z. record k { drawn = suc k.drawn; held = z; rooms = rooms }) is
 
 -- as a core answers it
 as_core : (k : Kept) (c : Core) (to source : ℕ) (info : StartInfo) → Stands k c → k.server ≡ false
-    → (start_core (side_of k) c to source info (Makes (suc c.circuits.drawn))).doing ≡ begins_core k c to info.name (answers_step k k.moment source info)
+    → (start_core (side_of k) c to source info (Makes (tables.next_id c.circuits))).doing ≡ begins_core k c to info.name (answers_step k k.moment source info)
 as_core k c to source info st node =
-    let x : ℕ = suc c.circuits.drawn in
+    let x : ℕ = tables.next_id c.circuits in
     let d : Core = named_core c x info.name in
-    ap (λ n. acts (side_of k) d (put_at false d.circuits x x to (answers_step k n source info))) (sym st.moment)
-    ∙ ap (λ b. acts (side_of k) d (put_at b d.circuits x x to (answers_step k k.moment source info))) (sym node)
+    ap (λ n. acts (side_of k) d (put_at false d.circuits (suc c.circuits.drawn) x to (answers_step k n source info))) (sym st.moment)
+    ∙ ap (λ b. acts (side_of k) d (put_at b d.circuits (suc c.circuits.drawn) x to (answers_step k k.moment source info))) (sym node)
 
 pub answered_did : (k : Kept) (from : Addr) (source : ℕ) (info : StartInfo) (own_id size : ℕ) (rooms : List ℕ) (q : circuit.Kept) (before after : List OutFrame)
     → Answered k from source info own_id size q before after
-    → Simulates (λ c. (start_core (side_of k) c (address from.0) source info (Makes (suc c.circuits.drawn))).doing) k (held_too k q rooms) before after
+    → Simulates (λ c. (start_core (side_of k) c (address from.0) source info (Makes (tables.next_id c.circuits))).doing) k (held_too k q rooms) before after
 answered_did k from source info own_id size rooms q before after b = λ c st.
     let f = facts_answered (config_of k from info.name) own_id source info in
     let s : Step = answers_step k k.moment source info in
@@ -134,8 +135,8 @@ living_all k c h clear st =
     living_held k c h st ∙ ap length (keep_all p (ids k) (each_id p k.held all)) ∙ length-map k.held id_of
 
 pub fact_is : (k : Kept) (c : Core) (b : Bool) → Holds k → IsClear k → Stands k c → (nat_lt (length k.held) 8 && nat_lt k.drawn 65535) ≡ b
-    → new_fact c.circuits ≡ cond b (Makes (suc c.circuits.drawn)) Refuses
+    → new_fact c.circuits ≡ cond b (Makes (tables.next_id c.circuits)) Refuses
 fact_is k c b h clear st is =
-    ap (λ n. cond (nat_lt n 8 && nat_lt c.circuits.drawn 65535) (Makes (suc c.circuits.drawn)) Refuses) (living_all k c h clear st)
-    ∙ ap (λ n. cond (nat_lt (length k.held) 8 && nat_lt n 65535) (Makes (suc c.circuits.drawn)) Refuses) (sym st.drawn)
-    ∙ ap (λ t. cond t (Makes (suc c.circuits.drawn)) Refuses) is
+    ap (λ n. cond (nat_lt n 8 && nat_lt c.circuits.drawn 65535) (Makes (tables.next_id c.circuits)) Refuses) (living_all k c h clear st)
+    ∙ ap (λ n. cond (nat_lt (length k.held) 8 && nat_lt n 65535) (Makes (tables.next_id c.circuits)) Refuses) (sym st.drawn)
+    ∙ ap (λ t. cond t (Makes (tables.next_id c.circuits)) Refuses) is

@@ -1,12 +1,11 @@
 -- A circuit that begins.
-use Rattle.std.proofs.Common.{◌≡◌, ℕ, suc, ◌+◌, ◌<◌, ◌≤◌, Bool, true, false, cond, ◌||◌, nat_eq, ne_eqb, List, [], ◌∷◌, ◌++◌, length, map, length-append, refl, sym, ap, subst, ◌∙◌, arith}
-use Rattle.std.specs.List.{list_any}
-use Rattle.std.proofs.lemmas.Bool.{false≢true, or_right}
-use Rattle.std.proofs.lemmas.List.{map-append}
+use Rattle.std.proofs.Common.{◌≡◌, ◌≢◌, ℕ, suc, ◌+◌, ◌≤◌, Bool, true, false, cond, nat_eq, ne_eqb, List, [], ◌∷◌, length, map, refl, sym, ap, subst, ◌∙◌, arith}
 use Rattle.lat_base.specs.declared.outbox.OutFrame.{OutFrame}
 use Rattle.lat_model.specs.Lists.{Each, updated}
 use Rattle.lat_model.specs.ends.End.{Step, lives}
 use Rattle.lat_model.specs.circuits.World.{CircuitEntry, wire_all}
+use Rattle.lat_model.specs.circuits.Ids as tables
+use Rattle.lat_model.proofs.circuits.Ids.{next_some, next_drawn, drawn_behind, drawn_apart}
 use Rattle.lat_machines.specs.values.Addresses.{address}
 use Rattle.lat_machines.specs.values.Names.{Name}
 use Rattle.lat_machines.specs.cores.Acts.{put_at}
@@ -16,15 +15,17 @@ use Rattle.lat_circuit.specs.Kept as circuit
 use Rattle.lat_circuit.specs.Stands as circuit_stands
 use Rattle.lat_circuit.specs.Begins.{Begins}
 use Rattle.lat_circuit.specs.Frames.{timing_shown}
-use Rattle.lat_lines.specs.circuits.Kept.{Kept, Holds, IsOwn, Rising, side_of, ids, has_id}
+use Rattle.lat_lines.specs.circuits.Kept.{Kept, Holds, IsOwn, next_id, is_drawn, held_with, side_of, has_id}
 use Rattle.lat_lines.specs.circuits.Stands.{Stands, IsCircuit}
-use Rattle.lat_lines.proofs.CircuitsHeld.{eqb_self, each_push, rising_above, rising_push}
+use Rattle.lat_lines.proofs.CircuitsHeld.{eqb_self, each_weaker}
 use Rattle.lat_lines.proofs.circuits.Places.{id_of}
+use Rattle.lat_lines.proofs.circuits.Among.{each_among, length_among, rises_among, has_new, has_more}
+use Rattle.lat_lines.proofs.circuits.Ids.{next_core}
 use Rattle.lat_lines.proofs.circuits.Wires.{sent_adds}
 
 -- A circuit of the next id, to this station, of a peer of this name. It begins with these facts, and takes one of the rooms
 pub record IsNew (k : Kept) (to : ℕ) (node : Name) (f : circuit.Facts) (size : ℕ) : Type 0 where
-  pub id : f.id ≡ suc k.drawn
+  pub id : f.id ≡ next_id k
   pub own : f.config.own ≡ k.own
   pub peer : address f.config.peer.0 ≡ to
   pub name : f.config.name ≡ k.name
@@ -33,18 +34,18 @@ pub record IsNew (k : Kept) (to : ℕ) (node : Name) (f : circuit.Facts) (size :
   pub master : f.master ≡ k.server
   pub places : k.timing.sessions ≤ size
 
--- it is held behind the others
+-- it is held among the others
 abbrev pub held_too : Kept → circuit.Kept → List ℕ → Kept
-held_too k q rooms = record k { drawn = suc k.drawn; held = k.held ++ q ∷ []; rooms = rooms }
+held_too k q rooms = record k { drawn = suc k.drawn; held = held_with q k.held; rooms = rooms }
 
 abbrev pub named_core : Core → ℕ → Name → Core
 named_core c x name = record c { names = updated c.names x name }
 
 abbrev pub begins_core : Kept → Core → ℕ → Name → Step → Doing
 begins_core k c to name s =
-    let x : ℕ = suc c.circuits.drawn in
+    let x : ℕ = tables.next_id c.circuits in
     let d : Core = named_core c x name in
-    acts (side_of k) d (put_at k.server d.circuits x x to s)
+    acts (side_of k) d (put_at k.server d.circuits (suc c.circuits.drawn) x to s)
 
 own_new : (k : Kept) (rooms : List ℕ) (to : ℕ) (name : Name) (f : circuit.Facts) (places : ℕ) (q : circuit.Kept) (s : Step) (before after : List OutFrame)
     → IsNew k to name f places → Begins s f places k.moment q before after → IsOwn (held_too k q rooms) q
@@ -58,18 +59,31 @@ own_new k rooms to name f places q s before after new b = record {
   places = omega (arith, b.room, new.places);
 }
 
+-- the others have other ids
+pub others_apart : (k : Kept) → Holds k → Each (λ (p : circuit.Kept). p.facts.id ≢ next_id k) k.held
+others_apart k h = each_weaker (λ p. is_drawn k (id_of p) ≡ true) (λ (p : circuit.Kept). p.facts.id ≢ next_id k) k.held (λ p d. drawn_apart k.first k.drawn (id_of p) d) h.drawn
+
 pub holds_begun : (k : Kept) (rooms : List ℕ) (to : ℕ) (name : Name) (f : circuit.Facts) (places : ℕ) (q : circuit.Kept) (s : Step) (before after : List OutFrame)
     → Holds k → IsNew k to name f places → Begins s f places k.moment q before after → length rooms + 1 ≡ length k.rooms → Each (λ n. k.timing.sessions ≤ n) rooms
     → Holds (held_too k q rooms)
 holds_begun k rooms to name f places q s before after h new b few each = record {
   timing = h.timing;
-  places = omega (arith, h.places, few, length-append k.held (q ∷ []));
+  first = h.first;
+  places = omega (arith, h.places, few, length_among q k.held);
   rooms = each;
-  rising = subst (Rising 0 (suc k.drawn)) (sym (map-append id_of k.held (q ∷ [])))
-      (subst (λ z. Rising 0 (suc k.drawn) (ids k ++ z ∷ [])) (sym (ap (λ z. z.id) b.is ∙ new.id)) (rising_push 0 k.drawn (suc k.drawn) (ids k) h.rising (omega arith) (omega arith)));
-  each = each_push (IsOwn (held_too k q rooms)) k.held q (again k.held h.each) (own_new k rooms to name f places q s before after new b);
+  rising = rises_among 0 q k.held h.rising (omega (arith, some)) (subst (λ x. Each (λ (p : circuit.Kept). p.facts.id ≢ x) k.held) (sym id) (others_apart k h));
+  drawn = each_among (λ p. is_drawn (held_too k q rooms) (id_of p) ≡ true) q k.held
+      (each_weaker (λ p. is_drawn k (id_of p) ≡ true) (λ p. is_drawn (held_too k q rooms) (id_of p) ≡ true) k.held (λ p d. drawn_behind k.first k.drawn (id_of p) d) h.drawn)
+      (subst (λ x. is_drawn (held_too k q rooms) x ≡ true) (sym id) (next_drawn k.first k.drawn));
+  each = each_among (IsOwn (held_too k q rooms)) q k.held (again k.held h.each) (own_new k rooms to name f places q s before after new b);
 }
   where
+    id : q.facts.id ≡ next_id k
+    id = ap (λ z. z.id) b.is ∙ new.id
+
+    some : q.facts.id ≢ 0
+    some e = next_some k.first k.drawn (sym id ∙ e)
+
     again : (ps : List circuit.Kept) → Each (IsOwn k) ps → Each (IsOwn (held_too k q rooms)) ps
     again [] e = tt
     again (p ∷ ps) e = (record { own = e.0.own; name = e.0.name; timing = e.0.timing; master = e.0.master; side = e.0.side; moment = e.0.moment; places = e.0.places }, again ps e.1)
@@ -77,9 +91,9 @@ holds_begun k rooms to name f places q s before after h new b few each = record 
 new_circuit : (k : Kept) (c : Core) (to : ℕ) (name : Name) (f : circuit.Facts) (places : ℕ) (q : circuit.Kept) (s : Step) (before after : List OutFrame)
     → Stands k c → IsNew k to name f places → Begins s f places k.moment q before after → IsCircuit (begins_core k c to name s).core q
 new_circuit k c to name f places q s before after st new b =
-    let x : ℕ = suc c.circuits.drawn in
+    let x : ℕ = tables.next_id c.circuits in
     let entry : CircuitEntry = record { address = to; end = s.end } in
-    let id : q.facts.id ≡ x = ap (λ z. z.id) b.is ∙ new.id ∙ ap suc st.drawn in
+    let id : q.facts.id ≡ x = ap (λ z. z.id) b.is ∙ new.id ∙ next_core k c st in
     let e : updated c.circuits.circuit_at x entry q.facts.id ≡ entry =
     ap (updated c.circuits.circuit_at x entry) id ∙ ap (λ b. cond b entry (c.circuits.circuit_at x)) (eqb_self x) in
     record {
@@ -89,12 +103,12 @@ new_circuit k c to name f places q s before after st new b =
     }
 
 old_circuits : (k : Kept) (c : Core) (to : ℕ) (name : Name) (s : Step) (qs : List circuit.Kept) → Each (IsCircuit c) qs
-    → Each (λ (q : circuit.Kept). (0 < q.facts.id) × (q.facts.id ≤ c.circuits.drawn)) qs → Each (IsCircuit (begins_core k c to name s).core) qs
-old_circuits k c to name s [] e low = tt
-old_circuits k c to name s (q ∷ qs) e low =
-    let x : ℕ = suc c.circuits.drawn in
+    → Each (λ (q : circuit.Kept). q.facts.id ≢ tables.next_id c.circuits) qs → Each (IsCircuit (begins_core k c to name s).core) qs
+old_circuits k c to name s [] e other = tt
+old_circuits k c to name s (q ∷ qs) e other =
+    let x : ℕ = tables.next_id c.circuits in
     let entry : CircuitEntry = record { address = to; end = s.end } in
-    let apart : nat_eq q.facts.id x ≡ false = ne_eqb q.facts.id x (λ z. absurd (omega (arith, z, low.0.1))) in
+    let apart : nat_eq q.facts.id x ≡ false = ne_eqb q.facts.id x other.0 in
     let still : updated c.circuits.circuit_at x entry q.facts.id ≡ c.circuits.circuit_at q.facts.id =
     ap (λ b. cond b entry (c.circuits.circuit_at q.facts.id)) apart in (
       record {
@@ -102,21 +116,8 @@ old_circuits k c to name s (q ∷ qs) e low =
         address = e.0.address ∙ ap (λ (z : CircuitEntry). z.address) (sym still);
         name = e.0.name ∙ ap (λ b. cond b name (c.names q.facts.id)) (sym apart);
       },
-      old_circuits k c to name s qs e.1 low.1,
+      old_circuits k c to name s qs e.1 other.1,
     )
-
-has_push : (i : ℕ) (qs : List circuit.Kept) (q : circuit.Kept) → nat_eq i q.facts.id ≡ true → list_any (nat_eq i) (map id_of (qs ++ q ∷ [])) ≡ true
-has_push i [] q e = ap (λ b. b || false) e
-has_push i (p ∷ ps) q e = ap (λ b. nat_eq i p.facts.id || b) (has_push i ps q e) ∙ or_right (nat_eq i p.facts.id) true refl
-
--- what was held is held
-pub has_more : (i : ℕ) (qs : List circuit.Kept) (q : circuit.Kept) → list_any (nat_eq i) (map id_of qs) ≡ true → list_any (nat_eq i) (map id_of (qs ++ q ∷ [])) ≡ true
-has_more i [] q e = absurd (false≢true e)
-has_more i (p ∷ ps) q e = by (nat_eq i p.facts.id) e (has_more i ps q)
-  where
-    by : (b : Bool) → b || list_any (nat_eq i) (map id_of ps) ≡ true → (list_any (nat_eq i) (map id_of ps) ≡ true → list_any (nat_eq i) (map id_of (ps ++ q ∷ [])) ≡ true) → b || list_any (nat_eq i) (map id_of (ps ++ q ∷ [])) ≡ true
-    by true e ih = refl
-    by false e ih = ih e
 
 -- the core has begun it too
 pub stands_begun : (k : Kept) (c : Core) (rooms : List ℕ) (to : ℕ) (name : Name) (f : circuit.Facts) (places : ℕ) (q : circuit.Kept) (s : Step) (before after : List OutFrame)
@@ -125,36 +126,37 @@ pub stands_begun : (k : Kept) (c : Core) (rooms : List ℕ) (to : ℕ) (name : N
 stands_begun k c rooms to name f places q s before after h st new b = record {
   own = st.own;
   moment = st.moment;
+  first = st.first;
   drawn = ap suc st.drawn;
-  each = each_push (IsCircuit (begins_core k c to name s).core) k.held q
-      (old_circuits k c to name s k.held st.each (subst (λ n. Each (λ (p : circuit.Kept). (0 < p.facts.id) × (p.facts.id ≤ n)) k.held) st.drawn (rising_above id_of 0 k.drawn k.held h.rising)))
+  each = each_among (IsCircuit (begins_core k c to name s).core) q k.held
+      (old_circuits k c to name s k.held st.each (subst (λ x. Each (λ (p : circuit.Kept). p.facts.id ≢ x) k.held) (next_core k c st) (others_apart k h)))
       (new_circuit k c to name f places q s before after st new b);
   all = all;
 }
   where
     x : ℕ
-    x = suc c.circuits.drawn
+    x = tables.next_id c.circuits
 
     entry : CircuitEntry
     entry = record { address = to; end = s.end }
 
     id : q.facts.id ≡ x
-    id = ap (λ z. z.id) b.is ∙ new.id ∙ ap suc st.drawn
+    id = ap (λ z. z.id) b.is ∙ new.id ∙ next_core k c st
 
     all : (i : ℕ) → lives (updated c.circuits.circuit_at x entry i).end ≡ true → has_id i (held_too k q rooms) ≡ true
     all i = by (nat_eq i x) refl
       where
         by : (b : Bool) → nat_eq i x ≡ b → lives (cond b entry (c.circuits.circuit_at i)).end ≡ true → has_id i (held_too k q rooms) ≡ true
-        by true e l = has_push i k.held q (ap (nat_eq i) id ∙ e)
-        by false e l = has_more i k.held q (st.all i l)
+        by true e l = has_new i q k.held (ap (nat_eq i) id ∙ e)
+        by false e l = has_more i q k.held (st.all i l)
 
 -- and its frames go out
 pub adds_begun : (k : Kept) (c : Core) (to : ℕ) (name : Name) (f : circuit.Facts) (places : ℕ) (q : circuit.Kept) (s : Step) (before after : List OutFrame)
     → Stands k c → IsNew k to name f places → Begins s f places k.moment q before after
     → Emits (begins_core k c to name s).frames before after
 adds_begun k c to name f places q s before after st new b =
-    let x : ℕ = suc c.circuits.drawn in
-    let id : f.id ≡ x = new.id ∙ ap suc st.drawn in
+    let x : ℕ = tables.next_id c.circuits in
+    let id : f.id ≡ x = new.id ∙ next_core k c st in
     let is = new_circuit k c to name f places q s before after st new b in
     let at : q.facts ≡ f = b.is in
     let d : Core = (begins_core k c to name s).core in

@@ -9,6 +9,7 @@ use Rattle.lat_base.specs.declared.outbox.OutFrame.{OutFrame}
 use Rattle.lat_model.specs.Lists.{Each, keep, least}
 use Rattle.lat_model.specs.ends.End.{Step, lives}
 use Rattle.lat_model.specs.circuits.Arriving.{living}
+use Rattle.lat_model.specs.circuits.Ids as tables
 use Rattle.lat_machines.specs.values.Addresses.{address}
 use Rattle.lat_machines.specs.values.Names.{Name}
 use Rattle.lat_machines.specs.cores.Acts.{called, put_at}
@@ -18,7 +19,7 @@ use Rattle.lat_circuit.specs.declared.config.CircuitConfig.{CircuitConfig}
 use Rattle.lat_circuit.specs.Kept as circuit
 use Rattle.lat_circuit.specs.Begins.{Begins, facts_called}
 use Rattle.lat_circuit.specs.Frames.{timing_shown}
-use Rattle.lat_lines.specs.circuits.Kept.{Kept, Holds, side_of}
+use Rattle.lat_lines.specs.circuits.Kept.{Kept, Holds, next_id, held_with, side_of}
 use Rattle.lat_lines.specs.circuits.Stands.{Stands, Simulates, IsCircuit}
 use Rattle.lat_lines.specs.circuits.Opens.{id_or_zero, called_core}
 use Rattle.lat_lines.proofs.circuits.Places.{id_of}
@@ -94,7 +95,7 @@ one_to k c to h st =
 abbrev pub config_of : Kept → Addr → Name → CircuitConfig
 config_of k peer node = record { own = k.own; peer = peer; name = k.name; peer_name = node; timing = k.timing }
 
-new_call : (k : Kept) (peer : Addr) (node : Name) (id size : ℕ) → k.server ≡ true → id ≡ suc k.drawn → k.timing.sessions ≤ size → IsNew k (address peer.0) node (facts_called (config_of k peer node) id) size
+new_call : (k : Kept) (peer : Addr) (node : Name) (id size : ℕ) → k.server ≡ true → id ≡ next_id k → k.timing.sessions ≤ size → IsNew k (address peer.0) node (facts_called (config_of k peer node) id) size
 new_call k peer node id size server next places = record {
   id = next;
   own = refl;
@@ -110,7 +111,7 @@ new_call k peer node id size server next places = record {
 pub record Calls (k : Kept) (peer : Addr) (node : Name) (id size : ℕ) (rooms : List ℕ) (q : circuit.Kept) (before after : List OutFrame) : Type 0 where
   pub holds : Holds k
   pub server : k.server ≡ true
-  pub next : id ≡ suc k.drawn
+  pub next : id ≡ next_id k
   pub places : k.timing.sessions ≤ size
   pub begins : Begins (called (setup_of (timing_shown k.timing)) k.moment) (facts_called (config_of k peer node) id) size k.moment q before after
 
@@ -133,15 +134,16 @@ call_did k peer node id size rooms q before after b = λ c st.
     -- as a core calls it
     same : (c : Core) → Stands k c → begins_core k c (address peer.0) node (called (setup_of (timing_shown k.timing)) k.moment) ≡ called_core (side_of k) (address peer.0) node c
     same c st =
-        let d : Core = named_core c (suc c.circuits.drawn) node in
-        ap (λ t. acts (side_of k) d (put_at t d.circuits (suc c.circuits.drawn) (suc c.circuits.drawn) (address peer.0) (called (setup_of (timing_shown k.timing)) k.moment))) b.server
-        ∙ ap (λ n. acts (side_of k) d (put_at true d.circuits (suc c.circuits.drawn) (suc c.circuits.drawn) (address peer.0) (called (setup_of (timing_shown k.timing)) n))) st.moment
+        let x : ℕ = tables.next_id c.circuits in
+        let d : Core = named_core c x node in
+        ap (λ t. acts (side_of k) d (put_at t d.circuits (suc c.circuits.drawn) x (address peer.0) (called (setup_of (timing_shown k.timing)) k.moment))) b.server
+        ∙ ap (λ n. acts (side_of k) d (put_at true d.circuits (suc c.circuits.drawn) x (address peer.0) (called (setup_of (timing_shown k.timing)) n))) st.moment
 
 -- it stands as the fields have it
-pub held_now : (k : Kept) (q : circuit.Kept) (rooms : List ℕ) (drawn : ℕ) (held : List circuit.Kept) → drawn ≡ suc k.drawn → held ≡ k.held ++ q ∷ []
+pub held_now : (k : Kept) (q : circuit.Kept) (rooms : List ℕ) (drawn : ℕ) (held : List circuit.Kept) → drawn ≡ suc k.drawn → held ≡ held_with q k.held
     → held_too k q rooms ≡ record k { drawn = drawn; held = held; rooms = rooms }
 held_now k q rooms drawn held next is =
-    ap (λ n. record k { drawn = n; held = k.held ++ q ∷ []; rooms = rooms }) (sym next) ∙ ap (λ qs. record k { drawn = drawn; held = qs; rooms = rooms }) (sym is)
+    ap (λ n. record k { drawn = n; held = held_with q k.held; rooms = rooms }) (sym next) ∙ ap (λ qs. record k { drawn = drawn; held = qs; rooms = rooms }) (sym is)
 
 pub each_last : {X : Type 0} (P : X → Type 0) (xs : List X) (x : X) → Each P (xs ++ x ∷ []) → Each P xs × P x
 each_last P [] x e = (tt, e.0)

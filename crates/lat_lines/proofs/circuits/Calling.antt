@@ -107,6 +107,7 @@ same_stands : (k : Kept) (c : Core) (t : ℕ → CircuitEntry) → ((i : ℕ) �
 same_stands k c t same st = record {
   own = st.own;
   moment = st.moment;
+  first = st.first;
   drawn = st.drawn;
   each = each_weaker (IsCircuit c) (IsCircuit d) k.held again st.each;
   all = λ i l. st.all i (ap (λ (z : CircuitEntry). lives z.end) (sym (same i)) ∙ l);

@@ -8,9 +8,9 @@ use Rattle.lat_model.specs.Lists.{Each}
 use Rattle.lat_model.specs.ends.End.{lives}
 use Rattle.lat_machines.specs.cores.Cores.{Core}
 use Rattle.lat_circuit.specs.Kept as circuit
-use Rattle.lat_lines.specs.circuits.Kept.{Kept, Holds, IsOwn, IsClear}
+use Rattle.lat_lines.specs.circuits.Kept.{Kept, Holds, IsOwn, IsClear, is_drawn}
 use Rattle.lat_lines.specs.circuits.Stands.{Stands, IsCircuit}
-use Rattle.lat_lines.proofs.CircuitsHeld.{each_at, each_push, each_remove, rising_remove, any_remove, not_any}
+use Rattle.lat_lines.proofs.CircuitsHeld.{each_at, each_push, each_remove, rises_remove, any_remove, not_any}
 use Rattle.lat_lines.proofs.circuits.Places.{id_of, lives_at}
 
 -- the one at a place is let go of; its memory is a room
@@ -23,9 +23,11 @@ has_ended q = not (is_none q.ended)
 pub holds_cleared : (k : Kept) (at room : ℕ) (q : circuit.Kept) → Holds k → slice_get k.held at ≡ Some q → room ≡ length q.sessions.sessions → Holds (cleared k at room)
 holds_cleared k at room q h here is = record {
   timing = h.timing;
+  first = h.first;
   places = omega (arith, h.places, length-remove k.held at (slice_get_within k.held at q here), length-append k.rooms (room ∷ []));
   rooms = each_push (λ n. k.timing.sessions ≤ n) k.rooms room h.rooms (omega (arith, is, own.places));
-  rising = rising_remove id_of 0 k.drawn k.held at h.rising;
+  rising = rises_remove id_of 0 k.held at h.rising;
+  drawn = each_remove (λ p. is_drawn k (id_of p) ≡ true) k.held at h.drawn;
   each = again (remove k.held at) (each_remove (IsOwn k) k.held at h.each);
 }
   where
@@ -41,6 +43,7 @@ pub stands_cleared : (k : Kept) (c : Core) (at room : ℕ) (q : circuit.Kept) �
 stands_cleared k c at room q st here ended = record {
   own = st.own;
   moment = st.moment;
+  first = st.first;
   drawn = st.drawn;
   each = each_remove (IsCircuit c) k.held at st.each;
   all = λ i l. any_remove id_of k.held at q i here (other i l) (st.all i l);

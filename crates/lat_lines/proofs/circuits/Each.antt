@@ -1,9 +1,10 @@
 -- An act on each circuit, one after another, is one on those that are held.
-use Rattle.std.proofs.Common.{◌≡◌, ℕ, zero, suc, ◌+◌, ◌<◌, ◌≤◌, ⊎_elim, Bool, true, false, cond, ◌&&◌, nat_eq, ne_eqb, List, [], ◌∷◌, ◌++◌, append-nil, length, take, is_none, Some, slice_get, slice_index, refl, sym, ap, subst, ◌∙◌, arith}
-use Rattle.std.proofs.lemmas.Bool.{cases_eq}
+use Rattle.std.proofs.Common.{◌≡◌, ℕ, ◌+◌, ◌<◌, ◌≤◌, Bool, true, false, cond, ◌&&◌, nat_eq, ne_eqb, List, [], ◌∷◌, ◌++◌, append-nil, length, take, is_none, Some, slice_get, slice_index, refl, sym, ap, subst, ◌∙◌, arith}
 use Rattle.std.proofs.lemmas.List.{length-map, take_more, take_all}
 use Rattle.lat_base.specs.declared.outbox.OutFrame.{OutFrame}
-use Rattle.lat_model.specs.Lists.{upwards}
+use Rattle.lat_model.specs.Lists.{keep}
+use Rattle.lat_model.specs.circuits.Ids.{ids as drawn_ids, Rises}
+use Rattle.lat_model.proofs.circuits.IdLists.{ids_rise}
 use Rattle.lat_model.specs.Reasons as reasons
 use Rattle.lat_model.specs.ends.End.{Step, End, lives, lapse}
 use Rattle.lat_model.specs.ends.Timers.{note_empty}
@@ -16,11 +17,11 @@ use Rattle.lat_payload.proofs.Frames.{adds_none, adds_then}
 use Rattle.lat_circuit.specs.Kept as circuit
 use Rattle.lat_circuit.specs.Stands as circuit_stands
 use Rattle.lat_lines.specs.circuits.Ending.{outlives_one}
-use Rattle.lat_lines.specs.circuits.Kept.{Kept, Holds, IsOwn, Rising, SameCircuits, ids, side_of}
+use Rattle.lat_lines.specs.circuits.Kept.{Kept, Holds, IsOwn, SameCircuits, ids, side_of}
 use Rattle.lat_lines.specs.circuits.Stands.{Stands, IsCircuit, Simulates}
 use Rattle.lat_lines.proofs.CircuitsHeld.{each_at}
 use Rattle.lat_lines.proofs.circuits.Places.{id_of, Became, id_read, lives_at, act_at, adds_at}
-use Rattle.lat_lines.proofs.circuits.Ids.{Covers, covers_up, covers_rest, left_out, at_most}
+use Rattle.lat_lines.proofs.circuits.Ids.{kept_held}
 
 abbrev pub lives_in : Core → ℕ → Bool
 lives_in c i = lives (c.circuits.circuit_at i).end
@@ -88,30 +89,24 @@ then_idle f alone x d h =
     ap (λ (e : Doing). record { core = e.core; frames = d.frames ++ e.frames }) (alone.idle x d.core h)
     ∙ ap (λ fs. record { core = d.core; frames = fs }) (append-nil d.frames)
 
-each_ids : (f : ℕ → Core → Doing) → IsAlone f → (a n : ℕ) (xs : List ℕ) (d : Doing) → Rising a (a + n) xs → Covers a (lives_in d.core) xs → does_each f (upwards a n) d ≡ does_each f xs d
-each_ids f alone a zero [] d r h = refl
-each_ids f alone a zero (x ∷ xs) d r h = absurd (omega (arith, r.0, r.1))
-each_ids f alone a (suc n) [] d r h =
-    let none : lives_in d.core (suc a) ≡ false = left_out a (a + suc n) (lives_in d.core) [] tt h in
-    ap (λ e. does_each f (upwards (suc a) n) e) (then_idle f alone (suc a) d none) ∙ each_ids f alone (suc a) n [] d tt (covers_up a (lives_in d.core) [] h)
-each_ids f alone a (suc n) (x ∷ xs) d r h =
-    ⊎_elim {C = does_each f (upwards a (suc n)) d ≡ does_each f (x ∷ xs) d}
-    (λ e.
-    let up : Rising (suc a) (suc a + n) xs = subst (λ z. Rising z (suc a + n) xs) (sym e) (subst (λ z. Rising x z xs) (omega arith) r.2) in
-    let rest : Covers (suc a) (lives_in d.core) xs = subst (λ z. Covers z (lives_in d.core) xs) (sym e) (covers_rest (lives_in d.core) x xs a (omega (arith, r.0)) h) in
-    let after : Doing = then_doing d (f (suc a)) in
-    let still : Covers (suc a) (lives_in after.core) xs = λ i l is. rest i l (sym (alone.others (suc a) d.core i (λ z. absurd (omega (arith, l, z)))) ∙ is) in
-    each_ids f alone (suc a) n xs after up still ∙ ap (λ z. does_each f xs (then_doing d (f z))) e)
-    (λ other.
-    let up : Rising (suc a) (suc a + n) (x ∷ xs) = subst (λ z. Rising (suc a) z (x ∷ xs)) (omega arith) (at_most a (a + suc n) x xs r other) in
-    let none : lives_in d.core (suc a) ≡ false = left_out a (suc a + n) (lives_in d.core) (x ∷ xs) up h in
-    ap (λ e. does_each f (upwards (suc a) n) e) (then_idle f alone (suc a) d none) ∙ each_ids f alone (suc a) n (x ∷ xs) d up (covers_up a (lives_in d.core) (x ∷ xs) h))
-    (cases_eq (suc a) x)
+-- they are those that live, since none changes another
+each_kept : (f : ℕ → Core → Doing) → IsAlone f → (p : ℕ → Bool) (n : ℕ) (xs : List ℕ) (d : Doing) → Rises n xs → ((i : ℕ) → n < i → lives_in d.core i ≡ p i)
+    → does_each f xs d ≡ does_each f (keep p xs) d
+each_kept f alone p n [] d r same = refl
+each_kept f alone p n (x ∷ xs) d r same = by (p x) refl (λ e s. each_kept f alone p x xs e r.1 s)
+  where
+    Rest : Doing → Type 0
+    Rest e = ((i : ℕ) → x < i → lives_in e.core i ≡ p i) → does_each f xs e ≡ does_each f (keep p xs) e
 
-each_held : (f : ℕ → Core → Doing) → IsAlone f → (k : Kept) (c : Core) → Holds k → Stands k c → does_each f (upwards 0 c.circuits.drawn) (rests c) ≡ does_each f (ids k) (rests c)
+    by : (b : Bool) → p x ≡ b → ((e : Doing) → Rest e) → does_each f (x ∷ xs) d ≡ does_each f (cond b (x ∷ keep p xs) (keep p xs)) d
+    by true e rest = rest (then_doing d (f x)) (λ i l. alone.others x d.core i (λ q. absurd (omega (arith, l, q))) ∙ same i (omega (arith, l, r.0)))
+    by false e rest = ap (does_each f xs) (then_idle f alone x d (same x r.0 ∙ e)) ∙ rest d (λ i l. same i (omega (arith, l, r.0)))
+
+each_held : (f : ℕ → Core → Doing) → IsAlone f → (k : Kept) (c : Core) → Holds k → Stands k c → does_each f (drawn_ids c.circuits) (rests c) ≡ does_each f (ids k) (rests c)
 each_held f alone k c h st =
-    ap (λ n. does_each f (upwards 0 n) (rests c)) (sym st.drawn)
-    ∙ each_ids f alone 0 k.drawn (ids k) (rests c) (subst (λ n. Rising 0 n (ids k)) (omega arith) h.rising) (λ i l is. st.all i is)
+    each_kept f alone (lives_in c) 0 (drawn_ids c.circuits) (rests c) (ids_rise c.circuits.first c.circuits.drawn) (λ i l. refl)
+    ∙ ap (λ xs. does_each f xs (rests c)) (kept_held k c (lives_in c) h st (record { lives = λ i e. e }))
+    ∙ sym (each_kept f alone (lives_in c) 0 (ids k) (rests c) h.rising (λ i l. refl))
 
 -- one after the others
 each_then : (f : ℕ → Core → Doing) (xs : List ℕ) (x : ℕ) (d : Doing) → does_each f (xs ++ x ∷ []) d ≡ then_doing (does_each f xs d) (f x)
@@ -149,9 +144,9 @@ done_more f k m n at x y z low same did one =
 
 -- and all of them
 pub done_all : (f : ℕ → Core → Doing) → IsAlone f → (k m : Kept) (n : ℕ) (x y : List OutFrame) → Holds k → length k.held ≤ n
-    → Done f n k m x y → Simulates (λ c. does_each f (upwards 0 c.circuits.drawn) (rests c)) k m x y
+    → Done f n k m x y → Simulates (λ c. does_each f (drawn_ids c.circuits) (rests c)) k m x y
 done_all f alone k m n x y h long did =
-    did_as (λ c. does_each f (take n (ids k)) (rests c)) (λ c. does_each f (upwards 0 c.circuits.drawn) (rests c)) k m x y
+    did_as (λ c. does_each f (take n (ids k)) (rests c)) (λ c. does_each f (drawn_ids c.circuits) (rests c)) k m x y
     (λ c st. each_held f alone k c h st ∙ ap (λ is. does_each f is (rests c)) (sym (take_all n (ids k) (omega (arith, long, length-map k.held id_of)))))
     did
 

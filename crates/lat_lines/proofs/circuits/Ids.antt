@@ -1,50 +1,38 @@
--- The ids of what is held, among all ids.
-use Rattle.std.proofs.Common.{◌≡◌, ℕ, zero, suc, ◌+◌, ◌<◌, ◌≤◌, ⊎_elim, Bool, true, false, cond, ◌||◌, nat_eq, ne_eqb, List, [], ◌∷◌, length, refl, sym, ap, subst, ◌∙◌, arith}
+-- The ids of what is held, among all ids that were drawn.
+use Rattle.std.proofs.Common.{◌≡◌, ℕ, Bool, true, false, cond, ◌||◌, nat_eq, List, [], ◌∷◌, map, length, refl, sym, ap, ap₂, subst, ◌∙◌}
 use Rattle.std.specs.List.{list_any}
-use Rattle.std.proofs.lemmas.Bool.{true≢false, cases_eq, false_from_ne_true}
-use Rattle.lat_model.specs.Lists.{upwards, keep, least}
+use Rattle.std.proofs.lemmas.Bool.{false≢true, eqb-true}
+use Rattle.lat_model.specs.Lists.{Each, keep, least}
 use Rattle.lat_model.specs.ends.End.{lives}
 use Rattle.lat_model.specs.circuits.Arriving.{living}
+use Rattle.lat_model.specs.circuits.Ids.{id_behind, is_id_of}
+use Rattle.lat_model.specs.circuits.Ids as tables
+use Rattle.lat_model.proofs.circuits.IdLists.{ids_any, ids_rise, keep_rises}
 use Rattle.lat_machines.specs.cores.Cores.{Core}
-use Rattle.lat_lines.specs.circuits.Kept.{Kept, Holds, Rising, ids}
+use Rattle.lat_circuit.specs.Kept as circuit
+use Rattle.lat_lines.specs.circuits.Kept.{Kept, Holds, ids, has_id, next_id, is_drawn}
 use Rattle.lat_lines.specs.circuits.Stands.{Stands}
-use Rattle.lat_lines.proofs.CircuitsHeld.{rising_apart}
 
--- Those above a that pass are all among these
-abbrev pub Covers : ℕ → (ℕ → Bool) → List ℕ → Type 0
-Covers a p xs = (i : ℕ) → a < i → p i ≡ true → list_any (nat_eq i) xs ≡ true
+-- what is drawn at the core, and what is next
 
--- none of them fails to be covered further up, nor where the first one is left out
-pub covers_up : (a : ℕ) (p : ℕ → Bool) (xs : List ℕ) → Covers a p xs → Covers (suc a) p xs
-covers_up a p xs h i l = h i (omega (arith, l))
+pub drawn_core : (k : Kept) (c : Core) (x : ℕ) → Stands k c → is_drawn k x ≡ tables.is_drawn c.circuits x
+drawn_core k c x st = ap₂ (λ f n. is_id_of f n x) st.first st.drawn
 
-pub covers_rest : (p : ℕ → Bool) (x : ℕ) (xs : List ℕ) (a : ℕ) → a ≤ x → Covers a p (x ∷ xs) → Covers x p xs
-covers_rest p x xs a low h i l is = sym (ap (λ b. b || list_any (nat_eq i) xs) (ne_eqb i x (λ e. absurd (omega (arith, l, e))))) ∙ h i (omega (arith, l, low)) is
+pub next_core : (k : Kept) (c : Core) → Stands k c → next_id k ≡ tables.next_id c.circuits
+next_core k c st = ap₂ id_behind st.first st.drawn
 
--- the first number isn't among them: it doesn't pass
-pub left_out : (a last : ℕ) (p : ℕ → Bool) (xs : List ℕ) → Rising (suc a) last xs → Covers a p xs → p (suc a) ≡ false
-left_out a last p xs r h = false_from_ne_true (p (suc a)) (λ is. true≢false (sym (h (suc a) (omega arith) is) ∙ rising_apart (suc a) last (suc a) xs (omega arith) r))
+-- a circuit that is held was drawn
 
-pub at_most : (a last : ℕ) (x : ℕ) (xs : List ℕ) → Rising a last (x ∷ xs) → (suc a ≡ x → ⊥) → Rising (suc a) last (x ∷ xs)
-at_most a last x xs r other = (omega (arith, r.0, other), r.1, r.2)
+each_has : (P : ℕ → Type 0) (x : ℕ) (qs : List circuit.Kept) → Each (λ (q : circuit.Kept). P q.facts.id) qs → list_any (nat_eq x) (map (λ (q : circuit.Kept). q.facts.id) qs) ≡ true → P x
+each_has P x [] e h = absurd (false≢true h)
+each_has P x (q ∷ qs) e h = by (nat_eq x q.facts.id) refl h (each_has P x qs e.1)
+  where
+    by : (b : Bool) → nat_eq x q.facts.id ≡ b → b || list_any (nat_eq x) (map (λ (q : circuit.Kept). q.facts.id) qs) ≡ true → (list_any (nat_eq x) (map (λ (q : circuit.Kept). q.facts.id) qs) ≡ true → P x) → P x
+    by true i h ih = subst P (sym (eqb-true x q.facts.id i)) e.0
+    by false i h ih = ih h
 
-keep_ids : (p : ℕ → Bool) (a n : ℕ) (xs : List ℕ) → Rising a (a + n) xs → Covers a p xs → keep p (upwards a n) ≡ keep p xs
-keep_ids p a zero [] r h = refl
-keep_ids p a zero (x ∷ xs) r h = absurd (omega (arith, r.0, r.1))
-keep_ids p a (suc n) [] r h =
-    let none : p (suc a) ≡ false = left_out a (a + suc n) p [] tt h in
-    ap (λ b. cond b (suc a ∷ keep p (upwards (suc a) n)) (keep p (upwards (suc a) n))) none ∙ keep_ids p (suc a) n [] tt (covers_up a p [] h)
-keep_ids p a (suc n) (x ∷ xs) r h =
-    ⊎_elim {C = keep p (upwards a (suc n)) ≡ keep p (x ∷ xs)}
-    (λ e.
-    let up : Rising (suc a) (suc a + n) xs = subst (λ z. Rising z (suc a + n) xs) (sym e) (subst (λ z. Rising x z xs) (omega arith) r.2) in
-    let rest : Covers (suc a) p xs = subst (λ z. Covers z p xs) (sym e) (covers_rest p x xs a (omega (arith, r.0)) h) in
-    ap (λ z. cond (p (suc a)) (suc a ∷ z) z) (keep_ids p (suc a) n xs up rest) ∙ ap (λ z. cond (p z) (z ∷ keep p xs) (keep p xs)) e)
-    (λ other.
-    let up : Rising (suc a) (suc a + n) (x ∷ xs) = subst (λ z. Rising (suc a) z (x ∷ xs)) (omega arith) (at_most a (a + suc n) x xs r other) in
-    let none : p (suc a) ≡ false = left_out a (suc a + n) p (x ∷ xs) up h in
-    ap (λ b. cond b (suc a ∷ keep p (upwards (suc a) n)) (keep p (upwards (suc a) n))) none ∙ keep_ids p (suc a) n (x ∷ xs) up (covers_up a p (x ∷ xs) h))
-    (cases_eq (suc a) x)
+pub held_drawn : (k : Kept) (x : ℕ) → Holds k → has_id x k ≡ true → is_drawn k x ≡ true
+held_drawn k x h has = each_has (λ i. is_drawn k i ≡ true) x k.held h.drawn has
 
 -- the least that passes is the first of those that are kept
 least_keep : (p : ℕ → Bool) (xs ys : List ℕ) → keep p xs ≡ keep p ys → least p xs ≡ least p ys
@@ -67,14 +55,14 @@ least_keep p xs ys e = first p xs ∙ ap head e ∙ sym (first p ys)
 pub record OfLiving (c : Core) (p : ℕ → Bool) : Type 0 where
   pub lives : (i : ℕ) → p i ≡ true → lives (c.circuits.circuit_at i).end ≡ true
 
-covered : (k : Kept) (c : Core) (p : ℕ → Bool) → Stands k c → OfLiving c p → Covers 0 p (ids k)
-covered k c p st of i l is = st.all i (of.lives i is)
+pub kept_held : (k : Kept) (c : Core) (p : ℕ → Bool) → Holds k → Stands k c → OfLiving c p → keep p (tables.ids c.circuits) ≡ keep p (ids k)
+kept_held k c p h st of =
+    keep_rises p 0 (tables.ids c.circuits) (ids k) (ids_rise c.circuits.first c.circuits.drawn) h.rising
+    (λ i is. let held : has_id i k ≡ true = st.all i (of.lives i is) in
+    ids_any c.circuits.first c.circuits.drawn i ∙ sym (drawn_core k c i st) ∙ held_drawn k i h held ∙ sym held)
 
-pub kept_held : (k : Kept) (c : Core) (p : ℕ → Bool) → Holds k → Stands k c → OfLiving c p → keep p (upwards 0 c.circuits.drawn) ≡ keep p (ids k)
-kept_held k c p h st of = ap (λ n. keep p (upwards 0 n)) (sym st.drawn) ∙ keep_ids p 0 k.drawn (ids k) (subst (λ n. Rising 0 n (ids k)) (omega arith) h.rising) (covered k c p st of)
-
-pub least_held : (k : Kept) (c : Core) (p : ℕ → Bool) → Holds k → Stands k c → OfLiving c p → least p (upwards 0 c.circuits.drawn) ≡ least p (ids k)
-least_held k c p h st of = least_keep p (upwards 0 c.circuits.drawn) (ids k) (kept_held k c p h st of)
+pub least_held : (k : Kept) (c : Core) (p : ℕ → Bool) → Holds k → Stands k c → OfLiving c p → least p (tables.ids c.circuits) ≡ least p (ids k)
+least_held k c p h st of = least_keep p (tables.ids c.circuits) (ids k) (kept_held k c p h st of)
 
 pub living_held : (k : Kept) (c : Core) → Holds k → Stands k c → living c.circuits ≡ length (keep (λ i. lives (c.circuits.circuit_at i).end) (ids k))
 living_held k c h st = ap length (kept_held k c (λ i. lives (c.circuits.circuit_at i).end) h st (record { lives = λ i e. e }))

@@ -1,7 +1,7 @@
 -- The time of all circuits, their end by the core itself, and by a START that they don't outlive.
 use Rattle.std.proofs.Common.{◌≡◌, ℕ, ◌≤◌, Bool, true, false, not, cond, ◌&&◌, nat_eq, List, [], ◌∷◌, ◌++◌, map, length, is_none, Some, slice_get, slice_index, refl, sym, ap, subst, ◌∙◌}
 use Rattle.lat_base.specs.declared.outbox.OutFrame.{OutFrame}
-use Rattle.lat_model.specs.Lists.{upwards}
+use Rattle.lat_model.specs.circuits.Ids.{ids as drawn_ids}
 use Rattle.lat_model.specs.Reasons as reasons
 use Rattle.lat_model.specs.sessions.Sessions.{held}
 use Rattle.lat_model.specs.ends.End.{Step, End, still, finish, lapse, lives}
@@ -31,14 +31,14 @@ side_same k m s =
 
 pub same_then : (k m n : Kept) → SameCircuits k m → SameCircuits m n → SameCircuits k n
 same_then k m n a b = record {
-  core = record { own = b.core.own ∙ a.core.own; name = b.core.name ∙ a.core.name; timing = b.core.timing ∙ a.core.timing; server = b.core.server ∙ a.core.server };
+  core = record { own = b.core.own ∙ a.core.own; name = b.core.name ∙ a.core.name; timing = b.core.timing ∙ a.core.timing; server = b.core.server ∙ a.core.server; first = b.core.first ∙ a.core.first };
   ids = b.ids ∙ a.ids;
   drawn = b.drawn ∙ a.drawn;
   moment = b.moment ∙ a.moment;
 }
 
 pub same_none : (k : Kept) → SameCircuits k k
-same_none k = record { core = record { own = refl; name = refl; timing = refl; server = refl }; ids = refl; drawn = refl; moment = refl }
+same_none k = record { core = record { own = refl; name = refl; timing = refl; server = refl; first = refl }; ids = refl; drawn = refl; moment = refl }
 
 -- the time of each
 
@@ -48,8 +48,8 @@ times_are k (x ∷ xs) d = times_are k xs (then_doing d (passes_one k x))
 
 pub times_all : (k m : Kept) (n : ℕ) (x y : List OutFrame) → Holds k → length k.held ≤ n → Done (passes_one (side_of k)) n k m x y → Simulates (passes_time (side_of k)) k m x y
 times_all k m n x y h long did =
-    did_as (λ c. does_each (passes_one (side_of k)) (upwards 0 c.circuits.drawn) (rests c)) (passes_time (side_of k)) k m x y
-    (λ c st. times_are (side_of k) (upwards 0 c.circuits.drawn) (rests c))
+    did_as (λ c. does_each (passes_one (side_of k)) (drawn_ids c.circuits) (rests c)) (passes_time (side_of k)) k m x y
+    (λ c st. times_are (side_of k) (drawn_ids c.circuits) (rests c))
     (done_all (passes_one (side_of k)) (steps_alone (side_of k) (λ c e. time_step c.moment e)) k m n x y h long did)
 
 pub time_lives : (k : Kept) (at : ℕ) (q r : circuit.Kept) (l : Kept) (before after : List OutFrame) → Holds k → Became k at q r l → IsOwn k r → is_none q.ended ≡ true
@@ -67,8 +67,8 @@ ends_are k reason (x ∷ xs) d = ends_are k reason xs (then_doing d (ends_one k 
 
 pub ends_every : (reason : ℕ) (k m : Kept) (n : ℕ) (x y : List OutFrame) → Holds k → length k.held ≤ n → Done (ends_one (side_of k) reason) n k m x y → Simulates (ends_all (side_of k) reason) k m x y
 ends_every reason k m n x y h long did =
-    did_as (λ c. does_each (ends_one (side_of k) reason) (upwards 0 c.circuits.drawn) (rests c)) (ends_all (side_of k) reason) k m x y
-    (λ c st. ends_are (side_of k) reason (upwards 0 c.circuits.drawn) (rests c))
+    did_as (λ c. does_each (ends_one (side_of k) reason) (drawn_ids c.circuits) (rests c)) (ends_all (side_of k) reason) k m x y
+    (λ c st. ends_are (side_of k) reason (drawn_ids c.circuits) (rests c))
     (done_all (ends_one (side_of k) reason) (steps_alone (side_of k) (λ c e. finish reason e)) k m n x y h long did)
 
 -- an end that holds as many sessions as before has nothing to note
@@ -101,7 +101,7 @@ outlives_are from source (x ∷ xs) c = outlives_are from source xs (with_circui
 pub outlives_every : (from source : ℕ) (k m : Kept) (n : ℕ) → Holds k → length k.held ≤ n → Done (outlives_one from source) n k m [] []
     → (c : Core) → Stands k c → Stands m (outlived_core from source c)
 outlives_every from source k m n h long did c st =
-    subst (λ (d : Doing). Stands m d.core) (outlives_are from source (upwards 0 c.circuits.drawn) c)
+    subst (λ (d : Doing). Stands m d.core) (outlives_are from source (drawn_ids c.circuits) c)
     (done_all (outlives_one from source) (outlives_alone from source) k m n [] [] h long did c st).0
 
 -- the circuit at a place, which the START follows or not

@@ -16,7 +16,8 @@ use Rattle.lat_payload.specs.Frames.{Emits}
 use Rattle.lat_circuit.specs.Kept as circuit
 use Rattle.lat_circuit.specs.Stands as circuit_stands
 use Rattle.lat_circuit.specs.Frames.{timing_shown, frame_sent, AreFormed}
-use Rattle.lat_lines.specs.circuits.Kept.{Kept, Holds, IsOwn, Rising, SameCircuits, side_of, ids, has_id}
+use Rattle.lat_model.specs.circuits.Ids.{Rises}
+use Rattle.lat_lines.specs.circuits.Kept.{Kept, Holds, IsOwn, SameCircuits, side_of, ids, has_id, is_drawn}
 use Rattle.lat_lines.specs.declared.circuits.Circuits.TheInside.{Inside}
 use Rattle.lat_lines.specs.circuits.Shown.{shown}
 use Rattle.lat_lines.specs.circuits.Stands.{Stands, IsCircuit}
@@ -51,7 +52,7 @@ ids_after k at q r l b = ap ids b.is ∙ map_set_same id_of k.held at q r b.here
 
 pub same_after : (k : Kept) (at : ℕ) (q r : circuit.Kept) (l : Kept) → Became k at q r l → SameCircuits k l
 same_after k at q r l b = record {
-  core = record { own = ap (λ z. z.own) b.is; name = ap (λ z. z.name) b.is; timing = ap (λ z. z.timing) b.is; server = ap (λ z. z.server) b.is };
+  core = record { own = ap (λ z. z.own) b.is; name = ap (λ z. z.name) b.is; timing = ap (λ z. z.timing) b.is; server = ap (λ z. z.server) b.is; first = ap (λ z. z.first) b.is };
   ids = ids_after k at q r l b;
   drawn = ap (λ z. z.drawn) b.is;
   moment = ap (λ z. z.moment) b.is;
@@ -60,9 +61,11 @@ same_after k at q r l b = record {
 pub holds_after : (k : Kept) (at : ℕ) (q r : circuit.Kept) → slice_get k.held at ≡ Some q → r.facts.id ≡ q.facts.id → IsOwn k r → Holds k → Holds (record k { held = slice_set k.held at r })
 holds_after k at q r here id own h = record {
   timing = h.timing;
+  first = h.first;
   places = ap (λ n. n + length k.rooms) (length-set k.held at r) ∙ h.places;
   rooms = h.rooms;
-  rising = subst (Rising 0 k.drawn) (sym (map_set_same id_of k.held at q r here id)) h.rising;
+  rising = subst (Rises 0) (sym (map_set_same id_of k.held at q r here id)) h.rising;
+  drawn = each_set (λ p. is_drawn k (id_of p) ≡ true) k.held at r h.drawn (ap (is_drawn k) id ∙ each_at (λ p. is_drawn k (id_of p) ≡ true) k.held at q h.drawn here);
   each = each_set (IsOwn (record k { held = slice_set k.held at r })) k.held at r (again k.held h.each) (own_again own);
 }
   where
@@ -107,8 +110,9 @@ pub act_at : (k : Kept) (c : Core) (at : ℕ) (q r : circuit.Kept) (l : Kept) (s
 act_at k c at q r l s h st b did = subst (λ z. Stands z (put_core k c q.facts.id s)) (sym b.is) (record {
   own = st.own;
   moment = st.moment;
+  first = st.first;
   drawn = st.drawn;
-  each = each_replaced id_of (IsCircuit c) (IsCircuit (put_core k c x s)) 0 k.drawn k.held at q r h.rising b.here st.each
+  each = each_replaced id_of (IsCircuit c) (IsCircuit (put_core k c x s)) 0 k.held at q r h.rising b.here st.each
       (is_circuit_after k c q r s (each_at (IsCircuit c) k.held at q st.each b.here) b.config b.id did)
       (λ p was other. is_circuit_still k c p x s was other);
   all = all;
@@ -229,6 +233,7 @@ pub moved_stands : (k : Kept) (c : Core) (now n : ℕ) → n ≡ max k.moment no
 moved_stands k c now n is st = record {
   own = st.own;
   moment = is ∙ ap (λ m. max m now) st.moment;
+  first = st.first;
   drawn = st.drawn;
   each = each_moved c (max c.moment now) k.held st.each;
   all = st.all;

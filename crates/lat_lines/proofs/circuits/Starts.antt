@@ -1,5 +1,5 @@
 -- Messages as they are read, by the circuits that they name.
-use Rattle.std.proofs.Common.{◌≡◌, ℕ, ◌<◌, ◌≤◌, Bool, true, false, not, cond, nat_eq, ne_eqb, List, map, position, Some, None, slice_index, sym, ap, subst, ◌∙◌, arith}
+use Rattle.std.proofs.Common.{◌≡◌, ℕ, Bool, true, false, not, cond, nat_eq, ne_eqb, List, map, position, Some, None, slice_index, sym, ap, subst, ◌∙◌}
 use Rattle.std.proofs.lemmas.Bool.{and_parts, and_from, eqb-true, eq-eqb, not_from_false}
 use Rattle.lat_slots.specs.declared.slot.Slot.{Slot}
 use Rattle.lat_frames.specs.declared.message.Message.{Message as ReadMessage}
@@ -11,6 +11,7 @@ use Rattle.lat_stream.specs.Wire.{slot_heard}
 use Rattle.lat_model.specs.ends.End.{End}
 use Rattle.lat_model.specs.ends.Starting.{again_start}
 use Rattle.lat_model.specs.ends.Timers.{note_empty}
+use Rattle.lat_model.proofs.circuits.Ids.{drawn_some}
 use Rattle.lat_machines.specs.values.Addresses.{address}
 use Rattle.lat_machines.specs.values.Messages.{StartInfo}
 use Rattle.lat_machines.specs.values.Answers.{Again, Circuit}
@@ -20,13 +21,13 @@ use Rattle.lat_machines.specs.cores.Hearing.{Repeats, start_fact}
 use Rattle.lat_circuit.specs.Kept as circuit
 use Rattle.lat_circuit.specs.Messages.{head_shown, wide_head_shown, info_shown, message_shown}
 use Rattle.lat_circuit.specs.Hears.{HeardStep, hears_start, foreign}
-use Rattle.lat_lines.specs.circuits.Kept.{Kept, Holds, IsOwn, IsClear, ids, side_of}
+use Rattle.lat_lines.specs.circuits.Kept.{Kept, Holds, IsOwn, IsClear, ids, is_drawn, side_of}
 use Rattle.lat_lines.specs.circuits.Stands.{Stands, IsCircuit}
 use Rattle.lat_lines.specs.circuits.Hears.{heard_core, hears_at, hears_named, start_core, new_fact, untouched}
-use Rattle.lat_lines.proofs.CircuitsHeld.{each_at, found_at, rising_above}
+use Rattle.lat_lines.proofs.CircuitsHeld.{each_at, found_at}
 use Rattle.lat_lines.proofs.circuits.Messages.{does}
 use Rattle.lat_lines.proofs.circuits.Named.{is_slave, core_run, core_wide, core_stop, core_reply, slave_here, slave_none}
-use Rattle.lat_lines.proofs.circuits.Places.{id_of, id_read}
+use Rattle.lat_lines.proofs.circuits.Places.{id_read}
 
 pub run_read : (k : Side) (c : Core) (from : ℕ) (m : ReadMessage) (h : Head) (slots : List Slot) → m ≡ frames.Run h slots
     → heard_core k from (message_shown m) c ≡ hears_named k h.to from (message_shown m) c
@@ -68,8 +69,8 @@ start_here k c from at m ask to source info is h clear node e st =
     let id : x ≡ q.facts.id = id_read k at q f.1.here in
     let own = each_at (IsOwn k) k.held at q h.each f.1.here in
     let of = each_at (IsCircuit c) k.held at q st.each f.1.here in
-    let above = each_at (λ (p : circuit.Kept). (0 < p.facts.id) × (p.facts.id ≤ k.drawn)) k.held at q (rising_above id_of 0 k.drawn k.held h.rising) f.1.here in
-    let some : nat_eq x 0 ≡ false = ne_eqb x 0 (λ z. absurd (omega (arith, z, id, above.0))) in
+    let drawn = each_at (λ (p : circuit.Kept). is_drawn k p.facts.id ≡ true) k.held at q h.drawn f.1.here in
+    let some : nat_eq x 0 ≡ false = ne_eqb x 0 (λ z. drawn_some k.first k.drawn q.facts.id drawn (sym id ∙ z)) in
     let slave = slave_here k c from source at h clear st e in
     let fact : start_fact c.circuits from source ≡ Repeats x =
     ap (λ n. cond (nat_eq n 0) (new_fact c.circuits) (Repeats n)) slave ∙ ap (λ b. cond b (new_fact c.circuits) (Repeats x)) some in

@@ -1,10 +1,11 @@
 -- One line session before and after an event.
-use Rattle.std.proofs.Common.{◌≡◌, ◌≢◌, ℕ, true, false, not, cond, ◌&&◌, ◌||◌, List, [], length, nat_le, Option, Some, is_some, ⊎_elim, sym, ap, subst, ◌∙◌, arith}
+use Rattle.std.proofs.Common.{◌≡◌, ◌≢◌, ℕ, true, false, not, cond, ◌&&◌, ◌||◌, List, [], length, nat_le, Option, Some, is_some, ⊎_elim, sym, ap, subst, ◌∙◌}
 use Rattle.std.proofs.lemmas.Bool.{both_ways, cases_Bool, or_parts, or_from, or_left, or_right, or_cases, and_from, and_left, and_right, not-true, not-false, not_from_false}
 use Rattle.lat_model.specs.sessions.Slots.{Slot, items, credits, costs, has_stop, starts, turned}
 use Rattle.lat_model.specs.sessions.Session.{Session, free, rejected, stopped, answered, peer, waits}
 use Rattle.lat_model.specs.sessions.Sessions.{named}
 use Rattle.lat_model.specs.ends.End.{End, lives}
+use Rattle.lat_model.proofs.circuits.Ids.{drawn_known}
 use Rattle.lat_machines.specs.cores.Books.{SessionEnd, EndedClosed, LineSession, line_session}
 use Rattle.lat_machines.specs.cores.Cores.{Seat, Core}
 use Rattle.lat_machines.specs.cores.Lines.{end_of, sessions_of, session_of, over}
@@ -31,14 +32,14 @@ pub not_over : (c : Core) (s : Seat) → over c s ≡ false → (lives (end_of c
 not_over c s h = let p = or_parts (not (lives (end_of c s))) (free (session_of c s)) h in (not-false (lives (end_of c s)) p.0, p.1)
 
 session_later : (k : circuits.Kept) (lines : ℕ) (c d : Core) (s : Seat) → Between k c d → IsSeat lines c s → lives (end_of c s) ≡ true → SessionLater (sessions_of c s) (sessions_of d s) s.serial
-session_later k lines c d s b seat h = (b.later.living s.circuit seat.drawn.1 h).sessions.each s.serial seat.session
+session_later k lines c d s b seat h = (b.later.living s.circuit (drawn_known c.circuits s.circuit seat.drawn) h).sessions.each s.serial seat.session
 
 -- it is a line session still
 
 dead_seat : (lines : ℕ) (c d : Core) (s : Seat) → CoreLater c d → IsSeat lines c s → end_of d s ≡ end_of c s → IsSeat lines d s
 dead_seat lines c d s l seat e = record {
   line = seat.line;
-  drawn = (seat.drawn.0, omega (arith, seat.drawn.1, l.drawn));
+  drawn = l.ids s.circuit seat.drawn;
   session = subst (λ (z : End). IsAccepted z.half.sessions s.serial) (sym e) seat.session;
   id = ap (λ (z : End). (z.half.sessions.session s.serial).id) e ∙ seat.id;
 }
@@ -46,7 +47,7 @@ dead_seat lines c d s l seat e = record {
 living_seat : (lines : ℕ) (c d : Core) (s : Seat) → CoreLater c d → IsSeat lines c s → SessionLater (sessions_of c s) (sessions_of d s) s.serial → IsSeat lines d s
 living_seat lines c d s l seat h = record {
   line = seat.line;
-  drawn = (seat.drawn.0, omega (arith, seat.drawn.1, l.drawn));
+  drawn = l.ids s.circuit seat.drawn;
   session = h.still;
   id = h.id ∙ seat.id;
 }
@@ -54,7 +55,7 @@ living_seat lines c d s l seat h = record {
 pub seat_later : (k : circuits.Kept) (lines : ℕ) (c d : Core) (s : Seat) → Between k c d → IsSeat lines c s → IsSeat lines d s
 seat_later k lines c d s b seat =
     ⊎_elim {C = IsSeat lines d s} (λ h. living_seat lines c d s b.later seat (session_later k lines c d s b seat h))
-    (λ h. dead_seat lines c d s b.later seat (b.later.dead s.circuit seat.drawn.1 h)) (cases_Bool (lives (end_of c s)))
+    (λ h. dead_seat lines c d s b.later seat (b.later.dead s.circuit (drawn_known c.circuits s.circuit seat.drawn) h)) (cases_Bool (lives (end_of c s)))
 
 -- One that was over is as it was
 
@@ -113,7 +114,7 @@ pub still_over : (k : circuits.Kept) (lines : ℕ) (c d : Core) (s : Seat) → B
 still_over k lines c d s b seat h = ⊎_elim {C = StillOver c d s} live dead (cases_Bool (lives (end_of c s)))
   where
     address : (d.circuits.circuit_at s.circuit).address ≡ (c.circuits.circuit_at s.circuit).address
-    address = b.later.address s.circuit seat.drawn.1
+    address = b.later.address s.circuit (drawn_known c.circuits s.circuit seat.drawn)
 
     live : lives (end_of c s) ≡ true → StillOver c d s
     live l =
@@ -121,12 +122,12 @@ still_over k lines c d s b seat h = ⊎_elim {C = StillOver c d s} live dead (ca
         let e : session_of d s ≡ session_of c s = (session_later k lines c d s b seat l).over f in
         record {
           over = or_right (not (lives (end_of d s))) (free (session_of d s)) (ap free e ∙ f);
-          same = λ n. same_free c d n s address ((b.later.living s.circuit seat.drawn.1 l).peer (free_runs c s lines (b.unheard s.circuit) seat f)) e f;
+          same = λ n. same_free c d n s address ((b.later.living s.circuit (drawn_known c.circuits s.circuit seat.drawn) l).peer (free_runs c s lines (b.unheard s.circuit) seat f)) e f;
         }
 
     dead : lives (end_of c s) ≡ false → StillOver c d s
     dead l =
-        let e : end_of d s ≡ end_of c s = b.later.dead s.circuit seat.drawn.1 l in
+        let e : end_of d s ≡ end_of c s = b.later.dead s.circuit (drawn_known c.circuits s.circuit seat.drawn) l in
         record {
           over = or_left (not (lives (end_of d s))) (free (session_of d s)) (not_from_false (lives (end_of d s)) (ap lives e ∙ l));
           same = λ n. same_dead c d n s address e;
@@ -204,7 +205,7 @@ present_told k lines c d n s b seat held h = ap present_of told
     told =
         ⊎_elim {C = session_after (telling_of d s.circuit s.id) (session_info (line_session c n s)) ≡ session_info (line_session d n s)}
         (λ e. found_told c d n s (stood_at k d s.circuit b.stands held) later.still (ap (sessions_of d s).session (ap (sessions_of d s).at_id (sym seat.id) ∙ e)))
-        (λ r. replaced_told c d n s (b.later.living s.circuit seat.drawn.1 parts.0).sessions.master seat.id r) (later.found parts.1)
+        (λ r. replaced_told c d n s (b.later.living s.circuit (drawn_known c.circuits s.circuit seat.drawn) parts.0).sessions.master seat.id r) (later.found parts.1)
 
 -- it has an end exactly where it is over
 pub told_over : (d : Core) (n : ℕ) (s : Seat) → is_some (seat_info d n s).session.end ≡ over d s

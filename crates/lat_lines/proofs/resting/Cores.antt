@@ -4,7 +4,8 @@ use Rattle.std.specs.List.{list_any}
 use Rattle.std.proofs.lemmas.Bool.{cond_both, false≢true, or_parts}
 use Rattle.std.proofs.lemmas.List.{length-map, length-append}
 use Rattle.lat_base.specs.declared.outbox.OutFrame.{OutFrame}
-use Rattle.lat_model.specs.Lists.{Each, upwards}
+use Rattle.lat_model.specs.Lists.{Each}
+use Rattle.lat_model.specs.circuits.Ids.{ids}
 use Rattle.lat_model.specs.ends.End.{End, Sent, Step, lives}
 use Rattle.lat_model.specs.ends.Timers.{note_empty, time_step}
 use Rattle.lat_model.specs.circuits.World.{CircuitEntry, wire_all}
@@ -129,7 +130,7 @@ each_calm k (x ∷ xs) d none goes =
     (each_calm k xs one none (λ y l. goes y (timed_back k d.core x y l)))
 
 pub time_calm : (k : Side) (c : Core) → (passes_time k c).frames ≡ [] → GoOn c (passes_time k c).core → CoreCalm c (passes_time k c).core
-time_calm k c none goes = each_calm k (upwards 0 c.circuits.drawn) (rests c) none goes
+time_calm k c none goes = each_calm k (ids c.circuits) (rests c) none goes
 
 -- where no circuit that has ended is held, those that are held live
 

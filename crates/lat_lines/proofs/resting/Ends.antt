@@ -4,6 +4,7 @@ use Rattle.lat_model.specs.Lists.{Each}
 use Rattle.lat_model.specs.sessions.Slots.{credits, costs, turned, starter}
 use Rattle.lat_model.specs.sessions.Session.{blank}
 use Rattle.lat_model.specs.ends.End.{End}
+use Rattle.lat_model.proofs.circuits.Ids.{drawn_known}
 use Rattle.lat_machines.specs.cores.Books.{EndedClosed, EndedRejected, EndedCircuit, LineSession, reject_reason}
 use Rattle.lat_machines.specs.cores.Cores.{Seat, Core}
 use Rattle.lat_machines.specs.cores.Lines.{end_of}
@@ -38,4 +39,4 @@ calm_seat c d s address calm = record {
 
 pub calm_steady : (lines : ℕ) (c d : Core) (ss : List Seat) → CoreLater c d → CoreCalm c d → Each (IsSeat lines c) ss → AllSteady c d ss
 calm_steady lines c d [] later calm e = tt
-calm_steady lines c d (s ∷ ss) later calm e = (calm_seat c d s (later.address s.circuit e.0.drawn.1) (calm s.circuit), calm_steady lines c d ss later calm e.1)
+calm_steady lines c d (s ∷ ss) later calm e = (calm_seat c d s (later.address s.circuit (drawn_known c.circuits s.circuit e.0.drawn)) (calm s.circuit), calm_steady lines c d ss later calm e.1)

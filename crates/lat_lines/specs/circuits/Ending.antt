@@ -1,6 +1,6 @@
 -- What a core does when it ends circuits by itself.
 use Rattle.std.specs.Prelude.{ℕ}
-use Rattle.lat_model.specs.Lists.{upwards}
+use Rattle.lat_model.specs.circuits.Ids.{ids}
 use Rattle.lat_machines.specs.cores.Acts.{end_at}
 use Rattle.lat_machines.specs.cores.Cores.{Side, Core, Doing, acts, rests, with_circuits}
 use Rattle.lat_machines.specs.cores.Hearing.{outlive_at, outlive}
@@ -15,4 +15,4 @@ outlives_one from source x c = rests (with_circuits c (outlive_at from source x 
 
 -- all slaves that it follows have ended
 abbrev pub outlived_core : (from source : ℕ) → Core → Core
-outlived_core from source c = with_circuits c (outlive from source (upwards 0 c.circuits.drawn) c.circuits)
+outlived_core from source c = with_circuits c (outlive from source (ids c.circuits) c.circuits)

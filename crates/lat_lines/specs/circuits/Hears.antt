@@ -1,7 +1,8 @@
 -- What a core does at a circuit message.
-use Rattle.std.specs.Prelude.{ℕ, suc, true, false, cond, ◌&&◌, nat_eq, nat_lt, None}
+use Rattle.std.specs.Prelude.{ℕ, true, false, cond, ◌&&◌, nat_eq, nat_lt, None}
 use Rattle.lat_model.specs.ends.End.{End, lives}
 use Rattle.lat_model.specs.circuits.World.{Table}
+use Rattle.lat_model.specs.circuits.Ids.{next_id}
 use Rattle.lat_model.specs.circuits.Arriving.{living}
 use Rattle.lat_circuit.specs.Hears.{heard_shown, hears, hears_noted}
 use Rattle.lat_machines.specs.values.Messages.{StartInfo, Message, RunMessage, WideMessage, StartMessage, StopMessage}
@@ -50,7 +51,7 @@ start_core k c from source info fact =
 
 -- what becomes of a START of a master that is new
 abbrev pub new_fact : Table → StartFact
-new_fact t = cond (nat_lt (living t) 8 && nat_lt t.drawn 65535) (Makes (suc t.drawn)) Refuses
+new_fact t = cond (nat_lt (living t) 8 && nat_lt t.drawn 65535) (Makes (next_id t)) Refuses
 
 -- A START of a master is for a node, the reply to one for a server
 abbrev pub heard_core : Side → ℕ → Message → Core → HeardCore

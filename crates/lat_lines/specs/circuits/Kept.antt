@@ -1,8 +1,9 @@
 -- What is kept of the circuits of a core.
-use Rattle.std.specs.Prelude.{◌≡◌, ℕ, ◌+◌, ◌<◌, ◌≤◌, Bool, List, [], ◌∷◌, map, length, None, nat_eq}
+use Rattle.std.specs.Prelude.{◌≡◌, ℕ, ◌+◌, ◌≤◌, Bool, true, cond, List, [], ◌∷◌, map, length, None, nat_eq, nat_lt}
 use Rattle.std.specs.List.{list_any}
 use Rattle.lat_base.specs.declared.addr.Addr.{Addr}
 use Rattle.lat_model.specs.Lists.{Each}
+use Rattle.lat_model.specs.circuits.Ids.{id_behind, is_id_of, Rises}
 use Rattle.lat_machines.specs.cores.Cores.{Side}
 use Rattle.lat_frames.specs.declared.timing.Timing.{Timing}
 use Rattle.lat_frames.specs.Timings.{IsTiming}
@@ -14,7 +15,8 @@ pub record Kept : Type 0 where
   pub name : List ℕ
   pub timing : Timing
   pub server : Bool
-  pub drawn : ℕ  -- the last id drawn
+  pub first : ℕ  -- the id of the circuit that is drawn first
+  pub drawn : ℕ  -- how many were drawn
   pub moment : ℕ
   pub held : List circuit.Kept  -- by rising id: those that live, and those that have ended and weren't cleared away yet
   pub rooms : List ℕ  -- the memory that no circuit has
@@ -30,6 +32,19 @@ ids k = map (λ (q : circuit.Kept). q.facts.id) k.held
 abbrev pub has_id : ℕ → Kept → Bool
 has_id x k = list_any (nat_eq x) (ids k)
 
+-- the id of the circuit that is drawn next
+abbrev pub next_id : Kept → ℕ
+next_id k = id_behind k.first k.drawn
+
+-- a circuit of this id was drawn, held or not
+abbrev pub is_drawn : Kept → ℕ → Bool
+is_drawn k x = is_id_of k.first k.drawn x
+
+-- one circuit more among these, behind those of lower ids
+abbrev pub held_with : circuit.Kept → List circuit.Kept → List circuit.Kept
+held_with q [] = q ∷ []
+held_with q (p ∷ ps) = cond (nat_lt q.facts.id p.facts.id) (q ∷ p ∷ ps) (p ∷ held_with q ps)
+
 -- no circuit that ended is held
 abbrev pub IsClear : Kept → Type 0
 IsClear k = Each (λ (q : circuit.Kept). q.ended ≡ None) k.held
@@ -40,17 +55,13 @@ pub record SameCore (old new : Kept) : Type 0 where
   pub name : new.name ≡ old.name
   pub timing : new.timing ≡ old.timing
   pub server : new.server ≡ old.server
+  pub first : new.first ≡ old.first
 
 pub record SameCircuits (old new : Kept) : Type 0 where
   pub core : SameCore old new
   pub ids : ids new ≡ ids old
   pub drawn : new.drawn ≡ old.drawn
   pub moment : new.moment ≡ old.moment
-
--- ids above the first, each above the one before, none above the last
-abbrev pub Rising : ℕ → ℕ → List ℕ → Type 0
-Rising first last [] = Unit {0}
-Rising first last (x ∷ xs) = (first < x) × (x ≤ last) × Rising x last xs
 
 -- a circuit of this core
 pub record IsOwn (k : Kept) (q : circuit.Kept) : Type 0 where
@@ -64,7 +75,9 @@ pub record IsOwn (k : Kept) (q : circuit.Kept) : Type 0 where
 
 pub record Holds (k : Kept) : Type 0 where
   pub timing : IsTiming k.timing
+  pub first : (1 ≤ k.first) × (k.first ≤ 65535)
   pub places : length k.held + length k.rooms ≡ 8
   pub rooms : Each (λ n. k.timing.sessions ≤ n) k.rooms
-  pub rising : Rising 0 k.drawn (ids k)
+  pub rising : Rises 0 (ids k)
+  pub drawn : Each (λ (q : circuit.Kept). is_drawn k q.facts.id ≡ true) k.held
   pub each : Each (IsOwn k) k.held

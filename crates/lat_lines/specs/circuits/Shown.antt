@@ -8,6 +8,7 @@ shown a = record {
   name = a.name;
   timing = a.timing;
   server = a.server;
+  first = a.first;
   drawn = a.drawn;
   moment = a.moment;
   held = a.held.items;

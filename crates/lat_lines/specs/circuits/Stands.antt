@@ -22,6 +22,7 @@ pub record IsCircuit (c : Core) (q : circuit.Kept) : Type 0 where
 pub record Stands (k : Kept) (c : Core) : Type 0 where
   pub own : address k.own.0 ≡ c.circuits.own
   pub moment : k.moment ≡ c.moment
+  pub first : k.first ≡ c.circuits.first
   pub drawn : k.drawn ≡ c.circuits.drawn
   pub each : Each (IsCircuit c) k.held
   pub all : (i : ℕ) → lives (c.circuits.circuit_at i).end ≡ true → has_id i k ≡ true

@@ -1,6 +1,6 @@
 //! What circuits tell. No call takes memory. Of a circuit that isn't held each tells that there is none.
 
-ghost use Rattle.std.specs.Prelude.{◌≡◌, ◌≤◌, ◌-◌, ◌&&◌, cond, nat_eq, true, false};
+ghost use Rattle.std.specs.Prelude.{◌≡◌, ◌-◌, ◌&&◌, cond, nat_eq, true, false};
 ghost use Rattle.std.specs.Prelude.{length, filter, Some, None, is_none, IfSome};
 ghost use Rattle.std.specs.List.{find, position};
 ghost use Rattle.std.specs.Option.{is_some, option_copied};
@@ -15,7 +15,7 @@ ghost use Rattle.lat_machines.specs.cores.Hearing.{names};
 ghost use Rattle.lat_session.specs.States.{asked_at};
 ghost use Rattle.lat_circuit.specs.Kept.{Kept};
 ghost use Rattle.lat_circuit.specs.Info.{session_state};
-ghost use Rattle.lat_lines.specs.circuits.Kept.{has_id, IsOwn};
+ghost use Rattle.lat_lines.specs.circuits.Kept.{has_id, is_drawn, IsOwn};
 ghost use Rattle.lat_lines.specs.circuits.Stands.{Stands, IsCircuit};
 ghost use Rattle.lat_lines.specs.circuits.Info.{sessions_at, session_at, held_circuit, is_of_circuit};
 ghost use Rattle.lat_lines.specs.circuits.Info.{telling, telling_of, ready, some_span, is_asked_at};
@@ -56,7 +56,7 @@ impl Circuits {
         ensures model { (c : Core) → Stands self.now c →
             IfSome result (λ t. telling t ≡ telling_of c circuit id) }
         ensures held { is_some result ≡ has_id circuit self.now }
-        ensures within { IfSome result (λ t. (1 ≤ circuit) × (circuit ≤ self.now.drawn)) }
+        ensures within { IfSome result (λ t. is_drawn self.now circuit ≡ true) }
         ensures side { (c : Core) →
             Stands self.now c →
             IfSome result (λ t. (sessions_at c circuit).master ≡ self.now.server) }
@@ -162,7 +162,7 @@ impl Circuits {
     pub(crate) fn circuit(&self, id: u16) -> Option<&Circuit>
         ensures value { option_copied result ≡ held_circuit self.now id }
         ensures own { IfSome result (λ q. IsOwn self.now q.now) }
-        ensures within { IfSome result (λ q. (1 ≤ id) × (id ≤ self.now.drawn)) }
+        ensures within { IfSome result (λ q. is_drawn self.now id ≡ true) }
     {
         circuit_of(&self.held, id)
     }

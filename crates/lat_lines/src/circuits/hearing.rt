@@ -1,9 +1,10 @@
 //! What circuits do at a circuit message.
 
-ghost use Rattle.std.specs.Prelude.{◌≡◌, ℕ, suc, ◌≤◌, ◌<◌, ◌+◌, ◌&&◌, true, false, cond, nat_eq, nat_lt};
+ghost use Rattle.std.specs.Prelude.{◌≡◌, ℕ, ◌≤◌, ◌<◌, ◌+◌, ◌&&◌, true, false, cond, nat_eq, nat_lt};
 ghost use Rattle.std.specs.Prelude.{length, position, slice_index};
 ghost use Rattle.lat_frames.specs.Conditions.{InfoFits};
 ghost use Rattle.lat_frames.specs.Written.{IsWritable};
+ghost use Rattle.lat_model.specs.circuits.Ids.{next_id as next_drawn};
 ghost use Rattle.lat_machines.specs.values.Addresses.{address};
 ghost use Rattle.lat_machines.specs.values.Answers.{Circuit as CircuitAnswer};
 ghost use Rattle.lat_machines.specs.cores.Cores.{Core};
@@ -12,10 +13,11 @@ ghost use Rattle.lat_machines.specs.node.Node.{start_answer};
 ghost use Rattle.lat_circuit.specs.Kept.{Kept};
 ghost use Rattle.lat_circuit.specs.Hears.{heard_shown};
 ghost use Rattle.lat_circuit.specs.Messages.{info_shown, message_shown};
-ghost use Rattle.lat_lines.specs.circuits.Kept.{side_of, ids, SameCore, SameCircuits, has_id, IsClear};
+ghost use Rattle.lat_lines.specs.circuits.Kept.{side_of, ids, next_id, SameCore, SameCircuits, has_id, IsClear};
 ghost use Rattle.lat_lines.specs.circuits.Stands.{Stands, Simulates};
 ghost use Rattle.lat_lines.specs.circuits.Hears.{heard_core, hears_named, hears_at, start_core, new_fact, hearing_shown};
 
+use crate::circuits::opening::hold;
 use crate::circuits::{CIRCUITS, Circuits};
 use lat_base::{Addr, Heard, Name, OutBox};
 use lat_circuit::{Circuit, CircuitConfig, stray_stop};
@@ -175,7 +177,7 @@ impl Circuits {
         ensures model { (c : Core) →
             Stands self.now c →
             IsClear self.now →
-            new_fact c.circuits ≡ cond result (Makes (suc c.circuits.drawn)) Refuses }
+            new_fact c.circuits ≡ cond result (Makes (next_drawn c.circuits)) Refuses }
     {
         self.held.len() < CIRCUITS && self.drawn < u16::MAX
     }
@@ -190,22 +192,22 @@ impl Circuits {
         requires room { length out.old + 16 ≤ 256 }
         ensures did { Simulates (λ c.
             (start_core (side_of self.old) c (address from.0) source (info_shown info.now)
-            (Makes (suc c.circuits.drawn))).doing)
+            (Makes (next_drawn c.circuits))).doing)
             self.old self.new out.old out.new }
-        ensures id { result ≡ suc self.old.drawn }
+        ensures id { result ≡ next_id self.old }
         ensures core { SameCore self.old self.new }
         ensures moment { self.new.moment ≡ self.old.moment }
         ensures held { (x : ℕ) → has_id x self.old ≡ true → has_id x self.new ≡ true }
         ensures most { length out.new ≤ length out.old + 1 }
     {
         let config = self.config_to(from, info.name);
-        let id = self.drawn + 1;
+        let id = self.next_id();
         let Some(room) = self.rooms.pop() else {
             unreachable!()
         };
         let circuit = Circuit::answer_in(room, &config, id, source, info, self.moment, out);
-        self.held.push_reserved(circuit);
-        self.drawn = id;
+        hold(&mut self.held, circuit);
+        self.drawn += 1;
         id
     }
 

@@ -1,8 +1,8 @@
 //! Circuits that a server calls.
 
 ghost use Rattle.std.specs.Prelude.{◌≡◌, ℕ, ◌≤◌, ◌<◌, ◌+◌, ◌&&◌, if◌then◌else◌, true, suc, nat_eq, nat_lt};
-ghost use Rattle.std.specs.Prelude.{length, count_by, is_none, is_ok, Ok, Err, IfSome};
-ghost use Rattle.std.specs.List.{find};
+ghost use Rattle.std.specs.Prelude.{length, count_by, is_none, is_ok, Ok, Err, IfSome, vec_len, vec_capacity};
+ghost use Rattle.std.specs.List.{find, position};
 ghost use Rattle.std.specs.Option.{option_map};
 ghost use Rattle.lat_model.specs.circuits.Arriving.{living};
 ghost use Rattle.lat_model.specs.sessions.Calls.{Connect};
@@ -15,7 +15,7 @@ ghost use Rattle.lat_session.specs.Table as table;
 ghost use Rattle.lat_frames.specs.Timings.{IsTiming};
 ghost use Rattle.lat_circuit.specs.Kept.{Kept};
 ghost use Rattle.lat_circuit.specs.Stands as circuit_stands;
-ghost use Rattle.lat_lines.specs.circuits.Kept.{side_of, SameCore, SameCircuits, has_id, IsClear};
+ghost use Rattle.lat_lines.specs.circuits.Kept.{side_of, next_id, held_with, SameCore, SameCircuits, has_id, IsClear};
 ghost use Rattle.lat_lines.specs.circuits.Stands.{Stands, Simulates, calling};
 ghost use Rattle.lat_lines.specs.circuits.Info.{sessions_at};
 ghost use Rattle.lat_lines.specs.circuits.Living.{has_room_at};
@@ -46,7 +46,7 @@ impl Circuits {
         count_living(&self.held)
     }
 
-    /// The last id drawn, 0 before the first. Ids end at 65,535.
+    /// How many circuits were drawn, 65,535 at most.
     pub fn drawn(&self) -> u16
         ensures value { result ≡ self.now.drawn }
         ensures model { (c : Core) → Stands self.now c → result ≡ c.circuits.drawn }
@@ -76,7 +76,7 @@ impl Circuits {
         requires room { length out.old + 16 ≤ 256 }
         ensures did { Simulates (called_core (side_of self.old)
             (address peer.0) node.now) self.old self.new out.old out.new }
-        ensures id { result ≡ suc self.old.drawn }
+        ensures id { result ≡ next_id self.old }
         ensures free { has_room_at self.new result ≡ true }
         ensures drawn { self.new.drawn ≡ suc self.old.drawn }
         ensures core { SameCore self.old self.new }
@@ -88,14 +88,27 @@ impl Circuits {
         ensures most { length out.new ≤ length out.old + 1 }
     {
         let config = self.config_to(peer, *node);
-        let id = self.drawn + 1;
+        let id = self.next_id();
         let Some(room) = self.rooms.pop() else {
             unreachable!()
         };
         let circuit = Circuit::call_in(room, &config, id, self.moment, out);
-        self.held.push_reserved(circuit);
-        self.drawn = id;
+        hold(&mut self.held, circuit);
+        self.drawn += 1;
         id
+    }
+
+    // The id of the circuit that is drawn next: behind 65,535 comes 1.
+    pub(crate) fn next_id(&self) -> u16
+        requires ids { self.now.drawn < 65535 }
+        ensures { result ≡ next_id self.now }
+    {
+        let up = u16::MAX - (self.first - 1);
+        if self.drawn < up {
+            self.first + self.drawn
+        } else {
+            self.drawn - up + 1
+        }
     }
 
     /// Asks for a session with a service on a living circuit, which may answer a request, and gives its id. `Full` exactly where
@@ -123,6 +136,25 @@ impl Circuits {
         let circuit = &mut self.held[at];
         circuit.connect(service, request)
     }
+}
+
+// One circuit more is held, behind those of lower ids.
+pub(crate) fn hold(held: &mut Vec<Circuit>, circuit: Circuit)
+    requires room { vec_len held.old < vec_capacity held.old }
+    ensures items { held.new.items ≡ held_with circuit held.old.items }
+    ensures capacity { vec_capacity held.old ≤ vec_capacity held.new }
+{
+    let at = first_above(held.as_slice(), circuit.id()).unwrap_or(held.len());
+    let Ok(()) = held.insert(at, circuit) else {
+        unreachable!()
+    };
+}
+
+// Where the first circuit of a higher id stands.
+fn first_above(held: &[Circuit], id: u16) -> Option<usize>
+    ensures { result ≡ position (λ (q : Kept). nat_lt id q.facts.id) held.now }
+{
+    held.iter().position(|circuit| id < circuit.id())
 }
 
 // The id of the living circuit to a station.

@@ -12,6 +12,7 @@ loop-at-preserved c =
         name = e.core.name ∙ i.core.name;
         timing = e.core.timing ∙ i.core.timing;
         server = e.core.server ∙ i.core.server;
+        first = e.core.first ∙ i.core.first;
       };
       moment = e.moment ∙ i.moment;
       state = λ d st. e.state d (i.state d st);

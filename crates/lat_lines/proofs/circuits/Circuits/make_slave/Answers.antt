@@ -1,4 +1,5 @@
-use Rattle.std.proofs.Common.{◌∙◌, suc, sym, ap, cond}
+use Rattle.std.proofs.Common.{◌∙◌, sym, ap, cond}
+use Rattle.lat_model.specs.circuits.Ids as tables
 use Rattle.lat_machines.specs.values.Addresses.{address}
 use Rattle.lat_machines.specs.values.Answers.{Started}
 use Rattle.lat_machines.specs.cores.Hearing.{StartFact, Makes, Refuses}
@@ -8,6 +9,7 @@ use Rattle.lat_lines.specs.circuits.Hears.{start_core, new_fact}
 use Rattle.lat_lines.specs.circuits.Kept.{side_of}
 use Rattle.lat_lines.proofs.circuits.Answered.{refused_did}
 use Rattle.lat_lines.proofs.circuits.Each.{did_as}
+use Rattle.lat_lines.proofs.circuits.Ids.{next_core}
 use Rattle.lat_lines.proofs.circuits.Circuits.make_slave.Goals as goal
 
 pub returns-then-has_place-clause-did : goal.returns-then-has_place-clause-did
@@ -15,14 +17,15 @@ returns-then-has_place-clause-did c =
     let k = c.args.self.now in
     let from = address c.args.from.0 in
     let info = info_shown c.args.info.now in
-    did_as (λ d. (start_core (side_of k) d from c.args.source info (Makes (suc d.circuits.drawn))).doing) (λ d. (start_core (side_of k) d from c.args.source info (new_fact d.circuits)).doing) k c.answer_start.new.self c.args.out.now c.answer_start.new.out
-    (λ d st. ap (λ (f : StartFact). (start_core (side_of k) d from c.args.source info f).doing) (c.has_place.ensures.model d st c.requires.clear ∙ ap (λ b. cond b (Makes (suc d.circuits.drawn)) Refuses) c.if-has_place.true))
+    did_as (λ d. (start_core (side_of k) d from c.args.source info (Makes (tables.next_id d.circuits))).doing) (λ d. (start_core (side_of k) d from c.args.source info (new_fact d.circuits)).doing) k c.answer_start.new.self c.args.out.now c.answer_start.new.out
+    (λ d st. ap (λ (f : StartFact). (start_core (side_of k) d from c.args.source info f).doing) (c.has_place.ensures.model d st c.requires.clear ∙ ap (λ b. cond b (Makes (tables.next_id d.circuits)) Refuses) c.if-has_place.true))
     c.answer_start.ensures.did
 
 pub returns-then-has_place-clause-answer : goal.returns-then-has_place-clause-answer
 returns-then-has_place-clause-answer c = λ d st.
-    ap Started (c.answer_start.ensures.id ∙ ap suc st.drawn)
-    ∙ ap start_answer (sym (c.has_place.ensures.model d st c.requires.clear ∙ ap (λ b. cond b (Makes (suc d.circuits.drawn)) Refuses) c.if-has_place.true))
+    let k = c.args.self.now in
+    ap Started (c.answer_start.ensures.id ∙ next_core k d st)
+    ∙ ap start_answer (sym (c.has_place.ensures.model d st c.requires.clear ∙ ap (λ b. cond b (Makes (tables.next_id d.circuits)) Refuses) c.if-has_place.true))
 
 pub returns-else-has_place-clause-did : goal.returns-else-has_place-clause-did
 returns-else-has_place-clause-did c =
@@ -30,9 +33,9 @@ returns-else-has_place-clause-did c =
     let from = address c.args.from.0 in
     let info = info_shown c.args.info.now in
     did_as (λ d. (start_core (side_of k) d from c.args.source info Refuses).doing) (λ d. (start_core (side_of k) d from c.args.source info (new_fact d.circuits)).doing) k k c.args.out.now c.push.new.self
-    (λ d st. ap (λ (f : StartFact). (start_core (side_of k) d from c.args.source info f).doing) (c.has_place.ensures.model d st c.requires.clear ∙ ap (λ b. cond b (Makes (suc d.circuits.drawn)) Refuses) c.if-has_place.false))
+    (λ d st. ap (λ (f : StartFact). (start_core (side_of k) d from c.args.source info f).doing) (c.has_place.ensures.model d st c.requires.clear ∙ ap (λ b. cond b (Makes (tables.next_id d.circuits)) Refuses) c.if-has_place.false))
     (refused_did k c.args.from c.args.source info c.stray_stop.result c.args.out.now c.push.new.self (record { is = c.stray_stop.ensures.value; formed = c.stray_stop.ensures.formed c.requires.source }) c.push.ensures)
 
 pub returns-else-has_place-clause-answer : goal.returns-else-has_place-clause-answer
 returns-else-has_place-clause-answer c = λ d st.
-    ap start_answer (sym (c.has_place.ensures.model d st c.requires.clear ∙ ap (λ b. cond b (Makes (suc d.circuits.drawn)) Refuses) c.if-has_place.false))
+    ap start_answer (sym (c.has_place.ensures.model d st c.requires.clear ∙ ap (λ b. cond b (Makes (tables.next_id d.circuits)) Refuses) c.if-has_place.false))

@@ -1,6 +1,7 @@
 use Rattle.std.proofs.Common.{◌≡◌, ℕ, suc, rules, Option, Ok, Err, sym, ap, subst, ◌∙◌}
 use Rattle.std.proofs.lemmas.Bool.{and_from}
 use Rattle.lat_model.specs.ends.End.{lives}
+use Rattle.lat_model.specs.circuits.Ids.{next_id}
 use Rattle.lat_model.specs.sessions.Calls.{Connect}
 use Rattle.lat_model.specs.sessions.Sessions.{least_free}
 use Rattle.lat_machines.specs.values.Addresses.{address}
@@ -15,6 +16,7 @@ use Rattle.lat_lines.specs.Later.{Leads}
 use Rattle.lat_lines.specs.Stands.{Stands}
 use Rattle.lat_lines.specs.Opens.{way, reaches, reached, seated_core, request_of}
 use Rattle.lat_lines.specs.Shown.{shown}
+use Rattle.lat_lines.proofs.circuits.Ids.{next_core}
 use Rattle.lat_lines.proofs.Acting.{StayHeld, ok_of, acted, same_held}
 use Rattle.lat_lines.proofs.Standing.{stands_as}
 use Rattle.lat_lines.proofs.Accepting.{none_still, called_lives}
@@ -44,7 +46,7 @@ returns-clause-opened c = λ config d side st none.
     let way_is : way d a ≡ Ok w = sym (c.opening.ensures.way d st) ∙ c.in_ok-way.was in
     let R : Doing = reaches S a c.args.node.now w d in
     let did = c.reach-circuit.ensures.did d st2.circuits in
-    let id : x ≡ reached d.circuits.drawn w = c.reach-circuit.ensures.id ∙ ap (λ n. reached n w) st2.circuits.drawn in
+    let id : x ≡ reached (next_id d.circuits) w = c.reach-circuit.ensures.id ∙ ap (λ n. reached n w) (next_core k.circuits d st2.circuits) in
     let r : Reached S d R.core a x = subst (Reached S d R.core a) (sym id) (reached_by S d a c.args.node.now w (ok_of k d st2) way_is (λ e. (c.reach-circuit.ensures.timing e).sessions.0)) in
     let asks = Connect c.args.service.now c.request_in.result in
     let e : Core = calling S x asks R.core in
@@ -82,7 +84,7 @@ returns-clause-answer c = λ d st.
     let way_is : way d a ≡ Ok w = sym (c.opening.ensures.way d st) ∙ c.in_ok-way.was in
     let R : Doing = reaches S a c.args.node.now w d in
     let did = c.reach-circuit.ensures.did d st2.circuits in
-    let id : x ≡ reached d.circuits.drawn w = c.reach-circuit.ensures.id ∙ ap (λ n. reached n w) st2.circuits.drawn in
+    let id : x ≡ reached (next_id d.circuits) w = c.reach-circuit.ensures.id ∙ ap (λ n. reached n w) (next_core k.circuits d st2.circuits) in
     let r : Reached S d R.core a x = subst (Reached S d R.core a) (sym id) (reached_by S d a c.args.node.now w (ok_of k d st2) way_is (λ e. (c.reach-circuit.ensures.timing e).sessions.0)) in
     let named = c.connect-session.ensures.id R.core did.0 (and_from (lives (R.core.circuits.circuit_at x).end) (has_room R.core x) r.lives r.room) in
     sym (opening_way d a

@@ -1,4 +1,4 @@
-use Rattle.std.proofs.Common.{◌≡◌, ◌≤◌, suc, find, length, refl, sym, ap, ap₂, subst, ◌∙◌, arith}
+use Rattle.std.proofs.Common.{◌≡◌, suc, true, find, length, refl, sym, ap, ap₂, subst, ◌∙◌, arith}
 use Rattle.std.specs.Option.{IfSome}
 use Rattle.std.proofs.lemmas.Bool.{true≢false}
 use Rattle.lat_queue.specs.Histories.{some_key}
@@ -10,6 +10,8 @@ use Rattle.lat_lines.specs.Kept.{Kept, Holds, IsLine}
 use Rattle.lat_lines.specs.Stands.{Stands}
 use Rattle.lat_lines.specs.Opens.{session_begun, seated_core}
 use Rattle.lat_lines.specs.Shown.{shown}
+use Rattle.lat_model.specs.circuits.Ids.{is_id_of}
+use Rattle.lat_lines.proofs.circuits.Ids.{drawn_core}
 use Rattle.lat_lines.proofs.OnLines.{found, found_holds, is_seat_of}
 use Rattle.lat_lines.proofs.Pigeons.{one_more}
 use Rattle.lat_lines.proofs.Seating.{stands_push, begins, holds_push, none_found, none_is}
@@ -51,9 +53,9 @@ returns-in-Some-clause-state c = λ d serial st h l leads.
     let t : Seat = record { line = c.args.line; circuit = c.args.circuit; id = c.args.session; serial = serial; key = some_key c.args.key } in
     let line = subst (λ z. IsLine z.lines c.args.line) (sym c.self.view_is) c.requires.line in
     let st2 : Stands k d = subst (λ z. Stands z d) (sym c.self.view_is) st in
-    let within = subst (λ o. IfSome o (λ u. (1 ≤ c.args.circuit) × (c.args.circuit ≤ k.circuits.drawn))) c.in-Some.is c.info.ensures.within in
+    let within = subst (λ o. IfSome o (λ u. is_id_of k.circuits.first k.circuits.drawn c.args.circuit ≡ true)) c.in-Some.is c.info.ensures.within in
     let tells = subst (λ o. IfSome o (λ u. telling u ≡ telling_of d c.args.circuit c.args.session)) c.in-Some.is (c.info.ensures.model d st2.circuits) in
-    let drawn : (1 ≤ c.args.circuit) × (c.args.circuit ≤ d.circuits.drawn) = (within.0, omega (arith, within.1, st2.circuits.drawn)) in
+    let drawn : is_id_of d.circuits.first d.circuits.drawn c.args.circuit ≡ true = sym (drawn_core k.circuits d c.args.circuit st2.circuits) ∙ within in
     let made : c.saturating_add-self-inside.result ≡ saturated (suc (length d.seats)) = let m = st2.seated.made in omega (arith, m, c.saturating_add-self-inside.ensures) in
     let begun = begins k d t c.args.key c.begun-session.result st2 h line l leads drawn refl (c.begun-session.ensures.value ∙ ap₂ (λ n u. session_begun n c.args.circuit c.args.session u) made tells) in
     subst (λ ss. Stands (record k { seats = ss; made = c.saturating_add-self-inside.result }) (seated_core d t)) (sym c.push_reserved.ensures.items) (stands_push k d t s c.saturating_add-self-inside.result st2 begun made)

@@ -24,6 +24,8 @@ services-requires c =
 pub returns-clause-stands : goal.returns-clause-stands
 returns-clause-stands c =
     let lines = c.in_ok-make.field-0 in
-    let ls = subst (λ (a : Addr). stands.Stands lines (open_core (side_of lines) (address a.0))) (sym c.in_ok-make.ensures.own.0) c.in_ok-make.ensures.stands in
+    let first = c.args.config.now.first in
+    let at = subst (λ (a : Addr). stands.Stands lines (open_core (side_of lines) (address a.0) first)) (sym c.in_ok-make.ensures.own.0) c.in_ok-make.ensures.stands in
+    let ls = subst (λ n. stands.Stands lines (open_core (side_of lines) (address lines.circuits.own.0) n)) (sym c.in_ok-make.ensures.own.4) at in
     let server : lines.circuits.server ≡ true = search rules in
     is_opened _ server ls c.in_ok-make-2.ensures.stands c.in_ok-make-3.ensures.stands refl c.open.ensures

@@ -9,6 +9,7 @@ make-requires c = record {
   lines = (omega arith, omega arith);
   offers = subst (AreOffers _) (sym c.new.ensures) (none_offered _);
   timing = c.requires.timing;
+  first = c.requires.first;
 }
 
 pub returns-clause-made : goal.returns-clause-made
