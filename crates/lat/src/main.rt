@@ -38,7 +38,7 @@ fn status_by<H: RatingRule, S: Source, K: Sink>(
 
 // The status of the program, whose node rates its services by the lines that are free, 255 at most.
 fn status<S: Source, K: Sink>(alloc: Global, words: &[String], source: &mut S, sink: &mut K) -> u8 {
-    let rule = |used: u16, max: u16| -> u8
+    let rule = |_place: usize, used: u16, max: u16| -> u8
         requires { used ≤ max }
         ensures { result ≡ min (max - used) 255 }
     { (max - used).min(255) as u8 };

@@ -1,12 +1,11 @@
 -- What a node announces can be written, and goes out as the machine's announcement.
-use Rattle.std.proofs.Common.{◌≡◌, ℕ, suc, ◌*◌, ◌≤◌, refl, sym, ap, ◌∙◌, subst, Bool, true, false, cond, List, [], ◌∷◌, ◌++◌, map, length, Option, Some, None, get_or, Result, Ok, Err, IfOk, arith}
-use Rattle.std.specs.List.{AllByRecursion, sum_by, find, position}
+use Rattle.std.proofs.Common.{◌≡◌, ℕ, zero, suc, ◌*◌, ◌+◌, ◌≤◌, refl, sym, ap, ◌∙◌, subst, Bool, true, false, cond, List, [], ◌∷◌, ◌++◌, map, length, Option, Some, None, get_or, Result, Ok, Err, IfOk, arith}
+use Rattle.std.specs.List.{AllByRecursion, AllZip, sum_by, find, position}
 use Rattle.std.proofs.lemmas.List.Sums.{sum_by-cons}
 use Rattle.std.proofs.lemmas.List.{append-nil}
 use Rattle.std.proofs.lemmas.Option.{slice_get-get_or}
 use Rattle.lat_base.specs.declared.memory.Memory.{Memory}
 use Rattle.lat_base.specs.declared.outbox.OutFrame.{OutFrame}
-use Rattle.lat_model.specs.Lists.{Each}
 use Rattle.lat_notices.specs.declared.services.Service as notices
 use Rattle.lat_notices.specs.declared.notice.Announcement.{Announcement}
 use Rattle.lat_notices.specs.declared.notice.Notice.{Notice}
@@ -25,9 +24,10 @@ use Rattle.lat_payload.specs.Frames.{GoesOutAs, Emits}
 use Rattle.lat_payload.proofs.Frames.{adds_none, adds_one, adds_then}
 use Rattle.lat_lines.proofs.CircuitFound.{finds_at}
 use Rattle.lat_node.specs.Announced.{ratings, AnnouncesAs, IsAnnounced}
-use Rattle.lat_node.specs.Events.{Rated, announces, ratings_for}
+use Rattle.lat_node.specs.Events.{Rated, announces}
 use Rattle.lat_node.specs.Kept.{Kept, config_of}
-use Rattle.lat_node.proofs.FrameLemmas.{none_for}
+use Rattle.lat_node.specs.Places.{places_from, places, response_places, AreRates}
+use Rattle.lat_node.proofs.FrameLemmas.{none_for, no_rates}
 
 -- services and their names
 
@@ -70,12 +70,33 @@ services_more ns more ss new n s is_more is_new is one =
     ∙ ap (λ ms. rated ms (ratings (ss ++ s ∷ []))) (sym is_more)
     ∙ ap (λ xs. rated more (ratings xs)) (sym is_new)
 
-each_pushed : (P : ℕ → Type 0) (ss : List notices.Service) (s : notices.Service) → Each P (ratings ss) → P s.rating → Each P (ratings (ss ++ s ∷ []))
-each_pushed P [] s each one = (one, tt)
-each_pushed P (t ∷ ss) s each one = (each.0, each_pushed P ss s each.1 one)
+-- and its rating, at the next place
 
-pub each_more : (P : ℕ → Type 0) (ss : List notices.Service) (s : notices.Service) (new : List notices.Service) → new ≡ ss ++ s ∷ [] → Each P (ratings ss) → P s.rating → Each P (ratings new)
-each_more P ss s new is each one = subst (λ (xs : List notices.Service). Each P (ratings xs)) (sym is) (each_pushed P ss s each one)
+places_more : (first n : ℕ) → places_from first (suc n) ≡ places_from first n ++ (first + n) ∷ []
+places_more first zero = ap (λ p. p ∷ []) (omega arith)
+places_more first (suc n) =
+    ap (λ ps. first ∷ ps) (places_more (suc first) n)
+    ∙ ap (λ p. first ∷ (places_from (suc first) n ++ p ∷ [])) (omega arith)
+
+zip_more : {A B : Type 0} (R : A → B → Type 0) (xs : List A) (ys : List B) (x : A) (y : B) → AllZip R xs ys → R x y → AllZip R (xs ++ x ∷ []) (ys ++ y ∷ [])
+zip_more R [] [] x y all one = (one, tt)
+zip_more R [] (b ∷ ys) x y all one = absurd all
+zip_more R (a ∷ xs) [] x y all one = absurd all
+zip_more R (a ∷ xs) (b ∷ ys) x y all one = (all.0, zip_more R xs ys x y all.1 one)
+
+pub rates_more : (may : ℕ → ℕ → ℕ → ℕ → Type 0) (used max n : ℕ) (ss new : List notices.Service) (s : notices.Service) → new ≡ ss ++ s ∷ [] →
+    AreRates may used max (places_from 0 n) (ratings ss) → may n used max s.rating → AreRates may used max (places_from 0 (n + 1)) (ratings new)
+rates_more may used max n ss new s is are one =
+    subst (λ (xs : List notices.Service). AreRates may used max (places_from 0 (n + 1)) (ratings xs)) (sym is)
+    (subst (λ rates. AreRates may used max (places_from 0 (n + 1)) rates) (sym (map_more (λ (t : notices.Service). t.rating) ss s))
+    (subst (λ ps. AreRates may used max ps (ratings ss ++ s.rating ∷ [])) (sym more)
+    (zip_more (λ place rate. may place used max rate) (places_from 0 n) (ratings ss) n s.rating are one)))
+  where
+    next : n + 1 ≡ suc n
+    next = omega arith
+
+    more : places_from 0 (n + 1) ≡ places_from 0 n ++ n ∷ []
+    more = ap (places_from 0) next ∙ places_more 0 n ∙ ap (λ p. places_from 0 n ++ p ∷ []) (omega arith)
 
 -- an announcement can be written
 
@@ -120,11 +141,11 @@ pub announces_as : {H : Type 0} (k : Kept H) (timer incarnation : ℕ) (groups :
 announces_as k timer incarnation groups node bare ss ns is_timer is_incarnation is_groups is_node is_bare is = cc
 
 -- that of all services
-pub announced_as : {H : Type 0} (may : H → ℕ → ℕ → ℕ → Type 0) (k : Kept H) (held : ℕ) (ss : List notices.Service) (result : Result Notice Memory) →
-    map service_shown ss ≡ rated k.services (ratings ss) → Each (may k.rule held k.lines.lines) (ratings ss) →
+pub announced_as : {H : Type 0} (may : H → ℕ → ℕ → ℕ → ℕ → Type 0) (k : Kept H) (held : ℕ) (ss : List notices.Service) (result : Result Notice Memory) →
+    AreRates (may k.rule) held k.lines.lines (places (config_of k)) (ratings ss) →
     IfOk result (AnnouncesAs (config_of k) (ratings ss)) → IfOk result (IsAnnounced may k held)
-announced_as may k held ss (Ok n) is each told = record { rates = ratings ss; count = ratings_count k.services ss is; each = each; is = told }
-announced_as may k held ss (Err m) is each told = tt
+announced_as may k held ss (Ok n) each told = record { rates = ratings ss; each = each; is = told }
+announced_as may k held ss (Err m) each told = tt
 
 pub response_as : {H : Type 0} (k : Kept H) (to id : ℕ) (service : Name) (rate : ℕ) (node : Name) (timer : ℕ) (f : OutFrame) → node ≡ k.lines.circuits.name → timer ≡ k.timer →
     GoesOutAs f (machines.plain to 0 (machines.OfNotice (ResponseNotice (record { id = id; node = node; service = service; rating = rate; timer = timer })))) → GoesOutAs f (response (config_of k) to id service rate)
@@ -134,32 +155,34 @@ response_as k to id service rate node timer f is_node is_timer goes =
 
 -- what goes out
 
--- where so many are asked for of a node that isn't halted
-not_halted : (halted : Bool) (n : ℕ) → halted ≡ false → cond halted 0 n ≡ n
-not_halted halted n unhalted = ap (λ b. cond b 0 n) unhalted
+-- where these are asked for of a node that isn't halted
+not_halted : (halted : Bool) (ps : List ℕ) → halted ≡ false → cond halted [] ps ≡ ps
+not_halted halted ps unhalted = ap (λ b. cond b [] ps) unhalted
 
-pub announced_rated : {H : Type 0} (may : H → ℕ → ℕ → ℕ → Type 0) (k : Kept H) (s : Node) (held : ℕ) (n : Notice) (f : OutFrame) (before after : List OutFrame) → s.halted ≡ false →
+pub announced_rated : {H : Type 0} (may : H → ℕ → ℕ → ℕ → ℕ → Type 0) (k : Kept H) (s : Node) (held : ℕ) (n : Notice) (f : OutFrame) (before after : List OutFrame) → s.halted ≡ false →
     held ≡ used s.core → IsAnnounced may k held n → GoesOutAs f (machines.plain everyone 0 (machines.OfNotice (notice_shown n))) → after ≡ before ++ f ∷ [] →
-    Rated may k s (announces (config_of k) s) (cond s.halted 0 (length k.services)) before after
+    Rated may k s (announces (config_of k) s) (cond s.halted [] (places (config_of k))) before after
 announced_rated may k s held n f before after unhalted lines a goes is = record {
   rates = a.rates;
-  count = a.count ∙ sym (not_halted s.halted (length k.services) unhalted);
-  each = subst (λ u. Each (may k.rule u k.lines.lines) a.rates) lines a.each;
+  each =
+      subst (λ ps. AreRates (may k.rule) (used s.core) k.lines.lines ps a.rates) (sym (not_halted s.halted (places (config_of k)) unhalted))
+      (subst (λ u. AreRates (may k.rule) u k.lines.lines (places (config_of k)) a.rates) lines a.each);
   frames = subst (λ b. Emits (cond b [] (announcement (config_of k) a.rates ∷ [])) before after) (sym unhalted) one;
 }
   where
     one : Emits (announcement (config_of k) a.rates ∷ []) before after
     one = subst (Emits (announcement (config_of k) a.rates ∷ []) before) (sym is) (adds_one (announcement (config_of k) a.rates) f before (subst (GoesOutAs f) a.is goes))
 
-pub response_rated : {H : Type 0} (may : H → ℕ → ℕ → ℕ → Type 0) (k : Kept H) (s : Node) (held to id : ℕ) (service : Name) (rate : ℕ) (n : Notice) (e f : OutFrame) (before between after : List OutFrame) → s.halted ≡ false →
-    held ≡ used s.core → IsAnnounced may k held n → may k.rule held k.lines.lines rate →
+pub response_rated : {H : Type 0} (may : H → ℕ → ℕ → ℕ → ℕ → Type 0) (k : Kept H) (s : Node) (held to id place : ℕ) (service : Name) (rate : ℕ) (n : Notice) (e f : OutFrame) (before between after : List OutFrame) → s.halted ≡ false →
+    held ≡ used s.core → IsAnnounced may k held n → may k.rule place held k.lines.lines rate →
     GoesOutAs e (response (config_of k) to id service rate) → between ≡ before ++ e ∷ [] →
     GoesOutAs f (machines.plain everyone 0 (machines.OfNotice (notice_shown n))) → after ≡ between ++ f ∷ [] →
-    Rated may k s (λ rates. solicited (config_of k) rates s to id (Some service)) (cond s.halted 0 (suc (length k.services))) before after
-response_rated may k s held to id service rate n e f before between after unhalted lines a one goes_first first goes then = record {
+    Rated may k s (λ rates. solicited (config_of k) rates s to id (Some service)) (cond s.halted [] (place ∷ places (config_of k))) before after
+response_rated may k s held to id place service rate n e f before between after unhalted lines a one goes_first first goes then = record {
   rates = rate ∷ a.rates;
-  count = ap suc a.count ∙ sym (not_halted s.halted (suc (length k.services)) unhalted);
-  each = subst (λ u. Each (may k.rule u k.lines.lines) (rate ∷ a.rates)) lines (one, a.each);
+  each =
+      subst (λ ps. AreRates (may k.rule) (used s.core) k.lines.lines ps (rate ∷ a.rates)) (sym (not_halted s.halted (place ∷ places (config_of k)) unhalted))
+      (subst (λ u. AreRates (may k.rule) u k.lines.lines (place ∷ places (config_of k)) (rate ∷ a.rates)) lines (one, a.each));
   frames = subst (λ b. Emits (cond b [] (r ∷ m ∷ [])) before after) (sym unhalted) both;
 }
   where
@@ -175,19 +198,22 @@ response_rated may k s held to id service rate n e f before between after unhalt
         (subst (Emits (r ∷ []) before) (sym first) (adds_one r e before goes_first))
         (subst (Emits (m ∷ []) between) (sym then) (adds_one m f between (subst (GoesOutAs f) a.is goes)))
 
-pub ignored_rated : {H : Type 0} (may : H → ℕ → ℕ → ℕ → Type 0) (k : Kept H) (s : Node) (from id : ℕ) (o : Option Name) (before : List OutFrame) → o ≡ None →
-    Rated may k s (λ rates. solicited (config_of k) rates s from id o) (cond s.halted 0 (ratings_for (config_of k) o)) before before
-ignored_rated may k s from id o before none =
-    subst (λ (x : Option Name). Rated may k s (λ rates. solicited (config_of k) rates s from id x) (cond s.halted 0 (ratings_for (config_of k) x)) before before) (sym none)
-    (record { rates = []; count = sym (none_for s.halted 0 refl); each = tt; frames = adds_none before })
+pub ignored_rated : {H : Type 0} (may : H → ℕ → ℕ → ℕ → ℕ → Type 0) (k : Kept H) (s : Node) (from id : ℕ) (found : Option Name) (at : Option ℕ) (before : List OutFrame) → found ≡ None → at ≡ None →
+    Rated may k s (λ rates. solicited (config_of k) rates s from id found) (cond s.halted [] (response_places (config_of k) at)) before before
+ignored_rated may k s from id found at before none nowhere =
+    subst (λ (x : Option Name). Rated may k s (λ rates. solicited (config_of k) rates s from id x) (cond s.halted [] (response_places (config_of k) at)) before before) (sym none)
+    (record {
+      rates = [];
+      each = no_rates (may k.rule) (used s.core) k.lines.lines (cond s.halted [] (response_places (config_of k) at)) (none_for s.halted (response_places (config_of k) at) (ap (response_places (config_of k)) nowhere));
+      frames = adds_none before;
+    })
 
 -- a halted node says nothing, and asks for no rating
-pub halted_rated : {H : Type 0} (may : H → ℕ → ℕ → ℕ → Type 0) (k : Kept H) (s : Node) (fs : List machines.OutFrame) (t : List ℕ → NodeStep) (n : ℕ) (before : List OutFrame) → s.halted ≡ true →
-    (t []).frames ≡ cond s.halted [] fs → Rated may k s t (cond s.halted 0 n) before before
-halted_rated may k s fs t n before stopped is = record {
+pub halted_rated : {H : Type 0} (may : H → ℕ → ℕ → ℕ → ℕ → Type 0) (k : Kept H) (s : Node) (fs : List machines.OutFrame) (t : List ℕ → NodeStep) (ps : List ℕ) (before : List OutFrame) → s.halted ≡ true →
+    (t []).frames ≡ cond s.halted [] fs → Rated may k s t (cond s.halted [] ps) before before
+halted_rated may k s fs t ps before stopped is = record {
   rates = [];
-  count = sym (ap (λ b. cond b 0 n) stopped);
-  each = tt;
+  each = no_rates (may k.rule) (used s.core) k.lines.lines (cond s.halted [] ps) (ap (λ b. cond b [] ps) stopped);
   frames = subst (λ gs. Emits gs before before) (sym (is ∙ ap (λ b. cond b [] fs) stopped)) (adds_none before);
 }
 

@@ -5,7 +5,7 @@ use Rattle.lat_base.specs.declared.answer.Answer as base
 use Rattle.lat_base.specs.declared.answer.Answer.TheVariants as answers
 use Rattle.lat_base.specs.declared.outbox.OutFrame.{OutFrame}
 use Rattle.lat_model.specs.ends.End.{lives}
-use Rattle.lat_model.specs.Lists.{upwards}
+use Rattle.lat_model.specs.circuits.Ids.{ids}
 use Rattle.lat_model.specs.circuits.World.{Table}
 use Rattle.lat_model.specs.circuits.Arriving.{is_of}
 use Rattle.lat_machines.specs.values.Messages.{Message, RunMessage, WideMessage, StartMessage, StopMessage}
@@ -189,9 +189,9 @@ stranger_is k s from m before after node told = subst (λ (side : Side). Emits (
 
 pub way_made : {H : Type 0} (k : Kept H) (l : lines.Kept) (old : Kept H) (s : Node) (from source : ℕ) → old.prompt ≡ true → Stands k s → line_stands.Stands l (outlived_core from source s.core) → Stands (with_lines k l) (makes_way (config_of old) s from source)
 way_made k l old s from source prompt st out =
-    subst (λ b. Stands (with_lines k l) (with_core s (with_circuits s.core (cond b (outlive from source (upwards 0 s.core.circuits.drawn) s.core.circuits) s.core.circuits)))) (sym prompt)
+    subst (λ b. Stands (with_lines k l) (with_core s (with_circuits s.core (cond b (outlive from source (ids s.core.circuits) s.core.circuits) s.core.circuits)))) (sym prompt)
     (moved k l s (outlived_core from source s.core) st out)
 
 pub way_free : {H : Type 0} (k : Kept H) (s : Node) (from source : ℕ) → k.prompt ≡ false → Stands k s → Stands k (makes_way (config_of k) s from source)
 way_free k s from source slow st =
-    subst (λ b. Stands k (with_core s (with_circuits s.core (cond b (outlive from source (upwards 0 s.core.circuits.drawn) s.core.circuits) s.core.circuits)))) (sym slow) st
+    subst (λ b. Stands k (with_core s (with_circuits s.core (cond b (outlive from source (ids s.core.circuits) s.core.circuits) s.core.circuits)))) (sym slow) st

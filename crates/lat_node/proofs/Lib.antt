@@ -1,6 +1,7 @@
 pub mod AnnounceLemmas
 pub mod Applying
 pub mod AskedLemmas
+pub mod CountLemmas
 pub mod FrameLemmas
 pub mod Fullness
 pub mod HeardLemmas

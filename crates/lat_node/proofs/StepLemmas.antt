@@ -33,7 +33,7 @@ pub moved : {H : Type 0} (k : Kept H) (l : lines.Kept) (s : Node) (c : Core) →
 moved k l s c st x = record { lines = x; requests = st.requests; accepted = st.accepted; turned_away = st.turned_away; halted = st.halted }
 
 pub same_lines : {H : Type 0} (k : Kept H) (l : lines.Kept) → lines.SameLines k.lines l → SameConfig k (with_lines k l)
-same_lines k l same = record { config = rw (same.core.own, same.core.name, same.core.timing, same.lines) refl; rule = refl }
+same_lines k l same = record { config = rw (same.core.own, same.core.name, same.core.timing, same.core.first, same.lines) refl; rule = refl }
 
 pub same_twice : {H : Type 0} (k l m : Kept H) → SameConfig k l → SameConfig l m → SameConfig k m
 same_twice k l m p q = record { config = q.config ∙ p.config; rule = q.rule ∙ p.rule }

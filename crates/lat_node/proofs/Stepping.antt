@@ -10,7 +10,8 @@ use Rattle.lat_lines.specs.Events.{event_shown}
 use Rattle.lat_lines.proofs.AnswerValues.{answer_back}
 use Rattle.lat_node.specs.Kept.{Kept, SameConfig, config_of}
 use Rattle.lat_node.specs.Stands.{Stands, Machine, IsMachine, opening, next, answered, Frames}
-use Rattle.lat_node.specs.Events.{Simulates, SimulatesRated, Rated, asked_for, IsLocal, TakesNoMemory}
+use Rattle.lat_node.specs.Events.{Simulates, SimulatesRated, Rated, IsLocal, TakesNoMemory}
+use Rattle.lat_node.specs.Places.{asked_places}
 use Rattle.lat_node.proofs.FrameLemmas.{frames_rated, steps_quiet, act_quiet}
 
 -- what a core promises of a step
@@ -26,11 +27,11 @@ stepped_state k middle new e done same then still m is = record {
 pub stepped_answer : {H : Type 0} (k : Kept H) (e : base_event.Event) (a : base.Answer) → ((s : Node) → Stands k s → answer_shown a ≡ (node_step (config_of k) [] s (event_shown e)).answer) → (m : Machine H) → IsMachine k m → a ≡ answered m e
 stepped_answer k e a told m is = sym (answer_back a) ∙ ap answer_of (told m.state is.state ∙ ap (λ (c : NodeConfig). (node_step c [] m.state (event_shown e)).answer) (sym is.config))
 
-pub stepped_frames : {H : Type 0} (may : H → ℕ → ℕ → ℕ → Type 0) (k middle : Kept H) (e : base_event.Event) (a : base.Answer) (before after : List OutFrame) → before ≡ [] → SimulatesRated may (event_shown e) k middle a before after →
+pub stepped_frames : {H : Type 0} (may : H → ℕ → ℕ → ℕ → ℕ → Type 0) (k middle : Kept H) (e : base_event.Event) (a : base.Answer) (before after : List OutFrame) → before ≡ [] → SimulatesRated may (event_shown e) k middle a before after →
     (m : Machine H) → IsMachine k m → Frames may m e after
 stepped_frames may k middle e a before after empty steps m is =
     frames_rated may k m e after is
-    (subst (λ (b : List OutFrame). Rated may k m.state (λ rates. node_step (config_of k) rates m.state (event_shown e)) (asked_for (config_of k) m.state (event_shown e)) b after) empty (steps m.state is.state).2)
+    (subst (λ (b : List OutFrame). Rated may k m.state (λ rates. node_step (config_of k) rates m.state (event_shown e)) (asked_places (config_of k) m.state (event_shown e)) b after) empty (steps m.state is.state).2)
 
 -- the events of `local` take no memory
 pub local_act : (e : base_event.Event) → IsLocal e → TakesNoMemory e
@@ -49,7 +50,7 @@ local_act (events.Avoid line) l = absurd l
 local_act (events.Ready line ready) l = absurd l
 local_act events.Halt l = absurd l
 
-pub acted_frames : {H : Type 0} (may : H → ℕ → ℕ → ℕ → Type 0) (k middle : Kept H) (e : base_event.Event) (a : base.Answer) (before after : List OutFrame) → IsLocal e → before ≡ [] → Simulates (λ config s. node_step config [] s (event_shown e)) k middle a before after →
+pub acted_frames : {H : Type 0} (may : H → ℕ → ℕ → ℕ → ℕ → Type 0) (k middle : Kept H) (e : base_event.Event) (a : base.Answer) (before after : List OutFrame) → IsLocal e → before ≡ [] → Simulates (λ config s. node_step config [] s (event_shown e)) k middle a before after →
     (m : Machine H) → IsMachine k m → Frames may m e after
 acted_frames may k middle e a before after local empty does =
     stepped_frames may k middle e a before after empty (steps_quiet may k middle (event_shown e) a before after (act_quiet e (local_act e local)) does)

@@ -22,7 +22,7 @@ any_from p n (x ∷ xs) = go (p x) (any_from p (n + 1) xs)
     go true e = refl
     go false e = e
 
-position_any : {X : Type 0} (p : X → Bool) (xs : List X) → is_some (position p xs) ≡ list_any p xs
+pub position_any : {X : Type 0} (p : X → Bool) (xs : List X) → is_some (position p xs) ≡ list_any p xs
 position_any p xs = ap is_some (position_from-zero p xs) ∙ any_from p 0 xs
 
 -- the line that is free, or none

@@ -17,6 +17,7 @@ config_shown config = record {
   groups = config.groups;
   timing = timing_shown config.timing;
   prompt = config.prompt;
+  first = config.first;
 }
 
 pub record IsConfig (config : NodeConfig) : Type 0 where
@@ -24,3 +25,4 @@ pub record IsConfig (config : NodeConfig) : Type 0 where
   pub timer : 1 ≤ config.timer
   pub groups : length config.groups ≤ 32
   pub timing : IsTiming config.timing
+  pub first : (1 ≤ config.first) × (config.first ≤ 65535)

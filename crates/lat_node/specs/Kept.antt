@@ -31,6 +31,7 @@ config_of k = record {
   groups = k.groups;
   timing = timing_shown k.lines.circuits.timing;
   prompt = k.prompt;
+  first = k.lines.circuits.first;
 }
 
 -- what holds of every node

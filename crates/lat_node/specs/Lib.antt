@@ -1,5 +1,6 @@
 pub mod Config
 pub mod Kept
+pub mod Places
 pub mod Stands
 pub mod Shown
 pub mod Events

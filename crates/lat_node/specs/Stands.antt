@@ -7,17 +7,16 @@ use Rattle.lat_base.specs.declared.outbox.OutFrame.{OutFrame}
 use Rattle.lat_base.specs.declared.state.SessionState.{SessionState}
 use Rattle.lat_model.specs.Lists.{Each}
 use Rattle.lat_machines.specs.values.Addresses.{address}
-use Rattle.lat_machines.specs.values.Frames as machine
-use Rattle.lat_machines.specs.cores.Lines.{line_state, waiting_at, saturated_count}
-use Rattle.lat_machines.specs.node.Node.{NodeConfig, Requested, Node, NodeStep, NodeFrames, node_side, open_node, node_step, finished}
-use Rattle.lat_circuit.specs.Frames.{frame_view}
-use Rattle.lat_payload.specs.Frames.{expected, IsReadable}
+use Rattle.lat_machines.specs.cores.Lines.{used, line_state, waiting_at, saturated_count}
+use Rattle.lat_machines.specs.node.Node.{NodeConfig, Requested, Node, NodeStep, node_side, open_node, node_step, finished}
+use Rattle.lat_payload.specs.Frames.{Emits}
 use Rattle.lat_stream.specs.Kept.{state_of}
 use Rattle.lat_lines.specs.AnswerValues.{answer_of}
 use Rattle.lat_lines.specs.Events.{event_shown}
 use Rattle.lat_lines.specs.Stands as lines
 use Rattle.lat_node.specs.declared.requests.Request.{Request}
 use Rattle.lat_node.specs.Kept.{Kept, config_of}
+use Rattle.lat_node.specs.Places.{asked_places, AreRates}
 
 -- a request, and whether a start was accepted for it
 pub record NotedRequest : Type 0 where
@@ -73,13 +72,12 @@ next m e = record { config = m.config; rule = m.rule; state = (stepped m e).stat
 abbrev pub answered : {H : Type 0} → Machine H → Event → Answer
 answered m e = answer_of (stepped m e).answer
 
--- the frames that may go out: the machine's, each rating in them one that the rule may give at the lines then held; and each of
--- them is readable
-pub record Frames {H : Type 0} (may : H → ℕ → ℕ → ℕ → Type 0) (m : Machine H) (e : Event) (frames : List OutFrame) : Type 0 where
-  pub made : List machine.OutFrame
-  pub allowed : NodeFrames (may m.rule) m.config m.state (event_shown e) made
-  pub same : map frame_view frames ≡ map expected made
-  pub readable : Each IsReadable made
+-- the frames that may go out: the machine's, each rating in them one that the rule may give of its service at the lines then
+-- held; and each of them is readable
+pub record Frames {H : Type 0} (may : H → ℕ → ℕ → ℕ → ℕ → Type 0) (m : Machine H) (e : Event) (frames : List OutFrame) : Type 0 where
+  pub rates : List ℕ
+  pub each : AreRates (may m.rule) (used m.state.core) m.config.lines (asked_places m.config m.state (event_shown e)) rates
+  pub adds : Emits (node_step m.config rates m.state (event_shown e)).frames [] frames
 
 abbrev pub line_of : {H : Type 0} → Machine H → ℕ → SessionState
 line_of m line = state_of (line_state (node_side m.config) m.state.core line)

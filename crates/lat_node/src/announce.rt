@@ -1,9 +1,8 @@
 //! What a node announces.
 
-ghost use Rattle.std.specs.Prelude.{◌≡◌, ℕ, ◌≤◌, ◌+◌, suc, cond, List, [], find, map, length, Some, IfOk, OnOk, OnErr};
+ghost use Rattle.std.specs.Prelude.{◌≡◌, ℕ, ◌<◌, ◌≤◌, ◌+◌, cond, List, [], ◌∷◌, find, position, map, length, Some, IfOk, OnOk, OnErr};
 ghost use Rattle.lat_base.specs.declared.answer.Answer.TheVariants as answers;
 ghost use Rattle.lat_notices.specs.Writing.{CanBeWritten};
-ghost use Rattle.lat_model.specs.Lists.{Each};
 ghost use Rattle.lat_machines.specs.node.Node as machine;
 ghost use Rattle.lat_machines.specs.values.Addresses.{address};
 ghost use Rattle.lat_machines.specs.values.Names.{same};
@@ -11,8 +10,9 @@ ghost use Rattle.lat_dir.specs.Announcements.{service_shown};
 ghost use Rattle.lat_lines.specs.Answers.{IsPlain};
 ghost use Rattle.lat_lines.specs.AnswerValues.{answer_shown};
 ghost use Rattle.lat_node.specs.Announced.{ratings, AnnouncesAs, IsAnnounced};
-ghost use Rattle.lat_node.specs.Events.{announces, Rated, ratings_for};
+ghost use Rattle.lat_node.specs.Events.{announces, Rated};
 ghost use Rattle.lat_node.specs.Kept.{config_of};
+ghost use Rattle.lat_node.specs.Places.{places, response_places, AreRates};
 ghost use Rattle.lat_node.specs.Stands.{Stands};
 
 use crate::hook::RatingRule;
@@ -23,8 +23,8 @@ use lat_payload::{notice_frame, response_frame};
 use std::alloc::Global;
 
 impl<H: RatingRule> NodeCore<H> {
-    /// Announces all services to everyone, each with the rating that the rule gives at the lines held; once it is halted, nothing
-    /// more. Takes its memory first.
+    /// Announces all services to everyone, each with the rating that the rule gives for it at the lines held; once it is halted,
+    /// nothing more. Takes its memory first.
     pub(crate) fn announce(&self, alloc: Global, out: &mut OutBox) -> Result<Answer, Memory>
         requires fact { H.fact self.now.rule }
         requires room { length out.old + 16 ≤ 256 }
@@ -32,7 +32,7 @@ impl<H: RatingRule> NodeCore<H> {
         ensures frames { (s : machine.Node) →
             Stands self.now s →
             OnOk result (Rated H.may self.now s (announces (config_of self.now) s)
-            (cond s.halted 0 (length self.now.services)) out.old out.new) }
+            (cond s.halted [] (places (config_of self.now))) out.old out.new) }
         ensures most { length out.new ≤ length out.old + 1 }
         ensures err { OnErr result (out.new ≡ out.old) }
     {
@@ -67,7 +67,8 @@ impl<H: RatingRule> NodeCore<H> {
             (Rated H.may self.now s
             (λ rates. machine.solicited (config_of self.now) rates s (address from.0) solicit.now.id
             (find (same solicit.now.service) self.now.services))
-            (cond s.halted 0 (ratings_for (config_of self.now) (find (same solicit.now.service) self.now.services)))
+            (cond s.halted []
+            (response_places (config_of self.now) (position (same solicit.now.service) self.now.services)))
             out.old out.new) }
         ensures plain { IfOk result IsPlain }
         ensures most { length out.new ≤ length out.old + 2 }
@@ -76,22 +77,24 @@ impl<H: RatingRule> NodeCore<H> {
         match self.services.place_of(&solicit.service) {
             Some(place) => {
                 let service = self.services.as_slice()[place];
-                self.respond(alloc, from, solicit.id, &service, out)
+                self.respond(alloc, from, solicit.id, place, &service, out)
             }
             None => Ok(Answer::Ignored),
         }
     }
 
-    // Answers a Solicit of this id for a service that is offered. The rating of the Response is asked for first.
+    // Answers a Solicit of this id for the service that is offered at this place. The rating of the Response is asked for first.
     fn respond(
         &self,
         alloc: Global,
         from: Addr,
         id: u16,
+        place: usize,
         service: &Name,
         out: &mut OutBox,
     ) -> Result<Answer, Memory>
         requires fact { H.fact self.now.rule }
+        requires place { place < length self.now.services }
         requires room { length out.old + 16 ≤ 256 }
         ensures answer { IfOk result (λ a. a ≡ answers.Solicited) }
         ensures frames { (s : machine.Node) →
@@ -99,7 +102,7 @@ impl<H: RatingRule> NodeCore<H> {
             OnOk result
             (Rated H.may self.now s
             (λ rates. machine.solicited (config_of self.now) rates s (address from.0) id (Some service.now))
-            (cond s.halted 0 (suc (length self.now.services)))
+            (cond s.halted [] (place ∷ places (config_of self.now)))
             out.old out.new) }
         ensures most { length out.new ≤ length out.old + 2 }
         ensures err { OnErr result (out.new ≡ out.old) }
@@ -108,7 +111,7 @@ impl<H: RatingRule> NodeCore<H> {
             return Ok(Answer::Solicited);
         }
         let used = self.lines.used();
-        let rating = self.rating(used);
+        let rating = self.rating(place, used);
         let announcement = self.announcement(alloc, used)?;
         let name = self.lines.name();
         out.push(response_frame(from, id, &name, service, rating, self.timer));
@@ -116,13 +119,14 @@ impl<H: RatingRule> NodeCore<H> {
         Ok(Answer::Solicited)
     }
 
-    // A rating where so many lines are held.
-    fn rating(&self, used: u16) -> u8
+    // The rating of the service at this place where so many lines are held.
+    fn rating(&self, place: usize, used: u16) -> u8
         requires fact { H.fact self.now.rule }
+        requires place { place < length self.now.services }
         requires within { used ≤ self.now.lines.lines }
-        ensures { H.may self.now.rule used self.now.lines.lines result }
+        ensures { H.may self.now.rule place used self.now.lines.lines result }
     {
-        self.rule.rate(used, self.lines.count() as u16)
+        self.rule.rate(place, used, self.lines.count() as u16)
     }
 
     // The announcement of all services, where so many lines are held.
@@ -156,33 +160,41 @@ impl<H: RatingRule> NodeCore<H> {
         }))
     }
 
-    // The services, each with a rating.
+    // The services, each with the rating of its place.
     fn rated(&self, alloc: Global, used: u16) -> Result<Services, Memory>
         requires fact { H.fact self.now.rule }
         requires within { used ≤ self.now.lines.lines }
         ensures names { IfOk result (λ ss.
             map service_shown ss ≡ machine.rated self.now.services (ratings ss)) }
         ensures ratings { IfOk result (λ ss.
-            Each (H.may self.now.rule used self.now.lines.lines) (ratings ss)) }
+            AreRates (H.may self.now.rule) used self.now.lines.lines (places (config_of self.now)) (ratings ss)) }
         ensures few { length self.now.services ≤ 32 }
     {
         let mut services = Services::new(alloc);
-        for name in self.services.as_slice() {
-            services.push(self.service(alloc, name, used)?)?;
+        let names = self.services.as_slice();
+        for (place, name) in names.iter().enumerate() {
+            services.push(self.service(alloc, place, name, used)?)?;
         }
         Ok(services)
     }
 
-    // A service, with a rating.
-    fn service(&self, alloc: Global, name: &Name, used: u16) -> Result<Service, Memory>
+    // The service of this name, with the rating of this place.
+    fn service(
+        &self,
+        alloc: Global,
+        place: usize,
+        name: &Name,
+        used: u16,
+    ) -> Result<Service, Memory>
         requires fact { H.fact self.now.rule }
+        requires place { place < length self.now.services }
         requires within { used ≤ self.now.lines.lines }
         ensures shown { IfOk result (λ s.
             service_shown s ≡ record { rating = s.rating; name = name.now; description = [] }) }
-        ensures rating { IfOk result (λ s. H.may self.now.rule used self.now.lines.lines s.rating) }
+        ensures rating { IfOk result (λ s. H.may self.now.rule place used self.now.lines.lines s.rating) }
     {
         Ok(Service {
-            rating: self.rating(used),
+            rating: self.rating(place, used),
             name: *name,
             description: Bytes::copy(alloc, &[])?,
         })

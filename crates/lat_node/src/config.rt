@@ -4,8 +4,8 @@ use lat_base::{Addr, Bytes, Name};
 use lat_lines::Timing;
 use lat_queue::Services16;
 
-/// What a node is made of. Valid where it has 1 to 64 lines, its timer is at least 1, the mask has at most 32 bytes, and the
-/// timing is valid.
+/// What a node is made of. Valid where it has 1 to 64 lines, its timer is at least 1, the mask has at most 32 bytes, the timing
+/// is valid, and the id of its first circuit isn't 0.
 pub struct NodeConfig {
     /// Its address.
     pub own: Addr,
@@ -24,6 +24,9 @@ pub struct NodeConfig {
     /// Whether it tells a stranger at once that his circuit doesn't live here, and takes a START that follows for the end of the
     /// slaves before it. See "How a circuit ends" in docs/PROTOCOL.md.
     pub prompt: bool,
+    /// The id of its first circuit, 1 to 65,535; the next ones follow it, 1 behind 65,535. See "Circuits" in
+    /// docs/PROTOCOL.md.
+    pub first: u16,
 }
 
 impl Drop for NodeConfig {
@@ -38,6 +41,7 @@ impl Drop for NodeConfig {
             groups,
             timing,
             prompt,
+            first,
         } = self;
     }
 }

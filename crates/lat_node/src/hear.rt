@@ -13,8 +13,9 @@ ghost use Rattle.lat_payload.specs.Reads as reads;
 ghost use Rattle.lat_value.specs.Texts as texts;
 ghost use Rattle.lat_payload.specs.Reads.{value_shown};
 ghost use Rattle.lat_payload.specs.Notices.{notice_shown};
-ghost use Rattle.lat_node.specs.Events.{SimulatesRated, Rated, notice_ratings};
+ghost use Rattle.lat_node.specs.Events.{SimulatesRated, Rated};
 ghost use Rattle.lat_node.specs.Kept.{config_of, AtRest, SameConfig};
+ghost use Rattle.lat_node.specs.Places.{notice_places};
 ghost use Rattle.lat_node.specs.Stands.{Stands};
 
 use crate::hook::RatingRule;
@@ -159,7 +160,7 @@ impl<H: RatingRule> NodeCore<H> {
             (Rated H.may self.now s
             (λ rates. hears_notice (config_of self.now) rates s (address from.0)
             (notice_shown notice.now))
-            (cond s.halted 0 (notice_ratings (config_of self.now) (notice_shown notice.now)))
+            (cond s.halted [] (notice_places (config_of self.now) (notice_shown notice.now)))
             out.old out.new) }
         ensures plain { IfOk result IsPlain }
         ensures most { length out.new ≤ length out.old + 2 }

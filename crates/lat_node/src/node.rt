@@ -104,6 +104,7 @@ impl<H: RatingRule> NodeCore<H> {
                 config.name,
                 config.timing,
                 false,
+                config.first,
                 config.lines,
             )?,
             services: copy(alloc, config.services.as_slice())?,

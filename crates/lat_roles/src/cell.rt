@@ -32,6 +32,7 @@ fn config(alloc: Global) -> ServerConfig
         groups: [0xff; 32],
         timing: USUAL,
         prompt: false,
+        first: 1,
     }
 }
 

@@ -25,6 +25,7 @@ fn opened(alloc: Global, setup: &Setup) -> Result<Play<FreeLines>, Memory>
         groups: setup.server.groups,
         timing: setup.server.timing,
         prompt: setup.server.prompt,
+        first: setup.server.first,
     };
     let switch = Post::new(SwitchCore::make(alloc, &config)?, config.own);
     let node = Post::new(

@@ -9,11 +9,9 @@ ghost use Rattle.lat_tariff.specs.Tariffs.{AreKnown};
 use crate::names::{NODE, USUAL};
 use crate::tariff::play::Play;
 use lat_base::{Bytes, Memory};
-use lat_node::FreeLines;
+use lat_node::{NodeConfig, NodeCore};
 use lat_script::{Part, ScriptFault, byte_within, known_name, no_command, word};
-use lat_tariff::{
-    NodeConfig, Rule, SteadyRule, Tariff, TariffCore, TwentyPerFreeLine, WhileFree, are_apart,
-};
+use lat_tariff::{Rule, SteadyRule, Tariff, TwentyPerFreeLine, WhileFree, are_apart};
 use std::alloc::Global;
 
 // One rule more.
@@ -56,8 +54,9 @@ fn play_rules<R: SteadyRule>(
         groups: Bytes::copy(alloc, &[])?,
         timing: USUAL,
         prompt: false,
+        first: 1,
     };
-    let core = TariffCore::make(alloc, &config, FreeLines, tariff)?;
+    let core = NodeCore::make(alloc, &config, tariff)?;
     Play::new(core).act_all(alloc, block, text)
 }
 

@@ -49,25 +49,25 @@ answers_run m (p ∷ ps) (r ∷ rated) is legal =
     (answers_run (next m p.event) ps rated (tail_is _ _ _ _ is) legal.1
     ∙ ap (λ s. map answer_of (node_answers m.config rated s)) (state_rated m.config m.state (event_shown p.event) r one))
 
-frames_run : {H : Type 0} (may : H → ℕ → ℕ → ℕ → Type 0) (m : Machine H) (h : List Past) (fs : List OutFrame) → FramesOf next (Frames may) m h fs → AreNodeFrames may m h fs
+frames_run : {H : Type 0} (may : H → ℕ → ℕ → ℕ → ℕ → Type 0) (m : Machine H) (h : List Past) (fs : List OutFrame) → FramesOf next (Frames may) m h fs → AreNodeFrames may m h fs
 frames_run may m [] fs none = record { rated = []; events = refl; allowed = tt; same = ap (λ z. map frame_view z) none }
 frames_run may m (p ∷ ps) fs h =
     let e = event_shown p.event in
-    let rates = h.2.allowed.0 in
+    let rates = h.2.rates in
     let more = frames_run may (next m p.event) ps h.1 h.3 in
     let on : (node_step m.config [] m.state e).state ≡ (node_step m.config rates m.state e).state = (same_but_frames m.config [] rates m.state e).state in
     record {
       rated = record { event = e; rates = rates } ∷ more.rated;
       events = ap (λ z. e ∷ z) more.events;
-      allowed = (h.2.allowed.1, subst (λ s. AreAllowed (may m.rule) m.config more.rated s) on more.allowed);
+      allowed = (h.2.each, subst (λ s. AreAllowed (may m.rule) m.config more.rated s) on more.allowed);
       same =
           ap (λ z. map frame_view z) h.4
           ∙ map-append frame_view h.0 h.1
-          ∙ ap₂ (λ x y. x ++ y) (h.2.same ∙ ap (λ z. map expected z) h.2.allowed.2) (more.same ∙ ap (λ s. map expected (node_frames m.config more.rated s)) on)
+          ∙ ap₂ (λ x y. x ++ y) h.2.adds.same (more.same ∙ ap (λ s. map expected (node_frames m.config more.rated s)) on)
           ∙ sym (map-append expected (node_step m.config rates m.state e).frames (node_frames m.config more.rated (node_step m.config rates m.state e).state));
     }
 
-pub node_run_of : {H : Type 0} (may : H → ℕ → ℕ → ℕ → Type 0) (m : Machine H) (h : List Past) → IsNodeRun may m h
+pub node_run_of : {H : Type 0} (may : H → ℕ → ℕ → ℕ → ℕ → Type 0) (m : Machine H) (h : List Past) → IsNodeRun may m h
 node_run_of may m h = record { state = behind m h; answers = answers_run m h; frames = frames_run may m h }
 
 pub node_cell : {H : Type 0} (k : Kept H) (h : List Past) (rated : List RatedEvent) → IsRun IsMade opening IsMachine next answered k h → IsRated rated h → IsNodeCell k h rated

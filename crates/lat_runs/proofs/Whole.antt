@@ -13,6 +13,7 @@ use Rattle.lat_circuit.specs.Frames.{frame_view}
 use Rattle.lat_payload.specs.Frames.{expected, IsReadable}
 use Rattle.lat_payload.specs.Reads.{reading_of}
 use Rattle.lat_lines.specs.AnswerValues.{answer_of}
+use Rattle.lat_lines.specs.Events.{event_shown}
 use Rattle.lat_server.specs.Stands as server
 use Rattle.lat_node.specs.Stands as node
 use Rattle.lat_runs.specs.Heard.{IsNotBad, ServerHearsWhole, NodeHearsWhole}
@@ -43,9 +44,9 @@ at_node m from now f whole =
     subst (λ r. IsNotBad (answer_of (node_step m.config [] m.state (Hears (address from.0) r None now)).answer)) (sym whole.1)
     (not_bad (node_step m.config [] m.state (Hears (address from.0) (machines.Whole whole.0) None now)).answer (node_whole m.config [] m.state (address from.0) whole.0 now))
 
-pub server_hears : {H : Type 0} (may : H → ℕ → ℕ → ℕ → Type 0) → ServerHearsWhole may
+pub server_hears : {H : Type 0} (may : H → ℕ → ℕ → ℕ → ℕ → Type 0) → ServerHearsWhole may
 server_hears may sender event frames sent hearer from now =
-    all_heard (λ f. IsNotBad (server.answered hearer (Heard from f.payload now))) frames (at_server hearer from now) (all_whole frames sent.made sent.same sent.readable)
+    all_heard (λ f. IsNotBad (server.answered hearer (Heard from f.payload now))) frames (at_server hearer from now) (all_whole frames (node_step sender.config sent.rates sender.state (event_shown event)).frames sent.adds.same sent.adds.readable)
 
 pub node_hears : (H : Type 0) → NodeHearsWhole H
 node_hears H sender event frames sent hearer from now =

@@ -9,12 +9,10 @@ use Rattle.lat_machines.specs.world.Histories.{node_part, server_run, RatedEvent
 use Rattle.lat_machines.proofs.runs.Stories.{stories}
 use Rattle.lat_server.specs.Stands as server
 use Rattle.lat_node.specs.Stands as node
-use Rattle.lat_tariff.specs.Kept as tariff
 use Rattle.lat_runs.specs.Runs.{IsRated}
-use Rattle.lat_runs.specs.Laws.{server_of, node_of, tariff_of, PassInAWorld, CellsAreAWorld, TariffCellsAreAWorld}
+use Rattle.lat_runs.specs.Laws.{server_of, node_of, PassInAWorld, CellsAreAWorld}
 use Rattle.lat_runs.proofs.Servers as servers
 use Rattle.lat_runs.proofs.Nodes as nodes
-use Rattle.lat_runs.proofs.Tariffs as tariffs
 
 -- of whatever is behind its history where the node's run leads
 passes : (its_state : Setups → List Past → Node) → ((u : Setups) (theirs : List Past) (rated : List RatedEvent) → IsRated rated theirs → its_state u theirs ≡ node_run u.node rated (open_node u.node)) → PassInAWorld its_state
@@ -30,8 +28,3 @@ pub world : {H : Type 0} → CellsAreAWorld H
 world {H = H} rule =
     passes (λ u theirs. (run_of node.next (node_of u rule) theirs).state)
     (λ u theirs rated its. ap (λ (m : node.Machine H). m.state) (nodes.behind (node_of u rule) theirs rated its))
-
-pub tariff_world : {H R : Type 0} → TariffCellsAreAWorld H R
-tariff_world {H = H} {R = R} rule rules =
-    passes (λ u theirs. (run_of tariff.next (tariff_of u rule rules) theirs).node.state)
-    (λ u theirs rated its. ap (λ (m : tariff.Machine H R). m.node.state) (tariffs.behind (tariff_of u rule rules) theirs rated its))

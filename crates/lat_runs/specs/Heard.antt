@@ -16,7 +16,7 @@ abbrev pub IsNotBad : Answer → Type 0
 IsNotBad answer = (bad : fields.Bad) → answer ≢ Bad bad
 
 -- where a node may send these frames at an event, a server in any state hears each as a value, from anywhere and at any moment
-abbrev pub ServerHearsWhole : {H : Type 0} → (H → ℕ → ℕ → ℕ → Type 0) → Type 0
+abbrev pub ServerHearsWhole : {H : Type 0} → (H → ℕ → ℕ → ℕ → ℕ → Type 0) → Type 0
 ServerHearsWhole {H = H} may =
     (sender : node.Machine H) (event : Event) (frames : List OutFrame) → node.Frames may sender event frames →
     (hearer : server.Machine) (from : Addr) (now : ℕ) →

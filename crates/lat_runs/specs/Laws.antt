@@ -25,7 +25,7 @@ use Rattle.lat_switch.specs.Runs.{inner_events}
 use Rattle.lat_switch.specs.Stands as switched
 use Rattle.lat_switch.specs.Switch.{Switch}
 use Rattle.lat_tariff.specs.declared.tariff.Rule.{Rule}
-use Rattle.lat_tariff.specs.Kept as tariff
+use Rattle.lat_tariff.specs.Own.{OffersTariff}
 use Rattle.lat_runs.specs.Runs.{events_told, events_of, answers_of, IsRated, AreAllowed, AreOwnEach}
 
 -- where the run of a history's events leads
@@ -47,7 +47,7 @@ abbrev pub node_behind : {H : Type 0} → node.Machine H → List RatedEvent →
 node_behind m rated = record { config = m.config; rule = m.rule; state = node_run m.config rated m.state }
 
 -- frames are those of the run with some ratings that may be given
-pub record AreNodeFrames {H : Type 0} (may : H → ℕ → ℕ → ℕ → Type 0) (m : node.Machine H) (history : List Past)
+pub record AreNodeFrames {H : Type 0} (may : H → ℕ → ℕ → ℕ → ℕ → Type 0) (m : node.Machine H) (history : List Past)
     (sent : List OutFrame) : Type 0 where
   pub rated : List RatedEvent
   pub events : IsRated rated history
@@ -55,7 +55,7 @@ pub record AreNodeFrames {H : Type 0} (may : H → ℕ → ℕ → ℕ → Type 
   pub same : map frame_view sent ≡ map expected (node_frames m.config rated m.state)
 
 -- a node's machine and the answers of a history are those of the run with whatever ratings
-pub record IsNodeRun {H : Type 0} (may : H → ℕ → ℕ → ℕ → Type 0) (m : node.Machine H) (history : List Past)
+pub record IsNodeRun {H : Type 0} (may : H → ℕ → ℕ → ℕ → ℕ → Type 0) (m : node.Machine H) (history : List Past)
     : Type 0 where
   pub state : (rated : List RatedEvent) → IsRated rated history → run_of node.next m history ≡ node_behind m rated
   pub answers : (rated : List RatedEvent) → IsRated rated history → IsLegal node.next node.answered m history →
@@ -63,29 +63,29 @@ pub record IsNodeRun {H : Type 0} (may : H → ℕ → ℕ → ℕ → Type 0) (
   pub frames : (sent : List OutFrame) → FramesOf node.next (node.Frames may) m history sent →
       AreNodeFrames may m history sent
 
-abbrev pub NodesRun : {H : Type 0} → (H → ℕ → ℕ → ℕ → Type 0) → Type 0
+abbrev pub NodesRun : {H : Type 0} → (H → ℕ → ℕ → ℕ → ℕ → Type 0) → Type 0
 NodesRun {H = H} may = (m : node.Machine H) (history : List Past) → IsNodeRun may m history
 
 -- frames are those of the run with some ratings that the services' own rules may give
-pub record AreTariffFrames {H R : Type 0} (may : R → ℕ → ℕ → ℕ → Type 0) (m : tariff.Machine H R) (history : List Past)
-    (sent : List OutFrame) : Type 0 where
+pub record AreTariffFrames {R : Type 0} (may : R → ℕ → ℕ → ℕ → Type 0) (m : node.Machine (List (Rule R)))
+    (history : List Past) (sent : List OutFrame) : Type 0 where
   pub rated : List RatedEvent
   pub events : IsRated rated history
-  pub own : AreOwnEach may m.rules m.node.config rated m.node.state
-  pub same : map frame_view sent ≡ map expected (node_frames m.node.config rated m.node.state)
+  pub own : AreOwnEach may m.rule m.config rated m.state
+  pub same : map frame_view sent ≡ map expected (node_frames m.config rated m.state)
 
--- a node with a tariff goes on as the node in it, and its rules stay
-pub record IsTariffRun {H R : Type 0} (may : R → ℕ → ℕ → ℕ → Type 0) (m : tariff.Machine H R) (history : List Past)
+-- The machine and the answers of a history are those of the run with whatever ratings. Where the node offers the services of its
+-- tariff, each rating in the frames may have been given by the service's own rule
+pub record IsTariffRun {R : Type 0} (may : R → ℕ → ℕ → ℕ → Type 0)
+    (tariffs : List (Rule R) → ℕ → ℕ → ℕ → ℕ → Type 0) (m : node.Machine (List (Rule R))) (history : List Past)
     : Type 0 where
-  pub state : (rated : List RatedEvent) → IsRated rated history →
-      run_of tariff.next m history ≡ record { node = node_behind m.node rated; rules = m.rules }
-  pub answers : (rated : List RatedEvent) → IsRated rated history → IsLegal tariff.next tariff.answered m history →
-      answers_of history ≡ map answer_of (node_answers m.node.config rated m.node.state)
-  pub frames : (sent : List OutFrame) → FramesOf tariff.next (tariff.Frames may) m history sent →
+  pub run : IsNodeRun tariffs m history
+  pub frames : (sent : List OutFrame) → OffersTariff m → FramesOf node.next (node.Frames tariffs) m history sent →
       AreTariffFrames may m history sent
 
-abbrev pub TariffsRun : {R : Type 0} → Type 0 → (R → ℕ → ℕ → ℕ → Type 0) → Type 0
-TariffsRun {R = R} H may = (m : tariff.Machine H R) (history : List Past) → IsTariffRun may m history
+abbrev pub TariffsRun : {R : Type 0} → (R → ℕ → ℕ → ℕ → Type 0) → (List (Rule R) → ℕ → ℕ → ℕ → ℕ → Type 0) → Type 0
+TariffsRun {R = R} may tariffs =
+    (m : node.Machine (List (Rule R))) (history : List Past) → IsTariffRun may tariffs m history
 
 -- the server in a switch is where the run of the inner events leads
 abbrev pub inner_behind : Switch → List Past → server.Machine
@@ -127,12 +127,8 @@ NodeCellsRun H =
     IsRated rated history →
     IsNodeCell core history rated
 
-abbrev pub TariffCellsRun : Type 0 → Type 0 → Type 0
-TariffCellsRun H R =
-    (core : tariff.Kept H R) (history : List Past) (rated : List RatedEvent) →
-    IsRun tariff.IsMade tariff.opening tariff.IsMachine tariff.next tariff.answered core history →
-    IsRated rated history →
-    IsNodeCell core.node history rated
+abbrev pub TariffCellsRun : Type 0 → Type 0
+TariffCellsRun R = NodeCellsRun (List (Rule R))
 
 abbrev pub SwitchCellsRun : Type 0
 SwitchCellsRun =
@@ -159,10 +155,6 @@ server_of u = record { config = u.server; state = open_server u.server }
 abbrev pub node_of : {H : Type 0} → Setups → H → node.Machine H
 node_of u rule = record { config = u.node; rule = rule; state = open_node u.node }
 
--- the node with rules of its services
-abbrev pub tariff_of : {H R : Type 0} → Setups → H → List (Rule R) → tariff.Machine H R
-tariff_of u rule rules = record { node = node_of u rule; rules = rules }
-
 -- these are the states of the world that histories in this order passed in, and it is safe
 pub record AreAWorld (u : Setups) (order : List Passed) (ours : Server) (theirs : Node) : Type 0 where
   pub server_state : ours ≡ (run u (moves_of order) (open_machines u)).server
@@ -183,7 +175,5 @@ PassInAWorld its_state =
 abbrev pub CellsAreAWorld : Type 0 → Type 0
 CellsAreAWorld H = (rule : H) → PassInAWorld (λ u theirs. (run_of node.next (node_of u rule) theirs).state)
 
-abbrev pub TariffCellsAreAWorld : Type 0 → Type 0 → Type 0
-TariffCellsAreAWorld H R =
-    (rule : H) (rules : List (Rule R)) →
-    PassInAWorld (λ u theirs. (run_of tariff.next (tariff_of u rule rules) theirs).node.state)
+abbrev pub TariffCellsAreAWorld : Type 0 → Type 0
+TariffCellsAreAWorld R = CellsAreAWorld (List (Rule R))

@@ -5,11 +5,12 @@ use Rattle.lat_base.specs.declared.event.Event as base
 use Rattle.lat_past.specs.declared.past.Past.{Past}
 use Rattle.lat_machines.specs.cores.Lines.{used}
 use Rattle.lat_machines.specs.values.Events.{Event}
-use Rattle.lat_machines.specs.node.Node.{NodeConfig, Node, node_step, Allowed}
+use Rattle.lat_machines.specs.node.Node.{NodeConfig, Node, node_step}
 use Rattle.lat_machines.specs.world.Histories.{RatedEvent}
 use Rattle.lat_lines.specs.Events.{event_shown}
+use Rattle.lat_node.specs.Places.{asked_places, AreRates}
 use Rattle.lat_tariff.specs.declared.tariff.Rule.{Rule}
-use Rattle.lat_tariff.specs.Kept.{asked_at}
+use Rattle.lat_tariff.specs.Own.{asked_rules}
 use Rattle.lat_tariff.specs.Tariffs.{AreOwn}
 
 -- its events, as they were told
@@ -28,11 +29,11 @@ answers_of history = map (λ (p : Past). p.answer) history
 abbrev pub IsRated : List RatedEvent → List Past → Type 0
 IsRated rated history = map (λ (r : RatedEvent). r.event) rated ≡ events_of history
 
--- the ratings of each event may be given, at the lines then held
-abbrev pub AreAllowed : (ℕ → ℕ → ℕ → Type 0) → NodeConfig → List RatedEvent → Node → Type 0
+-- the ratings of each event may be given of the services at their places, at the lines then held
+abbrev pub AreAllowed : (ℕ → ℕ → ℕ → ℕ → Type 0) → NodeConfig → List RatedEvent → Node → Type 0
 AreAllowed may config [] state = Unit {0}
 AreAllowed may config (r ∷ rated) state =
-    Allowed may config state r.event r.rates
+    AreRates may (used state.core) config.lines (asked_places config state r.event) r.rates
     × AreAllowed may config rated (node_step config r.rates state r.event).state
 
 -- the ratings of each event are answers of the services' own rules, at the lines then held
@@ -40,5 +41,5 @@ abbrev pub AreOwnEach : {R : Type 0} → (R → ℕ → ℕ → ℕ → Type 0) 
     → Type 0
 AreOwnEach may rules config [] state = Unit {0}
 AreOwnEach may rules config (r ∷ rated) state =
-    AreOwn may (used state.core) config.lines (asked_at rules config state r.event) r.rates
+    AreOwn may (used state.core) config.lines (asked_rules rules state r.event) r.rates
     × AreOwnEach may rules config rated (node_step config r.rates state r.event).state

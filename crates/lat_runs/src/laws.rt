@@ -6,7 +6,7 @@ ghost use Rattle.lat_runs.specs.Laws.{ServerCellsRun, NodeCellsRun, TariffCellsR
 ghost use Rattle.lat_runs.specs.Laws.{ServerQueuesAreLegal, SwitchQueuesAreLegal, CellsAreAWorld, TariffCellsAreAWorld};
 
 use lat_node::RatingRule;
-use lat_tariff::SteadyRule;
+use lat_tariff::{SteadyRule, Tariff};
 
 /// Behind a history a server's machine is where the run of the history's events leads; the answers kept are those of the run,
 /// and the frames that may have gone out over it are the run's.
@@ -20,10 +20,10 @@ pub fn nodes_run<H: RatingRule>()
     ensures { NodesRun H.may }
 {}
 
-/// The same of a node with a tariff: it goes on as the node in it, and each rating in its frames may have been given by the own
-/// rule of its service.
-pub fn tariffs_run<H: RatingRule, P: SteadyRule>()
-    ensures { TariffsRun H P.may }
+/// The same of a node whose rule is a tariff. Where it offers the tariff's services, in their order, each rating in its frames
+/// may have been given by the own rule of its service.
+pub fn tariffs_run<P: SteadyRule>()
+    ensures { TariffsRun P.may ⟦<Tariff<P> as RatingRule>⟧.may }
 {}
 
 /// Behind a history the server in a switch is where the run of all inner events leads, and the frames are that run's.
@@ -37,7 +37,7 @@ pub fn switches_run()
 pub fn cells_run<H: RatingRule, P: SteadyRule>()
     ensures server { ServerCellsRun }
     ensures node { NodeCellsRun H }
-    ensures tariff { TariffCellsRun H P }
+    ensures tariff { TariffCellsRun P }
     ensures switch { SwitchCellsRun }
 {}
 
@@ -53,7 +53,7 @@ pub fn queues_are_legal()
 /// cells, where the second is a node's (`node`) and where it is that of a node with a tariff (`tariff`).
 pub fn cells_are_a_world<H: RatingRule, P: SteadyRule>()
     ensures node { CellsAreAWorld H }
-    ensures tariff { TariffCellsAreAWorld H P }
+    ensures tariff { TariffCellsAreAWorld P }
 {}
 
 /// Whatever a node sends at any event, by any rule of rating: no server answers the payload `Bad`, whoever hands it on, and

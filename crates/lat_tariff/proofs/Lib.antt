@@ -1,7 +1,4 @@
-pub mod Announcing
-pub mod Beginning
+pub mod Asked
 pub mod Known
 pub mod Own
 pub mod Rates
-pub mod Saying
-pub mod Silence

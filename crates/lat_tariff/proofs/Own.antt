@@ -1,24 +1,13 @@
 -- Ratings by the rules' own answers.
-use Rattle.std.proofs.Common.{◌≡◌, ℕ, refl, sym, ap, subst, ◌∙◌, List, [], ◌∷◌, ◌++◌, map}
-use Rattle.std.specs.List.{AllZip}
+use Rattle.std.proofs.Common.{◌≡◌, ℕ, ◌≤◌, ◌-◌, min, refl, sym, ap, ◌∙◌, List, [], ◌∷◌, ◌++◌, map, length, get_or, slice_get, arith}
+use Rattle.std.proofs.lemmas.Option.{slice_get_read}
 use Rattle.lat_node.specs.Rules.{TellsFullness}
-use Rattle.lat_notices.specs.declared.services.Service.{Service}
-use Rattle.lat_machines.specs.node.Node.{rated}
-use Rattle.lat_dir.specs.Announcements.{service_shown}
-use Rattle.lat_node.specs.Announced.{ratings}
-use Rattle.lat_node.proofs.AnnounceLemmas.{services_more}
 use Rattle.lat_tariff.specs.declared.tariff.Rule.{Rule}
 use Rattle.lat_tariff.specs.Rules.{IsSteady}
-use Rattle.lat_tariff.specs.Tariffs.{names, AreOwn}
+use Rattle.lat_tariff.specs.Tariffs.{names, MayAt}
 use Rattle.lat_tariff.specs.Laws.{OwnRatingsTellFullness, MoreHeldRatesNoHigher}
 
 -- one more
-
-zip_more : {A B : Type 0} (R : A → B → Type 0) (xs : List A) (ys : List B) (x : A) (y : B) → AllZip R xs ys → R x y → AllZip R (xs ++ x ∷ []) (ys ++ y ∷ [])
-zip_more R [] [] x y all one = (one, tt)
-zip_more R [] (b ∷ ys) x y all one = absurd all
-zip_more R (a ∷ xs) [] x y all one = absurd all
-zip_more R (a ∷ xs) (b ∷ ys) x y all one = (all.0, zip_more R xs ys x y all.1 one)
 
 map_more : {A B : Type 0} (f : A → B) (xs : List A) (x : A) → map f (xs ++ x ∷ []) ≡ map f xs ++ f x ∷ []
 map_more f [] x = refl
@@ -27,21 +16,13 @@ map_more f (y ∷ xs) x = ap (λ ys. f y ∷ ys) (map_more f xs x)
 pub names_more : {R : Type 0} (rules more : List (Rule R)) (r : Rule R) → more ≡ rules ++ r ∷ [] → names more ≡ names rules ++ r.name ∷ []
 names_more {R = R} rules more r is = ap names is ∙ map_more (λ (x : Rule R). x.name) rules r
 
--- what the services so far are, of the rules so far
-pub record SoFar {R : Type 0} (may : R → ℕ → ℕ → ℕ → Type 0) (used max : ℕ) (rules : List (Rule R)) (ss : List Service) : Type 0 where
-  pub names : map service_shown ss ≡ rated (names rules) (ratings ss)
-  pub own : AreOwn may used max rules (ratings ss)
-
-pub more_services : {R : Type 0} (may : R → ℕ → ℕ → ℕ → Type 0) (used max : ℕ) (rules more : List (Rule R)) (r : Rule R) (ss new : List Service) (s : Service) →
-    more ≡ rules ++ r ∷ [] → new ≡ ss ++ s ∷ [] → SoFar may used max rules ss →
-    service_shown s ≡ record { rating = s.rating; name = r.name; description = [] } → may r.rule used max s.rating → SoFar may used max more new
-more_services {R = R} may used max rules more r ss new s is_more is_new far shown rating = record {
-  names = services_more (names rules) (names more) ss new r.name s (names_more rules more r is_more) is_new far.names shown;
-  own =
-      subst (λ (rs : List (Rule R)). AreOwn may used max rs (ratings new)) (sym is_more)
-      (subst (λ (xs : List Service). AreOwn may used max (rules ++ r ∷ []) (ratings xs)) (sym is_new)
-      (subst (AreOwn may used max (rules ++ r ∷ [])) (sym (map_more (λ (x : Service). x.rating) ss s))
-      (zip_more (λ (x : Rule R) rate. may x.rule used max rate) rules (ratings ss) r s.rating far.own rating)));
+-- the rule that is asked is the one of the place
+pub rate_at : {R : Type 0} (may : R → ℕ → ℕ → ℕ → Type 0) (rules : List (Rule R)) (place at used max rating : ℕ) (r : Rule R) → 1 ≤ length rules → at ≡ min place (length rules - 1) → r ≡ get_or rules at r →
+    may r.rule used max rating → MayAt may rules place used max rating
+rate_at may rules place at used max rating r some is got given = record {
+  rule = r;
+  found = ap (slice_get rules) (sym is) ∙ slice_get_read rules (length rules) at r refl (omega (arith, some, is)) got;
+  answered = given;
 }
 
 -- the laws

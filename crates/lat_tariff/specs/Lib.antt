@@ -1,6 +1,6 @@
 pub mod Rules
 pub mod Ratings
 pub mod Tariffs
-pub mod Kept
-pub mod Said
+pub mod Full
+pub mod Own
 pub mod Laws

@@ -1,5 +1,5 @@
 -- Tariffs: a rule for each service.
-use Rattle.std.specs.Prelude.{◌≡◌, ℕ, ◌≤◌, Bool, true, not, ◌&&◌, List, [], ◌∷◌, map, length}
+use Rattle.std.specs.Prelude.{◌≡◌, ℕ, ◌≤◌, ◌-◌, min, Bool, true, not, ◌&&◌, List, [], ◌∷◌, map, length, Option, Some, slice_get}
 use Rattle.std.specs.List.{list_any, AllByRecursion, AllZip}
 use Rattle.lat_machines.specs.values.Names.{Name, same}
 use Rattle.lat_tariff.specs.declared.tariff.Rule.{Rule}
@@ -28,3 +28,13 @@ AreKnown {R = R} fact rules = AllByRecursion (λ (r : Rule R). fact r.rule) rule
 -- the ratings are answers of the rules at the same places, where so many lines are used
 abbrev pub AreOwn : {R : Type 0} → (R → ℕ → ℕ → ℕ → Type 0) → (used max : ℕ) → List (Rule R) → (rates : List ℕ) → Type 0
 AreOwn {R = R} may used max rules rates = AllZip (λ (r : Rule R) rate. may r.rule used max rate) rules rates
+
+-- the rule at a place, counted from 0; behind the last one's place, the last one
+abbrev pub rule_at : {R : Type 0} → List (Rule R) → ℕ → Option (Rule R)
+rule_at rules place = slice_get rules (min place (length rules - 1))
+
+-- the rating is an answer of the rule at this place, where so many lines are used
+pub record MayAt {R : Type 0} (may : R → ℕ → ℕ → ℕ → Type 0) (rules : List (Rule R)) (place used max rating : ℕ) : Type 0 where
+  pub rule : Rule R
+  pub found : rule_at rules place ≡ Some rule
+  pub answered : may rule.rule used max rating

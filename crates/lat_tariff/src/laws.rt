@@ -1,12 +1,18 @@
-//! What holds of the ratings of a tariff, as contracts of functions that take nothing.
+//! What holds of the ratings of a node with a tariff, as contracts of functions that take nothing.
 
-ghost use Rattle.lat_tariff.specs.Laws.{OwnRatingsTellFullness, MoreHeldRatesNoHigher};
+ghost use Rattle.lat_tariff.specs.Laws.{OwnRulesRate, OwnRatingsTellFullness, MoreHeldRatesNoHigher};
 
-use crate::node::TariffCore;
 use crate::steady::SteadyRule;
-use lat_node::RatingRule;
+use crate::tariff::Tariff;
+use lat_node::{NodeCore, RatingRule};
 
-/// Each rating of an announcement or a response is 0 exactly where all lines were held when it was made, whatever the rules.
+/// Of a node whose rule is a tariff, and whose services are the tariff's: each rating of an announcement or a response is an
+/// answer of the service's own rule at the lines then held.
+pub fn own_rules_rate<R: SteadyRule>()
+    ensures { OwnRulesRate R.may ⟦<Tariff<R> as RatingRule>⟧.may }
+{}
+
+/// Each such rating is 0 exactly where all lines were held when it was made, whatever the rules.
 pub fn own_ratings_tell_fullness<R: SteadyRule>()
     ensures { OwnRatingsTellFullness R.may R.fact }
 {}
@@ -17,8 +23,8 @@ pub fn more_held_rates_no_higher<R: SteadyRule>()
 {}
 
 /// A node with a tariff may go to another thread where its rules may.
-pub fn is_send<H: RatingRule + Send, R: SteadyRule + Send>() {
-    sent::<TariffCore<H, R>>();
+pub fn is_send<R: SteadyRule + Send>() {
+    sent::<NodeCore<Tariff<R>>>();
 }
 
 // It may be called where values of the type may go to another thread.

@@ -1,9 +1,8 @@
 //! Tariffs: a rule of rating for each service.
 
-ghost use Rattle.std.specs.Prelude.{◌≡◌, ◌<◌, ◌≤◌, length, position, slice_get, Some, IfOk, IfSome};
-ghost use Rattle.lat_machines.specs.values.Names.{same};
+ghost use Rattle.std.specs.Prelude.{◌≡◌, ◌<◌, ◌≤◌, length, slice_get, IfOk, IfSome};
 ghost use Rattle.lat_tariff.specs.declared.tariff.Rule.{Rule};
-ghost use Rattle.lat_tariff.specs.Tariffs.{IsTariff, AreKnown, names};
+ghost use Rattle.lat_tariff.specs.Tariffs.{IsTariff, names};
 ghost use Rattle.lat_tariff.specs.Tariffs as tariffs;
 
 use crate::steady::SteadyRule;
@@ -95,17 +94,6 @@ impl<R: SteadyRule> Tariff<R> {
         self.rules[place].name
     }
 
-    /// The answer of the rule at this place where `used` of `max` lines are used. There must be one, and `used` is at most
-    /// `max`.
-    pub fn rate(&self, place: usize, used: u16, max: u16) -> u8
-        requires place { place < length self.now }
-        requires within { used ≤ max }
-        requires rules { AreKnown R.fact self.now }
-        ensures { IfSome (slice_get self.now place) (λ (r : Rule R). R.may r.rule used max result) }
-    {
-        self.rules[place].rule.rate(used, max)
-    }
-
     /// The services, in order. Takes memory.
     pub fn names(&self, alloc: Global) -> Result<Services16, Memory>
         ensures { IfOk result (λ ns. ns ≡ names self.now) }
@@ -115,23 +103,5 @@ impl<R: SteadyRule> Tariff<R> {
             services.push(&rule.name)?;
         }
         Ok(services)
-    }
-
-    /// The rule at this place, counted from 0. There must be one.
-    pub(crate) fn rule_at(&self, place: usize) -> &Rule<R>
-        requires place { place < length self.now }
-        requires rules { AreKnown R.fact self.now }
-        ensures rule { slice_get self.now place ≡ Some result.now }
-        ensures fact { R.fact result.now.rule }
-    {
-        &self.rules[place]
-    }
-
-    /// Where the rule of a service stands, counted from 0, without regard to case.
-    pub(crate) fn place_of(&self, service: &Name) -> Option<usize>
-        ensures { result ≡ position (λ (r : Rule R). same service.now r.name) self.now }
-    {
-        let folded = service.folded();
-        self.rules.iter().position(|r| folded == r.name.folded())
     }
 }

@@ -15,7 +15,9 @@ use Rattle.lat_lines.specs.Events.{event_shown}
 use Rattle.lat_server.specs.Kept as servers
 use Rattle.lat_server.specs.Stands as server_stands
 use Rattle.lat_node.specs.Kept as nodes
+use Rattle.lat_node.specs.Laws.{MayOfSome}
 use Rattle.lat_node.specs.Stands as node_stands
+use Rattle.lat_node.proofs.CountLemmas.{machines_frames}
 use Rattle.lat_wire.specs.ledger.Books.{IsReadable}
 use Rattle.lat_wire.specs.Ends.{KeptEnds, AreEnds, MadeFrames, frames_by, setups_of}
 use Rattle.lat_wire.specs.Rates.{RatesWhatIsLeft, rating, rates}
@@ -35,10 +37,10 @@ each_to P Q [] h e = tt
 each_to P Q (x ∷ xs) h e = (h x e.0, each_to P Q xs h e.1)
 
 -- the frames of a node whose rule has one answer
-pub node_frames : {H : Type 0} (may : H → ℕ → ℕ → ℕ → Type 0) (k : KeptEnds H) (w : Machines) (e : Event) (rs : List ℕ) → AreEnds k w → RatesWhatIsLeft (may k.node.rule) → k.node.lines.lines < 2 ^ 16 → node.Allowed (may k.node.rule) (nodes.config_of k.node) w.node (event_shown e) rs → (node.node_step (nodes.config_of k.node) rs w.node (event_shown e)).frames ≡ frames_by (setups_of k) w false (event_shown e)
+pub node_frames : {H : Type 0} (may : H → ℕ → ℕ → ℕ → ℕ → Type 0) (k : KeptEnds H) (w : Machines) (e : Event) (rs : List ℕ) → AreEnds k w → RatesWhatIsLeft (may k.node.rule) → k.node.lines.lines < 2 ^ 16 → node.Allowed (MayOfSome (may k.node.rule)) (nodes.config_of k.node) w.node (event_shown e) rs → (node.node_step (nodes.config_of k.node) rs w.node (event_shown e)).frames ≡ frames_by (setups_of k) w false (event_shown e)
 node_frames may k w e rs a one few h =
     frames_same (nodes.config_of k.node) rs (rating (used w.node.core) k.node.lines.lines) w.node (event_shown e)
-    (each_to (may k.node.rule (used w.node.core) k.node.lines.lines) (λ z. z ≡ rating (used w.node.core) k.node.lines.lines) rs (λ r m. one (used w.node.core) k.node.lines.lines r (few_used k.node.lines w.node.core a.node.lines) few m) h.each)
+    (each_to (MayOfSome (may k.node.rule) (used w.node.core) k.node.lines.lines) (λ z. z ≡ rating (used w.node.core) k.node.lines.lines) rs (λ r m. one m.0 (used w.node.core) k.node.lines.lines r (few_used k.node.lines w.node.core a.node.lines) few m.1) h.each)
     h.count
 
 -- both cores behind an event of one of them
@@ -98,11 +100,12 @@ server_made k s b e r out q t =
     made : (w : Machines) → server_stands.Frames (server_of k w) e out → MadeFrames (setups_of k) w true (event_shown e) out
     made w g = record { same = g.same; readable = g.readable }
 
-pub node_made : {H : Type 0} (may : H → ℕ → ℕ → ℕ → Type 0) (k : KeptEnds H) (s : nodes.Kept H) (b : Bool) (e : Event) (r : Result Answer Memory) (out : List OutFrame) → s ≡ k.node → RatesWhatIsLeft (may s.rule) → s.lines.lines < 2 ^ 16 → b ≡ false → OnOk r ((m : node_stands.Machine H) → node_stands.IsMachine s m → node_stands.Frames may m e out) → OnOk r ((w : Machines) → AreEnds k w → MadeFrames (setups_of k) w b (event_shown e) out)
+pub node_made : {H : Type 0} (may : H → ℕ → ℕ → ℕ → ℕ → Type 0) (k : KeptEnds H) (s : nodes.Kept H) (b : Bool) (e : Event) (r : Result Answer Memory) (out : List OutFrame) → s ≡ k.node → RatesWhatIsLeft (may s.rule) → s.lines.lines < 2 ^ 16 → b ≡ false → OnOk r ((m : node_stands.Machine H) → node_stands.IsMachine s m → node_stands.Frames may m e out) → OnOk r ((w : Machines) → AreEnds k w → MadeFrames (setups_of k) w b (event_shown e) out)
 node_made may k s b e r out q one few t =
     on_ok_weaker r (λ f w a. subst (λ z. MadeFrames (setups_of k) w z (event_shown e) out) (sym t) (made w a (f (node_of k w) (its_node k s w q a))))
   where
     made : (w : Machines) → AreEnds k w → node_stands.Frames may (node_of k w) e out → MadeFrames (setups_of k) w false (event_shown e) out
-    made w a g =
+    made w a sent =
+        let g = machines_frames may (node_of k w) e out sent in
         let is : g.made ≡ frames_by (setups_of k) w false (event_shown e) = g.allowed.2 ∙ node_frames may k w e g.allowed.0 a (subst (λ z. RatesWhatIsLeft (may z.rule)) q one) (subst (λ z. z.lines.lines < 2 ^ 16) q few) g.allowed.1 in
         record { same = g.same ∙ ap (map expected) is; readable = subst (Each IsReadable) is g.readable }

@@ -35,7 +35,7 @@ abbrev pub setups_of : {H : Type 0} → KeptEnds H → Setups
 setups_of k = record { server = servers.config_of k.server; node = nodes.config_of k.node }
 
 -- between events both are at rest, and the rule is known
-pub record Holds {H : Type 0} (may : H → ℕ → ℕ → ℕ → Type 0) (known : H → Type 0) (k : KeptEnds H) : Type 0 where
+pub record Holds {H : Type 0} (may : H → ℕ → ℕ → ℕ → ℕ → Type 0) (known : H → Type 0) (k : KeptEnds H) : Type 0 where
   pub server : servers.AtRest k.server
   pub node : nodes.AtRest k.node
   pub fact : known k.node.rule

@@ -1,7 +1,6 @@
 use Rattle.lat_runs.proofs.Servers.{server_cell}
 use Rattle.lat_runs.proofs.Nodes.{node_cell}
 use Rattle.lat_runs.proofs.Switches.{switch_cell}
-use Rattle.lat_runs.proofs.Tariffs.{tariff_cell}
 use Rattle.lat_runs.proofs.laws.cells_run.Goals as goal
 
 pub returns-clause-server : goal.returns-clause-server
@@ -11,7 +10,7 @@ pub returns-clause-node : goal.returns-clause-node
 returns-clause-node g c = node_cell
 
 pub returns-clause-tariff : goal.returns-clause-tariff
-returns-clause-tariff g c = tariff_cell
+returns-clause-tariff g c = node_cell
 
 pub returns-clause-switch : goal.returns-clause-switch
 returns-clause-switch g c = switch_cell

@@ -1,15 +1,16 @@
-use Rattle.std.proofs.Common.{◌∙◌, refl, sym, ap, subst, [], ◌∷◌, length, arith}
+use Rattle.std.proofs.Common.{◌∙◌, refl, sym, ap, subst, [], ◌∷◌, arith}
 use Rattle.std.proofs.lemmas.Grind.{common_steps}
 use Rattle.lat_machines.specs.node.Node.{announcement}
 use Rattle.lat_lines.specs.Stands as lines
 use Rattle.lat_node.specs.Events.{announces}
 use Rattle.lat_node.specs.Kept.{Kept, config_of}
+use Rattle.lat_node.specs.Places.{places}
 use Rattle.lat_node.proofs.AnnounceLemmas.{announced_rated, halted_rated}
 use Rattle.lat_node.proofs.node.NodeCore.announce.Goals as goal
 
 pub returns-then-self-clause-frames : goal.returns-then-self-clause-frames
 returns-then-self-clause-frames g c = λ s st.
-    halted_rated _ c.args.self.now s (announcement (config_of c.args.self.now) [] ∷ []) (announces (config_of c.args.self.now) s) (length c.args.self.now.services) c.args.out.now (sym st.halted ∙ sym (ap (λ (k : Kept g.row.H.Denot). k.halted) c.self.view_is) ∙ c.if-self.true) refl
+    halted_rated _ c.args.self.now s (announcement (config_of c.args.self.now) [] ∷ []) (announces (config_of c.args.self.now) s) (places (config_of c.args.self.now)) c.args.out.now (sym st.halted ∙ sym (ap (λ (k : Kept g.row.H.Denot). k.halted) c.self.view_is) ∙ c.if-self.true) refl
 
 pub returns-clause-frames : goal.returns-clause-frames
 returns-clause-frames g c = λ s st.

@@ -6,4 +6,4 @@ returns-clause-written g c = c.announced.ensures.written c.args.self.now.service
 
 pub returns-clause-announced : goal.returns-clause-announced
 returns-clause-announced g c =
-    announced_as _ c.args.self.now c.args.used c.in_ok-services.services c.announced.result c.in_ok-services.ensures.names c.in_ok-services.ensures.ratings (c.announced.ensures.announced c.args.self.now.services c.in_ok-services.ensures.names)
+    announced_as _ c.args.self.now c.args.used c.in_ok-services.services c.announced.result c.in_ok-services.ensures.ratings (c.announced.ensures.announced c.args.self.now.services c.in_ok-services.ensures.names)

@@ -1,19 +1,20 @@
-use Rattle.std.proofs.Common.{refl, sym, ap, ◌∙◌, subst, suc, [], ◌∷◌, length, Some, arith}
+use Rattle.std.proofs.Common.{refl, sym, ap, ◌∙◌, subst, [], ◌∷◌, Some, arith}
 use Rattle.std.proofs.lemmas.Grind.{common_steps}
 use Rattle.lat_machines.specs.values.Addresses.{address}
 use Rattle.lat_machines.specs.node.Node.{announcement, response, solicited}
 use Rattle.lat_lines.specs.Stands as lines
 use Rattle.lat_node.specs.Kept.{Kept, config_of}
+use Rattle.lat_node.specs.Places.{places}
 use Rattle.lat_node.proofs.AnnounceLemmas.{response_as, response_rated, halted_rated}
 use Rattle.lat_node.proofs.node.NodeCore.respond.Goals as goal
 
 pub returns-then-self-clause-frames : goal.returns-then-self-clause-frames
 returns-then-self-clause-frames g c = λ s st.
-    halted_rated _ c.args.self.now s (response (config_of c.args.self.now) (address c.args.from.0) c.args.id c.args.service.now 0 ∷ announcement (config_of c.args.self.now) [] ∷ []) (λ rates. solicited (config_of c.args.self.now) rates s (address c.args.from.0) c.args.id (Some c.args.service.now)) (suc (length c.args.self.now.services)) c.args.out.now (sym st.halted ∙ sym (ap (λ (k : Kept g.row.H.Denot). k.halted) c.self.view_is) ∙ c.if-self.true) refl
+    halted_rated _ c.args.self.now s (response (config_of c.args.self.now) (address c.args.from.0) c.args.id c.args.service.now 0 ∷ announcement (config_of c.args.self.now) [] ∷ []) (λ rates. solicited (config_of c.args.self.now) rates s (address c.args.from.0) c.args.id (Some c.args.service.now)) (c.args.place ∷ places (config_of c.args.self.now)) c.args.out.now (sym st.halted ∙ sym (ap (λ (k : Kept g.row.H.Denot). k.halted) c.self.view_is) ∙ c.if-self.true) refl
 
 pub returns-clause-frames : goal.returns-clause-frames
 returns-clause-frames g c = λ s st.
-    response_rated _ c.args.self.now s c.used-used.result (address c.args.from.0) c.args.id c.args.service.now c.rating-rating.result c.in_ok-announcement.announcement c.response_frame.result c.notice_frame.result c.args.out.now c.push.new.self c.push-2.new.self
+    response_rated _ c.args.self.now s c.used-used.result (address c.args.from.0) c.args.id c.args.place c.args.service.now c.rating-rating.result c.in_ok-announcement.announcement c.response_frame.result c.notice_frame.result c.args.out.now c.push.new.self c.push-2.new.self
     (sym st.halted ∙ sym (ap (λ (k : Kept g.row.H.Denot). k.halted) c.self.view_is) ∙ c.if-self.false)
     (c.used-used.ensures.model s.core (subst (λ (k : Kept g.row.H.Denot). lines.Stands k.lines s.core) (sym c.self.view_is) st.lines))
     c.in_ok-announcement.ensures.announced c.rating-rating.ensures
