@@ -9,7 +9,7 @@
 //!
 //! Numbers are in decimal, without a sign or a needless 0. In front of `go` the LINES of the server are 1 to 32 and those of the
 //! node 1 to 64, each TIMER of a circuit is 1 to 100, that of the node and KEEPALIVE 1 to 255, SESSIONS 1 to 64, CEILING 1 to 15,
-//! and the LINE of an offer is one of the server's. Moments, frames and records, FROM and the N of `draw` are below 2^64, TO is
+//! the N of `first` 1 to 65,535, and the LINE of an offer is one of the server's. Moments, frames and records, FROM and the N of `draw` are below 2^64, TO is
 //! 65,536 at most, circuits, ids of requests, INCARNATION and each other N 65,535 at most, and what is left 255. E is `s` or `n`;
 //! a mask of groups has at most 64 hex digits, and a setting ten. Of a line with another word there, with another word than a
 //! name or an address where one is wanted, with an odd number of hex digits, or whose word is no command, no event and no question
@@ -23,6 +23,7 @@
 //! | `node ADDRESS NAME LINES INCARNATION TIMER` | the node |
 //! | `circuit TIMER KEEPALIVE SESSIONS EXTRA CEILING` (and perhaps `word`, or `byte`, which is the same as nothing) | the timing of both |
 //! | `prompt E` | this core's end is prompt |
+//! | `first E N` | the id of this core's first circuit, without it 1 |
 //! | `groups SERVER NODE` | the groups that the server listens to, and the mask of the node's announcements, in hex; without it all groups, and the empty mask |
 //! | `service NAME` | the node offers it; 32 at most |
 //! | `offer LINE NAME` | the server's line offers it; a line offers once |

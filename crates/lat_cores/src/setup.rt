@@ -11,7 +11,7 @@ use lat_node::NodeConfig;
 use lat_queue::Services16;
 use lat_script::{
     Pair, ScriptFault, Wanted, address, byte_within, bytes, choice, known_name, name, no_command,
-    short, timing, word,
+    short, short_within, timing, word,
 };
 use lat_server::{Offer, Offers, ServerConfig, Timing};
 use std::alloc::Global;
@@ -58,6 +58,7 @@ impl Setup {
                 groups: [0xff; 32],
                 timing: USUAL,
                 prompt: false,
+                first: 1,
             },
             node: NodeConfig {
                 own: Addr([0xaa, 0x00, 0x04, 0x00, 0x02, 0x04]),
@@ -69,6 +70,7 @@ impl Setup {
                 groups: Bytes::copy(alloc, &[])?,
                 timing: USUAL,
                 prompt: false,
+                first: 1,
             },
         })
     }
@@ -84,6 +86,7 @@ impl Setup {
                 self.node.timing = timing;
             }
             "prompt" => self.tell_prompt(line)?,
+            "first" => self.tell_first(line)?,
             "groups" => self.tell_groups(alloc, line)?,
             "service" => self.tell_service(line)?,
             "offer" => self.tell_offer(line)?,
@@ -119,6 +122,17 @@ impl Setup {
             self.server.prompt = true;
         } else {
             self.node.prompt = true;
+        }
+        Ok(())
+    }
+
+    fn tell_first(&mut self, line: &str) -> Result<(), ScriptFault> {
+        let server = choice(Pair::Cores, line, 1)?;
+        let first = short_within(1, 65_535, line, 2)?;
+        if server {
+            self.server.first = first;
+        } else {
+            self.node.first = first;
         }
         Ok(())
     }

@@ -1,6 +1,7 @@
 pub mod Verbs
 pub mod EventLines
 pub mod Events
+pub mod Openings
 pub mod SetupLines
 pub mod Setups
 pub mod Places

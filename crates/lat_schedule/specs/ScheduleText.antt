@@ -23,7 +23,8 @@ server_made front groups offers = record {
   offers = offers;
   groups = groups;
   timing = front.circuit.server;
-  prompt = front.server.prompt;
+  prompt = front.server.opening.prompt;
+  first = front.server.opening.first;
 }
 
 -- what the node is made of
@@ -37,7 +38,8 @@ node_made front groups services = record {
   timer = front.node.timer;
   groups = groups;
   timing = front.circuit.node;
-  prompt = front.node.prompt;
+  prompt = front.node.opening.prompt;
+  first = front.node.opening.first;
 }
 
 abbrev pub setup_of : Front → Groups → List (List ℕ) → List Offer → Setup

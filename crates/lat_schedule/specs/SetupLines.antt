@@ -17,6 +17,7 @@ use Rattle.lat_schedule.specs.declared.setup_line.NodeLine.{NodeLine}
 use Rattle.lat_schedule.specs.declared.setup_line.CircuitLine.{CircuitLine}
 use Rattle.lat_schedule.specs.declared.setup_line.Numbers.{Numbers}
 use Rattle.lat_schedule.specs.EventLines.{◌>>=◌}
+use Rattle.lat_schedule.specs.Openings.{opening_of}
 
 -- `lat 1`, `lat 2` or `lat 3`
 abbrev pub version_of : List ℕ → Option Version
@@ -26,34 +27,25 @@ version_of line =
     else if bytes_eq line (codes "lat 3") then Some Three
     else None
 
-abbrev pub if_prompt : List ℕ → Option (List ℕ × List ℕ) → List ℕ × Bool
-if_prompt text None = (text, false)
-if_prompt text (Some first) = if bytes_eq first.1 (codes "prompt") then (first.0, true) else (text, false)
-
--- what stands in front of a last word `prompt`, which the third version alone has, and whether it stands there
-abbrev pub before_prompt : Version → List ℕ → List ℕ × Bool
-before_prompt One text = (text, false)
-before_prompt Two text = (text, false)
-before_prompt Three text = if_prompt text (first_word text)
-
 -- the address of a station, which isn't that of everyone
 abbrev pub station_of : List ℕ → Option Addr
 station_of text = do
   own ← address_of text
   if nat_eq (address own.0) everyone then None else Some own
 
--- `server ADDR NAME LINES`, 1 to 32 lines, and `prompt` or not
+-- `server ADDR NAME LINES`, 1 to 32 lines, and what the words behind say
 abbrev pub server_of : Version → List ℕ → Option ServerLine
 server_of version line = do
   text ← behind_word (codes "server") line
   first ← first_word text
   second ← first_word first.1
+  last ← opening_of version second.1
   own ← station_of first.0
   name ← name_of second.0
-  lines ← number_within 1 32 (before_prompt version second.1).0
-  Some (record { own = own; name = name; lines = lines; prompt = (before_prompt version second.1).1 })
+  lines ← number_within 1 32 last.0
+  Some (record { own = own; name = name; lines = lines; opening = last.1 })
 
--- `node ADDR NAME LINES INCARNATION TIMER`, 1 to 64 lines, and `prompt` or not, not at the server's address
+-- `node ADDR NAME LINES INCARNATION TIMER`, 1 to 64 lines, and what the words behind say, not at the server's address
 abbrev pub node_of : Version → Addr → List ℕ → Option NodeLine
 node_of version server line = do
   text ← behind_word (codes "node") line
@@ -61,18 +53,19 @@ node_of version server line = do
   second ← first_word first.1
   third ← first_word second.1
   fourth ← first_word third.1
+  last ← opening_of version fourth.1
   own ← station_of first.0
   name ← name_of second.0
   lines ← number_within 1 64 third.0
   incarnation ← number_within 0 65535 fourth.0
-  timer ← number_within 1 255 (before_prompt version fourth.1).0
+  timer ← number_within 1 255 last.0
   if nat_eq (address own.0) (address server.0) then None else Some (record {
     own = own;
     name = name;
     lines = lines;
     incarnation = incarnation;
     timer = timer;
-    prompt = (before_prompt version fourth.1).1;
+    opening = last.1;
   })
 
 -- whether the circuits' numbers have two bytes

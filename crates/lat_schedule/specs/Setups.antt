@@ -19,6 +19,7 @@ pub record IsServerLine (s : ServerLine) : Type 0 where
   pub own : address s.own.0 ≢ everyone
   pub name : IsName s.name
   pub lines : (1 ≤ s.lines) × (s.lines ≤ 32)
+  pub first : (1 ≤ s.opening.first) × (s.opening.first ≤ 65535)
 
 -- what that of the node may say, beside a server at this address
 pub record IsNodeLine (server : Addr) (n : NodeLine) : Type 0 where
@@ -27,6 +28,7 @@ pub record IsNodeLine (server : Addr) (n : NodeLine) : Type 0 where
   pub name : IsName n.name
   pub lines : (1 ≤ n.lines) × (n.lines ≤ 64)
   pub timer : 1 ≤ n.timer
+  pub first : (1 ≤ n.opening.first) × (n.opening.first ≤ 65535)
 
 pub record AreNumbers (n : Numbers) : Type 0 where
   pub timer : (1 ≤ n.timer) × (n.timer ≤ 100)

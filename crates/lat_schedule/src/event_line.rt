@@ -35,7 +35,7 @@ ghost use Rattle.lat_base.specs.declared.addr.Addr.{Addr};
 ghost use Rattle.lat_schedule.specs.Events.{IsTold, IsEvent};
 
 use crate::event::WorldEvent;
-use crate::numbers::{byte_within, short_up_to};
+use crate::numbers::{byte_within, short_within};
 use crate::setup_line::Version;
 use crate::verb::{Verb, is_third};
 use hex::FromHex;
@@ -57,7 +57,7 @@ fn id_of(text: &[u8]) -> Option<u16>
     ensures value { result ≡ id_of text.now }
     ensures most { IfSome result (λ id. id ≤ 65535) }
 {
-    short_up_to(65535, text)
+    short_within(0, 65535, text)
 }
 
 fn setting_of(text: &[u8]) -> Option<[u8; 5]>
@@ -130,7 +130,7 @@ fn take_of(text: &[u8]) -> Option<Event>
 {
     let (line, n) = first_word(text)?;
     let line = line_of(line)?;
-    let n = short_up_to(4096, n)?;
+    let n = short_within(0, 4096, n)?;
     Some(Event::Take { line, n })
 }
 

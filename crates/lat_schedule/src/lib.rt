@@ -9,6 +9,7 @@ mod groups;
 mod line_numbers;
 mod listed;
 mod numbers;
+mod opening;
 mod print;
 mod read;
 mod rest;

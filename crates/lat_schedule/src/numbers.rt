@@ -15,12 +15,12 @@ pub fn byte_within(least: u8, most: u8, text: &[u8]) -> Option<u8>
     Some(number as u8)
 }
 
-/// The number of two bytes that a text is, at most so much.
-pub fn short_up_to(most: u16, text: &[u8]) -> Option<u16>
-    ensures value { result ≡ number_within 0 most text.now }
-    ensures most { IfSome result (λ n. n ≤ most) }
+/// The number of two bytes that a text is: so much at least and so much at most.
+pub fn short_within(least: u16, most: u16, text: &[u8]) -> Option<u16>
+    ensures value { result ≡ number_within least most text.now }
+    ensures range { IfSome result (λ n. (least ≤ n) × (n ≤ most)) }
 {
-    let number = number_within(0, u64::from(most), text)?;
+    let number = number_within(u64::from(least), u64::from(most), text)?;
     Some(number as u16)
 }
 

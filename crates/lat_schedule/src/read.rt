@@ -71,7 +71,8 @@ fn server_made(front: &Front, groups: [u8; 32], offers: Offers) -> ServerConfig
         offers,
         groups,
         timing: front.circuit.server,
-        prompt: front.server.prompt,
+        prompt: front.server.opening.prompt,
+        first: front.server.opening.first,
     }
 }
 
@@ -90,7 +91,8 @@ fn node_made(front: &Front, groups: Bytes, services: Services16) -> NodeConfig
         timer: front.node.timer,
         groups,
         timing: front.circuit.node,
-        prompt: front.node.prompt,
+        prompt: front.node.opening.prompt,
+        first: front.node.opening.first,
     }
 }
 

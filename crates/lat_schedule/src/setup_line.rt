@@ -12,8 +12,6 @@ ghost use Rattle.lat_text.specs.Reads.{Reads};
 ghost use Rattle.lat_text.specs.Words.{first_word};
 ghost use Rattle.lat_schedule.specs.SetupLines.{
   version_of,
-  if_prompt,
-  before_prompt,
   station_of,
   server_of,
   node_of,
@@ -30,7 +28,8 @@ ghost use Rattle.lat_schedule.specs.SetupLines.{
 };
 ghost use Rattle.lat_schedule.specs.Setups.{IsServerLine, IsNodeLine, AreNumbers, IsCircuitLine};
 
-use crate::numbers::{byte_within, short_up_to};
+use crate::numbers::{byte_within, short_within};
+use crate::opening::{Opening, opening_of};
 use lat_base::{Addr, Name};
 use lat_server::{Offer, Timing};
 use lat_text::{LineFault, address_of, behind_word, bytes_of, first_word, mask_of, name_of};
@@ -42,8 +41,8 @@ pub enum Version {
     One,
     /// Spans and groups may be told.
     Two,
-    /// And silent lines stand anywhere, ends may be prompt, and the events of a halt, of an avoid and of a line that gets or
-    /// isn't ready may be told.
+    /// And silent lines stand anywhere, ends may be prompt and have first ids of their own, and the events of a halt, of an
+    /// avoid and of a line that gets or isn't ready may be told.
     Three,
 }
 
@@ -53,7 +52,7 @@ pub struct ServerLine {
     pub own: Addr,
     pub name: Name,
     pub lines: u8,
-    pub prompt: bool,
+    pub opening: Opening,
 }
 
 /// What the line of the node says.
@@ -64,7 +63,7 @@ pub struct NodeLine {
     pub lines: u8,
     pub incarnation: u16,
     pub timer: u8,
-    pub prompt: bool,
+    pub opening: Opening,
 }
 
 /// What the line of the circuits says.
@@ -98,25 +97,6 @@ pub fn version_of(line: &[u8]) -> Option<Version>
     }
 }
 
-fn if_prompt(text: &[u8]) -> (&[u8], bool)
-    ensures { (result.0.now, result.1) ≡ if_prompt text.now (first_word text.now) }
-{
-    match first_word(text) {
-        Some((before, last)) if last == "prompt".as_bytes() => (before, true),
-        _ => (text, false),
-    }
-}
-
-// What stands in front of a last word `prompt`, and whether it stands there. The first two versions don't have it.
-fn before_prompt(version: Version, text: &[u8]) -> (&[u8], bool)
-    ensures { (result.0.now, result.1) ≡ before_prompt version text.now }
-{
-    match version {
-        Version::One | Version::Two => (text, false),
-        Version::Three => if_prompt(text),
-    }
-}
-
 // The address of a station, which isn't that of everyone.
 fn station_of(text: &[u8]) -> Option<Addr>
     ensures value { result ≡ station_of text.now }
@@ -126,7 +106,7 @@ fn station_of(text: &[u8]) -> Option<Addr>
     if own.is_everyone() { None } else { Some(own) }
 }
 
-/// `server ADDR NAME LINES`, and `prompt` or not.
+/// `server ADDR NAME LINES`, and what the words behind say.
 pub fn server_of(version: Version, line: &[u8]) -> Option<ServerLine>
     ensures value { result ≡ server_of version line.now }
     ensures fits { IfSome result IsServerLine }
@@ -134,7 +114,7 @@ pub fn server_of(version: Version, line: &[u8]) -> Option<ServerLine>
     let text = behind_word("server", line)?;
     let (address, text) = first_word(text)?;
     let (name, text) = first_word(text)?;
-    let (lines, prompt) = before_prompt(version, text);
+    let (lines, opening) = opening_of(version, text)?;
     let own = station_of(address)?;
     let name = name_of(name)?;
     let lines = byte_within(1, 32, lines)?;
@@ -142,11 +122,11 @@ pub fn server_of(version: Version, line: &[u8]) -> Option<ServerLine>
         own,
         name,
         lines,
-        prompt,
+        opening,
     })
 }
 
-/// `node ADDR NAME LINES INCARNATION TIMER`, and `prompt` or not, not at the server's address.
+/// `node ADDR NAME LINES INCARNATION TIMER`, and what the words behind say, not at the server's address.
 pub fn node_of(version: Version, server: Addr, line: &[u8]) -> Option<NodeLine>
     ensures value { result ≡ node_of version server line.now }
     ensures fits { IfSome result (IsNodeLine server) }
@@ -156,11 +136,11 @@ pub fn node_of(version: Version, server: Addr, line: &[u8]) -> Option<NodeLine>
     let (name, text) = first_word(text)?;
     let (lines, text) = first_word(text)?;
     let (incarnation, text) = first_word(text)?;
-    let (timer, prompt) = before_prompt(version, text);
+    let (timer, opening) = opening_of(version, text)?;
     let own = station_of(address)?;
     let name = name_of(name)?;
     let lines = byte_within(1, 64, lines)?;
-    let incarnation = short_up_to(65535, incarnation)?;
+    let incarnation = short_within(0, 65535, incarnation)?;
     let timer = byte_within(1, 255, timer)?;
     if own == server {
         return None;
@@ -171,7 +151,7 @@ pub fn node_of(version: Version, server: Addr, line: &[u8]) -> Option<NodeLine>
         lines,
         incarnation,
         timer,
-        prompt,
+        opening,
     })
 }
 

@@ -33,6 +33,7 @@ setup = record {
     groups = replicate 32 255;
     timing = timing;
     prompt = false;
+    first = 1;
   };
   node = record {
     own = record { 0 = 0xaa ∷ 0x00 ∷ 0x04 ∷ 0x00 ∷ 0x02 ∷ 0x04 ∷ [] };
@@ -44,5 +45,6 @@ setup = record {
     groups = [];
     timing = timing;
     prompt = false;
+    first = 1;
   };
 }

@@ -9,4 +9,5 @@ returns c =
       lines = valid.lines;
       offers = either_offers c.push.result old.lines old.offers c.push.new.self c.args.offer c.push.ensures.ok c.push.ensures.err valid.offers c.requires.line c.requires.free;
       timing = valid.timing;
+      first = valid.first;
     }

@@ -20,5 +20,6 @@ returns-clause-fits c =
       apart = eqb-false (address c.in_ok-own.own.0) (address c.args.server.0) (sym (address_same c.in_ok-own.own.0 c.args.server.0 one two) ∙ sym c.eq.ensures ∙ c.if-eq.false);
       name = c.in_ok-name-2.ensures.name;
       lines = c.in_ok-lines-2.ensures.range;
-      timer = c.in_ok-timer.ensures.range.0;
+      timer = c.in_ok-timer-2.ensures.range.0;
+      first = c.in_ok-timer.ensures.fits;
     }
