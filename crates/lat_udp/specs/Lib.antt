@@ -1,2 +1,4 @@
 pub mod Datagrams
 pub mod Faults
+pub mod Peers
+pub mod Aheads

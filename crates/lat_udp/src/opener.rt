@@ -1,10 +1,10 @@
 //! What opens the sockets.
 
-ghost use Rattle.std.specs.Prelude.{◌≡◌};
+ghost use Rattle.std.specs.Prelude.{◌≡◌, IfOk};
 
 use crate::fault::{WAIT_MS, more};
 use crate::line::TcpLine;
-use crate::udp::{UdpRx, UdpTx};
+use crate::udp::{PEERS, UdpRx, UdpTx};
 use arrayvec::ArrayVec;
 use lat_base::Addr;
 use lat_outside::{Failed, Opener};
@@ -25,6 +25,24 @@ fn halves<R: Net>(rt: &R, port: u16) -> io::Result<(UdpSocket, UdpSocket)> {
     socket.set_read_timeout(Some(Duration::from_millis(WAIT_MS)))?;
     let other = socket.try_clone()?;
     Ok((socket, other))
+}
+
+/// The two halves of a carrier for the station with this address, which hears the first ports alone, and sends to the others. Their
+/// counts of faults and strays are 0.
+pub(crate) fn carrier<R: Net>(
+    rt: &R,
+    own: Addr,
+    port: u16,
+    heard: ArrayVec<u16, PEERS>,
+    told: ArrayVec<u16, PEERS>,
+) -> io::Result<(UdpTx, UdpRx)>
+    ensures { IfOk result (λ halves. (halves.0.faults ≡ 0) × (halves.1.faults ≡ 0) × (halves.1.ear.strays ≡ 0)) }
+{
+    let (sending, receiving) = halves(rt, port)?;
+    Ok((
+        UdpTx::new(sending, own, told),
+        UdpRx::new(receiving, own, heard),
+    ))
 }
 
 // The first connection to this port.
@@ -63,11 +81,11 @@ impl<R: Net<Listener = TcpListener, Stream = TcpStream> + Clock + Copy + Send> O
         port: u16,
         peers: &[u16],
     ) -> Result<(UdpTx, UdpRx), Failed> {
-        if let Ok(peers) = ArrayVec::try_from(peers)
-            && let Ok((sending, receiving)) = halves(&self.rt, port)
+        if let Ok(heard) = ArrayVec::try_from(peers)
+            && let Ok(told) = ArrayVec::try_from(peers)
+            && let Ok(halves) = carrier(&self.rt, own, port, heard, told)
         {
-            let tx = UdpTx::new(sending, own, peers);
-            return Ok((tx, UdpRx::new(receiving, own)));
+            return Ok(halves);
         }
         more(&mut self.faults);
         Err(Failed)

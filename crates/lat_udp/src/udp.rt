@@ -1,17 +1,17 @@
 //! A carrier over UDP on the loopback address.
 
-ghost use Rattle.std.specs.Prelude.{◌≡◌, ◌≤◌, None};
-ghost use Rattle.lat_outside.specs.Causes.{Rose};
+ghost use Rattle.std.specs.Prelude.{◌≡◌, None};
 
-use crate::datagram::{DATAGRAM_BYTES, heard, put_datagram};
+use crate::datagram::{DATAGRAM_BYTES, put_datagram};
+use crate::ear::Ear;
 use crate::fault::{is_quiet, more};
 use arrayvec::ArrayVec;
 use lat_base::{Addr, PAYLOAD_BYTES};
-use lat_outside::{Failed, Got, Rx, Tx};
+use lat_outside::{Failed, Got, MOST_PEERS, Rx, Strays, Tx};
 use std::net::{Ipv4Addr, UdpSocket};
 
 /// How many peers a carrier has at most.
-pub const PEERS: usize = 8;
+pub const PEERS: usize = MOST_PEERS;
 
 /// The sending half: each frame goes to each peer's port. It tells no frames. A frame that is too long, or that doesn't go out
 /// whole to some peer, is a fault.
@@ -67,24 +67,33 @@ impl Tx for UdpTx {
     }
 }
 
-/// The receiving half. It tells no frames. What isn't for its station, and what comes not at all for 10 ms, is quiet.
+/// The receiving half. It tells no frames. What comes from others than its peers is counted; that, what isn't for its station, and
+/// what comes not at all for 10 ms, is quiet.
 #[derive(Drop)]
 pub struct UdpRx {
     socket: UdpSocket,
-    own: Addr,
+    ear: Ear,
     faults: u64,
 }
 
 impl UdpRx {
-    /// A half for the station with this address. Its count of faults is 0.
-    pub fn new(socket: UdpSocket, own: Addr) -> UdpRx
-        ensures { result.faults ≡ 0 }
+    /// A half for the station with this address, which hears these ports. Its counts of faults and strays are 0.
+    pub fn new(socket: UdpSocket, own: Addr, peers: ArrayVec<u16, PEERS>) -> UdpRx
+        ensures { (result.faults ≡ 0) × (result.ear.strays ≡ 0) }
     {
         UdpRx {
             socket,
-            own,
+            ear: Ear::new(own, peers),
             faults: 0,
         }
+    }
+}
+
+impl Strays for UdpRx {
+    ghost strays = { λ rx. rx.ear.strays };
+
+    fn strays(&self) -> u64 {
+        self.ear.strays()
     }
 }
 
@@ -96,8 +105,8 @@ impl Rx for UdpRx {
     fn recv(&mut self, buf: &mut [u8; PAYLOAD_BYTES]) -> Result<Got, Failed> {
         // one byte more than a datagram may have, so that a longer one shows
         let mut place = [0; DATAGRAM_BYTES + 1];
-        let count = match self.socket.recv_from(&mut place) {
-            Ok((count, _)) => count,
+        let (count, from) = match self.socket.recv_from(&mut place) {
+            Ok(came) => came,
             Err(error) => {
                 if is_quiet(error.kind()) {
                     return Ok(Got::Quiet);
@@ -106,10 +115,7 @@ impl Rx for UdpRx {
                 return Err(Failed);
             }
         };
-        if count > DATAGRAM_BYTES {
-            return Ok(Got::Quiet);
-        }
-        match heard(self.own, &place[..count]) {
+        match self.ear.hear(from, &place[..count]) {
             None => Ok(Got::Quiet),
             Some((from, payload)) => {
                 let len = payload.len();
