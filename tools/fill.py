@@ -6,8 +6,8 @@
 VAX1 has the role tariff and four lines, VAX2 is a plain node that offers LOGIN on two. Five terminals come one after another, each
 at a server of its own with one line, and are connected to LOGIN. A sixth station listens to the announcements and asks for PRINT
 once two lines are held. It passes where each terminal reached the node that the ratings say, what was announced and answered is
-byte for byte what `docs/FORMATS.md` and the tariff give, and all daemons end with status 0. It needs Python 3 and a built `latd`,
-and takes about twenty seconds.
+byte for byte what `docs/FORMATS.md` and the tariff give, under one incarnation, and all daemons end with status 0. It needs
+Python 3 and a built `latd`, and takes about twenty seconds.
 """
 
 import socket
@@ -25,9 +25,9 @@ TERMINALS = 5
 RATINGS = [(80, 9), (60, 9), (40, 9), (20, 9), (0, 0)]
 
 
-def announcement(login, print_):
-    """The payload by which VAX1 announces both services: timer 30, version 5, incarnation 1, no groups."""
-    text = bytes.fromhex("281e0501000004") + b"VAX1" + bytes.fromhex("0002")
+def announcement(incarnation, login, print_):
+    """The payload by which VAX1 announces both services: timer 30, version 5, this incarnation, no groups."""
+    text = bytes.fromhex("281e05") + incarnation + bytes.fromhex("0004") + b"VAX1" + bytes.fromhex("0002")
     text += bytes([login, 5]) + b"LOGIN\0" + bytes([print_, 5]) + b"PRINT\0"
     return text.ljust(46, b"\0")
 
@@ -115,8 +115,11 @@ def main():
         right = right and is_so
         print(f"{what}{'' if is_so else ': WRONG'}")
 
+    # Its incarnation is drawn from the clock, and stays as it is.
     first = station.hear("VAX1", EVERYONE)
-    check(f"VAX1 announces at its start {first.rstrip(bytes(1)).hex() if first else None}", first == announcement(80, 9))
+    incarnation = first[3:5] if first else bytes(2)
+    check(f"VAX1 announces at its start {first.rstrip(bytes(1)).hex() if first else None}",
+          incarnation != bytes(2) and first == announcement(incarnation, 80, 9))
     terminals = []
     for k in range(TERMINALS):
         line_port = base + 16 + k
@@ -133,7 +136,7 @@ def main():
         login, print_ = RATINGS[held]
         answered, announced = station.now(k + 1)
         check(f"VAX1 with {held} of 4 lines held: PRINT {rating_of(answered)}, and announces {ratings_of(announced)}",
-              answered == response(k + 1, print_) and announced == announcement(login, print_))
+              answered == response(k + 1, print_) and announced == announcement(incarnation, login, print_))
     for daemon, s in terminals:
         s.shutdown(socket.SHUT_WR)
     for name, daemon in [(f"TS{k + 1}", d) for k, (d, _) in enumerate(terminals)] + list(nodes.items()):

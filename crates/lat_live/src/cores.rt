@@ -10,16 +10,16 @@ ghost use Rattle.lat_switch.specs.Config.{open_switch};
 ghost use Rattle.lat_switch.specs.Core as switch;
 ghost use Rattle.lat_switch.specs.Kept as switches;
 ghost use Rattle.lat_switch.specs.Stands.{Stands};
-ghost use Rattle.lat_tariff.specs.Kept as tariffs;
+ghost use Rattle.lat_tariff.specs.Own.{OffersTariff};
 ghost use Rattle.lat_tariff.specs.Tariffs.{names, AreKnown};
-ghost use Rattle.lat_live.specs.Openings.{server_config, switch_config, node_config};
+ghost use Rattle.lat_live.specs.Openings.{first_at, server_config, switch_config, node_config};
 
 use lat_base::{Bytes, Memory, Name};
 use lat_node::{NodeConfig, NodeCore, RatingRule};
 use lat_queue::Services16;
 use lat_server::{Offers, ServerConfig, ServerCore, Timing};
 use lat_switch::{SwitchConfig, SwitchCore};
-use lat_tariff::{SteadyRule, Tariff, TariffCore};
+use lat_tariff::{SteadyRule, Tariff};
 use lat_words::Config;
 use std::alloc::Global;
 
@@ -36,13 +36,21 @@ const TIMING: Timing = Timing {
 /// Each node announces its services after so many seconds again.
 pub const ANNOUNCE_SECONDS: u8 = 30;
 
-/// The server that the words tell of: it listens to all groups, no line offers a service, and it is prompt. `Memory` where
-/// none is found.
-pub fn server_core(alloc: Global, config: &Config) -> Result<ServerCore, Memory>
-    requires { (1 ≤ config.now.lines.count) × (config.now.lines.count ≤ 32) }
+/// The id of the first circuit of a daemon that starts at this time, in tenths of a second; a node has this incarnation too.
+pub fn first_at(tenths: u64) -> u16
+    ensures { result ≡ first_at tenths }
+{
+    (1 + tenths % 65_535) as u16
+}
+
+/// The server that the words tell of, with the id of its first circuit: it listens to all groups, no line offers a service,
+/// and it is prompt. `Memory` where none is found.
+pub fn server_core(alloc: Global, config: &Config, first: u16) -> Result<ServerCore, Memory>
+    requires lines { (1 ≤ config.now.lines.count) × (config.now.lines.count ≤ 32) }
+    requires first { 1 ≤ first }
     ensures made { IfOk result (λ k. servers.IsMade (servers.opening k)) }
     ensures stands { IfOk result (λ k. servers.IsMachine k (servers.opening k)) }
-    ensures config { IfOk result (λ k. server.config_of k ≡ server_config config.now) }
+    ensures config { IfOk result (λ k. server.config_of k ≡ server_config first config.now) }
     ensures rest { IfOk result server.AtRest }
 {
     let config = ServerConfig {
@@ -53,16 +61,19 @@ pub fn server_core(alloc: Global, config: &Config) -> Result<ServerCore, Memory>
         groups: [0xff; 32],
         timing: TIMING,
         prompt: true,
+        first,
     };
     ServerCore::make(alloc, &config)
 }
 
-/// The switch that the words tell of: its server listens to all groups and is prompt. `Memory` where none is found.
-pub fn switch_core(alloc: Global, config: &Config) -> Result<SwitchCore, Memory>
-    requires { (1 ≤ config.now.lines.count) × (config.now.lines.count ≤ 8) }
+/// The switch that the words tell of, with the id of its first circuit: its server listens to all groups and is prompt.
+/// `Memory` where none is found.
+pub fn switch_core(alloc: Global, config: &Config, first: u16) -> Result<SwitchCore, Memory>
+    requires lines { (1 ≤ config.now.lines.count) × (config.now.lines.count ≤ 8) }
+    requires first { 1 ≤ first }
     ensures made { IfOk result (λ k. switch.IsMade (switch.opening k)) }
     ensures stands { IfOk result (λ k. Stands k (switch.opening k)) }
-    ensures opening { IfOk result (λ k. switch.opening k ≡ open_switch (switch_config config.now)) }
+    ensures opening { IfOk result (λ k. switch.opening k ≡ open_switch (switch_config first config.now)) }
     ensures valid { IfOk result switches.IsValid }
 {
     let config = SwitchConfig {
@@ -72,6 +83,7 @@ pub fn switch_core(alloc: Global, config: &Config) -> Result<SwitchCore, Memory>
         groups: [0xff; 32],
         timing: TIMING,
         prompt: true,
+        first,
     };
     SwitchCore::make(alloc, &config)
 }
@@ -85,65 +97,77 @@ fn offering(alloc: Global, service: &Name) -> Result<Services16, Memory>
     Ok(services)
 }
 
-// What a node of these services is made of, in its first incarnation: it offers them to every server, and is prompt.
-fn node_config(alloc: Global, config: &Config, services: Services16) -> Result<NodeConfig, Memory>
-    requires { (1 ≤ config.now.lines.count) × (config.now.lines.count ≤ 64) }
+// What a node of these services is made of, in this incarnation, which is the id of its first circuit too: it offers them to
+// every server, and is prompt.
+fn node_config(
+    alloc: Global,
+    config: &Config,
+    first: u16,
+    services: Services16,
+) -> Result<NodeConfig, Memory>
+    requires lines { (1 ≤ config.now.lines.count) × (config.now.lines.count ≤ 64) }
+    requires first { 1 ≤ first }
     ensures valid { IfOk result IsConfig }
-    ensures config { IfOk result (λ c. config_shown c ≡ node_config config.now services) }
+    ensures config { IfOk result (λ c. config_shown c ≡ node_config first config.now services) }
     ensures services { IfOk result (λ c. c.services ≡ services) }
 {
     Ok(NodeConfig {
         own: config.station.address,
         name: config.station.name,
-        incarnation: 1,
+        incarnation: first,
         lines: config.lines.count,
         services,
         timer: ANNOUNCE_SECONDS,
         groups: Bytes::copy(alloc, &[])?,
         timing: TIMING,
         prompt: true,
+        first,
     })
 }
 
-/// The node that the words tell of, with their service. `Memory` where none is found.
+/// The node that the words tell of, with their service, its incarnation and the id of its first circuit. `Memory` where none is
+/// found.
 pub fn node_core<H: RatingRule>(
     alloc: Global,
     config: &Config,
+    first: u16,
     rule: H,
 ) -> Result<NodeCore<H>, Memory>
     requires lines { (1 ≤ config.now.lines.count) × (config.now.lines.count ≤ 64) }
+    requires first { 1 ≤ first }
     requires fact { H.fact rule }
     ensures made { IfOk result (λ k. nodes.IsMade (nodes.opening k)) }
     ensures stands { IfOk result (λ k. nodes.IsMachine k (nodes.opening k)) }
     ensures config { IfOk result (λ k.
-        node.config_of k ≡ node_config config.now (config.now.lines.service ∷ [])) }
+        node.config_of k ≡ node_config first config.now (config.now.lines.service ∷ [])) }
     ensures rule { IfOk result (λ k. k.rule ≡ rule) }
     ensures rest { IfOk result (λ k. node.AtRest k × H.fact k.rule) }
 {
     let services = offering(alloc, &config.lines.service)?;
-    let config = node_config(alloc, config, services)?;
+    let config = node_config(alloc, config, first, services)?;
     NodeCore::make(alloc, &config, rule)
 }
 
-/// The node that the words tell of, with the services of the tariff. `Memory` where none is found.
-pub fn tariff_core<H: RatingRule, P: SteadyRule>(
+/// The node that the words tell of, with the services of the tariff, each rated by its own rule, its incarnation and the id of
+/// its first circuit. `Memory` where none is found.
+pub fn tariff_core<P: SteadyRule>(
     alloc: Global,
     config: &Config,
-    rule: H,
+    first: u16,
     tariff: Tariff<P>,
-) -> Result<TariffCore<H, P>, Memory>
+) -> Result<NodeCore<Tariff<P>>, Memory>
     requires lines { (1 ≤ config.now.lines.count) × (config.now.lines.count ≤ 64) }
-    requires fact { H.fact rule }
+    requires first { 1 ≤ first }
     requires rules { AreKnown P.fact tariff }
-    ensures made { IfOk result (λ k. tariffs.IsMade (tariffs.opening k)) }
-    ensures stands { IfOk result (λ k. tariffs.IsMachine k (tariffs.opening k)) }
+    ensures made { IfOk result (λ k. nodes.IsMade (nodes.opening k)) }
+    ensures stands { IfOk result (λ k. nodes.IsMachine k (nodes.opening k)) }
     ensures config { IfOk result (λ k.
-        node.config_of k.node ≡ node_config config.now (names tariff)) }
-    ensures rules { IfOk result (λ k. (k.node.rule ≡ rule) × (k.rules ≡ tariff)) }
-    ensures valid { IfOk result (λ k.
-        node.AtRest k.node × H.fact k.node.rule × AreKnown P.fact k.rules) }
+        node.config_of k ≡ node_config first config.now (names tariff)) }
+    ensures rules { IfOk result (λ k. k.rule ≡ tariff) }
+    ensures offers { IfOk result (λ k. OffersTariff (nodes.opening k)) }
+    ensures rest { IfOk result (λ k. node.AtRest k × AreKnown P.fact k.rule) }
 {
     let services = tariff.names(alloc)?;
-    let config = node_config(alloc, config, services)?;
-    TariffCore::make(alloc, &config, rule, tariff)
+    let config = node_config(alloc, config, first, services)?;
+    NodeCore::make(alloc, &config, tariff)
 }

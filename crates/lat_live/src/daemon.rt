@@ -36,8 +36,9 @@ fn refuse<S: Sink>(out: &mut S) -> u8
 
 /// Does all that the program `latd` does: reads the words, the program's name first; opens the carrier and then the lines by rising
 /// number; runs all workers of a cell at once, round the core that the words tell of, until each has ended; and prints what came of
-/// it. A node rates its service by the rule; one with a tariff offers the tariff's services, and rates each by its own rule. It may
-/// wait, and its return isn't promised.
+/// it. A node rates its service by the rule; one with a tariff offers the tariff's services, and rates each by its own rule. The time
+/// at which it starts, in tenths of a second from any moment on that is the same at each start, gives the id of its first circuit and
+/// a node's incarnation, so that it isn't taken for the daemon that ran before it. It may wait, and its return isn't promised.
 ///
 /// The status is 1 where the words aren't right, with `words` written; 4 only where the opener's count of faults rose, and 9 for want
 /// of memory, with nothing written; 5 only where the sink's count of faults rose; else that of the last text. Where a cell is handed
@@ -57,6 +58,7 @@ pub fn serve<
     rt: &R,
     alloc: Global,
     words: &[String],
+    tenths: u64,
     blanks: Blanks,
     opener: &mut O,
     clock: K,
@@ -93,6 +95,6 @@ pub fn serve<
         Err(Memory) => return Served::nothing(alloc, 9),
     };
     serve_in_role(
-        rt, alloc, &config, blanks, opener, clock, gate, rule, tariff, out,
+        rt, alloc, &config, tenths, blanks, opener, clock, gate, rule, tariff, out,
     )
 }

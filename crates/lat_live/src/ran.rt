@@ -13,7 +13,7 @@ use lat_node::{NodeCore, RatingRule};
 use lat_outside::{LineEnd, Tx};
 use lat_server::ServerCore;
 use lat_switch::SwitchCore;
-use lat_tariff::{SteadyRule, TariffCore};
+use lat_tariff::{SteadyRule, Tariff};
 use std::alloc::Global;
 use std::sync::ledger::Ledger;
 
@@ -25,7 +25,7 @@ pub enum Ran<H: RatingRule, P: SteadyRule, T: Tx, E: Ledger, B: Ledger> {
     Server(Cell<ServerCore, T, E, B>),
     Switch(Cell<SwitchCore, T, E, B>),
     Node(Cell<NodeCore<H>, T, E, B>),
-    Tariff(Cell<TariffCore<H, P>, T, E, B>),
+    Tariff(Cell<NodeCore<Tariff<P>>, T, E, B>),
 }
 
 /// What a daemon hands back: the status to end with, its cell, the shares of all seats (the wire, the lines by rising number, the
@@ -117,7 +117,7 @@ impl<H: RatingRule, P: SteadyRule, T: Tx, L: LineEnd, E: Ledger, B: Ledger> Serv
 
     /// What came of a node with a tariff.
     pub(crate) fn of_tariff(
-        done: CoreServed<TariffCore<H, P>, T, L, E, B>,
+        done: CoreServed<NodeCore<Tariff<P>>, T, L, E, B>,
     ) -> Served<H, P, T, L, E, B>
         ensures { CameOf roles.Tariff done result }
     {

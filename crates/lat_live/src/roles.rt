@@ -9,7 +9,7 @@ ghost use Rattle.lat_live.specs.Plans.{IsPlanOf};
 ghost use Rattle.lat_live.specs.Printed.{IsOwn, RoseIn};
 ghost use Rattle.lat_live.specs.Served.{HasPrinted, IsBack, role_of};
 
-use crate::cores::{ANNOUNCE_SECONDS, node_core, server_core, switch_core, tariff_core};
+use crate::cores::{ANNOUNCE_SECONDS, first_at, node_core, server_core, switch_core, tariff_core};
 use crate::ran::Served;
 use crate::serving::{Plan, serve_core};
 use lat_cell::Blanks;
@@ -26,9 +26,10 @@ use std::thread::Threads;
 const KEPT_ENTRIES: usize = 10_000;
 
 // What a daemon of these words is to do. A server and a switch connect each line, and end when all lines have
-// ended. A node's lines wait for sessions; it announces its services, and ends after so many sessions.
-fn plan_of<'a>(config: &'a Config) -> Plan<'a>
-    ensures { IsPlanOf config.entry.now result }
+// ended. A node's lines wait for sessions; it announces its services, and ends after so many sessions. The id of its first
+// circuit is drawn from the time of its start.
+fn plan_of<'a>(config: &'a Config, tenths: u64) -> Plan<'a>
+    ensures { IsPlanOf config.entry.now tenths result }
 {
     let (service, announce, sessions) = match config.role {
         Role::Server | Role::Switch => (Some(config.lines.service), None, None),
@@ -44,10 +45,11 @@ fn plan_of<'a>(config: &'a Config) -> Plan<'a>
         announce,
         sessions,
         kept: KEPT_ENTRIES,
+        first: first_at(tenths),
     }
 }
 
-/// Does all that a daemon does in its role, once its words are read.
+/// Does all that a daemon does in its role, once its words are read. It starts at this time, in tenths of a second.
 pub fn serve_in_role<
     O: Opener,
     K: Clock + Send,
@@ -62,6 +64,7 @@ pub fn serve_in_role<
     rt: &R,
     alloc: Global,
     config: &Config,
+    tenths: u64,
     blanks: Blanks,
     opener: &mut O,
     clock: K,
@@ -86,25 +89,25 @@ pub fn serve_in_role<
     ensures empty { result.ran ≡ ran.Not →
         (result.shares ≡ []) × (result.ends ≡ []) × (result.lines ≡ []) }
 {
-    let plan = plan_of(config);
+    let plan = plan_of(config, tenths);
     match config.role {
         Role::Server => {
-            let core = server_core(alloc, config);
+            let core = server_core(alloc, config, plan.first);
             let done = serve_core(rt, alloc, &plan, core, blanks, opener, clock, gate, out);
             Served::of_server(done)
         }
         Role::Switch => {
-            let core = switch_core(alloc, config);
+            let core = switch_core(alloc, config, plan.first);
             let done = serve_core(rt, alloc, &plan, core, blanks, opener, clock, gate, out);
             Served::of_switch(done)
         }
         Role::Node => {
-            let core = node_core(alloc, config, rule);
+            let core = node_core(alloc, config, plan.first, rule);
             let done = serve_core(rt, alloc, &plan, core, blanks, opener, clock, gate, out);
             Served::of_node(done)
         }
         Role::Tariff => {
-            let core = tariff_core(alloc, config, rule, tariff);
+            let core = tariff_core(alloc, config, plan.first, tariff);
             let done = serve_core(rt, alloc, &plan, core, blanks, opener, clock, gate, out);
             Served::of_tariff(done)
         }

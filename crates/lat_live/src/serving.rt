@@ -39,6 +39,8 @@ pub struct Plan<'a> {
     pub sessions: Option<u32>,
     /// How many entries of its history the cell keeps, 1,000,000 at most.
     pub kept: usize,
+    /// The id of its first circuit, 1 to 65,535, and a node's incarnation.
+    pub first: u16,
 }
 
 /// What came of it: the status, the cell, and what the seats gave back.

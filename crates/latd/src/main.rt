@@ -1,5 +1,5 @@
-//! The program `latd`: hands its words, the sockets, the system's clock and standard output to `serve`, and ends with its
-//! status.
+//! The program `latd`: hands its words, the time of its start, the sockets, the system's clock and standard output to `serve`, and
+//! ends with its status.
 #![tactic(auto)]
 
 ghost use Rattle.std.specs.Prelude.{◌≡◌, codes};
@@ -22,7 +22,7 @@ use std::process::ExitCode;
 use std::sync::Wait;
 use std::sync::ledger::Ledger;
 use std::thread::Threads;
-use std::time::Clock;
+use std::time::{Clock, SystemTime, UNIX_EPOCH};
 
 const NO_MEMORY: u8 = 9;
 
@@ -33,6 +33,17 @@ fn words_of(alloc: Global, all: Args<Global>) -> Result<Vec<String>, AllocError>
         words.push(word)?;
     }
     Ok(words)
+}
+
+// The time since 1970 in tenths of a second, or 0 where the system's clock can't be read.
+fn tenths<R: Clock>(rt: &R) -> u64 {
+    let Ok(now) = SystemTime::now(rt) else {
+        return 0;
+    };
+    match now.duration_since(UNIX_EPOCH) {
+        Ok(passed) => u64::try_from(passed.as_millis() / 100).unwrap_or(0),
+        Err(_) => 0,
+    }
 }
 
 // The status alone; all else that a daemon hands back is dropped.
@@ -70,6 +81,7 @@ fn status_by<
         rt,
         alloc,
         words,
+        tenths(rt),
         blanks,
         &mut opener,
         clock,

@@ -40,6 +40,7 @@ pub fn server(alloc: Global, name: Name) -> ServerConfig
         groups: [0xff; 32],
         timing: TIMING,
         prompt: false,
+        first: 1,
     }
 }
 
@@ -59,5 +60,6 @@ pub fn node(alloc: Global, name: Name, service: &Name) -> Result<NodeConfig, Mem
         groups: Bytes::copy(alloc, &[])?,
         timing: TIMING,
         prompt: false,
+        first: 1,
     })
 }

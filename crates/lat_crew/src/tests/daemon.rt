@@ -68,7 +68,7 @@ fn served<
     requires blanks { AreBlanks blanks E.name E.parts B.name B.parts }
 {
     kept(serve::<_, _, _, _, _, _, E, B, R>(
-        rt, alloc, words, blanks, opener, clock, gate, rule, tariff, out,
+        rt, alloc, words, 0, blanks, opener, clock, gate, rule, tariff, out,
     ))
 }
 
