@@ -1,0 +1,10 @@
+pub mod Negotiations
+pub mod Places
+pub mod Options
+pub mod Telnets
+pub mod Doubling
+pub mod Keys
+pub mod LineStates
+pub mod Echoes
+pub mod Editors
+pub mod Laws
