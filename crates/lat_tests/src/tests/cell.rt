@@ -1,6 +1,8 @@
-//! The cell over a core of the tests' own, without threads.
+//! The cell over cores of the tests' own, without threads.
 
 mod echo;
+mod hopper;
 mod lent;
 mod outside;
 mod rows;
+mod turns;

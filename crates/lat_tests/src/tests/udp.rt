@@ -1,8 +1,10 @@
 //! The carrier, a line with its opener, and the clock, on the loopback address.
 
 use lat_base::Addr;
-use lat_outside::{Clock, Failed, Got, LineEnd, LineGot, Opener, Rx, Tx};
-use lat_udp::{NetOpener, RealClock};
+use lat_outside::{
+    Clock, Failed, Got, LineEnd, LineGot, Opener, PortFault, PortOpener, Rx, Strays, Tx,
+};
+use lat_udp::{NetOpener, NetPorts, RealClock};
 use std::io::{Read, Write};
 use std::net::{Ipv4Addr, TcpStream, UdpSocket};
 use std::test::Fail;
@@ -64,6 +66,53 @@ fn hears_what_is_for_it(rt: HostRuntime) -> Result<(), Fail> {
     assert!(rt; back.send(SERVER, &[7; 1500]).is_ok());
     assert!(rt; other.recv(&mut buf) == Ok(frame));
     assert!(rt; back.send(SERVER, &[7; 1501]) == Err(Failed));
+    Ok(())
+}
+
+#[test]
+fn hears_its_peers_alone(rt: HostRuntime) -> Result<(), Fail> {
+    let mut opener = NetPorts::new(rt);
+    assert_eq!(rt;
+        opener.open_carrier(NODE, 47106, &[1; 9]).err(),
+        Some(PortFault::Peers)
+    );
+    let (_tx, mut rx) = opener
+        .open_carrier(NODE, 47106, &[47107, 47108])
+        .map_err(|_| "a carrier")?;
+    assert_eq!(rt;
+        opener.open_carrier(NODE, 47106, &[47107]).err(),
+        Some(PortFault::InUse)
+    );
+    let mut datagram = [0; 15];
+    let all = [NODE.0.as_slice(), SERVER.0.as_slice(), &[0x60, 0x04, b'x']];
+    let mut at = 0;
+    for part in all.iter() {
+        datagram[at..at + part.len()].copy_from_slice(part);
+        at += part.len();
+    }
+    let mut buf = [0; 1500];
+    let to = (Ipv4Addr::LOCALHOST, 47106);
+    // a port that is no peer's, and a peer's port at another address
+    let stranger = UdpSocket::bind(&rt, (Ipv4Addr::LOCALHOST, 47109))?;
+    let elsewhere = UdpSocket::bind(&rt, (Ipv4Addr::new(127, 0, 0, 2), 47108))?;
+    assert_eq!(rt; stranger.send_to(&datagram, to)?, 15);
+    assert_eq!(rt; elsewhere.send_to(&datagram, to)?, 15);
+    for strays in [1, 2].iter() {
+        assert!(rt; rx.recv(&mut buf) == Ok(Got::Quiet));
+        assert_eq!(rt; rx.strays(), *strays);
+    }
+    let peer = UdpSocket::bind(&rt, (Ipv4Addr::LOCALHOST, 47108))?;
+    assert_eq!(rt; peer.send_to(&datagram, to)?, 15);
+    let frame = Got::Frame {
+        from: SERVER,
+        len: 1,
+    };
+    assert!(rt; rx.recv(&mut buf) == Ok(frame));
+    assert_eq!(rt; buf[0], b'x');
+    // what a peer sends to others is quiet, and no stray
+    assert_eq!(rt; peer.send_to(&datagram[6..], to)?, 9);
+    assert!(rt; rx.recv(&mut buf) == Ok(Got::Quiet));
+    assert_eq!(rt; rx.strays(), 2);
     Ok(())
 }
 

@@ -1,0 +1,101 @@
+//! A core that takes all that is put, and always has one item for a take.
+
+ghost use Rattle.std.specs.Prelude.{◌≡◌, [], OnErr, OnOk, IfOk};
+ghost use Rattle.lat_soak.specs.Sponges.{one_item, sponge_answer, sponge_next};
+
+use lat_base::{Answer, Core, Event, Item, Items, Memory, OutBox, SessionState};
+use std::alloc::Global;
+use std::marker::Model;
+
+/// A core of which the moment alone is kept.
+#[derive(Drop)]
+pub struct Sponge {
+    moment: u64,
+}
+
+impl Model for Sponge {
+    ghost use Rattle.std.specs.Prelude.{ℕ};
+
+    ghost Value = { ℕ };
+
+    ghost view = { λ a. a.moment };
+}
+
+impl Sponge {
+    /// One that was told nothing yet.
+    pub fn new() -> Sponge
+        ensures { result ≡ 0 }
+    {
+        Sponge { moment: 0 }
+    }
+}
+
+fn one_item(alloc: Global) -> Result<Items, Memory>
+    ensures { IfOk result (λ items. items ≡ one_item) }
+{
+    let mut items = Items::new(alloc);
+    items.push(Item::Byte(7))?;
+    Ok(items)
+}
+
+impl Core for Sponge {
+    ghost use Rattle.std.specs.Prelude.{◌≡◌, ℕ};
+    ghost use Rattle.lat_base.specs.declared.state.SessionState.TheVariants as sessions;
+    ghost use Rattle.lat_soak.specs.Sponges.{sponge_answer, sponge_next};
+
+    ghost State = { ℕ };
+
+    ghost made = { λ s. s ≡ 0 };
+
+    ghost opening = { λ c. 0 };
+
+    ghost valid = { λ c. Unit {0} };
+
+    ghost stands = { λ c s. c ≡ s };
+
+    ghost next = { sponge_next };
+
+    ghost answer = { sponge_answer };
+
+    ghost frames = { λ s e frames. Unit {0} };
+
+    ghost line_of = { λ s line. sessions.Live };
+
+    ghost moment_of = { λ s. s };
+
+    ghost waiting_of = { λ s line. 1 };
+
+    ghost finished_of = { λ s. 0 };
+
+    ghost ready = { λ c line. 1 };
+
+    fn step(&mut self, alloc: Global, event: &Event, _out: &mut OutBox) -> Result<Answer, Memory> {
+        match event {
+            Event::Heard { .. } => Ok(Answer::Ignored),
+            Event::Time { now } => {
+                self.moment = *now;
+                Ok(Answer::Done)
+            }
+            Event::Put { bytes, .. } => Ok(Answer::Put(bytes.as_slice().len().min(65535) as u16)),
+            Event::Take { n: 0, .. } => Ok(Answer::Closed),
+            Event::Take { .. } => Ok(Answer::Took(one_item(alloc)?)),
+            _ => Ok(Answer::NotHere),
+        }
+    }
+
+    fn line(&self, _line: u8) -> SessionState {
+        SessionState::Live
+    }
+
+    fn moment(&self) -> u64 {
+        self.moment
+    }
+
+    fn waiting(&self, _line: u8) -> u16 {
+        1
+    }
+
+    fn finished(&self) -> u32 {
+        0
+    }
+}
