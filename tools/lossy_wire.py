@@ -33,20 +33,27 @@ class Wire(threading.Thread):
         super().__init__(daemon=True)
         self.random = random.Random(seed)
         self.loss = loss
-        self.ends = []
-        for own, other in ((base + 2, base + 1), (base + 3, base)):
-            s = socket.socket(socket.AF_INET, socket.SOCK_DGRAM)
-            s.bind(("127.0.0.1", own))
-            self.ends.append((s, ("127.0.0.1", other)))
+        near_server, near_node = self.socket_at(base + 2), self.socket_at(base + 3)
+        # Where it comes, from where it goes on, and to whom: each daemon hears its peer's port alone.
+        self.ends = [
+            (near_server, near_node, ("127.0.0.1", base + 1)),
+            (near_node, near_server, ("127.0.0.1", base)),
+        ]
         self.held = []
         self.seen = self.lost = self.repeated = self.late = self.hostile = 0
 
+    @staticmethod
+    def socket_at(port):
+        s = socket.socket(socket.AF_INET, socket.SOCK_DGRAM)
+        s.bind(("127.0.0.1", port))
+        return s
+
     def run(self):
         while True:
-            ready = select.select([s for s, _ in self.ends], [], [], 0.01)[0]
-            for s, other in self.ends:
-                if s in ready:
-                    self.came(s.recv(2000), s, other)
+            ready = select.select([come for come, _, _ in self.ends], [], [], 0.01)[0]
+            for come, go, other in self.ends:
+                if come in ready:
+                    self.came(come.recv(2000), go, other)
             now = time.monotonic()
             for at, datagram, s, other in [h for h in self.held if h[0] <= now]:
                 s.sendto(datagram, other)
