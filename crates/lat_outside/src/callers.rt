@@ -47,7 +47,7 @@ pub trait Callers: Drop {
 
     ghost faults: { Self → ℕ };
 
-    /// Takes who knocks at the line's port. `Quiet` where the line has a caller or doesn't listen. `Failed` took nobody.
+    /// Takes who knocks at the line's port; nobody where the line has a caller or doesn't listen. `Quiet` and `Failed` took nobody.
     fn accept(&mut self) -> Result<Knock, Failed>
         ensures visits { visits self.new ≡ accepted (visits self.old) result }
         ensures may { MayAccept (visits self.old) result }
@@ -76,8 +76,8 @@ pub trait Callers: Drop {
         ensures may { MayAnswer TakesAs (visits self.old) result }
         ensures cause { HasCause (faults self.old) (faults self.new) result };
 
-    /// Whether who has the line stays. It takes no byte. `Leaves` as soon as 1,024 bytes show it, and then always. `Failed` as
-    /// at a read.
+    /// Whether who has the line stays. It takes no byte. `Leaves` as soon as 1,024 bytes show it, and then never `Stays` any
+    /// more. `Failed` as at a read.
     fn watch(&mut self) -> Result<Presence, Failed>
         ensures visits { visits self.new ≡ with_present (visits self.old) (watched_by result) }
         ensures may { MayAnswer StaysAs (visits self.old) result }
