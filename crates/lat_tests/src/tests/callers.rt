@@ -118,6 +118,7 @@ fn one_takes_no_more(rt: HostRuntime) -> Result<(), Fail> {
     }
     line.hang_up();
     let written = line.written().ok_or("all that was written")?;
+    assert_eq!(rt; written.len(), 1);
     assert_eq!(rt; written[0].as_slice(), &b"abca"[..]);
     Ok(())
 }

@@ -91,9 +91,9 @@ fn turns_a_second_away(rt: HostRuntime) -> Result<(), Fail> {
     let _first = connect(&rt, 47111)?;
     assert!(rt; accepts(&rt, &mut line));
     let mut second = connect(&rt, 47111)?;
-    let mut closed = 0;
+    let mut closed = 0usize;
     for _ in 0..400 {
-        closed += line.turn_away();
+        closed = closed.saturating_add(line.turn_away());
         if closed > 0 {
             break;
         }
@@ -115,8 +115,8 @@ fn never_waits_for_one_that_never_reads(rt: HostRuntime) -> Result<(), Fail> {
     let mut line = line(rt, 47112)?;
     let mut far = connect(&rt, 47112)?;
     assert!(rt; accepts(&rt, &mut line));
-    let mut written = 0;
-    let mut stuck = 0;
+    let mut written = 0usize;
+    let mut stuck = 0usize;
     for _ in 0..4000 {
         let mut piece = [0; 8192];
         for (at, byte) in piece.iter_mut().enumerate() {
@@ -125,24 +125,28 @@ fn never_waits_for_one_that_never_reads(rt: HostRuntime) -> Result<(), Fail> {
         let start = Instant::now(&rt)?;
         let took = line.write(piece.as_slice())?;
         assert!(rt; start.elapsed(&rt)? < Duration::from_millis(2000));
-        written += took;
-        stuck = if took == 0 { stuck + 1 } else { 0 };
+        written = written.saturating_add(took);
+        stuck = if took == 0 {
+            stuck.saturating_add(1)
+        } else {
+            0
+        };
         if stuck == 3 {
             break;
         }
     }
     assert_eq!(rt; stuck, 3);
     line.hang_up();
-    let mut place = 0;
+    let mut place = 0usize;
     let mut buf = [0; 8192];
-    for _ in 0..written + 1 {
+    for _ in 0..written.saturating_add(1) {
         let count = far.read(&mut buf)?;
         if count == 0 {
             break;
         }
         for byte in buf[..count].iter() {
             assert_eq!(rt; *byte, byte_at(place));
-            place += 1;
+            place = place.saturating_add(1);
         }
     }
     assert_eq!(rt; place, written);
@@ -214,7 +218,7 @@ fn frees_descriptors(rt: HostRuntime) -> Result<(), Fail> {
         assert!(rt; accepts(&rt, &mut line));
         line.hang_up();
     }
-    assert!(rt; last < first + 100, "{first} {last}");
+    assert!(rt; last.saturating_sub(first) < 100, "{first} {last}");
     Ok(())
 }
 

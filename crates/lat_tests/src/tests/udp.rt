@@ -83,13 +83,10 @@ fn hears_its_peers_alone(rt: HostRuntime) -> Result<(), Fail> {
         opener.open_carrier(NODE, 47106, &[47107]).err(),
         Some(PortFault::InUse)
     );
-    let mut datagram = [0; 15];
-    let all = [NODE.0.as_slice(), SERVER.0.as_slice(), &[0x60, 0x04, b'x']];
-    let mut at = 0;
-    for part in all.iter() {
-        datagram[at..at + part.len()].copy_from_slice(part);
-        at += part.len();
-    }
+    // to the node, from the server
+    let datagram = [
+        0xaa, 0x00, 0x04, 0x00, 0x02, 0x04, 0xaa, 0x00, 0x04, 0x00, 0x01, 0x04, 0x60, 0x04, b'x',
+    ];
     let mut buf = [0; 1500];
     let to = (Ipv4Addr::LOCALHOST, 47106);
     // a port that is no peer's, and a peer's port at another address
