@@ -6,3 +6,4 @@ pub mod Cores
 pub mod Lines
 pub mod Books
 pub mod LineCalls
+pub mod Looks

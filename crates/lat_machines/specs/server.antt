@@ -4,3 +4,4 @@ pub mod Directory
 pub mod Queue
 pub mod Records
 pub mod Server
+pub mod Lists

@@ -3,6 +3,7 @@ use Rattle.std.specs.Prelude.{ℕ, suc, Bool, true, false, cond, List, [], ◌�
 use Rattle.lat_model.specs.sessions.Slots.{Slot, credits, costs, Reject}
 use Rattle.lat_model.specs.sessions.Session.{Session, free, rejected, peer}
 use Rattle.lat_model.specs.ends.End.{End, lives}
+use Rattle.lat_machines.specs.values.Names.{Name}
 use Rattle.lat_machines.specs.cores.Cores.{Seat, Core}
 use Rattle.lat_machines.specs.cores.Lines.{end_of, session_of, has_session}
 
@@ -32,6 +33,8 @@ seat_end c s =
 pub record LineSession : Type 0 where
   pub number : ℕ
   pub peer_address : ℕ
+  pub service : Name  -- that was asked for
+  pub request : Option ℕ  -- that it answers
   pub circuit : ℕ
   pub session : ℕ
   pub peer_circuit : ℕ
@@ -44,6 +47,8 @@ abbrev pub line_session : Core → ℕ → Seat → LineSession
 line_session c number s = record {
   number = number;
   peer_address = (c.circuits.circuit_at s.circuit).address;
+  service = (session_of c s).service;
+  request = (session_of c s).request;
   circuit = s.circuit;
   session = s.id;
   peer_circuit = (end_of c s).peer;
