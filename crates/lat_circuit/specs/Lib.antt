@@ -13,3 +13,4 @@ pub mod Agrees
 pub mod Begins
 pub mod Info
 pub mod Times
+pub mod Looks

@@ -8,16 +8,19 @@ ghost use Rattle.lat_model.specs.ends.End.{End, lives};
 ghost use Rattle.lat_model.specs.sessions.Session.{state, peer, take_open, waits};
 ghost use Rattle.lat_model.specs.sessions.Sessions.{named, held};
 ghost use Rattle.lat_model.specs.sessions.Slots.{items, credits, costs};
+ghost use Rattle.lat_machines.specs.values.Addresses.{address};
+ghost use Rattle.lat_machines.specs.cores.Looks.{put_room, end_drained, end_look};
 ghost use Rattle.lat_stream.specs.Kept.{saturated, state_of};
 ghost use Rattle.lat_session.specs.States.{asked_of, asked_at, is_asked, held_in};
 ghost use Rattle.lat_session.specs.Table.{state_at, waiting_at};
 ghost use Rattle.lat_circuit.specs.Agrees.{span_of};
 ghost use Rattle.lat_circuit.specs.Stands.{Stands};
 ghost use Rattle.lat_circuit.specs.Info.{session_state, session_end, circuit_end};
+ghost use Rattle.lat_circuit.specs.Looks.{circuit_look_of};
 
 use crate::circuit::Circuit;
 use crate::config::CircuitConfig;
-use lat_base::{SessionEnd, SessionState};
+use lat_base::{CircuitLook, SessionEnd, SessionState};
 use lat_seq::Span;
 use lat_session::Asked;
 
@@ -199,6 +202,46 @@ impl Circuit {
             self.sessions.waiting(id)
         } else {
             0
+        }
+    }
+
+    /// How many bytes `put` could take now, 0 where it would be refused, and after the end of the circuit.
+    pub fn room(&self, id: u8) -> u16
+        ensures { (e : End) → Stands self.now e →
+            result ≡ cond (lives e) (put_room (named e.half.sessions id)) 0 }
+    {
+        if self.ended.is_none() {
+            self.sessions.room(id)
+        } else {
+            0
+        }
+    }
+
+    /// Whether each session is free or left, and the peer has taken all messages.
+    pub fn is_drained(&self) -> bool
+        ensures { (e : End) → Stands self.now e → result ≡ end_drained e }
+    {
+        self.sessions.are_gone() && self.link.unacknowledged() == 0
+    }
+
+    /// What is told of it in a list of circuits.
+    pub fn look(&self) -> CircuitLook
+        ensures { (e : End) →
+            Stands self.now e →
+            result ≡ circuit_look_of (end_look self.now.facts.id (address self.now.facts.config.peer.0)
+            self.now.facts.config.peer_name e) }
+    {
+        let config = self.config();
+        CircuitLook {
+            id: self.id(),
+            peer_id: self.peer_id(),
+            peer: config.peer,
+            name: config.peer_name,
+            timer: self.timer,
+            keep_alive: self.keepalive,
+            held: self.held(),
+            unacknowledged: self.link.unacknowledged(),
+            rounds: self.rounds,
         }
     }
 

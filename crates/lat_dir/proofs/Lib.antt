@@ -7,3 +7,4 @@ pub mod Trimming
 pub mod Latest
 pub mod Standing
 pub mod Choice
+pub mod Told

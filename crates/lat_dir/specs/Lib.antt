@@ -3,3 +3,4 @@ pub mod Announcements
 pub mod Stands
 pub mod Steps
 pub mod Expiry
+pub mod Looks

@@ -1,17 +1,19 @@
 //! The directory of services.
 
-ghost use Rattle.std.specs.Prelude.{◌≡◌, ◌≤◌, ◌<◌, List, [], Err, option_map, IfOk, IfSome};
+ghost use Rattle.std.specs.Prelude.{◌≡◌, ◌≤◌, ◌<◌, List, [], Err, option_map, slice_get, IfOk, IfSome};
 ghost use Rattle.lat_machines.specs.values.Addresses.{address};
-ghost use Rattle.lat_machines.specs.server.Directory.{HeardAnnouncement, best, avoid};
+ghost use Rattle.lat_machines.specs.server.Directory.{HeardAnnouncement, live, best, avoid};
+ghost use Rattle.lat_machines.specs.server.Lists.{service_in};
 ghost use Rattle.lat_dir.specs.Words.{best_shown};
 ghost use Rattle.lat_dir.specs.Stands.{Stands, heard, answer_to, at_moment, UnlessMemory};
 ghost use Rattle.lat_dir.specs.Steps.{forgotten, answer_met, taken_in, avoided};
+ghost use Rattle.lat_dir.specs.Looks.{node_look_of, service_look_of};
 
 use crate::best::Best;
 use crate::groups::are_met;
 use crate::node::Node;
 use crate::nodes::Nodes;
-use lat_base::{Addr, Memory, Name};
+use lat_base::{Addr, Memory, Name, NodeLook, ServiceLook};
 use lat_notices::Announcement;
 use std::alloc::Global;
 use std::marker::Model;
@@ -160,5 +162,27 @@ impl Directory {
         ensures above { IfSome result (λ b. 0 < b.rating) }
     {
         self.nodes.best(&service.folded(), now)
+    }
+
+    /// The node that is live at the moment, at this place of the order in which they were last heard, counted from 0. None
+    /// exactly behind the last. `now` isn't below any moment that the directory was told before by `hear` or `expire`.
+    pub fn node(&self, at: usize, now: u64) -> Option<NodeLook>
+        requires { self.now.moment ≤ now }
+        ensures { (h : List HeardAnnouncement) → Stands self.now h →
+            result ≡ option_map node_look_of (slice_get (live self.now.groups now h) at) }
+    {
+        self.nodes.look(at, now)
+    }
+
+    /// The service at a place of what this node announced, both counted from 0. None exactly behind the last. `now` isn't
+    /// below any moment that the directory was told before by `hear` or `expire`.
+    pub fn service(&self, node: usize, at: usize, now: u64) -> Option<ServiceLook>
+        requires { self.now.moment ≤ now }
+        ensures { (h : List HeardAnnouncement) →
+            Stands self.now h →
+            result ≡ option_map service_look_of
+            (service_in (slice_get (live self.now.groups now h) node) at) }
+    {
+        self.nodes.service(node, at, now)
     }
 }

@@ -1,12 +1,14 @@
 //! What is kept of a node.
 
 ghost use Rattle.std.specs.Prelude.{◌≡◌, nat_lt, nat_eq, IfOk};
+ghost use Rattle.lat_base.specs.Addresses.{addr_of};
 ghost use Rattle.lat_machines.specs.values.Addresses.{address};
 ghost use Rattle.lat_dir.specs.Words.{node_of, better_in};
+ghost use Rattle.lat_dir.specs.Looks.{moment_told, node_shown};
 
 use crate::best::Best;
 use crate::offers::Offers;
-use lat_base::{Addr, Memory, Name};
+use lat_base::{Addr, Memory, Name, NodeLook};
 use lat_notices::Announcement;
 use std::alloc::Global;
 
@@ -81,4 +83,35 @@ impl Node {
         };
         Some(own.or(found))
     }
+
+    /// What is told of it.
+    pub fn look(&self) -> NodeLook
+        ensures { result ≡ node_shown self.now }
+    {
+        look_of(self.name, self.from, self.offers.len(), self.until)
+    }
+}
+
+// What is told of a node of this name that announced so many services from there, and lives until then.
+fn look_of(name: Name, from: Addr, services: usize, until: u128) -> NodeLook
+    ensures { result ≡ record {
+      name = name;
+      from = addr_of (address from.0);
+      services = services;
+      until = moment_told until;
+    } }
+{
+    NodeLook {
+        name,
+        from,
+        services,
+        until: told(until),
+    }
+}
+
+// A moment as it is told.
+fn told(moment: u128) -> u64
+    ensures { result ≡ moment_told moment }
+{
+    moment.min(u64::MAX as u128) as u64
 }

@@ -1,16 +1,18 @@
 //! The nodes that a server knows of, under their names.
 
-ghost use Rattle.std.specs.Prelude.{◌≡◌, ◌≤◌, ◌-◌, ◌^◌, [], length, nat_le, not, false, Ok, None, reverse, map, fold, IfOk, OnOk, OnErr};
+ghost use Rattle.std.specs.Prelude.{◌≡◌, ◌≤◌, ◌-◌, ◌^◌, [], length, nat_le, not, false, Ok, None, reverse, map, fold, option_map, IfOk, OnOk, OnErr};
+ghost use Rattle.std.specs.Option.{option_copied};
 ghost use Rattle.indexmap.specs.IndexMap.{spare};
 ghost use Rattle.lat_machines.specs.values.Addresses.{address};
 ghost use Rattle.lat_dir.specs.Words.{living, others, elsewhere, better_in};
 ghost use Rattle.lat_dir.specs.Steps.{is_full, trimmed, with_node};
 ghost use Rattle.lat_dir.specs.Expiry.{LiveUntil, soonest_of};
+ghost use Rattle.lat_dir.specs.Looks.{live_at, node_shown, service_at};
 
 use crate::best::Best;
 use crate::node::Node;
 use indexmap::IndexMap;
-use lat_base::{Addr, Memory, Name};
+use lat_base::{Addr, Memory, Name, NodeLook, ServiceLook};
 use std::alloc::Global;
 use std::marker::Model;
 
@@ -170,5 +172,28 @@ impl Nodes {
             e.1) self.now)) }
     {
         chosen(&self.nodes, service, now)
+    }
+
+    /// What is told of the node that is live at this place, counted from 0.
+    pub fn look(&self, at: usize, now: u64) -> Option<NodeLook>
+        ensures { result ≡ option_map (λ e. node_shown e.1) (live_at now self.now at) }
+    {
+        let node = self.live_at(at, now)?;
+        Some(node.look())
+    }
+
+    /// What is told of the service at a place of what the node that is live at a place announced, both counted from 0.
+    pub fn service(&self, node: usize, at: usize, now: u64) -> Option<ServiceLook>
+        ensures { result ≡ service_at (live_at now self.now node) at }
+    {
+        let node = self.live_at(node, now)?;
+        node.offers.look(at)
+    }
+
+    fn live_at(&self, at: usize, now: u64) -> Option<&Node>
+        ensures { option_copied result ≡ option_map (λ e. e.1) (live_at now self.now at) }
+    {
+        let mut living = self.nodes.values().filter(|node| node.lives(now));
+        living.nth(at)
     }
 }

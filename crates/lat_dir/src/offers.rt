@@ -1,9 +1,10 @@
 //! What is kept of the services that a node announced.
 
-ghost use Rattle.std.specs.Prelude.{◌≡◌, map, IfOk};
+ghost use Rattle.std.specs.Prelude.{◌≡◌, length, map, option_map, slice_get, IfOk};
 ghost use Rattle.lat_dir.specs.Words.{offer_of, rating_in};
+ghost use Rattle.lat_dir.specs.Looks.{service_told};
 
-use lat_base::{Memory, Name};
+use lat_base::{Memory, Name, ServiceLook};
 use lat_notices::Service;
 use std::alloc::Global;
 use std::marker::Model;
@@ -64,5 +65,23 @@ impl Offers {
             .iter()
             .find(|offer| offer.service == *service)
             .map_or(0, |offer| offer.rating)
+    }
+
+    /// How many there are.
+    pub fn len(&self) -> usize
+        ensures { result ≡ length self.now }
+    {
+        self.offers.len()
+    }
+
+    /// What is told of the service at this place, counted from 0.
+    pub fn look(&self, at: usize) -> Option<ServiceLook>
+        ensures { result ≡ option_map service_told (slice_get self.now at) }
+    {
+        let offer = self.offers.get(at)?;
+        Some(ServiceLook {
+            name: offer.service,
+            rating: offer.rating,
+        })
     }
 }

@@ -1,7 +1,7 @@
 -- The lines of a table are the waiting requests of its events.
-use Rattle.std.proofs.Common.{◌≡◌, ℕ, suc, ◌+◌, ◌<◌, arith, refl, sym, ap, ap₂, ◌∙◌, subst, Bool, true, false, not, cond, ◌&&◌, ◌||◌, List, [], ◌∷◌, map, length, filter, Option, Some, None, slice_get, position, nat_eq, nat_lt, true≢false}
+use Rattle.std.proofs.Common.{◌≡◌, ℕ, zero, suc, ◌+◌, ◌<◌, arith, refl, sym, ap, ap₂, ◌∙◌, subst, Bool, true, false, not, cond, ◌&&◌, ◌||◌, List, [], ◌∷◌, map, length, filter, Option, Some, None, slice_get, position, nat_eq, nat_lt, true≢false}
 use Rattle.std.specs.List.{list_any, position_from}
-use Rattle.std.specs.Option.{is_some}
+use Rattle.std.specs.Option.{is_some, option_map}
 use Rattle.std.proofs.lemmas.Bool.Decides.{nat_tests}
 use Rattle.std.proofs.lemmas.Iterator.Adapters.{position_from-zero}
 use Rattle.lat_model.specs.Lists.{Each}
@@ -17,7 +17,9 @@ use Rattle.lat_queue.specs.declared.entry.Waiter.{Waiter}
 use Rattle.lat_queue.specs.declared.entry.Standing.{Standing}
 use Rattle.lat_queue.specs.declared.entry.Standing.TheVariants.{Waits}
 use Rattle.lat_queue.specs.Lines.{has_key, place_at, place_of}
-use Rattle.lat_queue.specs.Tables.{Table, waits_at, waits_somewhere, waiters, waiter_info, first_waiter, first_of}
+use Rattle.lat_queue.specs.Tables as tables
+use Rattle.lat_queue.specs.Tables.{Table, waits_at, waits_somewhere, waiters, waiter_info, first_waiter, first_of, waiter_at}
+use Rattle.lat_queue.specs.Looks.{waiter_look, waiter_told, waiter_look_of}
 use Rattle.lat_queue.specs.Histories.{Noted, noted, key_shown, waited, refused_as, line_of, standing_in, noted_in, some_first, some_request, IsFirst, Stands}
 use Rattle.lat_queue.proofs.KeyLemmas.{key_left, name_turn, name_left}
 use Rattle.lat_queue.proofs.TableLemmas.{not_at}
@@ -173,6 +175,22 @@ first_right t h s st = by (position (λ n. same s n) t.offered) refl
     by : (p : Option ℕ) → position (λ n. same s n) t.offered ≡ p → some_first (waiter_info (first_waiter t.entries p)) ≡ some_request (first (waiting s h))
     by None q = sym (ap (λ z. some_request (first z)) (nobody_waits t h s st (not_stood t.offered s q)))
     by (Some i) q = let p : Stood t.offered s (position (λ n. same s n) t.offered) i = stood t.offered s i q in first_is (waiters i t.entries) (waiting s h) (lines_wait t h s i st p.line p.within)
+
+-- each that waits, by its place
+
+told_at : (ws : List Waiter) (rs : List Request) → map waiter_in ws ≡ map request_in rs → (at : ℕ) → option_map waiter_told (slice_get ws at) ≡ option_map waiter_look_of (slice_get rs at)
+told_at [] [] q at = refl
+told_at [] (r ∷ rs) q at = let z : ⊥ = cc in absurd z
+told_at (w ∷ ws) [] q at = let z : ⊥ = cc in absurd z
+told_at (w ∷ ws) (r ∷ rs) q zero = let p : waiter_in w ≡ request_in r = cc in ap (λ (z : keys.Key × ℕ). Some (waiter_look z.0 z.1)) p
+told_at (w ∷ ws) (r ∷ rs) q (suc n) = let rest : map waiter_in ws ≡ map request_in rs = cc in told_at ws rs rest n
+
+pub waiter_right : (t : Table) (h : List QueueEvent) (s : Name) (at : ℕ) → Stands t h → option_map waiter_told (waiter_at t s at) ≡ option_map waiter_look_of (slice_get (waiting s h) at)
+waiter_right t h s at st = by (position (λ n. same s n) t.offered) refl
+  where
+    by : (p : Option ℕ) → position (λ n. same s n) t.offered ≡ p → option_map waiter_told (tables.waiter_in t.entries p at) ≡ option_map waiter_look_of (slice_get (waiting s h) at)
+    by None q = sym (ap (λ z. option_map waiter_look_of (slice_get z at)) (nobody_waits t h s st (not_stood t.offered s q)))
+    by (Some i) q = let p : Stood t.offered s (position (λ n. same s n) t.offered) i = stood t.offered s i q in told_at (waiters i t.entries) (waiting s h) (lines_wait t h s i st p.line p.within) at
 
 -- places
 

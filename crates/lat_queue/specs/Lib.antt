@@ -3,3 +3,4 @@ pub mod Lines
 pub mod Tables
 pub mod KeptValues
 pub mod Histories
+pub mod Looks

@@ -114,6 +114,15 @@ waiter_info (Some w) = Some (w.key, w.from)
 abbrev pub first_of : Table → List ℕ → Option (Key × Addr)
 first_of t service = waiter_info (first_waiter t.entries (position (λ n. same service n) t.offered))
 
+-- the one at a place, from 0 on, of those that wait for a service
+
+abbrev pub waiter_in : List (Key × Entry) → Option ℕ → ℕ → Option Waiter
+waiter_in es None at = None
+waiter_in es (Some i) at = slice_get (waiters i es) at
+
+abbrev pub waiter_at : Table → List ℕ → ℕ → Option Waiter
+waiter_at t service at = waiter_in t.entries (position (λ n. same service n) t.offered) at
+
 -- a new request
 
 abbrev pub standing_at : List (Key × Entry) → Option ℕ → Standing

@@ -1,9 +1,12 @@
 //! What is kept of a request.
 
 ghost use Rattle.std.specs.Prelude.{◌≡◌};
+ghost use Rattle.lat_machines.specs.values.Addresses.{address};
+ghost use Rattle.lat_queue.specs.Histories.{key_shown};
+ghost use Rattle.lat_queue.specs.Looks.{waiter_look};
 
 use crate::key::Key;
-use lat_base::{Addr, Name};
+use lat_base::{Addr, Name, WaiterLook};
 
 /// How a request stands.
 #[derive(Clone, Copy)]
@@ -49,4 +52,26 @@ pub(crate) struct Entry {
 pub(crate) struct Waiter {
     pub(crate) key: Key,
     pub(crate) from: Addr,
+}
+
+impl Waiter {
+    ghost use Rattle.lat_queue.specs.Looks.{waiter_told};
+
+    /// What is told of it.
+    pub(crate) fn look(&self) -> WaiterLook
+        ensures { result ≡ waiter_told self.now }
+    {
+        look_of(&self.key, self.from)
+    }
+}
+
+// What is told of a request of this key that came from there.
+fn look_of(key: &Key, from: Addr) -> WaiterLook
+    ensures { result ≡ waiter_look (key_shown key.now) (address from.0) }
+{
+    WaiterLook {
+        node: key.node,
+        from,
+        request: key.request,
+    }
 }

@@ -52,6 +52,13 @@ impl Line {
         self.waiters.len()
     }
 
+    /// The one at this place, counted from 0.
+    pub(crate) fn get(&self, at: usize) -> Option<Waiter>
+        ensures { result ≡ slice_get self.now at }
+    {
+        self.waiters.get(at).copied()
+    }
+
     /// The first of them.
     pub(crate) fn first(&self) -> Option<Waiter>
         ensures { result ≡ slice_get self.now 0 }

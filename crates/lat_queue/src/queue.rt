@@ -1,7 +1,7 @@
 //! The queue.
 
-ghost use Rattle.std.specs.Prelude.{◌≡◌, ◌<◌, ◌≤◌, ◌+◌, [], ◌∷◌, ◌++◌, length, true, false, Some, None, replicate, OnOk, OnErr, IfOk, IfSome, IfNone, IsSome, OnSome, ◌↔◌, List, slice_get};
-ghost use Rattle.lat_machines.specs.server.Queue.{QueueEvent, Asks, Cancels, Grants, next_request};
+ghost use Rattle.std.specs.Prelude.{◌≡◌, ◌<◌, ◌≤◌, ◌+◌, [], ◌∷◌, ◌++◌, length, true, false, Some, None, replicate, OnOk, OnErr, IfOk, IfSome, IfNone, IsSome, OnSome, ◌↔◌, List, option_map, slice_get};
+ghost use Rattle.lat_machines.specs.server.Queue.{QueueEvent, Asks, Cancels, Grants, next_request, waiting};
 ghost use Rattle.lat_machines.specs.server.Records.{ask_answer, kept_for, record_at};
 ghost use Rattle.lat_queue.specs.Histories.{Stands, key_shown, some_kept, some_first, some_request, some_key, request_key, some_record, is_any_waiting, finish_history};
 ghost use Rattle.lat_queue.specs.KeptValues.{kept_shown};
@@ -9,7 +9,8 @@ ghost use Rattle.std.specs.Map.{lookup};
 ghost use Rattle.lat_machines.specs.values.Addresses.{address};
 ghost use Rattle.lat_queue.specs.KeyHash.{one_key};
 ghost use Rattle.indexmap.specs.IndexMap.{insert_entry};
-ghost use Rattle.lat_queue.specs.Tables.{waiters, OnLine, InLine, MayStand, HasPlace, info, info_of, new_info, new_standing, added, shown, first_of, waiting_of, cancelled, given, finished};
+ghost use Rattle.lat_queue.specs.Looks.{waiter_told, waiter_look_of};
+ghost use Rattle.lat_queue.specs.Tables.{waiters, waiter_at, OnLine, InLine, MayStand, HasPlace, info, info_of, new_info, new_standing, added, shown, first_of, waiting_of, cancelled, given, finished};
 
 use crate::entry::{Entry, Standing, Waiter};
 use crate::key::Key;
@@ -17,7 +18,7 @@ use crate::line::{LINE, Line};
 use crate::record::Record;
 use crate::services::Services16;
 use indexmap::IndexMap;
-use lat_base::{Addr, Kept, Memory, Name};
+use lat_base::{Addr, Kept, Memory, Name, WaiterLook};
 use std::alloc::Global;
 use std::marker::Model;
 
@@ -203,6 +204,15 @@ impl Queue {
         self.shown(place)
     }
 
+    /// The request at this place of those that wait for the service, in the order of their first commands, counted from 0.
+    /// None exactly behind the last.
+    pub fn waiter(&self, service: &Name, at: usize) -> Option<WaiterLook>
+        ensures { (h : List QueueEvent) → Stands self.now h →
+            result ≡ option_map waiter_look_of (slice_get (waiting service.now h) at) }
+    {
+        self.waiter_at(service, at)
+    }
+
     // The record of a new key.
     fn admit(&mut self, key: &Key, from: Addr, service: &Name) -> Result<Kept, Memory>
         requires new { lookup (one_key key.now) self.old.entries ≡ None }
@@ -357,6 +367,22 @@ impl Queue {
         let line = self.offered.place_of(service)?;
         let waiter = self.first_of(line)?;
         Some((waiter.key, waiter.from))
+    }
+
+    // What is told of the waiter at this place of those that wait for the service.
+    fn waiter_at(&self, service: &Name, at: usize) -> Option<WaiterLook>
+        ensures { result ≡ option_map waiter_told (waiter_at self.now service.now at) }
+    {
+        let line = self.offered.place_of(service)?;
+        let waiter = self.waiter_in(line, at)?;
+        Some(waiter.look())
+    }
+
+    fn waiter_in(&self, line: usize, at: usize) -> Option<Waiter>
+        requires { line < length self.now.offered }
+        ensures { result ≡ slice_get (waiters line self.now.entries) at }
+    {
+        self.lines[line].get(at)
     }
 
     // The first of the line.

@@ -14,6 +14,7 @@ pub mod Stays
 pub mod Writes
 pub mod Counts
 pub mod Reached
+pub mod Gone
 pub mod Asking
 pub mod Results
 pub mod Called

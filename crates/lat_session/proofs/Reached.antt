@@ -15,7 +15,7 @@ use Rattle.lat_stream.specs.Kept.{Kept, stream_of}
 use Rattle.lat_session.specs.Hears.{is_there, has_peer}
 use Rattle.lat_session.specs.Places.{IsReached}
 use Rattle.lat_session.specs.Stands.{Stands}
-use Rattle.lat_session.specs.States.{is_free, is_asked, AllFree}
+use Rattle.lat_session.specs.States.{is_free, is_gone, is_asked, AllFree}
 use Rattle.lat_session.specs.Table.{Table}
 use Rattle.lat_session.proofs.Counts.{free_shown, past_blank}
 use Rattle.lat_session.proofs.Touch.{kept_here}
@@ -65,6 +65,17 @@ asked_not_free k h = go k.state h
     go Live h = refl
     go Closing h = refl
     go Left h = refl
+
+pub gone_not_free : NotAtFree (λ (k : Kept). not (is_gone k.state))
+gone_not_free k h = go k.state h
+  where
+    go : (s : SessionState) → is_free s ≡ true → not (is_gone s) ≡ false
+    go Free h = refl
+    go Calling h = absurd (false≢true h)
+    go Asked h = absurd (false≢true h)
+    go Live h = absurd (false≢true h)
+    go Closing h = absurd (false≢true h)
+    go Left h = absurd (false≢true h)
 
 pub peer_not_free : (from : ℕ) → NotAtFree (has_peer from)
 peer_not_free from k h = go k.state h

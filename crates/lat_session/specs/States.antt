@@ -1,7 +1,7 @@
 -- States of sessions, and who has them.
 use Rattle.std.specs.Prelude.{◌≡◌, ℕ, Bool, true, false, not, cond, nat_eq, count_by, List, [], ◌∷◌, Option, None, Some}
 use Rattle.lat_base.specs.declared.state.SessionState.{SessionState}
-use Rattle.lat_base.specs.declared.state.SessionState.TheVariants.{Free, Asked}
+use Rattle.lat_base.specs.declared.state.SessionState.TheVariants.{Free, Asked, Left}
 use Rattle.lat_model.specs.Lists.{upwards, least}
 use Rattle.lat_model.specs.sessions.Session.{state}
 use Rattle.lat_model.specs.sessions.Sessions.{Sessions, named}
@@ -11,6 +11,12 @@ use Rattle.lat_session.specs.declared.getters.Asked as asking
 abbrev pub is_free : SessionState → Bool
 is_free Free = true
 is_free s = false
+
+-- free or left
+abbrev pub is_gone : SessionState → Bool
+is_gone Free = true
+is_gone Left = true
+is_gone s = false
 
 -- how many of them are of a session that isn't free
 abbrev pub held_in : List Kept → ℕ

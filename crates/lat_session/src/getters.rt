@@ -2,17 +2,17 @@
 //! none.
 
 ghost use Rattle.std.specs.Prelude.{◌≡◌, ◌+◌, ◌-◌, ◌<◌, ◌≤◌, cond, length, position, count_by, filter, false, not, nat_eq, MatchOption, IfSome};
-ghost use Rattle.std.specs.List.{list_any};
+ghost use Rattle.std.specs.List.{list_all, list_any};
 ghost use Rattle.std.specs.Option.{is_some, option_copied};
 ghost use Rattle.lat_base.specs.declared.state.SessionState.TheVariants as states;
 ghost use Rattle.lat_model.specs.Lists.{upwards};
 ghost use Rattle.lat_model.specs.sessions.Hearing.{is_full};
-ghost use Rattle.lat_model.specs.sessions.Session.{state, peer, take_open, waits};
+ghost use Rattle.lat_model.specs.sessions.Session.{state, peer, gone, put_open, take_open, unframed, waits};
 ghost use Rattle.lat_model.specs.sessions.Sessions.{Sessions as States, named, held, least_free};
 ghost use Rattle.lat_model.specs.sessions.Slots.{items, credits, costs};
 ghost use Rattle.lat_stream.specs.Kept.{Kept, state_of, saturated, end_of};
 ghost use Rattle.lat_session.specs.Stands.{Stands};
-ghost use Rattle.lat_session.specs.States.{is_free, is_asked, held_in, asked_at, asked_of};
+ghost use Rattle.lat_session.specs.States.{is_free, is_gone, is_asked, held_in, asked_at, asked_of};
 ghost use Rattle.lat_session.specs.Table.{session_at, state_at, waiting_at, has_room};
 
 use crate::table::Sessions;
@@ -33,6 +33,12 @@ fn is_free(session: &Stream) -> bool
     ensures { result ≡ is_free session.now.state }
 {
     matches!(session.state(), SessionState::Free)
+}
+
+fn is_gone(session: &Stream) -> bool
+    ensures { result ≡ is_gone session.now.state }
+{
+    matches!(session.state(), SessionState::Free | SessionState::Left)
 }
 
 fn is_asked(session: &Stream) -> bool
@@ -82,6 +88,22 @@ impl Sessions {
             (length (items (named e id).came) - (named e id).taken) 0 }
     {
         self.session(id).map_or(0, Stream::waiting)
+    }
+
+    /// How many bytes `put` could take now, 0 where it is refused.
+    pub fn room(&self, id: u8) -> u16
+        ensures { (e : States) → Stands self.now e → result ≡ cond (put_open (named e id))
+            (4096 - length (unframed (named e id))) 0 }
+    {
+        self.session(id).map_or(0, Stream::room)
+    }
+
+    /// Whether each session is free or left.
+    pub fn are_gone(&self) -> bool
+        ensures { (e : States) → Stands self.now e →
+            result ≡ list_all (λ id. gone (named e id)) (upwards 0 64) }
+    {
+        !self.has_other()
     }
 
     /// The credits that this end gave in it, and those that it used. Either stops at the greatest number of 64 bits.
@@ -180,6 +202,14 @@ impl Sessions {
     {
         let mut reached = self.sessions.reached().iter();
         reached.any(|session| !is_free(session))
+    }
+
+    // Whether any session is neither free nor left.
+    fn has_other(&self) -> bool
+        ensures { result ≡ list_any (λ (k : Kept). not (is_gone k.state)) self.now.sessions }
+    {
+        let mut reached = self.sessions.reached().iter();
+        reached.any(|session| !is_gone(session))
     }
 
     fn count_held(&self) -> u8

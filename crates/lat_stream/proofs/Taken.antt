@@ -42,6 +42,13 @@ waiting_is m c s h = ap (λ b. cond b (length (stream_of m c s).heard) 0) (can_t
     go true e = ap (λ b. length (cond b [] (map item_of (drop s.taken (items s.came))))) (take_some s e).0 ∙ length-map (drop s.taken (items s.came)) item_of ∙ length-drop s.taken (items s.came)
     go false e = refl
 
+pub room_is : (m : Bool) (c : ℕ) (s : Session) → Sound m c s → cond (can_put (stream_of m c s)) (4096 - length (stream_of m c s).unframed) 0 ≡ cond (put_open s) (4096 - length (unframed s)) 0
+room_is m c s h = ap (λ b. cond b (4096 - length (stream_of m c s).unframed) 0) (can_put_is m c s h) ∙ go (put_open s) refl
+  where
+    go : (b : Bool) → put_open s ≡ b → cond b (4096 - length (stream_of m c s).unframed) 0 ≡ cond b (4096 - length (unframed s)) 0
+    go true e = ap (λ z. 4096 - z) (ap (λ r. length (cond r [] (map item_of (unframed s)))) (put_some s e).0 ∙ length-map (unframed s) item_of)
+    go false e = refl
+
 -- items are put
 
 framed_fit : (xs ys : List Item) → IsPrefixOf xs ys → length xs ≤ length ys

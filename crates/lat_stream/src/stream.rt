@@ -3,7 +3,7 @@
 ghost use Rattle.std.specs.Prelude.{◌≡◌, ◌≢◌, ◌≤◌, ◌-◌, Bool, true, false, ℕ, Some, length, cond, IfOk};
 ghost use Rattle.std.specs.Option.{is_some};
 ghost use Rattle.lat_base.specs.declared.state.SessionState.TheVariants as states;
-ghost use Rattle.lat_model.specs.sessions.Session.{Session, blank, state, peer, take_open};
+ghost use Rattle.lat_model.specs.sessions.Session.{Session, blank, state, peer, put_open, take_open, unframed};
 ghost use Rattle.lat_model.specs.sessions.Slots.{items, credits, costs};
 ghost use Rattle.lat_stream.specs.Begins.{called, asked};
 ghost use Rattle.lat_stream.specs.Kept.{stream_of, state_of, saturated, end_of, start_left};
@@ -290,6 +290,26 @@ impl Stream {
     {
         if self.gives_items() {
             self.heard.len() as u16
+        } else {
+            0
+        }
+    }
+
+    /// How many bytes `put` could take now: at most 4,096, and 0 where it is refused.
+    pub fn room(&self) -> u16
+        ensures value { result ≡ cond (can_put self.now) (4096 - length self.now.unframed) 0 }
+        ensures model { (master : Bool) (ceiling : ℕ) (s : Session) →
+            Sound master ceiling s → self.now ≡ stream_of master ceiling s →
+            result ≡ cond (put_open s) (4096 - length (unframed s)) 0 }
+    {
+        self.count_room()
+    }
+
+    fn count_room(&self) -> u16
+        ensures { result ≡ cond (can_put self.now) (4096 - length self.now.unframed) 0 }
+    {
+        if self.takes_items() {
+            (UNFRAMED_ITEMS - self.unframed.len()) as u16
         } else {
             0
         }
