@@ -1,6 +1,6 @@
 -- A node accepts an asked session for a line that has none.
-use Rattle.std.proofs.Common.{◌≡◌, ℕ, Bool, true, false, not, cond, ◌||◌, nat_eq, List, [], ◌∷◌, refl, sym, ap, subst, ◌∙◌}
-use Rattle.std.proofs.lemmas.Bool.{not-false}
+use Rattle.std.proofs.Common.{◌≡◌, ℕ, Bool, true, false, not, cond, ◌||◌, ◌&&◌, nat_eq, List, [], ◌∷◌, Option, Some, None, refl, sym, ap, subst, ◌∙◌}
+use Rattle.std.proofs.lemmas.Bool.{not-false, and_from}
 use Rattle.lat_model.specs.Lists.{Each}
 use Rattle.lat_model.specs.sessions.Session.{free, waits}
 use Rattle.lat_model.specs.sessions.Sessions.{Sessions, named}
@@ -11,15 +11,17 @@ use Rattle.lat_model.proofs.sessions.Words.{upd_same}
 use Rattle.lat_machines.specs.cores.Acts.{steps_at, idle}
 use Rattle.lat_machines.specs.cores.Cores.{Seat, no_seat, Core, Side}
 use Rattle.lat_machines.specs.cores.Lines.{session_of, over, last_on, seat_at, has_session}
+use Rattle.lat_session.specs.States.{asked_at}
+use Rattle.lat_session.specs.declared.getters.Asked.{Asked}
 use Rattle.lat_lines.specs.circuits.Kept as circuits
 use Rattle.lat_lines.specs.circuits.Stands as stands
 use Rattle.lat_lines.specs.circuits.Stands.{calling}
 use Rattle.lat_lines.specs.Kept.{Kept}
-use Rattle.lat_lines.specs.Later.{Leads}
+use Rattle.lat_lines.specs.Later.{asked_for, Leads}
 use Rattle.lat_lines.specs.Cores.{CoreLater}
 use Rattle.lat_lines.specs.Opens.{accepted_core}
 use Rattle.lat_lines.specs.Stands.{IsSeat, Stands, freed_key, freed_from, freed_between}
-use Rattle.lat_lines.proofs.later.Calls.{called_later, answered_leads}
+use Rattle.lat_lines.proofs.later.Calls.{called_later, answered_leads, answered_for}
 use Rattle.lat_lines.proofs.reaping.Held.{IsStood, stood_at}
 use Rattle.lat_lines.proofs.reaping.Seats.{Between, still_over}
 use Rattle.lat_lines.proofs.CoresLater.{none_later}
@@ -72,6 +74,18 @@ accepted_leads k s x id c st l w m =
     let slave : t.master ≡ false = sym (called_later (Answer id) t at.good at.begun).master ∙ sym (ap (λ (e : End). e.half.sessions.master) is) ∙ m in
     let leads : Leads (call t (Answer id)) id (t.at_id id) = answered_leads t id at.good slave w in
     subst (λ (e : End). Leads e.half.sessions id (e.half.sessions.at_id id)) (sym is) (subst (Leads (call t (Answer id)) id) (sym leads.at_id) leads)
+
+-- it is what was asked for
+pub accepted_wants : (k : Side) (x id : ℕ) (c : Core) → lives (c.circuits.circuit_at x).end ≡ true
+    → asked_for (named ((calling k x (Answer id) c).circuits.circuit_at x).end.half.sessions id) ≡ asked_for (named (c.circuits.circuit_at x).end.half.sessions id)
+accepted_wants k x id c l =
+    ap (λ (e : End). asked_for (named e.half.sessions id)) (called_end k x (Answer id) c l)
+    ∙ answered_for (c.circuits.circuit_at x).end.half.sessions id
+
+-- an ask that waits on a circuit that lives is found
+pub ask_found : (c : Core) (x id : ℕ) (o : Option Asked) → o ≡ cond (lives (c.circuits.circuit_at x).end && waits (named (c.circuits.circuit_at x).end.half.sessions id)) (Some (asked_at (c.circuits.circuit_at x).end.half.sessions id)) None
+    → lives (c.circuits.circuit_at x).end ≡ true → waits (named (c.circuits.circuit_at x).end.half.sessions id) ≡ true → o ≡ Some (asked_at (c.circuits.circuit_at x).end.half.sessions id)
+ask_found c x id o is l w = is ∙ ap (λ b. cond b (Some (asked_at (c.circuits.circuit_at x).end.half.sessions id)) None) (and_from (lives (c.circuits.circuit_at x).end) (waits (named (c.circuits.circuit_at x).end.half.sessions id)) l w)
 
 -- the session that it accepts frees none
 

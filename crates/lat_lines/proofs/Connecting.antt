@@ -1,7 +1,7 @@
 -- A circuit that connects a session.
 use Rattle.std.proofs.Common.{◌≡◌, ℕ, suc, Bool, true, false, cond, ◌&&◌, nat_lt, List, Option, refl, sym, ap, subst, ◌∙◌}
 use Rattle.std.proofs.lemmas.Bool.{ltb-true}
-use Rattle.lat_model.specs.sessions.Sessions.{Sessions, held, least_free}
+use Rattle.lat_model.specs.sessions.Sessions.{Sessions, named, held, least_free}
 use Rattle.lat_model.specs.sessions.Calls.{Connect, call, connect}
 use Rattle.lat_model.specs.ends.End.{End, still, lives}
 use Rattle.lat_model.specs.ends.Timers.{note_empty}
@@ -14,8 +14,8 @@ use Rattle.lat_circuit.specs.Frames.{timing_shown}
 use Rattle.lat_lines.specs.circuits.Kept as circuits
 use Rattle.lat_lines.specs.circuits.Stands.{calling}
 use Rattle.lat_lines.proofs.CircuitsHeld.{eqb_self}
-use Rattle.lat_lines.specs.Later.{Leads}
-use Rattle.lat_lines.proofs.later.Calls.{connected}
+use Rattle.lat_lines.specs.Later.{asked_for, Leads}
+use Rattle.lat_lines.proofs.later.Calls.{connected, connected_for}
 use Rattle.lat_lines.proofs.Calling.{becomes}
 
 abbrev entry_after : Core → ℕ → Sessions → CircuitEntry
@@ -37,7 +37,17 @@ connect_master e service request = by (e.master && nat_lt (held e) e.agreed)
     by true = refl
     by false = refl
 
--- where it has room, the new session is led to by the least id that was free
+-- where it has room, the session of the least id that was free is one that was asked for so
+pub connected_wants : (k : Side) (x : ℕ) (service : List ℕ) (request : Option ℕ) (c : Core) → lives (c.circuits.circuit_at x).end ≡ true → has_room c x ≡ true
+    → ((calling k x (Connect service request) c).circuits.circuit_at x).end.half.sessions.master ≡ true
+    → asked_for (named ((calling k x (Connect service request) c).circuits.circuit_at x).end.half.sessions (least_free (c.circuits.circuit_at x).end.half.sessions)) ≡ (service, request)
+connected_wants k x service request c l room m =
+    let e : Sessions = (c.circuits.circuit_at x).end.half.sessions in
+    let is = ap (λ (z : CircuitEntry). z.end.half.sessions) (became k x c (call e (Connect service request)) l) in
+    let master : e.master ≡ true = sym (connect_master e service request) ∙ sym (ap (λ (z : Sessions). z.master) is) ∙ m in
+    subst (λ t. asked_for (named t (least_free e)) ≡ (service, request)) (sym is) (connected_for e service request master (ltb-true (held e) e.agreed room))
+
+-- the new session is led to by that id
 pub connected_leads : (k : Side) (x : ℕ) (service : List ℕ) (request : Option ℕ) (c : Core) → lives (c.circuits.circuit_at x).end ≡ true → has_room c x ≡ true
     → ((calling k x (Connect service request) c).circuits.circuit_at x).end.half.sessions.master ≡ true
     → Leads ((calling k x (Connect service request) c).circuits.circuit_at x).end.half.sessions (least_free (c.circuits.circuit_at x).end.half.sessions) (suc (c.circuits.circuit_at x).end.half.sessions.made)

@@ -8,6 +8,7 @@ pub mod OnLines
 pub mod Pigeons
 pub mod HeldSeats
 pub mod Telling
+pub mod Looking
 pub mod Peers
 pub mod Standing
 pub mod Unchanged

@@ -28,7 +28,7 @@ pub none_last : (line : ℕ) (s : Seat) (ss : List Seat) → NoneOn line ss → 
 none_last line s [] e = refl
 none_last line s (x ∷ xs) e = ap (λ b. last_on line (cond b x s) xs) (ne_eqb x.line line e.0) ∙ none_last line s xs e.1
 
-none_history : (c : Core) (line n : ℕ) (ss : List Seat) → NoneOn line ss → line_history c line n ss ≡ []
+pub none_history : (c : Core) (line n : ℕ) (ss : List Seat) → NoneOn line ss → line_history c line n ss ≡ []
 none_history c line n [] e = refl
 none_history c line n (x ∷ xs) e =
     ap (λ z. z ++ cond (nat_eq x.line line) (line_session c (suc n) x ∷ []) []) (none_history c line (suc n) xs e.1)

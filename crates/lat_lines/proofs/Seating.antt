@@ -8,6 +8,7 @@ use Rattle.lat_model.specs.Lists.{Each}
 use Rattle.lat_base.specs.declared.book.LineSession as base
 use Rattle.lat_model.specs.sessions.Slots.{items, credits, costs}
 use Rattle.lat_model.specs.sessions.Session.{Session, free, rejected, stopped, peer}
+use Rattle.lat_model.specs.sessions.Sessions.{named}
 use Rattle.lat_model.specs.ends.End.{lives}
 use Rattle.lat_model.specs.circuits.Ids.{is_drawn}
 use Rattle.lat_queue.specs.Histories.{some_key}
@@ -25,7 +26,7 @@ use Rattle.lat_lines.specs.declared.seat.Seat as own
 use Rattle.lat_lines.specs.Kept.{Kept, Holds, Apart, IsLine}
 use Rattle.lat_lines.specs.Stands.{Present, IsSeat, NoneOn, Latest, Stands, present, seat_shown, seat_info, session_shown, session_info}
 use Rattle.lat_lines.specs.Opens.{seated_core, session_begun}
-use Rattle.lat_lines.specs.Later.{Leads}
+use Rattle.lat_lines.specs.Later.{asked_for, Leads}
 use Rattle.lat_lines.specs.circuits.Info.{telling_of}
 use Rattle.lat_lines.proofs.OnLines.{none_last}
 
@@ -206,10 +207,12 @@ not_ended c t o =
     ∙ ap (λ b. cond b (Some EndedClosed) (cond (lives (end_of c t)) None (Some (EndedCircuit (end_reason (end_of c t)))))) p.1
     ∙ ap (λ b. cond b None (Some (EndedCircuit (end_reason (end_of c t))))) (not-false (lives (end_of c t)) p.0)
 
-abbrev told_of : Core → ℕ → Seat → Session → Option SessionEnd → LineSession
-told_of c n t s end = record {
+abbrev told_of : Core → ℕ → Seat → Session → List ℕ × Option ℕ → Option SessionEnd → LineSession
+told_of c n t s wanted end = record {
   number = saturated n;
   peer_address = (c.circuits.circuit_at t.circuit).address;
+  service = wanted.0;
+  request = wanted.1;
   circuit = t.circuit;
   session = t.id;
   peer_circuit = (end_of c t).peer;
@@ -219,14 +222,16 @@ told_of c n t s end = record {
   end = end;
 }
 
-pub begins : (k : Kept) (c : Core) (t : Seat) (key : Option Key) (u : base.LineSession) → Stands k c → has_session c t.line ≡ false → IsLine k.lines t.line → lives (end_of c t) ≡ true → Leads (sessions_of c t) t.id t.serial
-    → is_drawn c.circuits t.circuit ≡ true → t.key ≡ some_key key
-    → session_shown u ≡ session_begun (saturated (suc (length c.seats))) t.circuit t.id (telling_of c t.circuit t.id)
+pub begins : (k : Kept) (c : Core) (t : Seat) (key : Option Key) (u : base.LineSession) (service : List ℕ) (request : Option ℕ) → Stands k c → has_session c t.line ≡ false → IsLine k.lines t.line → lives (end_of c t) ≡ true → Leads (sessions_of c t) t.id t.serial
+    → asked_for (named (sessions_of c t) t.id) ≡ (service, request) → is_drawn c.circuits t.circuit ≡ true → t.key ≡ some_key key
+    → session_shown u ≡ session_begun (saturated (suc (length c.seats))) t.circuit t.id service request (telling_of c t.circuit t.id)
     → Begins k c t (record { line = t.line; key = key; session = u })
-begins k c t key u st h l alive leads drawn e is =
+begins k c t key u service request st h l alive leads wanted drawn e is =
     let going : over c t ≡ false = or_from (not (lives (end_of c t))) (free (session_of c t)) (ap not alive) leads.taken in
     let same : session_shown u ≡ session_info (line_session c (suc (length c.seats)) t) =
-    is ∙ ap₂ (told_of c (suc (length c.seats)) t) (ap (sessions_of c t).session leads.at_id) (sym (not_ended c t going)) in
+    is
+    ∙ ap (λ w. told_of c (suc (length c.seats)) t (named (sessions_of c t) t.id) w None) (sym wanted)
+    ∙ ap₂ (λ s end. told_of c (suc (length c.seats)) t s (asked_for s) end) (ap (sessions_of c t).session leads.at_id) (sym (not_ended c t going)) in
     record {
       none = h;
       going = going;

@@ -13,6 +13,7 @@ use Rattle.lat_model.specs.ends.End.{End, lives}
 use Rattle.lat_machines.specs.cores.Books.{LineSession, LineBook, book_of, book, line_history}
 use Rattle.lat_machines.specs.cores.Cores.{Core}
 use Rattle.lat_machines.specs.cores.Lines.{session_of, seat_at, has_session, line_state, waiting_at}
+use Rattle.lat_machines.specs.cores.Looks.{put_room, room_at}
 use Rattle.lat_stream.specs.Kept.{state_of}
 use Rattle.lat_circuit.specs.Info.{session_state}
 use Rattle.lat_lines.specs.declared.seat.Seat as own
@@ -89,6 +90,21 @@ pub waiting_none : (c : Core) (line : ℕ) → has_session c line ≡ false → 
 waiting_none c line f =
     let t : Session = session_of c (seat_at c line) in
     ap (λ b. cond (b && take_open t) (length (items t.came) - t.taken) 0) (sym f)
+
+-- the bytes that a put could take
+
+abbrev pub puts_at : Core → ℕ → ℕ → ℕ
+puts_at c x id = cond (lives (c.circuits.circuit_at x).end) (put_room (named (c.circuits.circuit_at x).end.half.sessions id)) 0
+
+pub room_told : (k : Kept) (c : Core) (line : ℕ) (s : own.Seat) → Stands k c → HasSeat c line s → puts_at c s.session.circuit s.session.session ≡ room_at c line
+room_told k c line s st f =
+    let h = held_seat k c line st f.holds in
+    ap₂ (puts_at c) (circuit_is c line s f) (id_is c line s f)
+    ∙ ap₂ (λ b u. cond b (put_room u) 0) h.lives h.named
+    ∙ ap (λ b. cond b (put_room (session_of c (seat_at c line))) 0) (sym f.holds)
+
+pub room_none : (c : Core) (line : ℕ) → has_session c line ≡ false → 0 ≡ room_at c line
+room_none c line f = ap (λ b. cond b (put_room (session_of c (seat_at c line))) 0) (sym f)
 
 -- the least line without a session
 

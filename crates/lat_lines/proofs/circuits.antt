@@ -15,3 +15,4 @@ pub mod Named
 pub mod Strays
 pub mod Answered
 pub mod Starts
+pub mod Living

@@ -1,10 +1,11 @@
 -- A core at two moments of an act that leaves its sessions as their lines know them.
-use Rattle.std.specs.Prelude.{◌≡◌, ℕ, Bool, true, false, List}
+use Rattle.std.specs.Prelude.{◌≡◌, ℕ, Bool, true, false, List, Option}
 use Rattle.lat_model.specs.sessions.Slots.{Slot}
 use Rattle.lat_model.specs.sessions.Session.{Session, free}
 use Rattle.lat_model.specs.ends.End.{End, lives}
 use Rattle.lat_machines.specs.values.Answers.{Answer, Circuit, Again, AckOnly, Foreign}
 use Rattle.lat_machines.specs.cores.Cores.{Core}
+use Rattle.lat_lines.specs.Later.{asked_for}
 
 -- what a line knows of its session
 pub record Look : Type 0 where
@@ -13,9 +14,10 @@ pub record Look : Type 0 where
   pub rejects : Bool
   pub reason : ℕ
   pub free : Bool
+  pub asked_for : List ℕ × Option ℕ
 
 abbrev pub look : Session → Look
-look s = record { out = s.out; came = s.came; rejects = s.rejects; reason = s.reason; free = free s }
+look s = record { out = s.out; came = s.came; rejects = s.rejects; reason = s.reason; free = free s; asked_for = asked_for s }
 
 -- lines know the same of the sessions of an end, and of its circuit
 pub record IsCalm (e f : End) : Type 0 where

@@ -1,8 +1,12 @@
 -- An end of a circuit at two moments of its life, as the sessions of lines see it.
-use Rattle.std.specs.Prelude.{◌≡◌, ℕ, ◌≤◌, ◌⊎◌, true, false, []}
-use Rattle.lat_model.specs.sessions.Session.{free, rejected, waits, peer}
+use Rattle.std.specs.Prelude.{◌≡◌, ℕ, ◌≤◌, ◌⊎◌, true, false, List, [], Option}
+use Rattle.lat_model.specs.sessions.Session.{Session, free, rejected, waits, peer}
 use Rattle.lat_model.specs.sessions.Sessions.{Sessions, named}
 use Rattle.lat_model.specs.ends.End.{End}
+
+-- What a session was asked for: the service, and the request that it answers
+abbrev pub asked_for : Session → List ℕ × Option ℕ
+asked_for s = (s.service, s.request)
 
 -- A session that a line may have: one that was made, and accepted, and not rejected
 pub record IsAccepted (s : Sessions) (k : ℕ) : Type 0 where
@@ -26,10 +30,12 @@ pub record Replaced (s t : Sessions) (k : ℕ) : Type 0 where
   pub out : (t.session k).out ≡ (s.session k).out
   pub peer : peer (t.session k) ≡ peer (s.session k)
 
--- What became of a session: once free it stays as it is; before that it is found by its id, until it is replaced
+-- What became of a session: once free it stays as it is; before that it is found by its id, until it is replaced. What it was
+-- asked for never changes
 pub record SessionLater (s t : Sessions) (k : ℕ) : Type 0 where
   pub still : IsAccepted t k
   pub id : (t.session k).id ≡ (s.session k).id
+  pub asked_for : asked_for (t.session k) ≡ asked_for (s.session k)
   pub over : free (s.session k) ≡ true → t.session k ≡ s.session k
   pub found : free (s.session k) ≡ false → (t.at_id (s.session k).id ≡ k) ⊎ Replaced s t k
 

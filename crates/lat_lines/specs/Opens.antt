@@ -68,10 +68,12 @@ request_of None = None
 request_of (Some k) = Some k.request
 
 -- what is known of a line session when it begins
-abbrev pub session_begun : ℕ → ℕ → ℕ → Telling → LineSession
-session_begun number circuit session t = record {
+abbrev pub session_begun : ℕ → ℕ → ℕ → Name → Option ℕ → Telling → LineSession
+session_begun number circuit session service request t = record {
   number = number;
   peer_address = t.peer;
+  service = service;
+  request = request;
   circuit = circuit;
   session = session;
   peer_circuit = t.peer_circuit;

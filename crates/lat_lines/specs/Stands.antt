@@ -32,6 +32,8 @@ abbrev pub session_shown : base.LineSession → LineSession
 session_shown s = record {
   number = s.number;
   peer_address = address s.peer.0;
+  service = s.service;
+  request = s.request;
   circuit = s.circuit;
   session = s.session;
   peer_circuit = s.peer_circuit;

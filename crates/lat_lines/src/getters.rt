@@ -5,6 +5,7 @@ ghost use Rattle.std.specs.Prelude.{length, filter, find, Some, None, IfSome};
 ghost use Rattle.std.specs.Option.{option_map};
 ghost use Rattle.lat_base.specs.declared.addr.Addr.{Addr};
 ghost use Rattle.lat_model.specs.Lists.{least, upwards};
+ghost use Rattle.lat_model.specs.circuits.Arriving.{living};
 ghost use Rattle.lat_model.specs.ends.End.{lives};
 ghost use Rattle.lat_model.specs.sessions.Session.{waits};
 ghost use Rattle.lat_machines.specs.values.Addresses.{address};
@@ -12,20 +13,25 @@ ghost use Rattle.lat_machines.specs.cores.Books.{book};
 ghost use Rattle.lat_machines.specs.cores.Cores.{Core, span};
 ghost use Rattle.lat_machines.specs.cores.Hearing.{names};
 ghost use Rattle.lat_machines.specs.cores.Lines.{has_session, used, ended, saturated_count, line_exists, line_state, waiting_at};
+ghost use Rattle.lat_machines.specs.cores.Looks.{line_look, newest, number_in, end_in, correspondent, correspondent_in, circuit_in_place, room_at, is_drained};
 ghost use Rattle.lat_session.specs.States.{asked_at};
 ghost use Rattle.lat_stream.specs.Kept.{state_of, saturated};
+ghost use Rattle.lat_circuit.specs.Looks.{line_look_of, correspondent_of, circuit_look_of};
 ghost use Rattle.lat_lines.specs.circuits.Kept.{has_id};
 ghost use Rattle.lat_lines.specs.circuits.Info.{sessions_at, session_at, some_span};
 ghost use Rattle.lat_lines.specs.circuits.Opens.{id_or_zero};
 ghost use Rattle.lat_lines.specs.Kept.{side_of, IsLine};
 ghost use Rattle.lat_lines.specs.Answers.{ready};
-ghost use Rattle.lat_lines.specs.Stands.{Stands, book_shown, book_info};
+ghost use Rattle.lat_lines.specs.Stands.{Stands, book_shown, book_info, end_shown, session_shown, session_info};
 ghost use Rattle.lat_lines.specs.Peers.{newest_peer};
 ghost use Rattle.lat_lines.specs.declared.seat.Seat.{Seat};
 
 use crate::lines::Lines;
 use crate::seat::Seat;
-use lat_base::{Addr, LineBook, Name, SessionState};
+use lat_base::{
+    Addr, CircuitLook, Correspondent, LineBook, LineLook, LineSession, Name, SessionEnd,
+    SessionState,
+};
 use lat_circuit::Asked;
 use lat_seq::Span;
 
@@ -89,8 +95,55 @@ impl Lines {
         self.finished
     }
 
-    /// The state of the line's session: `Free` where it has none.
-    pub fn state(&self, line: u8) -> SessionState
+    /// What is told of a line in one look. A line that there isn't shows as one that never had a session.
+    pub fn look(&self, line: u8) -> LineLook
+        ensures waiting { result.waiting ≡ ready self.now line }
+        ensures model { (c : Core) → Stands self.now c →
+            result ≡ line_look_of (line_look (side_of self.now) c line) }
+    {
+        let session = self.newest(line);
+        LineLook {
+            newest: number_of(&session),
+            state: self.state(line),
+            waiting: self.waiting(line),
+            room: self.room(line),
+            end: end_of(&session),
+        }
+    }
+
+    /// Whom the newest session of a line is or was with, and what for. `None` exactly where the line never had one, or where
+    /// there is no such line.
+    pub fn correspondent(&self, line: u8) -> Option<Correspondent>
+        ensures { (c : Core) → Stands self.now c →
+            result ≡ option_map correspondent_of (correspondent c line) }
+    {
+        self.newest(line).map(whom)
+    }
+
+    /// How many circuits live, at most 8.
+    pub fn living(&self) -> u8
+        ensures { (c : Core) → Stands self.now c → result ≡ living c.circuits }
+    {
+        self.circuits.living() as u8
+    }
+
+    /// Whether on each circuit that lives all sessions are free or left, and the peer has taken all messages.
+    pub fn is_drained(&self) -> bool
+        ensures { (c : Core) → Stands self.now c → result ≡ is_drained c }
+    {
+        self.circuits.is_drained()
+    }
+
+    /// The circuit that lives at this place of the order of ids, counted from 0. `None` exactly behind the last.
+    pub fn circuit(&self, at: usize) -> Option<CircuitLook>
+        ensures { (c : Core) → Stands self.now c →
+            result ≡ option_map circuit_look_of (circuit_in_place c at) }
+    {
+        self.circuits.look(at)
+    }
+
+    // The state of the line's session: `Free` where it has none.
+    fn state(&self, line: u8) -> SessionState
         ensures { (c : Core) → Stands self.now c →
             result ≡ state_of (line_state (side_of self.now) c line) }
     {
@@ -102,8 +155,8 @@ impl Lines {
         }
     }
 
-    /// How many heard items a take on this line could give now, 0 where it would be refused.
-    pub fn waiting(&self, line: u8) -> u16
+    // How many heard items a take on this line could give now, 0 where it would be refused.
+    fn waiting(&self, line: u8) -> u16
         ensures value { result ≡ ready self.now line }
         ensures model { (c : Core) → Stands self.now c → result ≡ waiting_at c line }
     {
@@ -113,6 +166,30 @@ impl Lines {
                 .waiting(seat.session.circuit, seat.session.session),
             None => 0,
         }
+    }
+
+    // How many bytes a put on this line could take now, 0 where it would be refused.
+    fn room(&self, line: u8) -> u16
+        ensures { (c : Core) → Stands self.now c → result ≡ room_at c line }
+    {
+        match seat_of(self.seats.as_slice(), line) {
+            Some(seat) => self
+                .circuits
+                .room(seat.session.circuit, seat.session.session),
+            None => 0,
+        }
+    }
+
+    // The present session of a line, or the last one where it has none.
+    fn newest(&self, line: u8) -> Option<LineSession>
+        ensures { (c : Core) → Stands self.now c →
+            option_map session_shown result ≡ option_map session_info (newest c line) }
+    {
+        if !self.exists(line) {
+            return None;
+        }
+        let LineBook { present, last } = self.book(line);
+        present.or(last)
     }
 
     /// The last two sessions of a line, which must exist.
@@ -192,6 +269,37 @@ impl Lines {
             result ≡ length (filter (λ id. waits (session_at c circuit id)) (upwards 0 64)) }
     {
         self.circuits.asked_count(circuit)
+    }
+}
+
+// The number of a line's newest session, 0 where it never had one.
+fn number_of(newest: &Option<LineSession>) -> u64
+    ensures { result ≡ number_in (option_map session_shown newest.now) }
+{
+    match newest {
+        Some(session) => session.number,
+        None => 0,
+    }
+}
+
+// How a line's newest session ended.
+fn end_of(newest: &Option<LineSession>) -> Option<SessionEnd>
+    ensures { option_map end_shown result ≡ end_in (option_map session_shown newest.now) }
+{
+    match newest {
+        Some(session) => session.end,
+        None => None,
+    }
+}
+
+// Whom a session is or was with, and what for.
+fn whom(session: LineSession) -> Correspondent
+    ensures { result ≡ correspondent_of (correspondent_in (session_shown session)) }
+{
+    Correspondent {
+        peer: session.peer,
+        service: session.service,
+        request: session.request,
     }
 }
 

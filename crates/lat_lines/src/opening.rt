@@ -16,7 +16,7 @@ ghost use Rattle.lat_lines.specs.circuits.Kept.{side_of as circuits_side, next_i
 ghost use Rattle.lat_lines.specs.circuits.Stands.{calling, Simulates, Stands as CircuitsStand};
 ghost use Rattle.lat_lines.specs.circuits.Info.{telling};
 ghost use Rattle.lat_lines.specs.circuits.Living.{has_room_at};
-ghost use Rattle.lat_lines.specs.Later.{Leads};
+ghost use Rattle.lat_lines.specs.Later.{Leads, asked_for};
 ghost use Rattle.lat_lines.specs.Kept.{side_of, SameLines, IsLine};
 ghost use Rattle.lat_lines.specs.Stands.{Stands, freed_between, session_shown};
 ghost use Rattle.lat_lines.specs.Opens.{opening, way, IsWay, reaches, reached, seated_core, session_begun, accepted_core, request_of};
@@ -96,11 +96,12 @@ impl Lines {
     {
         let way = self.opening(peer)?;
         let circuit = reach(&mut self.circuits, way, peer, node, out);
-        let session = connect(&mut self.circuits, circuit, service, request_in(&key));
+        let request = request_in(&key);
+        let session = connect(&mut self.circuits, circuit, service, request);
         self.reap();
         // An opening frees none.
         self.freed.clear();
-        self.seat(line, key, circuit, session);
+        self.seat(line, key, circuit, session, *service, request);
         Ok((circuit, session))
     }
 
@@ -121,10 +122,13 @@ impl Lines {
             ≡ freed_between c (accepted_core (side_of self.old) line circuit id c) }
         ensures same { SameLines self.old self.new }
     {
+        let asked = self.circuits.asked_at(circuit, id);
         self.circuits.answer(circuit, id);
         // An answer ends no session and changes nothing that lines tell of theirs.
         self.rest();
-        self.seat(line, None, circuit, id);
+        if let Some(asked) = asked {
+            self.seat(line, None, circuit, id, asked.service, asked.request);
+        }
     }
 
     /// Rejects the asked session of this id for a reason, 0 to 15, at a node. `freed` tells then whose sessions became free.
@@ -143,14 +147,24 @@ impl Lines {
         self.reap();
     }
 
-    // The line, which has no session, has this one from now on, where its circuit is held.
-    fn seat(&mut self, line: u8, key: Option<Key>, circuit: u16, session: u8)
+    // The line, which has no session, has this one from now on, where its circuit is held: one that was asked for this service,
+    // and may answer a request.
+    fn seat(
+        &mut self,
+        line: u8,
+        key: Option<Key>,
+        circuit: u16,
+        session: u8,
+        service: Name,
+        request: Option<u16>,
+    )
         requires line { IsLine self.old.lines line }
         ensures state { (c : Core) (serial : ℕ) →
             Stands self.old c →
             has_session c line ≡ false →
             lives (c.circuits.circuit_at circuit).end ≡ true →
             Leads (c.circuits.circuit_at circuit).end.half.sessions session serial →
+            asked_for (named (c.circuits.circuit_at circuit).end.half.sessions session) ≡ (service, request) →
             Stands self.new (seated_core c (record {
               line = line;
               circuit = circuit;
@@ -172,7 +186,7 @@ impl Lines {
         }
         if let Some(info) = self.circuits.info(circuit, session) {
             self.made = self.made.saturating_add(1);
-            let session = begun(self.made, circuit, session, info);
+            let session = begun(self.made, circuit, session, service, request, info);
             self.seats.push_reserved(Seat { line, key, session });
         }
     }
@@ -228,13 +242,23 @@ fn connect(circuits: &mut Circuits, circuit: u16, service: &Name, request: Optio
 }
 
 // What is known of a line session at its beginning.
-fn begun(number: u64, circuit: u16, session: u8, info: Info) -> LineSession
-    ensures value { session_shown result ≡ session_begun number circuit session (telling info) }
+fn begun(
+    number: u64,
+    circuit: u16,
+    session: u8,
+    service: Name,
+    request: Option<u16>,
+    info: Info,
+) -> LineSession
+    ensures value { session_shown result
+        ≡ session_begun number circuit session service request (telling info) }
     ensures unended { result.end ≡ None }
 {
     LineSession {
         number,
         peer: info.peer,
+        service,
+        request,
         circuit,
         session,
         peer_circuit: info.peer_circuit,

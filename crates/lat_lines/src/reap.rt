@@ -114,15 +114,13 @@ fn reviewed(session: LineSession, info: Info) -> LineSession
     ensures { session_shown result ≡ session_reviewed (telling info) (session_shown session) }
 {
     LineSession {
-        number: session.number,
         peer: info.peer,
-        circuit: session.circuit,
-        session: session.session,
         peer_circuit: info.peer_circuit,
         peer_session: info.peer_session,
         given: info.given,
         used: info.used,
         end: info.end,
+        ..session
     }
 }
 

@@ -1,6 +1,6 @@
 -- A node asks for as many ratings as its machine does, and so its frames are the machine's.
-use Rattle.std.proofs.Common.{◌≡◌, ℕ, zero, suc, refl, sym, ap, subst, ◌∙◌, Bool, true, false, cond, ◌&&◌, ◌||◌, List, [], ◌∷◌, length, Option, Some, None, nat_eq, nat_lt, is_some, position}
-use Rattle.std.specs.List.{find, list_any, AllZip}
+use Rattle.std.proofs.Common.{◌≡◌, ℕ, zero, suc, refl, sym, ap, ◌∙◌, Bool, true, false, cond, ◌&&◌, ◌||◌, List, [], ◌∷◌, length, Option, Some, None, nat_eq, nat_lt, is_some, position}
+use Rattle.std.specs.List.{find, list_any}
 use Rattle.std.proofs.lemmas.Bool.{true≢false}
 use Rattle.lat_model.specs.Lists.{Each}
 use Rattle.lat_model.specs.sessions.Calls.{Put, Set, Attend, Take, Close, put_count, took}
@@ -18,9 +18,9 @@ use Rattle.lat_machines.specs.cores.LineCalls.{Said, says, calls_on, put_on, set
 use Rattle.lat_machines.specs.cores.Hearing.{StartFact, Repeats, Makes, Refuses, start_fact}
 use Rattle.lat_machines.specs.node.Node.{NodeConfig, Node, Requested, Allowed, node_side, with_core, tells, command_frame, request_of, requests_again, withdraws, solicited, turns_away, makes_way, hears_start, hears_message, hears_value, node_step, rates_of}
 use Rattle.lat_lines.specs.Events.{event_shown}
-use Rattle.lat_node.specs.Places.{places_from, places, response_places, reading_places, event_places, asked_places, AreRates}
+use Rattle.lat_node.specs.Places.{places_from, response_places, reading_places, event_places, asked_places, AreRates}
 use Rattle.lat_node.specs.Laws.{MayOfSome, FramesAreMachines}
-use Rattle.lat_node.proofs.FrameLemmas.{IsQuiet, quiet}
+use Rattle.lat_node.proofs.FrameLemmas.{IsQuiet}
 use Rattle.lat_node.proofs.VerdictLemmas.{position_any}
 
 -- the answers that ask for none

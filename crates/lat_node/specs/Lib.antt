@@ -2,6 +2,7 @@ pub mod Config
 pub mod Kept
 pub mod Places
 pub mod Stands
+pub mod Looks
 pub mod Shown
 pub mod Events
 pub mod Answering

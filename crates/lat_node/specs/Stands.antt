@@ -4,13 +4,11 @@ use Rattle.std.specs.List.{list_any}
 use Rattle.lat_base.specs.declared.answer.Answer.{Answer}
 use Rattle.lat_base.specs.declared.event.Event.{Event}
 use Rattle.lat_base.specs.declared.outbox.OutFrame.{OutFrame}
-use Rattle.lat_base.specs.declared.state.SessionState.{SessionState}
 use Rattle.lat_model.specs.Lists.{Each}
 use Rattle.lat_machines.specs.values.Addresses.{address}
-use Rattle.lat_machines.specs.cores.Lines.{used, line_state, waiting_at, saturated_count}
-use Rattle.lat_machines.specs.node.Node.{NodeConfig, Requested, Node, NodeStep, node_side, open_node, node_step, finished}
+use Rattle.lat_machines.specs.cores.Lines.{used, saturated_count}
+use Rattle.lat_machines.specs.node.Node.{NodeConfig, Requested, Node, NodeStep, open_node, node_step}
 use Rattle.lat_payload.specs.Frames.{Emits}
-use Rattle.lat_stream.specs.Kept.{state_of}
 use Rattle.lat_lines.specs.AnswerValues.{answer_of}
 use Rattle.lat_lines.specs.Events.{event_shown}
 use Rattle.lat_lines.specs.Stands as lines
@@ -78,15 +76,3 @@ pub record Frames {H : Type 0} (may : H → ℕ → ℕ → ℕ → ℕ → Type
   pub rates : List ℕ
   pub each : AreRates (may m.rule) (used m.state.core) m.config.lines (asked_places m.config m.state (event_shown e)) rates
   pub adds : Emits (node_step m.config rates m.state (event_shown e)).frames [] frames
-
-abbrev pub line_of : {H : Type 0} → Machine H → ℕ → SessionState
-line_of m line = state_of (line_state (node_side m.config) m.state.core line)
-
-abbrev pub moment_of : {H : Type 0} → Machine H → ℕ
-moment_of m = m.state.core.moment
-
-abbrev pub waiting_of : {H : Type 0} → Machine H → ℕ → ℕ
-waiting_of m line = waiting_at m.state.core line
-
-abbrev pub finished_of : {H : Type 0} → Machine H → ℕ
-finished_of m = finished m.state

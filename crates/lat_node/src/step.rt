@@ -13,14 +13,18 @@ ghost use Rattle.lat_node.specs.Stands.{Stands, Machine, IsMachine, opening, nex
 
 use crate::hook::RatingRule;
 use crate::node::NodeCore;
-use lat_base::{Answer, Core, Event, Memory, OutBox, SessionState};
+use lat_base::{
+    Answer, CircuitLook, Core, Correspondent, Event, LineLook, Memory, Name, NodeLook, OutBox,
+    ServiceLook, WaiterLook,
+};
 use lat_lines::line_call;
 use std::alloc::Global;
 
 impl<H: RatingRule> Core for NodeCore<H> {
     ghost use Rattle.lat_lines.specs.Answers as lines;
     ghost use Rattle.lat_node.specs.Kept.{AtRest};
-    ghost use Rattle.lat_node.specs.Stands.{Machine, IsMade, opening, IsMachine, next, answered, Frames, line_of, moment_of, waiting_of, finished_of};
+    ghost use Rattle.lat_node.specs.Stands.{Machine, IsMade, opening, IsMachine, next, answered, Frames};
+    ghost use Rattle.lat_node.specs.Looks.{look_of, correspondent_of, moment_of, finished_of, living_of, drained_of, circuit_of, node_of, service_of, offered_of, waiter_of};
 
     ghost State = { Machine H };
 
@@ -38,13 +42,27 @@ impl<H: RatingRule> Core for NodeCore<H> {
 
     ghost frames = { Frames H.may };
 
-    ghost line_of = { line_of };
+    ghost look_of = { look_of };
+
+    ghost correspondent_of = { correspondent_of };
 
     ghost moment_of = { moment_of };
 
-    ghost waiting_of = { waiting_of };
-
     ghost finished_of = { finished_of };
+
+    ghost living_of = { living_of };
+
+    ghost drained_of = { drained_of };
+
+    ghost circuit_of = { circuit_of };
+
+    ghost node_of = { node_of };
+
+    ghost service_of = { service_of };
+
+    ghost offered_of = { offered_of };
+
+    ghost waiter_of = { waiter_of };
 
     ghost ready = { λ k line. lines.ready k.lines line };
 
@@ -54,20 +72,48 @@ impl<H: RatingRule> Core for NodeCore<H> {
         Ok(answer)
     }
 
-    fn line(&self, line: u8) -> SessionState {
-        self.lines.state(line)
+    fn look(&self, line: u8) -> LineLook {
+        self.lines.look(line)
+    }
+
+    fn correspondent(&self, line: u8) -> Option<Correspondent> {
+        self.lines.correspondent(line)
     }
 
     fn moment(&self) -> u64 {
         self.lines.moment()
     }
 
-    fn waiting(&self, line: u8) -> u16 {
-        self.lines.waiting(line)
-    }
-
     fn finished(&self) -> u32 {
         self.lines.finished().saturating_add(self.turned_away)
+    }
+
+    fn living(&self) -> u8 {
+        self.lines.living()
+    }
+
+    fn is_drained(&self) -> bool {
+        self.lines.is_drained()
+    }
+
+    fn circuit(&self, at: usize) -> Option<CircuitLook> {
+        self.lines.circuit(at)
+    }
+
+    fn node(&self, _at: usize) -> Option<NodeLook> {
+        None
+    }
+
+    fn service(&self, _node: usize, _at: usize) -> Option<ServiceLook> {
+        None
+    }
+
+    fn offered(&self, at: usize) -> Option<Name> {
+        self.services.as_slice().get(at).copied()
+    }
+
+    fn waiter(&self, _service: &Name, _at: usize) -> Option<WaiterLook> {
+        None
     }
 }
 

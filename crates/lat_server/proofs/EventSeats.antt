@@ -1,5 +1,5 @@
 -- The line sessions after an event, before what follows it.
-use Rattle.std.proofs.Common.{◌≡◌, ℕ, suc, refl, sym, ◌∙◌, Bool, true, false, cond, List, [], ◌∷◌, ◌++◌, length, Option, Some, None, nat_eq, nat_lt}
+use Rattle.std.proofs.Common.{◌≡◌, ℕ, refl, sym, ◌∙◌, Bool, true, false, cond, List, [], ◌∷◌, ◌++◌, length, Option, Some, None, nat_eq, nat_lt}
 use Rattle.std.proofs.lemmas.List.{append-nil}
 use Rattle.lat_model.specs.circuits.Ids.{ids, next_id}
 use Rattle.lat_model.specs.sessions.Sessions.{least_free}

@@ -8,6 +8,7 @@ pub mod Idle
 pub mod GrantLemmas
 pub mod Hearing
 pub mod KeptLemmas
+pub mod Offering
 pub mod Openings
 pub mod Making
 pub mod ConcludedLemmas

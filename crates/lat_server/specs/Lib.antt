@@ -3,6 +3,7 @@ pub mod Gates
 pub mod Kept
 pub mod Concluded
 pub mod Stands
+pub mod Looks
 pub mod Shown
 pub mod Events
 pub mod Opened

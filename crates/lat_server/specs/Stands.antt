@@ -1,17 +1,14 @@
 -- Which states of the server machine a server stands for.
-use Rattle.std.specs.Prelude.{◌≡◌, ℕ, List, map}
+use Rattle.std.specs.Prelude.{◌≡◌, List, map}
 use Rattle.lat_base.specs.declared.answer.Answer.{Answer}
 use Rattle.lat_base.specs.declared.event.Event.{Event}
 use Rattle.lat_base.specs.declared.outbox.OutFrame.{OutFrame}
-use Rattle.lat_base.specs.declared.state.SessionState.{SessionState}
 use Rattle.lat_model.specs.Lists.{Each}
-use Rattle.lat_machines.specs.cores.Lines.{line_state, waiting_at}
-use Rattle.lat_machines.specs.server.Server.{ServerConfig, Server, ServerStep, server_side, open_server, server_step, finished}
+use Rattle.lat_machines.specs.server.Server.{ServerConfig, Server, ServerStep, open_server, server_step}
 use Rattle.lat_dir.specs.Stands as dir
 use Rattle.lat_queue.specs.Histories as queue
 use Rattle.lat_circuit.specs.Frames.{frame_view}
 use Rattle.lat_payload.specs.Frames.{expected, IsReadable}
-use Rattle.lat_stream.specs.Kept.{state_of}
 use Rattle.lat_lines.specs.AnswerValues.{answer_of}
 use Rattle.lat_lines.specs.Events.{event_shown}
 use Rattle.lat_lines.specs.Stands as lines
@@ -57,15 +54,3 @@ answered m e = answer_of (stepped m e).answer
 pub record Frames (m : Machine) (e : Event) (frames : List OutFrame) : Type 0 where
   pub same : map frame_view frames ≡ map expected (stepped m e).frames
   pub readable : Each IsReadable (stepped m e).frames
-
-abbrev pub line_of : Machine → ℕ → SessionState
-line_of m line = state_of (line_state (server_side m.config) m.state.core line)
-
-abbrev pub moment_of : Machine → ℕ
-moment_of m = m.state.core.moment
-
-abbrev pub waiting_of : Machine → ℕ → ℕ
-waiting_of m line = waiting_at m.state.core line
-
-abbrev pub finished_of : Machine → ℕ
-finished_of m = finished m.state

@@ -1,6 +1,8 @@
 //! What a server is made of.
 
-ghost use Rattle.std.specs.Prelude.{◌≡◌, [], ◌∷◌, ◌++◌, OnOk, OnErr};
+ghost use Rattle.std.specs.Prelude.{◌≡◌, [], ◌∷◌, ◌++◌, slice_get, OnOk, OnErr};
+ghost use Rattle.std.specs.Option.{option_map};
+ghost use Rattle.lat_server.specs.declared.config.Offer.{Offer};
 
 use lat_base::{Addr, Memory, Name};
 use lat_lines::Timing;
@@ -59,6 +61,14 @@ impl Offers {
         ensures { result.now ≡ self.now }
     {
         self.offers.as_slice()
+    }
+
+    // The service of the offer at this place, counted from 0.
+    pub(crate) fn service(&self, at: usize) -> Option<Name>
+        ensures { result ≡ option_map (λ (o : Offer). o.service) (slice_get self.now at) }
+    {
+        let offer = self.offers.get(at)?;
+        Some(offer.service)
     }
 }
 

@@ -12,14 +12,18 @@ ghost use Rattle.lat_server.specs.Kept.{AtRest, SameConfig};
 ghost use Rattle.lat_server.specs.Stands.{Machine, IsMachine, opening, next, answered, Frames};
 
 use crate::server::ServerCore;
-use lat_base::{Answer, Core, Event, Memory, OutBox, SessionState};
+use lat_base::{
+    Answer, CircuitLook, Core, Correspondent, Event, LineLook, Memory, Name, NodeLook, OutBox,
+    ServiceLook, WaiterLook,
+};
 use lat_lines::line_call;
 use std::alloc::Global;
 
 impl Core for ServerCore {
     ghost use Rattle.lat_lines.specs.Answers as lines;
     ghost use Rattle.lat_server.specs.Kept.{AtRest};
-    ghost use Rattle.lat_server.specs.Stands.{Machine, IsMade, opening, IsMachine, next, answered, Frames, line_of, moment_of, waiting_of, finished_of};
+    ghost use Rattle.lat_server.specs.Stands.{Machine, IsMade, opening, IsMachine, next, answered, Frames};
+    ghost use Rattle.lat_server.specs.Looks.{look_of, correspondent_of, moment_of, finished_of, living_of, drained_of, circuit_of, node_of, service_of, offered_of, waiter_of};
 
     ghost State = { Machine };
 
@@ -37,13 +41,27 @@ impl Core for ServerCore {
 
     ghost frames = { Frames };
 
-    ghost line_of = { line_of };
+    ghost look_of = { look_of };
+
+    ghost correspondent_of = { correspondent_of };
 
     ghost moment_of = { moment_of };
 
-    ghost waiting_of = { waiting_of };
-
     ghost finished_of = { finished_of };
+
+    ghost living_of = { living_of };
+
+    ghost drained_of = { drained_of };
+
+    ghost circuit_of = { circuit_of };
+
+    ghost node_of = { node_of };
+
+    ghost service_of = { service_of };
+
+    ghost offered_of = { offered_of };
+
+    ghost waiter_of = { waiter_of };
 
     ghost ready = { λ k line. lines.ready k.lines line };
 
@@ -53,20 +71,48 @@ impl Core for ServerCore {
         Ok(answer)
     }
 
-    fn line(&self, line: u8) -> SessionState {
-        self.lines.state(line)
+    fn look(&self, line: u8) -> LineLook {
+        self.lines.look(line)
+    }
+
+    fn correspondent(&self, line: u8) -> Option<Correspondent> {
+        self.lines.correspondent(line)
     }
 
     fn moment(&self) -> u64 {
         self.lines.moment()
     }
 
-    fn waiting(&self, line: u8) -> u16 {
-        self.lines.waiting(line)
-    }
-
     fn finished(&self) -> u32 {
         self.lines.finished()
+    }
+
+    fn living(&self) -> u8 {
+        self.lines.living()
+    }
+
+    fn is_drained(&self) -> bool {
+        self.lines.is_drained()
+    }
+
+    fn circuit(&self, at: usize) -> Option<CircuitLook> {
+        self.lines.circuit(at)
+    }
+
+    fn node(&self, at: usize) -> Option<NodeLook> {
+        self.directory.node(at, self.lines.moment())
+    }
+
+    fn service(&self, node: usize, at: usize) -> Option<ServiceLook> {
+        self.directory.service(node, at, self.lines.moment())
+    }
+
+    fn offered(&self, at: usize) -> Option<Name> {
+        self.offers.service(at)
+    }
+
+    fn waiter(&self, service: &Name, at: usize) -> Option<WaiterLook> {
+        self.queue.waiter(service, at)
     }
 }
 

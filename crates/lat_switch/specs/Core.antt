@@ -3,8 +3,6 @@ use Rattle.std.specs.Prelude.{◌≡◌, ℕ, ◌*◌, cond, List, [], map, leng
 use Rattle.lat_base.specs.declared.answer.Answer.{Answer}
 use Rattle.lat_base.specs.declared.event.Event.{Event}
 use Rattle.lat_base.specs.declared.outbox.OutFrame.{OutFrame}
-use Rattle.lat_base.specs.declared.state.SessionState.{SessionState}
-use Rattle.lat_base.specs.declared.state.SessionState.TheVariants as states
 use Rattle.lat_model.specs.Lists.{Each}
 use Rattle.lat_machines.specs.cores.Lines.{line_exists}
 use Rattle.lat_circuit.specs.Frames.{frame_view}
@@ -12,7 +10,6 @@ use Rattle.lat_payload.specs.Frames.{expected, IsReadable}
 use Rattle.lat_lines.specs.Answers as answers
 use Rattle.lat_lines.specs.Kept as kept
 use Rattle.lat_server.specs.Stands as server
-use Rattle.lat_server.specs.Stands.{Machine}
 use Rattle.lat_switch.specs.Lines.{Line, opened_lines}
 use Rattle.lat_switch.specs.Switch.{Switch, line_in}
 use Rattle.lat_switch.specs.Steps.{switch_step}
@@ -39,31 +36,11 @@ pub record Frames (s : Switch) (e : Event) (frames : List OutFrame) : Type 0 whe
   pub same : map frame_view frames ≡ map expected (switch_step s e).course.frames
   pub readable : Each IsReadable (switch_step s e).course.frames
 
--- what is told of a line is told of its shown inner line
-
+-- the inner line that a line shows; None where there is no such line
 abbrev pub shown_in : ℕ → List Line → Option ℕ
 shown_in k lines = cond (line_exists (length lines) k) (Some (line_in k lines).shown) None
 
-abbrev pub state_at : Machine → Option ℕ → SessionState
-state_at m None = states.Free
-state_at m (Some x) = server.line_of m x
-
-abbrev pub line_of : Switch → ℕ → SessionState
-line_of s k = state_at s.inner (shown_in k s.lines)
-
-abbrev pub waiting_at : Machine → Option ℕ → ℕ
-waiting_at m None = 0
-waiting_at m (Some x) = server.waiting_of m x
-
-abbrev pub waiting_of : Switch → ℕ → ℕ
-waiting_of s k = waiting_at s.inner (shown_in k s.lines)
-
-abbrev pub moment_of : Switch → ℕ
-moment_of s = server.moment_of s.inner
-
-abbrev pub finished_of : Switch → ℕ
-finished_of s = server.finished_of s.inner
-
+-- how many heard items a take on a line could get
 abbrev pub ready_at : kept.Kept → Option ℕ → ℕ
 ready_at k None = 0
 ready_at k (Some x) = answers.ready k x

@@ -8,6 +8,7 @@ pub mod Config
 pub mod Kept
 pub mod Stands
 pub mod Core
+pub mod Looks
 pub mod Progress
 pub mod Runs
 pub mod Shown

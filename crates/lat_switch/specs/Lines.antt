@@ -4,7 +4,8 @@ use Rattle.lat_base.specs.declared.state.SessionState.{SessionState}
 use Rattle.lat_base.specs.declared.state.SessionState.TheVariants as states
 use Rattle.lat_model.specs.Lists.{upwards}
 use Rattle.lat_machines.specs.values.Names.{Name}
-use Rattle.lat_server.specs.Stands.{Machine, line_of}
+use Rattle.lat_server.specs.Looks.{look_of}
+use Rattle.lat_server.specs.Stands.{Machine}
 
 pub record Line : Type 0 where
   pub first : ℕ  -- the least of its four inner lines
@@ -28,7 +29,7 @@ is_session _ = true
 
 -- an inner line has a session
 abbrev pub has_session : Machine → ℕ → Bool
-has_session m x = is_session (line_of m x)
+has_session m x = is_session (look_of m x).state
 
 -- the least inner line without a session
 abbrev pub first_free : Machine → Line → Option ℕ

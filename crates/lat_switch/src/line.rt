@@ -66,7 +66,7 @@ pub(crate) fn has_session(inner: &ServerCore, line: u8) -> bool
     requires { AtRest inner.now }
     ensures { (m : Machine) → IsMachine inner.now m → result ≡ has_session m line }
 {
-    is_session(inner.line(line))
+    is_session(inner.look(line).state)
 }
 
 impl Line {

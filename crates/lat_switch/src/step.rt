@@ -6,12 +6,16 @@ ghost use Rattle.lat_machines.specs.cores.Lines.{line_exists};
 ghost use Rattle.lat_switch.specs.Core.{shown_in};
 
 use crate::switch::SwitchCore;
-use lat_base::{Answer, Core, Event, Memory, OutBox, SessionState};
+use lat_base::{
+    Answer, CircuitLook, Core, Correspondent, Event, LineLook, Memory, Name, NodeLook, OutBox,
+    ServiceLook, SessionState, WaiterLook,
+};
 use std::alloc::Global;
 
 impl Core for SwitchCore {
-    ghost use Rattle.lat_switch.specs.Core.{IsMade, opening, next, answered, Frames, line_of, moment_of, waiting_of, finished_of, ready};
+    ghost use Rattle.lat_switch.specs.Core.{IsMade, opening, next, answered, Frames, ready};
     ghost use Rattle.lat_switch.specs.Kept.{IsValid};
+    ghost use Rattle.lat_switch.specs.Looks.{look_of, correspondent_of, moment_of, finished_of, living_of, drained_of, circuit_of, node_of, service_of, offered_of, waiter_of};
     ghost use Rattle.lat_switch.specs.Stands.{Stands};
     ghost use Rattle.lat_switch.specs.Switch.{Switch};
 
@@ -31,13 +35,27 @@ impl Core for SwitchCore {
 
     ghost frames = { Frames };
 
-    ghost line_of = { line_of };
+    ghost look_of = { look_of };
+
+    ghost correspondent_of = { correspondent_of };
 
     ghost moment_of = { moment_of };
 
-    ghost waiting_of = { waiting_of };
-
     ghost finished_of = { finished_of };
+
+    ghost living_of = { living_of };
+
+    ghost drained_of = { drained_of };
+
+    ghost circuit_of = { circuit_of };
+
+    ghost node_of = { node_of };
+
+    ghost service_of = { service_of };
+
+    ghost offered_of = { offered_of };
+
+    ghost waiter_of = { waiter_of };
 
     ghost ready = { ready };
 
@@ -46,10 +64,23 @@ impl Core for SwitchCore {
         Ok(answer)
     }
 
-    fn line(&self, line: u8) -> SessionState {
+    fn look(&self, line: u8) -> LineLook {
         match self.shown(line) {
-            Some(shown) => self.inner.line(shown),
-            None => SessionState::Free,
+            Some(shown) => self.inner.look(shown),
+            None => LineLook {
+                newest: 0,
+                state: SessionState::Free,
+                waiting: 0,
+                room: 0,
+                end: None,
+            },
+        }
+    }
+
+    fn correspondent(&self, line: u8) -> Option<Correspondent> {
+        match self.shown(line) {
+            Some(shown) => self.inner.correspondent(shown),
+            None => None,
         }
     }
 
@@ -57,15 +88,36 @@ impl Core for SwitchCore {
         self.inner.moment()
     }
 
-    fn waiting(&self, line: u8) -> u16 {
-        match self.shown(line) {
-            Some(shown) => self.inner.waiting(shown),
-            None => 0,
-        }
-    }
-
     fn finished(&self) -> u32 {
         self.inner.finished()
+    }
+
+    fn living(&self) -> u8 {
+        self.inner.living()
+    }
+
+    fn is_drained(&self) -> bool {
+        self.inner.is_drained()
+    }
+
+    fn circuit(&self, at: usize) -> Option<CircuitLook> {
+        self.inner.circuit(at)
+    }
+
+    fn node(&self, at: usize) -> Option<NodeLook> {
+        self.inner.node(at)
+    }
+
+    fn service(&self, node: usize, at: usize) -> Option<ServiceLook> {
+        self.inner.service(node, at)
+    }
+
+    fn offered(&self, at: usize) -> Option<Name> {
+        self.inner.offered(at)
+    }
+
+    fn waiter(&self, service: &Name, at: usize) -> Option<WaiterLook> {
+        self.inner.waiter(service, at)
     }
 }
 

@@ -34,6 +34,7 @@ both_at : (s t u : Sessions) (k : ℕ) → (free (s.session k) ≡ false → s.a
 both_at s t u k holds h d = record {
   still = record { made = (h.still.made.0, subst (λ z. k ≤ z) (sym d.made) h.still.made.1); accepted = c.accepted ∙ h.still.accepted; kept = c.rejects ∙ h.still.kept };
   id = c.id ∙ h.id;
+  asked_for = c.asked_for ∙ h.asked_for;
   over = λ f. c.over h.still.kept (ap free (h.over f) ∙ f) ∙ h.over f;
   found = λ f. ⊎_elim {C = (u.at_id (s.session k).id ≡ k) ⊎ Replaced s u k} (λ e. inl (ap (λ z. z (s.session k).id) d.at_id ∙ e)) (λ r. inr (replaced_tended s t u k d h.still r)) (h.found (holds f));
 }

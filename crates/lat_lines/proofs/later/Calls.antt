@@ -1,6 +1,6 @@
 -- What a local call leaves of the sessions, and what it makes.
 use Rattle.std.proofs.Common.{◌≡◌, ℕ, suc, ◌+◌, ◌<◌, ◌≤◌, inl, sym, ap, ◌∙◌, refl, subst, arith, Bool, true, false, not, cond, ◌&&◌, List, [], ◌∷◌, length, map, take, Option, Some, nat_lt, ltb-true, lt-ltb, le_refl}
-use Rattle.std.proofs.lemmas.Bool.{and_parts, and_from, or_parts, not-true, both_ways}
+use Rattle.std.proofs.lemmas.Bool.{and_parts, and_from, or_parts, not-true, both_ways, cond_both}
 use Rattle.lat_model.specs.sessions.Slots.{Byte, Setting, turned}
 use Rattle.lat_model.specs.sessions.Session.{Session, free, gone, rejected, stopped, waits, unframed, put_open, take_open}
 use Rattle.lat_model.specs.sessions.Sessions.{Sessions, named, held, least_free}
@@ -13,7 +13,7 @@ use Rattle.lat_model.proofs.sessions.Words.{upd_same, upd_other, upd_all, not_bl
 use Rattle.lat_model.proofs.sessions.Starts.{free_goes}
 use Rattle.lat_model.proofs.sessions.Made.{least_is_free}
 use Rattle.lat_session.specs.Stands.{AllBegun}
-use Rattle.lat_lines.specs.Later.{Leads, Later, EndLater, Unheard}
+use Rattle.lat_lines.specs.Later.{asked_for, Leads, Later, EndLater, Unheard}
 use Rattle.lat_lines.proofs.later.Tended.{Tended, AllTended, all_tended, all_touched}
 use Rattle.lat_lines.proofs.later.Both.{tended_later}
 use Rattle.lat_lines.proofs.later.Known.{later_refl, accepted_settled}
@@ -27,8 +27,8 @@ take_taken : (s : Session) → take_open s ≡ true → free s ≡ false
 take_taken s h = not-true (free s) (and_parts s.accepted (not (free s)) (and_parts (s.accepted && not (free s)) (not s.closed) h).0).1
 
 -- one that isn't free keeps its words and its lists of slots
-tended_by : (s t : Session) → free s ≡ false → t.id ≡ s.id → t.accepted ≡ s.accepted → t.rejects ≡ s.rejects → t.came ≡ s.came → (waits s ≡ true → waits t ≡ true) → Tended s t
-tended_by s t f i a r c w = record { id = i; accepted = a; rejects = r; came = c; over = λ q g. absurd (both_ways (free s) f g); waits = w }
+tended_by : (s t : Session) → free s ≡ false → t.id ≡ s.id → asked_for t ≡ asked_for s → t.accepted ≡ s.accepted → t.rejects ≡ s.rejects → t.came ≡ s.came → (waits s ≡ true → waits t ≡ true) → Tended s t
+tended_by s t f i q a r c w = record { id = i; asked_for = q; accepted = a; rejects = r; came = c; over = λ z g. absurd (both_ways (free s) f g); waits = w }
 
 cond_tended : (b : Bool) (e x : Sessions) → (b ≡ true → AllTended e x) → AllTended e (cond b x e)
 cond_tended true e x h = h refl
@@ -46,6 +46,7 @@ settled_later e j s ok b m w = record {
       record {
         still = record { made = a.made; accepted = ap (λ (z : Session). z.accepted) q ∙ a.accepted; kept = ap (λ (z : Session). z.rejects) q ∙ a.kept };
         id = ap (λ (z : Session). z.id) q;
+        asked_for = ap asked_for q;
         over = λ f. q;
         found = λ f. inl (ok.holds k f);
       };
@@ -58,6 +59,7 @@ connect_later e service request ok h = record {
       record {
         still = record { made = (a.made.0, omega (arith, a.made.1)); accepted = ap (λ (z : Session). z.accepted) q ∙ a.accepted; kept = ap (λ (z : Session). z.rejects) q ∙ a.kept };
         id = ap (λ (z : Session). z.id) q;
+        asked_for = ap asked_for q;
         over = λ f. q;
         found = λ f. inl (upd_other e.at_id (least_free e) (suc e.made) (e.session k).id (λ z. both_ways (free (e.session k)) f (ap (λ n. free (e.session n)) (sym (ok.holds k f) ∙ ap e.at_id z) ∙ least_is_free e h ok.agreed)) ∙ ok.holds k f);
       };
@@ -72,19 +74,19 @@ called_later (Connect service request) e ok b =
     (λ q. connect_later e service request ok (ltb-true (held e) e.agreed (and_parts e.master (nat_lt (held e) e.agreed) q).1))
 called_later (Put id bs) e ok b =
     let t : Session = put_items (named e id) (map Byte (take (put_count (named e id) (length bs)) bs)) in
-    tended_later e (put_bytes e id bs) ok b (cond_tended (put_open (named e id)) e (touch e (e.at_id id) t) (λ q. all_touched e (e.at_id id) t (tended_by (named e id) t (put_taken (named e id) q) refl refl refl refl (λ w. w))))
+    tended_later e (put_bytes e id bs) ok b (cond_tended (put_open (named e id)) e (touch e (e.at_id id) t) (λ q. all_touched e (e.at_id id) t (tended_by (named e id) t (put_taken (named e id) q) refl refl refl refl refl (λ w. w))))
 called_later (Set id setting) e ok b =
     let t : Session = put_items (named e id) (Setting setting ∷ []) in
-    tended_later e (set e id setting) ok b (cond_tended (put_open (named e id) && nat_lt (length (unframed (named e id))) 4096) e (touch e (e.at_id id) t) (λ q. all_touched e (e.at_id id) t (tended_by (named e id) t (put_taken (named e id) (and_parts (put_open (named e id)) _ q).0) refl refl refl refl (λ w. w))))
+    tended_later e (set e id setting) ok b (cond_tended (put_open (named e id) && nat_lt (length (unframed (named e id))) 4096) e (touch e (e.at_id id) t) (λ q. all_touched e (e.at_id id) t (tended_by (named e id) t (put_taken (named e id) (and_parts (put_open (named e id)) _ q).0) refl refl refl refl refl (λ w. w))))
 called_later (Attend id flag) e ok b =
     let t : Session = record (named e id) { attention = Some flag } in
-    tended_later e (attend e id flag) ok b (cond_tended (put_open (named e id)) e (touch e (e.at_id id) t) (λ q. all_touched e (e.at_id id) t (tended_by (named e id) t (put_taken (named e id) q) refl refl refl refl (λ w. w))))
+    tended_later e (attend e id flag) ok b (cond_tended (put_open (named e id)) e (touch e (e.at_id id) t) (λ q. all_touched e (e.at_id id) t (tended_by (named e id) t (put_taken (named e id) q) refl refl refl refl refl (λ w. w))))
 called_later (Take id n) e ok b =
     let t : Session = record (named e id) { taken = (named e id).taken + take_count (named e id) n } in
-    tended_later e (take_items e id n) ok b (cond_tended (take_open (named e id)) e (touch e (e.at_id id) t) (λ q. all_touched e (e.at_id id) t (tended_by (named e id) t (take_taken (named e id) q) refl refl refl refl (λ w. w))))
+    tended_later e (take_items e id n) ok b (cond_tended (take_open (named e id)) e (touch e (e.at_id id) t) (λ q. all_touched e (e.at_id id) t (tended_by (named e id) t (take_taken (named e id) q) refl refl refl refl refl (λ w. w))))
 called_later (Close id) e ok b =
     let t : Session = record (named e id) { closed = true } in
-    tended_later e (close e id) ok b (cond_tended (take_open (named e id)) e (touch e (e.at_id id) t) (λ q. all_touched e (e.at_id id) t (tended_by (named e id) t (take_taken (named e id) q) refl refl refl refl (λ w. w))))
+    tended_later e (close e id) ok b (cond_tended (take_open (named e id)) e (touch e (e.at_id id) t) (λ q. all_touched e (e.at_id id) t (tended_by (named e id) t (take_taken (named e id) q) refl refl refl refl refl (λ w. w))))
 called_later (Answer id) e ok b =
     cond_later (not e.master && waits (named e id)) e (answer e id) ok
     (λ q. let p : (e.master ≡ false) × (waits (named e id) ≡ true) = slave_waits e id q in settled_later e (e.at_id id) (record (named e id) { accepted = true }) ok b p.0 p.1)
@@ -133,6 +135,13 @@ connect_leads e service request = record {
     new : (connect e service request).session (suc e.made) ≡ new_call e service request
     new = upd_same e.session (suc e.made) (new_call e service request)
 
+-- it was asked for as the call says
+pub connected_for : (e : Sessions) (service : List ℕ) (request : Option ℕ) → e.master ≡ true → held e < e.agreed → asked_for (named (call e (Connect service request)) (least_free e)) ≡ (service, request)
+connected_for e service request m h =
+    ap (λ z. asked_for (named (cond z (connect e service request) e) (least_free e))) (and_from e.master (nat_lt (held e) e.agreed) m (lt-ltb (held e) e.agreed h))
+    ∙ ap (λ n. asked_for ((connect e service request).session n)) (upd_same e.at_id (least_free e) (suc e.made))
+    ∙ ap asked_for (upd_same e.session (suc e.made) (new_call e service request))
+
 pub connected : (e : Sessions) (service : List ℕ) (request : Option ℕ) → e.master ≡ true → held e < e.agreed → Leads (call e (Connect service request)) (least_free e) (suc e.made)
 connected e service request m h = subst (λ z. Leads (cond z (connect e service request) e) (least_free e) (suc e.made)) (sym (and_from e.master (nat_lt (held e) e.agreed) m (lt-ltb (held e) e.agreed h))) (connect_leads e service request)
 
@@ -161,3 +170,7 @@ answer_leads e id ok w = record {
 
 pub answered_leads : (e : Sessions) (id : ℕ) → EndOk e → e.master ≡ false → waits (named e id) ≡ true → Leads (call e (Answer id)) id (e.at_id id)
 answered_leads e id ok m w = subst (λ z. Leads (cond z (answer e id) e) id (e.at_id id)) (sym (and_from (not e.master) (waits (named e id)) (ap not m) w)) (answer_leads e id ok w)
+
+-- nothing of what it was asked for changes
+pub answered_for : (e : Sessions) (id : ℕ) → asked_for (named (call e (Answer id)) id) ≡ asked_for (named e id)
+answered_for e id = cond_both (not e.master && waits (named e id)) (answer e id) e (λ z. asked_for (named z id) ≡ asked_for (named e id)) (λ h. ap asked_for (upd_same e.session (e.at_id id) (record (named e id) { accepted = true }))) (λ h. refl)

@@ -11,7 +11,7 @@ use Rattle.lat_model.proofs.sessions.Hears.{starts_more, starter_more}
 use Rattle.lat_model.proofs.sessions.Starts.{free_goes, starts_not_nil, starts_not_turned}
 use Rattle.lat_model.proofs.sessions.Made.{least_is_free}
 use Rattle.lat_model.proofs.sessions.Alone.{some_is, none_is}
-use Rattle.lat_lines.specs.Later.{IsAccepted, Replaced}
+use Rattle.lat_lines.specs.Later.{asked_for, IsAccepted, Replaced}
 
 -- at a slave each session that was accepted began with an ask
 abbrev pub Begun : Sessions → Type 0
@@ -27,6 +27,7 @@ pub record Fits (s : Sessions) : Type 0 where
 pub record Heard (s t : Sessions) (k : ℕ) : Type 0 where
   pub still : IsAccepted t k
   pub id : (t.session k).id ≡ (s.session k).id
+  pub asked_for : asked_for (t.session k) ≡ asked_for (s.session k)
   pub out : (t.session k).out ≡ (s.session k).out
   pub peer : s.master ≡ false → peer (t.session k) ≡ peer (s.session k)
   pub over : free (s.session k) ≡ true → t.session k ≡ s.session k
@@ -43,7 +44,7 @@ all_heard s f = record {
   fits = f;
   master = refl;
   waits = λ m i w. w;
-  each = λ k a. record { still = a; id = refl; out = refl; peer = λ m. refl; over = λ f. refl; found = λ q. inl q };
+  each = λ k a. record { still = a; id = refl; asked_for = refl; out = refl; peer = λ m. refl; over = λ f. refl; found = λ q. inl q };
 }
 
 -- it was replaced, and then more is heard
@@ -78,6 +79,7 @@ heard_on : (s t u : Sessions) (k : ℕ) → AllHeard s t → AllHeard t u → He
 heard_on s t u k p q g h = record {
   still = h.still;
   id = h.id ∙ g.id;
+  asked_for = h.asked_for ∙ g.asked_for;
   out = h.out ∙ g.out;
   peer = λ m. h.peer (p.master ∙ m) ∙ g.peer m;
   over = λ f. h.over (ap free (g.over f) ∙ f) ∙ g.over f;
@@ -99,6 +101,7 @@ all_heard_on s t u p q = record {
 
 record Hears (s t : Session) : Type 0 where
   pub id : t.id ≡ s.id
+  pub asked_for : asked_for t ≡ asked_for s
   pub accepted : t.accepted ≡ s.accepted
   pub rejects : t.rejects ≡ s.rejects
   pub out : t.out ≡ s.out
@@ -107,11 +110,12 @@ record Hears (s t : Session) : Type 0 where
   pub over : free s ≡ true → t ≡ s
 
 hears : (s : Session) → Hears s s
-hears s = record { id = refl; accepted = refl; rejects = refl; out = refl; begins = λ q. q; peer = λ q. refl; over = λ f. refl }
+hears s = record { id = refl; asked_for = refl; accepted = refl; rejects = refl; out = refl; begins = λ q. q; peer = λ q. refl; over = λ f. refl }
 
 hears_slot : (s : Session) (x : Slot) → gone s ≡ false → Hears s (heard s x)
 hears_slot s x g = record {
   id = refl;
+  asked_for = refl;
   accepted = refl;
   rejects = refl;
   out = refl;
@@ -135,6 +139,7 @@ at_heard e k x f g w = record {
   each = λ j a. record {
     still = record { made = a.made; accepted = (each j).accepted ∙ a.accepted; kept = (each j).rejects ∙ a.kept };
     id = (each j).id;
+    asked_for = (each j).asked_for;
     out = (each j).out;
     peer = λ m. (each j).peer (f.begun m j a);
     over = (each j).over;
@@ -175,6 +180,7 @@ ask_heard e from c size service request f m = record {
   each = λ k a. record {
     still = record { made = (a.made.0, omega (arith, a.made.1)); accepted = ap (λ (z : Session). z.accepted) (old k a.made.1) ∙ a.accepted; kept = ap (λ (z : Session). z.rejects) (old k a.made.1) ∙ a.kept };
     id = ap (λ (z : Session). z.id) (old k a.made.1);
+    asked_for = ap asked_for (old k a.made.1);
     out = ap (λ (z : Session). z.out) (old k a.made.1);
     peer = λ z. ap peer (old k a.made.1);
     over = λ z. old k a.made.1;

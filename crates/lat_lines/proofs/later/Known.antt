@@ -16,7 +16,7 @@ use Rattle.lat_lines.proofs.later.Both.{all_begun}
 -- nothing happens
 
 pub later_refl : (s : Sessions) → EndOk s → Later s s
-later_refl s ok = record { master = refl; each = λ k a. record { still = a; id = refl; over = λ f. refl; found = λ f. inl (ok.holds k f) } }
+later_refl s ok = record { master = refl; each = λ k a. record { still = a; id = refl; asked_for = refl; over = λ f. refl; found = λ f. inl (ok.holds k f) } }
 
 pub end_later_refl : (e : End) → EndOk e.half.sessions → EndLater e e
 end_later_refl e ok = record { sessions = later_refl e.half.sessions ok; running = λ r. r; peer = λ r. refl }

@@ -8,6 +8,7 @@ use Rattle.lat_model.specs.sessions.Offers.{Offer, Nothing, Unfit, Offers, fit, 
 use Rattle.lat_model.specs.sessions.Packing.{Packing, form, formed, first_form, next_form, turn_by, turn, turn_all, turns, pack}
 use Rattle.lat_model.specs.sessions.Calls.{touch}
 use Rattle.lat_model.specs.Lists.{is_empty, updated}
+use Rattle.lat_lines.specs.Later.{asked_for}
 use Rattle.lat_model.proofs.sessions.Words.{has_stop-append}
 use Rattle.lat_model.proofs.sessions.Starts.{free_cases, turned_not_starts}
 use Rattle.lat_model.proofs.sessions.Forms.{formed_as}
@@ -18,6 +19,7 @@ pub record Tended (s t : Session) : Type 0 where
   pub accepted : t.accepted ≡ s.accepted
   pub rejects : t.rejects ≡ s.rejects
   pub came : t.came ≡ s.came
+  pub asked_for : asked_for t ≡ asked_for s
   pub over : s.rejects ≡ false → free s ≡ true → t ≡ s
   pub waits : waits s ≡ true → waits t ≡ true
 
@@ -28,7 +30,7 @@ pub record AllTended (s t : Sessions) : Type 0 where
   pub each : (k : ℕ) → Tended (s.session k) (t.session k)
 
 pub tended : (s : Session) → Tended s s
-tended s = record { id = refl; accepted = refl; rejects = refl; came = refl; over = λ r f. refl; waits = λ w. w }
+tended s = record { id = refl; accepted = refl; rejects = refl; came = refl; asked_for = refl; over = λ r f. refl; waits = λ w. w }
 
 pub all_tended : (s : Sessions) → AllTended s s
 all_tended s = record { master = refl; made = refl; at_id = refl; each = λ k. tended (s.session k) }
@@ -39,6 +41,7 @@ tended_on s t u p q = record {
   accepted = q.accepted ∙ p.accepted;
   rejects = q.rejects ∙ p.rejects;
   came = q.came ∙ p.came;
+  asked_for = q.asked_for ∙ p.asked_for;
   over = λ r f. q.over (p.rejects ∙ r) (ap free (p.over r f) ∙ f) ∙ p.over r f;
   waits = λ w. q.waits (p.waits w);
 }
@@ -138,6 +141,7 @@ formed_tended m c room n s x h = record {
   accepted = refl;
   rejects = refl;
   came = refl;
+  asked_for = refl;
   over = λ r f. free_offers_none m c room s x r f h;
   waits = λ w. ap (λ z. not (answered s) && not (rejected s || (z && has_stop s.came))) (same (waiting_offer m c room s x w h)) ∙ w;
 }

@@ -13,7 +13,7 @@ use Rattle.lat_stream.specs.Kept.{saturated}
 use Rattle.lat_lines.specs.circuits.Kept as circuits
 use Rattle.lat_lines.specs.circuits.Stands as stands
 use Rattle.lat_lines.specs.circuits.Info.{telling_of, asks}
-use Rattle.lat_lines.specs.Later.{IsAccepted, Replaced, SessionLater, Unheard}
+use Rattle.lat_lines.specs.Later.{asked_for, IsAccepted, Replaced, SessionLater, Unheard}
 use Rattle.lat_lines.specs.Cores.{CoreLater}
 use Rattle.lat_lines.specs.Stands.{Present, IsSeat, session_info, seat_info}
 use Rattle.lat_lines.specs.Looks.{session_closed, session_reviewed, session_after, present_after}
@@ -66,6 +66,8 @@ same_dead c d n s a e = ap (λ z. told_by z (end_of d s)) a ∙ ap (told_by (c.c
     told_by address z = record {
       number = n;
       peer_address = address;
+      service = (z.half.sessions.session s.serial).service;
+      request = (z.half.sessions.session s.serial).request;
       circuit = s.circuit;
       session = s.id;
       peer_circuit = z.peer;
@@ -87,6 +89,8 @@ same_free c d n s a p e f =
     told_by address peer_circuit z end = record {
       number = n;
       peer_address = address;
+      service = z.service;
+      request = z.request;
       circuit = s.circuit;
       session = s.id;
       peer_circuit = peer_circuit;
@@ -135,10 +139,12 @@ still_over k lines c d s b seat h = ⊎_elim {C = StillOver c d s} live dead (ca
 
 -- One that wasn't over is told of
 
-abbrev told_as : Core → ℕ → Seat → Session → Option SessionEnd → LineSession
-told_as d n s z end = record {
+abbrev asked_as : Core → ℕ → Seat → Session → List ℕ × Option ℕ → Option SessionEnd → LineSession
+asked_as d n s z wanted end = record {
   number = saturated n;
   peer_address = (d.circuits.circuit_at s.circuit).address;
+  service = wanted.0;
+  request = wanted.1;
   circuit = s.circuit;
   session = s.id;
   peer_circuit = (end_of d s).peer;
@@ -148,11 +154,15 @@ told_as d n s z end = record {
   end = end;
 }
 
+abbrev told_as : Core → ℕ → Seat → Session → Option SessionEnd → LineSession
+told_as d n s z end = asked_as d n s z (asked_for z) end
+
 -- under its id
-reviewed_info : (c d : Core) (n : ℕ) (s : Seat) → IsStood (end_of d s) → (session_of d s).id ≢ 0 → named (sessions_of d s) s.id ≡ session_of d s
+reviewed_info : (c d : Core) (n : ℕ) (s : Seat) → IsStood (end_of d s) → (session_of d s).id ≢ 0 → asked_for (session_of d s) ≡ asked_for (session_of c s) → named (sessions_of d s) s.id ≡ session_of d s
     → session_reviewed (telling_of d s.circuit s.id) (session_info (line_session c n s)) ≡ session_info (line_session d n s)
-reviewed_info c d n s st some e =
-    ap (λ z. told_as d n s z (session_reviewed (telling_of d s.circuit s.id) (session_info (line_session c n s))).end) e
+reviewed_info c d n s st some wanted e =
+    ap (λ z. asked_as d n s z (asked_for (session_of c s)) (session_reviewed (telling_of d s.circuit s.id) (session_info (line_session c n s))).end) e
+    ∙ ap (λ z. asked_as d n s (session_of d s) z (session_reviewed (telling_of d s.circuit s.id) (session_info (line_session c n s))).end) (sym wanted)
     ∙ ap (told_as d n s (session_of d s)) (end_told (end_of d s) s.id st.exists (λ z. some (ap (λ (y : Session). y.id) (sym e) ∙ z)) ∙ ap (ended (end_of d s)) e)
 
 not_asked : (d : Core) (s : Seat) → IsStood (end_of d s) → IsAccepted (sessions_of d s) s.serial → named (sessions_of d s) s.id ≡ session_of d s → asks (sessions_of d s) s.id ≡ false
@@ -161,25 +171,28 @@ not_asked d s st a e = answered_told (sessions_of d s).master (named (sessions_o
     heard : (sessions_of d s).master ≡ false → starts (session_of d s).came ≡ true
     heard m = subst (λ z. cond z (session_of d s).accepted (starts (session_of d s).came) ≡ true) m (st.begun s.serial a.kept)
 
-found_told : (c d : Core) (n : ℕ) (s : Seat) → IsStood (end_of d s) → IsAccepted (sessions_of d s) s.serial → named (sessions_of d s) s.id ≡ session_of d s
+found_told : (c d : Core) (n : ℕ) (s : Seat) → IsStood (end_of d s) → IsAccepted (sessions_of d s) s.serial → asked_for (session_of d s) ≡ asked_for (session_of c s) → named (sessions_of d s) s.id ≡ session_of d s
     → session_after (telling_of d s.circuit s.id) (session_info (line_session c n s)) ≡ session_info (line_session d n s)
-found_told c d n s st a e =
+found_told c d n s st a wanted e =
     ap (λ b. cond b (session_closed (telling_of d s.circuit s.id) (session_info (line_session c n s))) (session_reviewed (telling_of d s.circuit s.id) (session_info (line_session c n s)))) (not_asked d s st a e)
-    ∙ reviewed_info c d n s st ((st.good.each s.serial).id_some a.kept) e
+    ∙ reviewed_info c d n s st ((st.good.each s.serial).id_some a.kept) wanted e
 
 -- replaced under its id
-replaced_told : (c d : Core) (n : ℕ) (s : Seat) → (sessions_of d s).master ≡ (sessions_of c s).master → (session_of c s).id ≡ s.id → Replaced (sessions_of c s) (sessions_of d s) s.serial
+replaced_told : (c d : Core) (n : ℕ) (s : Seat) → (sessions_of d s).master ≡ (sessions_of c s).master → (session_of c s).id ≡ s.id → asked_for (session_of d s) ≡ asked_for (session_of c s) → Replaced (sessions_of c s) (sessions_of d s) s.serial
     → session_after (telling_of d s.circuit s.id) (session_info (line_session c n s)) ≡ session_info (line_session d n s)
-replaced_told c d n s m i r =
+replaced_told c d n s m i wanted r =
     ap (λ b. cond b (session_closed (telling_of d s.circuit s.id) (session_info (line_session c n s))) (session_reviewed (telling_of d s.circuit s.id) (session_info (line_session c n s)))) (waits_asked (sessions_of d s).master (named (sessions_of d s) s.id) (m ∙ r.slave) (subst (λ z. waits (named (sessions_of d s) z) ≡ true) i r.waits))
-    ∙ ap (λ z. record (closed z (session_of c s).out) { end = Some EndedClosed }) (sym r.peer)
-    ∙ ap (λ z. record (closed (peer (session_of d s)) z) { end = Some EndedClosed }) (sym r.out)
+    ∙ ap (λ z. closed z (session_of c s).out (asked_for (session_of c s))) (sym r.peer)
+    ∙ ap (λ z. closed (peer (session_of d s)) z (asked_for (session_of c s))) (sym r.out)
+    ∙ ap (closed (peer (session_of d s)) (session_of d s).out) (sym wanted)
     ∙ ap (told_as d n s (session_of d s)) (sym (ended_closed (end_of d s) (session_of d s) r.free r.closed))
   where
-    closed : ℕ → List Slot → LineSession
-    closed p out = record {
+    closed : ℕ → List Slot → List ℕ × Option ℕ → LineSession
+    closed p out wanted = record {
       number = saturated n;
       peer_address = (d.circuits.circuit_at s.circuit).address;
+      service = wanted.0;
+      request = wanted.1;
       circuit = s.circuit;
       session = s.id;
       peer_circuit = (end_of d s).peer;
@@ -204,8 +217,8 @@ present_told k lines c d n s b seat held h = ap present_of told
     told : session_after (telling_of d s.circuit s.id) (session_info (line_session c n s)) ≡ session_info (line_session d n s)
     told =
         ⊎_elim {C = session_after (telling_of d s.circuit s.id) (session_info (line_session c n s)) ≡ session_info (line_session d n s)}
-        (λ e. found_told c d n s (stood_at k d s.circuit b.stands held) later.still (ap (sessions_of d s).session (ap (sessions_of d s).at_id (sym seat.id) ∙ e)))
-        (λ r. replaced_told c d n s (b.later.living s.circuit (drawn_known c.circuits s.circuit seat.drawn) parts.0).sessions.master seat.id r) (later.found parts.1)
+        (λ e. found_told c d n s (stood_at k d s.circuit b.stands held) later.still later.asked_for (ap (sessions_of d s).session (ap (sessions_of d s).at_id (sym seat.id) ∙ e)))
+        (λ r. replaced_told c d n s (b.later.living s.circuit (drawn_known c.circuits s.circuit seat.drawn) parts.0).sessions.master seat.id later.asked_for r) (later.found parts.1)
 
 -- it has an end exactly where it is over
 pub told_over : (d : Core) (n : ℕ) (s : Seat) → is_some (seat_info d n s).session.end ≡ over d s

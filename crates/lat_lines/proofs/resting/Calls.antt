@@ -20,6 +20,7 @@ use Rattle.lat_session.specs.States.{is_free}
 use Rattle.lat_lines.specs.circuits.Stands.{calling}
 use Rattle.lat_lines.proofs.CircuitsHeld.{eqb_self}
 use Rattle.lat_lines.proofs.CoresLater.{updated_at}
+use Rattle.lat_lines.specs.Later.{asked_for}
 use Rattle.lat_lines.specs.Calm.{look, IsCalm, CoreCalm}
 use Rattle.lat_lines.proofs.resting.Ends.{calm_refl}
 
@@ -54,8 +55,8 @@ answer_looks : (s : Sessions) (id : ℕ) → SameLooks s (call s (Answer id))
 answer_looks s id = open_looks s (not s.master && waits (named s id)) (s.at_id id) (record (named s id) { accepted = true }) (λ h. refl)
 
 -- one that wasn't free and isn't now
-still_free : (u v : Session) → v.out ≡ u.out → v.came ≡ u.came → v.rejects ≡ u.rejects → v.reason ≡ u.reason → free u ≡ false → free v ≡ false → look v ≡ look u
-still_free u v out came rejects reason e f = λ j. record { out = out j; came = came j; rejects = rejects j; reason = reason j; free = (f ∙ sym e) j }
+still_free : (u v : Session) → asked_for v ≡ asked_for u → v.out ≡ u.out → v.came ≡ u.came → v.rejects ≡ u.rejects → v.reason ≡ u.reason → free u ≡ false → free v ≡ false → look v ≡ look u
+still_free u v wanted out came rejects reason e f = λ j. record { asked_for = wanted j; out = out j; came = came j; rejects = rejects j; reason = reason j; free = (f ∙ sym e) j }
 
 taken_open : (u : Session) → take_open u ≡ true → free u ≡ false
 taken_open u h = not-true (free u) (and_parts u.accepted (not (free u)) (and_parts (u.accepted && not (free u)) (not u.closed) h).0).1
@@ -74,7 +75,7 @@ take_looks s id n f = open_looks s (take_open (named s id)) (s.at_id id) v looks
     v = record u { taken = u.taken + take_count u n }
 
     looks : take_open u ≡ true → look v ≡ look u
-    looks h = still_free u v refl refl refl refl (taken_open u h) (sym (ap free (touched_at s (s.at_id id) v)) ∙ sym (ap (λ b. free (named (cond b (touch s (s.at_id id) v) s) id)) h) ∙ f)
+    looks h = still_free u v refl refl refl refl refl (taken_open u h) (sym (ap free (touched_at s (s.at_id id) v)) ∙ sym (ap (λ b. free (named (cond b (touch s (s.at_id id) v) s) id)) h) ∙ f)
 
 pub close_looks : (s : Sessions) (id : ℕ) → free (named (call s (Close id)) id) ≡ false → SameLooks s (call s (Close id))
 close_looks s id f = open_looks s (take_open (named s id)) (s.at_id id) v looks
@@ -86,7 +87,7 @@ close_looks s id f = open_looks s (take_open (named s id)) (s.at_id id) v looks
     v = record u { closed = true }
 
     looks : take_open u ≡ true → look v ≡ look u
-    looks h = still_free u v refl refl refl refl (taken_open u h) (sym (ap free (touched_at s (s.at_id id) v)) ∙ sym (ap (λ b. free (named (cond b (touch s (s.at_id id) v) s) id)) h) ∙ f)
+    looks h = still_free u v refl refl refl refl refl (taken_open u h) (sym (ap free (touched_at s (s.at_id id) v)) ∙ sym (ap (λ b. free (named (cond b (touch s (s.at_id id) v) s) id)) h) ∙ f)
 
 -- the circuits after a call
 calling_calm : (k : Side) (x : ℕ) (a : Call) (c : Core) → (lives (c.circuits.circuit_at x).end ≡ true → SameLooks (c.circuits.circuit_at x).end.half.sessions (call (c.circuits.circuit_at x).end.half.sessions a))

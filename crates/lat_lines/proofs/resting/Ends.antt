@@ -21,6 +21,8 @@ abbrev known_as : ℕ → Seat → ℕ → ℕ → Option ℕ → Bool → Look 
 known_as n s address peer reason alive l = record {
   number = n;
   peer_address = address;
+  service = l.asked_for.0;
+  request = l.asked_for.1;
   circuit = s.circuit;
   session = s.id;
   peer_circuit = peer;

@@ -1,30 +1,34 @@
 //! What circuits tell. No call takes memory. Of a circuit that isn't held each tells that there is none.
 
 ghost use Rattle.std.specs.Prelude.{◌≡◌, ◌-◌, ◌&&◌, cond, nat_eq, true, false};
-ghost use Rattle.std.specs.Prelude.{length, filter, Some, None, is_none, IfSome};
+ghost use Rattle.std.specs.Prelude.{length, filter, slice_get, Some, None, is_none, IfSome};
 ghost use Rattle.std.specs.List.{find, position};
-ghost use Rattle.std.specs.Option.{is_some, option_copied};
+ghost use Rattle.std.specs.Option.{is_some, option_copied, option_map};
 ghost use Rattle.lat_base.specs.declared.state.SessionState.TheVariants as states;
-ghost use Rattle.lat_model.specs.Lists.{upwards};
-ghost use Rattle.lat_model.specs.ends.End.{lives};
+ghost use Rattle.lat_model.specs.Lists.{Each, upwards};
+ghost use Rattle.lat_model.specs.ends.End.{End, lives};
 ghost use Rattle.lat_model.specs.sessions.Session.{take_open, waits};
 ghost use Rattle.lat_model.specs.sessions.Slots.{items};
 ghost use Rattle.lat_machines.specs.values.Addresses.{address};
 ghost use Rattle.lat_machines.specs.cores.Cores.{Core, span, is_stranger};
 ghost use Rattle.lat_machines.specs.cores.Hearing.{names};
+ghost use Rattle.lat_machines.specs.cores.Looks.{put_room, circuit_in_place, is_drained};
 ghost use Rattle.lat_session.specs.States.{asked_at};
 ghost use Rattle.lat_circuit.specs.Kept.{Kept};
 ghost use Rattle.lat_circuit.specs.Info.{session_state};
+ghost use Rattle.lat_circuit.specs.Looks.{circuit_look_of};
+ghost use Rattle.lat_circuit.specs.Stands as circuit_stands;
 ghost use Rattle.lat_lines.specs.circuits.Kept.{has_id, is_drawn, IsOwn};
 ghost use Rattle.lat_lines.specs.circuits.Stands.{Stands, IsCircuit};
 ghost use Rattle.lat_lines.specs.circuits.Info.{sessions_at, session_at, held_circuit, is_of_circuit};
 ghost use Rattle.lat_lines.specs.circuits.Info.{telling, telling_of, ready, some_span, is_asked_at};
+ghost use Rattle.lat_lines.specs.circuits.Living.{is_still, are_still};
 ghost use Rattle.lat_lines.specs.Strangers.{head_with};
 
 use crate::circuits::Circuits;
 use crate::circuits::hearing::is_to;
 use crate::circuits::info::Info;
-use lat_base::{Addr, Name, SessionState};
+use lat_base::{Addr, CircuitLook, Name, SessionState};
 use lat_circuit::{Asked, Circuit};
 use lat_seq::Span;
 
@@ -91,6 +95,17 @@ impl Circuits {
         self.circuit(circuit).map_or(0, |held| held.waiting(id))
     }
 
+    /// How many bytes `put` could take now, 0 where it would be refused.
+    pub fn room(&self, circuit: u16, id: u8) -> u16
+        ensures { (c : Core) →
+            Stands self.now c →
+            result ≡ cond (lives (c.circuits.circuit_at circuit).end)
+            (put_room (session_at c circuit id))
+            0 }
+    {
+        self.circuit(circuit).map_or(0, |held| held.room(id))
+    }
+
     /// The session of an id where it waits for this end's answer on a living circuit, at a node.
     pub fn asked_at(&self, circuit: u16, id: u8) -> Option<Asked>
         ensures value { is_some result ≡ is_asked_at self.now circuit id }
@@ -119,6 +134,22 @@ impl Circuits {
             result ≡ length (filter (λ id. waits (session_at c circuit id)) (upwards 0 64)) }
     {
         self.circuit(circuit).map_or(0, Circuit::asked_count)
+    }
+
+    /// Whether on each circuit that lives all sessions are free or left, and the peer has taken all messages.
+    pub fn is_drained(&self) -> bool
+        ensures { (c : Core) → Stands self.now c → result ≡ is_drained c }
+    {
+        are_still(&self.held)
+    }
+
+    /// The circuit that lives at this place of the order of ids, counted from 0. `None` exactly behind the last.
+    pub fn look(&self, at: usize) -> Option<CircuitLook>
+        ensures { (c : Core) → Stands self.now c →
+            result ≡ option_map circuit_look_of (circuit_in_place c at) }
+    {
+        let circuit = nth_living(&self.held, at)?;
+        Some(circuit.look())
     }
 
     /// Whether a circuit of this id lives.
@@ -180,6 +211,34 @@ fn circuit_of(held: &[Circuit], id: u16) -> Option<&Circuit>
     ensures { option_copied result ≡ find (λ (q : Kept). nat_eq q.facts.id id) held.now }
 {
     held.iter().find(|circuit| circuit.id() == id)
+}
+
+// The circuit that lives at this place.
+fn nth_living(held: &[Circuit], at: usize) -> Option<&Circuit>
+    ensures { option_copied result
+        ≡ slice_get (filter (λ (q : Kept). is_none q.ended) held.now) at }
+{
+    let mut living = held.iter().filter(|circuit| circuit.lives());
+    living.nth(at)
+}
+
+// Whether a circuit has ended, or nothing is under way on it.
+fn is_still(circuit: &Circuit) -> bool
+    ensures { (e : End) → circuit_stands.Stands circuit.now e → result ≡ is_still e }
+{
+    !circuit.lives() || circuit.is_drained()
+}
+
+// Whether that is so of all these.
+fn are_still(held: &[Circuit]) -> bool
+    ensures { (c : Core) → Each (IsCircuit c) held.now → result ≡ are_still c held.now }
+{
+    for circuit in held {
+        if !is_still(circuit) {
+            return false;
+        }
+    }
+    true
 }
 
 // What a circuit tells of a session.

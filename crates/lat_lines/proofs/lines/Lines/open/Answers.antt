@@ -3,7 +3,7 @@ use Rattle.std.proofs.lemmas.Bool.{and_from}
 use Rattle.lat_model.specs.ends.End.{lives}
 use Rattle.lat_model.specs.circuits.Ids.{next_id}
 use Rattle.lat_model.specs.sessions.Calls.{Connect}
-use Rattle.lat_model.specs.sessions.Sessions.{least_free}
+use Rattle.lat_model.specs.sessions.Sessions.{named, least_free}
 use Rattle.lat_machines.specs.values.Addresses.{address}
 use Rattle.lat_machines.specs.cores.Cores.{Core, Side, Doing}
 use Rattle.lat_machines.specs.server.Server.{server_side, has_room, opens}
@@ -12,7 +12,7 @@ use Rattle.lat_payload.specs.Frames.{Emits}
 use Rattle.lat_lines.specs.circuits.Stands.{calling}
 use Rattle.lat_lines.specs.circuits.Stands as stands
 use Rattle.lat_lines.specs.Kept.{Kept, side_of}
-use Rattle.lat_lines.specs.Later.{Leads}
+use Rattle.lat_lines.specs.Later.{asked_for, Leads}
 use Rattle.lat_lines.specs.Stands.{Stands}
 use Rattle.lat_lines.specs.Opens.{way, reaches, reached, seated_core, request_of}
 use Rattle.lat_lines.specs.Shown.{shown}
@@ -20,7 +20,7 @@ use Rattle.lat_lines.proofs.circuits.Ids.{next_core}
 use Rattle.lat_lines.proofs.Acting.{StayHeld, ok_of, acted, same_held}
 use Rattle.lat_lines.proofs.Standing.{stands_as}
 use Rattle.lat_lines.proofs.Accepting.{none_still, called_lives}
-use Rattle.lat_lines.proofs.Connecting.{connected_leads, side_kept}
+use Rattle.lat_lines.proofs.Connecting.{connected_leads, connected_wants, side_kept}
 use Rattle.lat_lines.proofs.Opened.{opening_way, by_way, given_by, Reached, reached_by, calls_by, opens_so, connects_frames}
 use Rattle.lat_lines.proofs.lines.Lines.open.Goals as goal
 
@@ -48,7 +48,7 @@ returns-clause-opened c = λ config d side st none.
     let did = c.reach-circuit.ensures.did d st2.circuits in
     let id : x ≡ reached (next_id d.circuits) w = c.reach-circuit.ensures.id ∙ ap (λ n. reached n w) (next_core k.circuits d st2.circuits) in
     let r : Reached S d R.core a x = subst (Reached S d R.core a) (sym id) (reached_by S d a c.args.node.now w (ok_of k d st2) way_is (λ e. (c.reach-circuit.ensures.timing e).sessions.0)) in
-    let asks = Connect c.args.service.now c.request_in.result in
+    let asks = Connect c.args.service.now c.request_in-request.result in
     let e : Core = calling S x asks R.core in
     let stood : stands.Stands c.connect-session.new.circuits e = subst (λ z. stands.Stands c.connect-session.new.circuits (calling z x asks R.core)) (side_kept k.circuits c.reach-circuit.new.circuits c.reach-circuit.ensures.core) (c.connect-session.ensures.state R.core did.0) in
     let held : StayHeld k.circuits c.connect-session.new.circuits = λ y h. same_held c.reach-circuit.new.circuits c.connect-session.new.circuits c.connect-session.ensures.same.ids y (c.reach-circuit.ensures.held y h) in
@@ -59,15 +59,17 @@ returns-clause-opened c = λ config d side st none.
     let free = none_still k c.connect-session.new.circuits d e c.args.line st2 stood (r.later asks) none in
     let alive = called_lives S x asks R.core r.lives in
     let server = ap (λ (z : Kept). z.circuits.server) c.self-2.view_is ∙ ap (λ z. z.server) c.reap.ensures.circuits ∙ c.connect-session.ensures.same.core.server ∙ c.reach-circuit.ensures.core.server ∙ ap (λ (z : Kept). z.circuits.server) c.self.view_is ∙ c.requires.server in
-    let leads = connected_leads S x c.args.service.now c.request_in.result R.core r.lives r.room (c.seat.ensures.side e st4 free alive ∙ server) in
+    let side = c.seat.ensures.side e st4 free alive ∙ server in
+    let leads = connected_leads S x c.args.service.now c.request_in-request.result R.core r.lives r.room side in
+    let wanted = connected_wants S x c.args.service.now c.request_in-request.result R.core r.lives r.room side in
     let first = least_free (R.core.circuits.circuit_at x).end.half.sessions in
     let serial = suc (R.core.circuits.circuit_at x).end.half.sessions.made in
-    let named : s ≡ first = c.connect-session.ensures.id R.core did.0 (and_from (lives (R.core.circuits.circuit_at x).end) (has_room R.core x) r.lives r.room) in
-    let seated = c.seat.ensures.state e serial st4 free alive (subst (λ i. Leads (e.circuits.circuit_at x).end.half.sessions i serial) (sym named) leads) in
+    let same_id : s ≡ first = c.connect-session.ensures.id R.core did.0 (and_from (lives (R.core.circuits.circuit_at x).end) (has_room R.core x) r.lives r.room) in
+    let seated = c.seat.ensures.state e serial st4 free alive (subst (λ i. Leads (e.circuits.circuit_at x).end.half.sessions i serial) (sym same_id) leads) (subst (λ i. asked_for (named (e.circuits.circuit_at x).end.half.sessions i) ≡ (c.args.service.now, c.request_in-request.result)) (sym same_id) wanted) in
     let so = opens_so config c.args.line a c.args.node.now c.args.service.now key wants d R x (calls_by config d a c.args.node.now w way_is ∙ ap (λ z. reaches z a c.args.node.now w d) is) r.found in
     let F : Side → Option ℕ → ℕ → Core = λ z req i. seated_core (calling z x (Connect c.args.service.now req) R.core) (record { line = c.args.line; circuit = x; id = i; serial = serial; key = key }) in
-    let core : F S c.request_in.result s ≡ (opens config c.args.line a c.args.node.now c.args.service.now key wants d).core =
-    sym (ap (λ z. z.core) so ∙ ap (λ z. F z wants first) is ∙ ap (λ req. F S req first) (sym c.request_in.ensures) ∙ ap (F S c.request_in.result) (sym named)) in
+    let core : F S c.request_in-request.result s ≡ (opens config c.args.line a c.args.node.now c.args.service.now key wants d).core =
+    sym (ap (λ z. z.core) so ∙ ap (λ z. F z wants first) is ∙ ap (λ req. F S req first) (sym c.request_in-request.ensures) ∙ ap (F S c.request_in-request.result) (sym same_id)) in
     let frames = ap (λ z. z.frames) so ∙ connects_frames config c.args.line x c.args.service.now key wants R in (
       subst (Stands c.seat.new.self) core seated,
       subst (λ fs. Emits fs c.args.out.now c.reach-circuit.new.out) (sym frames) did.1,

@@ -18,7 +18,7 @@ use Rattle.lat_lines.proofs.Seating.{stands_push, begins, holds_push, none_found
 use Rattle.lat_lines.proofs.lines.Lines.seat.Goals as goal
 
 pub returns-then-is_some-clause-state : goal.returns-then-is_some-clause-state
-returns-then-is_some-clause-state c = λ d serial st h l leads.
+returns-then-is_some-clause-state c = λ d serial st h l leads wanted.
     let f = found_holds d c.args.line c.seat_of.result (found c.args.self.now d c.args.line st c.seat_of.result (c.seat_of.ensures ∙ ap (find (is_seat_of c.args.line)) (c.as_slice.ensures.value ∙ ap (λ z. z.seats) c.self.view_is))) in
     absurd (true≢false (sym c.if-is_some.true ∙ c.is_some.ensures ∙ f ∙ h))
 
@@ -47,7 +47,7 @@ invariant_of-self c =
     )
 
 pub returns-in-Some-clause-state : goal.returns-in-Some-clause-state
-returns-in-Some-clause-state c = λ d serial st h l leads.
+returns-in-Some-clause-state c = λ d serial st h l leads wanted.
     let k = shown c.self.inside in
     let s : own.Seat = record { line = c.args.line; key = c.args.key; session = c.begun-session.result } in
     let t : Seat = record { line = c.args.line; circuit = c.args.circuit; id = c.args.session; serial = serial; key = some_key c.args.key } in
@@ -57,7 +57,7 @@ returns-in-Some-clause-state c = λ d serial st h l leads.
     let tells = subst (λ o. IfSome o (λ u. telling u ≡ telling_of d c.args.circuit c.args.session)) c.in-Some.is (c.info.ensures.model d st2.circuits) in
     let drawn : is_id_of d.circuits.first d.circuits.drawn c.args.circuit ≡ true = sym (drawn_core k.circuits d c.args.circuit st2.circuits) ∙ within in
     let made : c.saturating_add-self-inside.result ≡ saturated (suc (length d.seats)) = let m = st2.seated.made in omega (arith, m, c.saturating_add-self-inside.ensures) in
-    let begun = begins k d t c.args.key c.begun-session.result st2 h line l leads drawn refl (c.begun-session.ensures.value ∙ ap₂ (λ n u. session_begun n c.args.circuit c.args.session u) made tells) in
+    let begun = begins k d t c.args.key c.begun-session.result c.args.service c.args.request st2 h line l leads wanted drawn refl (c.begun-session.ensures.value ∙ ap₂ (λ n u. session_begun n c.args.circuit c.args.session c.args.service c.args.request u) made tells) in
     subst (λ ss. Stands (record k { seats = ss; made = c.saturating_add-self-inside.result }) (seated_core d t)) (sym c.push_reserved.ensures.items) (stands_push k d t s c.saturating_add-self-inside.result st2 begun made)
 
 pub returns-in-Some-clause-side : goal.returns-in-Some-clause-side
