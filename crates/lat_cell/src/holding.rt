@@ -144,12 +144,12 @@ pub fn hold<C: Core, T: Tx, E: Ledger, B: Ledger>(
 ) -> HoldDone
     requires { calls_of desk.old.mind ≡ is_some service }
     ensures applied { is_applied result ≡ true →
-        let see = seen_of C.line_of C.waiting_of C.moment_of (state_of C.opening C.next cell.old) cell.old.stopping share.old.seat in
+        let see = seen_of C.look_of C.moment_of (state_of C.opening C.next cell.old) cell.old.stopping share.old.seat in
         let look = look_of see desk.old share.old.seat service in
         (event : Event) × (look.event ≡ Some event)
         × IsApplied C.opening C.next C.answer cell.old cell.new share.old share.new look.go look.moment look.desk desk.new event result }
     ensures idle { is_applied result ≡ false →
-        let see = seen_of C.line_of C.waiting_of C.moment_of (state_of C.opening C.next cell.old) cell.old.stopping share.old.seat in
+        let see = seen_of C.look_of C.moment_of (state_of C.opening C.next cell.old) cell.old.stopping share.old.seat in
         let look = look_of see desk.old share.old.seat service in
         Idle look.go result × (cell.new ≡ cell.old) × (share.new ≡ share.old) × (desk.new ≡ look.desk) }
     ensures seat { (share.new.seat ≡ share.old.seat) × (share.new.parts ≡ share.old.parts) }

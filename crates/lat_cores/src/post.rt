@@ -50,12 +50,12 @@ impl<C: Station> Post<C> {
 
     /// The state of a line's session; free where there is no such line.
     pub fn state(&self, line: u8) -> SessionState {
-        self.core.line(line)
+        self.core.look(line).state
     }
 
     /// How many items wait at a line; 0 where there is no such line.
     pub fn waiting(&self, line: u8) -> u16 {
-        self.core.waiting(line)
+        self.core.look(line).waiting
     }
 
     /// The core's moment, in milliseconds.

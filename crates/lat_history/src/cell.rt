@@ -1,6 +1,6 @@
 //! The cell.
 
-ghost use Rattle.std.specs.Prelude.{◌≡◌, ◌≤◌, ◌++◌, length, true, IfOk};
+ghost use Rattle.std.specs.Prelude.{◌≡◌, ◌≤◌, ◌++◌, length, true, IfOk, is_some};
 ghost use Rattle.lat_history.specs.CellView.{IsEmpty};
 ghost use Rattle.lat_history.specs.History.{IsRun, HasSent, state_of};
 ghost use Rattle.lat_history.specs.Ledgers.{AreBlanks};
@@ -12,7 +12,7 @@ ghost use Rattle.lat_past.specs.Entries.{entries_of, last_fitting};
 
 use crate::seen::Seen;
 use crate::shares::{Blanks, Shares, opened};
-use lat_base::{Core, Memory, OutBox};
+use lat_base::{Core, Correspondent, LineLook, Memory, Name, OutBox};
 use lat_outside::Tx;
 use lat_past::{Entry, History, SeatTotals};
 use std::alloc::Global;
@@ -181,14 +181,36 @@ impl<C: Core, T: Tx, E: Ledger, B: Ledger> Cell<C, T, E, B> {
         self.core.finished()
     }
 
+    /// What the core shows of a line, whole.
+    pub fn line_look(&self, line: u8) -> LineLook
+        ensures { result ≡ C.look_of (state_of C.opening C.next self.now) line }
+    {
+        self.core.look(line)
+    }
+
+    /// Whom the newest session of a line is or was with, and what for.
+    pub fn correspondent(&self, line: u8) -> Option<Correspondent>
+        ensures { result ≡ C.correspondent_of (state_of C.opening C.next self.now) line }
+    {
+        self.core.correspondent(line)
+    }
+
+    /// Whether a request waits for the service.
+    pub fn has_waiter(&self, service: &Name) -> bool
+        ensures { result ≡ is_some (C.waiter_of (state_of C.opening C.next self.now) service.now 0) }
+    {
+        self.core.waiter(service, 0).is_some()
+    }
+
     /// What it shows of a line.
     pub fn look(&self, line: u8) -> Seen
-        ensures { result ≡ seen_of C.line_of C.waiting_of C.moment_of (state_of C.opening C.next self.now)
+        ensures { result ≡ seen_of C.look_of C.moment_of (state_of C.opening C.next self.now)
             self.now.stopping line }
     {
+        let look = self.core.look(line);
         Seen {
-            state: self.core.line(line),
-            waiting: self.core.waiting(line),
+            state: look.state,
+            waiting: look.waiting,
             stopping: self.stopping,
             moment: self.core.moment(),
         }

@@ -30,25 +30,25 @@ each_map P Q f [] h = tt
 each_map P Q f (x ∷ xs) h = (f x h.0, each_map P Q f xs h.1)
 
 -- lists: what was given is what was done and a front of what is at hand
-start : (all done hand : List ℕ) → all ≡ done → all ≡ done ++ take 0 hand
+start : {A : Type 0} → (all done hand : List A) → all ≡ done → all ≡ done ++ take 0 hand
 start all done hand e = e ∙ sym (append-nil done)
 
-pub finish : (all done hand : List ℕ) (left : ℕ) → all ≡ done ++ take left hand → left ≡ 0 → all ≡ done
+pub finish : {A : Type 0} → (all done hand : List A) (left : ℕ) → all ≡ done ++ take left hand → left ≡ 0 → all ≡ done
 finish all done hand left e z = e ∙ ap (λ n. done ++ take n hand) z ∙ append-nil done
 
-more : (all done hand new : List ℕ) (left n : ℕ) → all ≡ done ++ take left hand → left ≡ 0 → length new ≡ n → all ++ new ≡ done ++ take n new
+more : {A : Type 0} → (all done hand new : List A) (left n : ℕ) → all ≡ done ++ take left hand → left ≡ 0 → length new ≡ n → all ++ new ≡ done ++ take n new
 more all done hand new left n e z l =
     let whole : take n new ≡ new = take_all n new (omega (arith, l)) in
     ap (λ w. w ++ new) (finish all done hand left e z) ∙ ap (λ w. done ++ w) (sym whole)
 
-moved : (all done hand : List ℕ) (left n : ℕ) → all ≡ done ++ take left hand → n ≤ left → all ≡ (done ++ take n (take left hand)) ++ take (left - n) (drop n hand)
+moved : {A : Type 0} → (all done hand : List A) (left n : ℕ) → all ≡ done ++ take left hand → n ≤ left → all ≡ (done ++ take n (take left hand)) ++ take (left - n) (drop n hand)
 moved all done hand left n e le =
     let front = take n (take left hand) in
     let whole : n + (left - n) ≡ left = omega (arith, le) in
     let tail : drop n (take left hand) ≡ take (left - n) (drop n hand) = ap (λ k. drop n (take k hand)) (sym whole) ∙ drop-take n (left - n) hand in
     e ∙ ap (λ w. done ++ w) (sym (take-append-drop n (take left hand)) ∙ ap (λ w. front ++ w) tail) ∙ sym (append_assoc done front (take (left - n) (drop n hand)))
 
-within : (hand : List ℕ) (left n : ℕ) → left ≤ length hand → left - n ≤ length (drop n hand)
+within : {A : Type 0} → (hand : List A) (left n : ℕ) → left ≤ length hand → left - n ≤ length (drop n hand)
 within hand left n le = omega (arith, le, length-drop n hand)
 
 -- what a look shows

@@ -1,6 +1,6 @@
 -- What a look says.
 use Rattle.std.specs.Prelude.{ℕ, ◌==◌, ◌&&◌, ◌||◌, Bool, true, false, not, nat_lt, Option, Some, None}
-use Rattle.lat_mind.specs.declared.line_look.LineLook.{LineLook}
+use Rattle.lat_base.specs.declared.look.LineLook.{LineLook}
 use Rattle.lat_mind.specs.declared.look.Owner.{Owner}
 use Rattle.lat_mind.specs.declared.look.Owner.TheVariants as owners
 use Rattle.lat_base.specs.declared.state.SessionState.{SessionState}

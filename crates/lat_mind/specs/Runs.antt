@@ -1,5 +1,6 @@
 -- Runs: a mind and its worker, turn after turn. Each turn is a look, the mind's move, and what came of it.
 use Rattle.std.specs.Prelude.{◌≡◌, ℕ, ◌+◌, ◌<◌, ◌≤◌, ◌⊎◌, List, [], ◌∷◌, ◌++◌, length, take, drop, Bool, true, false, Option, Some, None}
+use Rattle.lat_base.specs.declared.item.Item.{Item}
 use Rattle.lat_mind.specs.declared.fact.Fact.{Fact}
 use Rattle.lat_mind.specs.declared.fact.Fact.TheVariants as facts
 use Rattle.lat_mind.specs.declared.fact.Move.{Move}
@@ -16,7 +17,7 @@ pub record Turn : Type 0 where
   pub look : Look
   pub fact : Fact
   pub bytes : List ℕ  -- what a read gave
-  pub items : List ℕ  -- what a take gave
+  pub items : List Item  -- what a take gave
   pub drawn : ℕ
 
 -- bytes went into the session, or items came from it, while this caller was the line's
@@ -33,9 +34,9 @@ pub record Tale : Type 0 where
   pub hand : List ℕ  -- the worker's bytes: what the last read gave, less what puts took of it since
   pub read : List ℕ  -- all that this caller gave
   pub put : List ℕ  -- all of it that puts took
-  pub desk : List ℕ  -- the worker's items: what the last take gave, less what was written of it
-  pub taken : List ℕ  -- all that was taken for this caller
-  pub written : List ℕ  -- all that was written to it
+  pub desk : List Item  -- the worker's items: what the last take gave, less what was written of it
+  pub taken : List Item  -- all that was taken for this caller
+  pub written : List Item  -- all that was written to it
   pub tried : Option ℕ  -- when a session was tried for last for this caller
   pub away : Option ℕ  -- when the device couldn't be dialled, where none has come since
   pub ready : Bool  -- whether the core was told that the line is ready
@@ -73,7 +74,7 @@ owed_in _ = 0
 abbrev pub offer_at : Tale → Phase → List ℕ
 offer_at t p = take (left_in p) t.hand
 
-abbrev pub due_at : Tale → Phase → List ℕ
+abbrev pub due_at : Tale → Phase → List Item
 due_at t p = take (owed_in p) t.desk
 
 abbrev pub entry_of : Tale → Turn → Entry

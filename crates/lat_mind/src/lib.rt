@@ -12,7 +12,6 @@ mod phase;
 
 pub use fact::{Fact, Move};
 pub use kind::Kind;
-pub use line_look::LineLook;
 pub use look::{Look, Owner};
 pub use mind::LineMind;
 pub use phase::{Guest, Phase, Waiter};

@@ -1,24 +1,9 @@
-//! What a core shows of a line.
+//! What a mind reads in the look of a line.
 
 ghost use Rattle.std.specs.Prelude.{◌≡◌};
 ghost use Rattle.lat_mind.specs.Looks.{avoidable, holds_on, is_answered, is_free, is_live, shows_live, was_closed};
 
-use lat_base::{SessionEnd, SessionState};
-
-/// What a core shows of a line in one look: its newest session, which is the present one or, where it has none, the last.
-#[derive(Clone, Copy)]
-pub struct LineLook {
-    /// The number of this session, 0 where the line never had one.
-    pub newest: u64,
-    /// Its state.
-    pub state: SessionState,
-    /// How many heard items could be taken now.
-    pub waiting: u16,
-    /// How many bytes a put could take now.
-    pub room: u16,
-    /// How it ended, where it did.
-    pub end: Option<SessionEnd>,
-}
+use lat_base::{LineLook, SessionEnd, SessionState};
 
 /// A reject with this reason says that the service isn't offered any more.
 const NOT_OFFERED: u8 = 4;
@@ -28,15 +13,6 @@ const NO_ROOM: u8 = 7;
 
 /// A circuit that ends with this reason heard nothing any more.
 const SILENCE: u8 = 6;
-
-fn is_answered(state: SessionState) -> bool
-    ensures { result ≡ is_answered state }
-{
-    matches!(
-        state,
-        SessionState::Live | SessionState::Closing | SessionState::Left
-    )
-}
 
 fn was_closed(end: Option<SessionEnd>) -> bool
     ensures { result ≡ was_closed end }
@@ -55,41 +31,42 @@ pub(crate) fn avoidable(end: Option<SessionEnd>, live: bool) -> bool
     }
 }
 
-impl LineLook {
-    pub(crate) fn is_free(&self) -> bool
-        ensures { result ≡ is_free self.now.state }
-    {
-        matches!(self.state, SessionState::Free)
-    }
+pub(crate) fn is_free(line: &LineLook) -> bool
+    ensures { result ≡ is_free line.now.state }
+{
+    matches!(line.state, SessionState::Free)
+}
 
-    pub(crate) fn is_live(&self) -> bool
-        ensures { result ≡ is_live self.now.state }
-    {
-        matches!(self.state, SessionState::Live)
-    }
+pub(crate) fn is_live(line: &LineLook) -> bool
+    ensures { result ≡ is_live line.now.state }
+{
+    matches!(line.state, SessionState::Live)
+}
 
-    /// Whether the newest session is or was live, and isn't free.
-    pub(crate) fn is_answered(&self) -> bool
-        ensures { result ≡ is_answered self.now.state }
-    {
-        is_answered(self.state)
-    }
+/// Whether the newest session is or was live, and isn't free.
+pub(crate) fn is_answered(line: &LineLook) -> bool
+    ensures { result ≡ is_answered line.now.state }
+{
+    matches!(
+        line.state,
+        SessionState::Live | SessionState::Closing | SessionState::Left
+    )
+}
 
-    /// Whether the newest session needs its worker still: it isn't over at this end, or items of it wait.
-    pub(crate) fn holds_on(&self) -> bool
-        ensures { result ≡ holds_on self.now }
-    {
-        match self.state {
-            SessionState::Free => false,
-            SessionState::Calling | SessionState::Asked | SessionState::Live => true,
-            SessionState::Closing | SessionState::Left => self.waiting > 0,
-        }
+/// Whether the newest session needs its worker still: it isn't over at this end, or items of it wait.
+pub(crate) fn holds_on(line: &LineLook) -> bool
+    ensures { result ≡ holds_on line.now }
+{
+    match line.state {
+        SessionState::Free => false,
+        SessionState::Calling | SessionState::Asked | SessionState::Live => true,
+        SessionState::Closing | SessionState::Left => line.waiting > 0,
     }
+}
 
-    /// Whether it shows that the session of this number was live.
-    pub(crate) fn shows_live(&self, session: u64) -> bool
-        ensures { result ≡ shows_live self.now session }
-    {
-        self.newest == session && (self.is_answered() || was_closed(self.end))
-    }
+/// Whether it shows that the session of this number was live.
+pub(crate) fn shows_live(line: &LineLook, session: u64) -> bool
+    ensures { result ≡ shows_live line.now session }
+{
+    line.newest == session && (is_answered(line) || was_closed(line.end))
 }

@@ -3,7 +3,7 @@
 ghost use Rattle.std.specs.Prelude.{◌≡◌};
 ghost use Rattle.lat_mind.specs.Looks.{at_port, is_job, is_own};
 
-use crate::line_look::LineLook;
+use lat_base::LineLook;
 
 /// Who is the caller of the newest session.
 #[derive(Clone, Copy)]

@@ -1,11 +1,13 @@
 //! The mind: the next move, and what is told.
 
 ghost use Rattle.std.specs.Prelude.{◌≡◌};
+ghost use Rattle.lat_mind.specs.Phases.{has_caller};
+ghost use Rattle.lat_mind.specs.Runs.{left_in, owed_in};
 ghost use Rattle.lat_mind.specs.Minds.{away_after, calm_after, fresh_for, fresh_mind, is_late, may_try, mind_next, mind_told, next_alone, next_close, next_ending, next_joined, next_live, next_lost, next_over, next_serving, next_waiting, patience_of, ready_after, seen_after, shut_after, since_after, spent, sweeps, to_dial, try_of};
 
 use crate::fact::{Fact, Move};
 use crate::kind::Kind;
-use crate::line_look::avoidable;
+use crate::line_look::{avoidable, holds_on, is_answered, is_free, is_live, shows_live};
 use crate::look::Look;
 use crate::phase::{Guest, Phase, Waiter};
 
@@ -157,6 +159,33 @@ impl LineMind {
         }
     }
 
+    /// How many bytes were read of its caller and not yet put.
+    pub fn left(&self) -> u16
+        ensures { result ≡ left_in self.now.phase }
+    {
+        match self.phase {
+            Phase::Joined(guest) => guest.left,
+            _ => 0,
+        }
+    }
+
+    /// How many items were taken for its caller and not yet written.
+    pub fn owed(&self) -> u16
+        ensures { result ≡ owed_in self.now.phase }
+    {
+        match self.phase {
+            Phase::Joined(guest) => guest.owed,
+            _ => 0,
+        }
+    }
+
+    /// Whether its line has a caller.
+    pub fn has_caller(&self) -> bool
+        ensures { result ≡ has_caller self.now.phase }
+    {
+        self.phase.has_caller()
+    }
+
     /// How long an accept, a watch, a read or a rest may wait for something to happen, in milliseconds: 0 behind anything that
     /// happened, one more behind each fact that nothing did, up to 50, or 10 where the line has a caller.
     pub fn patience(&self) -> u64
@@ -176,7 +205,7 @@ impl LineMind {
         !self.kind.is_calling()
             && see.line.newest > self.seen
             && see.line.newest != self.shut
-            && see.line.holds_on()
+            && holds_on(&see.line)
             && see.owner.is_own()
     }
 
@@ -202,7 +231,7 @@ impl LineMind {
         ensures { result ≡ sweeps self.now see.now }
     {
         see.line.newest != self.shut
-            && see.line.holds_on()
+            && holds_on(&see.line)
             && !see.owner.is_job()
             && (see.stopping || !self.fresh(see) || self.is_late(see))
     }
@@ -227,7 +256,7 @@ impl LineMind {
         }
         if fresh && self.to_dial(see) {
             Move::Dial
-        } else if fresh || see.line.is_free() {
+        } else if fresh || is_free(&see.line) {
             Move::Accept
         } else {
             Move::Rest
@@ -242,7 +271,7 @@ impl LineMind {
             return if self.ready { Move::Watch } else { Move::Ready };
         }
         let due = may_try(waiter.tried, CONNECT_MS, see.moment);
-        if self.kind.is_calling() && see.line.is_free() && due {
+        if self.kind.is_calling() && is_free(&see.line) && due {
             Move::Connect
         } else {
             Move::Watch
@@ -277,7 +306,7 @@ impl LineMind {
     fn spent(&self, guest: Guest, see: &Look) -> bool
         ensures { result ≡ spent self.now guest see.now }
     {
-        see.line.newest != guest.session || self.shut == guest.session || !see.line.holds_on()
+        see.line.newest != guest.session || self.shut == guest.session || !holds_on(&see.line)
     }
 
     // The caller's session is spent, and nothing is owed.
@@ -295,7 +324,7 @@ impl LineMind {
     fn next_lost(&self, guest: Guest, see: &Look) -> Move
         ensures { result ≡ next_lost self.now guest see.now }
     {
-        let live = guest.live || see.line.shows_live(guest.session);
+        let live = guest.live || shows_live(&see.line, guest.session);
         if self.kind.is_calling() && !guest.avoided && avoidable(see.line.end, live) {
             return Move::Avoid;
         }
@@ -310,7 +339,7 @@ impl LineMind {
         ensures { result ≡ next_close self.now guest see.now }
     {
         let gone = self.kind.is_offering() && (guest.failed || guest.ended);
-        if gone && see.line.is_live() && !guest.attended {
+        if gone && is_live(&see.line) && !guest.attended {
             Move::Attend
         } else {
             Move::Close
@@ -321,7 +350,7 @@ impl LineMind {
     fn next_ending(&self, guest: Guest, see: &Look) -> Move
         ensures { result ≡ next_ending self.now guest see.now }
     {
-        if guest.left > 0 && see.line.is_live() {
+        if guest.left > 0 && is_live(&see.line) {
             if see.line.room > 0 {
                 Move::Put
             } else {
@@ -357,14 +386,14 @@ impl LineMind {
     fn next_serving(&self, guest: Guest, see: &Look) -> Move
         ensures { result ≡ next_serving self.now guest see.now }
     {
-        if !see.line.is_answered() {
+        if !is_answered(&see.line) {
             return if guest.ended {
                 Move::Close
             } else {
                 Move::Watch
             };
         }
-        let live = see.line.is_live();
+        let live = is_live(&see.line);
         if live && guest.wrote.is_some() {
             return self.next_live(guest, see);
         }

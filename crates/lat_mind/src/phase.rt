@@ -4,6 +4,7 @@ ghost use Rattle.std.specs.Prelude.{◌≡◌};
 ghost use Rattle.lat_mind.specs.Phases.{alone_after, fresh_guest, guest_after, has_caller, held_after, hung_up, left_after, owed_after, phase_after, waiter_after, waiting_after};
 
 use crate::fact::Fact;
+use crate::line_look::shows_live;
 use crate::look::Look;
 
 /// A caller without a session.
@@ -154,7 +155,7 @@ impl Guest {
             session: self.session,
             tried: self.tried,
             beside: self.beside,
-            live: self.live || see.line.shows_live(self.session),
+            live: self.live || shows_live(&see.line, self.session),
             left: left_after(self.left, fact),
             owed: owed_after(self.owed, fact),
             ended: self.ended || fact.is_ended(),

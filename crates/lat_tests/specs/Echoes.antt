@@ -1,12 +1,14 @@
 -- The machine of the tests' core. A byte that is put goes out behind its line's number, and what such a frame brings waits at
 -- the line that it names.
-use Rattle.std.specs.Prelude.{ℕ, ◌+◌, ◌-◌, ◌^◌, ◌==◌, min, List, [], ◌∷◌, if◌then◌else◌}
+use Rattle.std.specs.Prelude.{ℕ, ◌+◌, ◌-◌, ◌^◌, ◌==◌, min, List, [], ◌∷◌, if◌then◌else◌, None}
 use Rattle.lat_base.specs.declared.event.Event.{Event}
 use Rattle.lat_base.specs.declared.event.Event.TheVariants as events
 use Rattle.lat_base.specs.declared.answer.Answer.{Answer}
 use Rattle.lat_base.specs.declared.answer.Answer.TheVariants as answers
 use Rattle.lat_base.specs.declared.item.Item.{Item}
 use Rattle.lat_base.specs.declared.item.Item.TheVariants as items
+use Rattle.lat_base.specs.declared.look.LineLook.{LineLook}
+use Rattle.lat_base.specs.declared.state.SessionState.TheVariants as sessions
 
 -- the byte that waits at each line, 0 for none; how many lines were closed; the moment
 pub record Echoes : Type 0 where
@@ -52,3 +54,7 @@ echo_answer s (events.Put line bytes) = put_answer bytes
 echo_answer s (events.Take line n) = if n == 0 then answers.Closed else answers.Took (bytes_of (byte_at s line))
 echo_answer s (events.Close line) = answers.Done
 echo_answer s e = answers.NotHere
+
+-- Each line has a session, its first
+abbrev pub echo_look : Echoes → ℕ → LineLook
+echo_look s line = record { newest = 1; state = sessions.Live; waiting = echo_waiting s line; room = 4096; end = None }

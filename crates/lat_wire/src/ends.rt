@@ -117,9 +117,9 @@ impl<H: RatingRule> Ends<H> {
             result ≡ has_session (core_of w server) line }
     {
         if server {
-            is_held(self.server.line(line))
+            is_held(self.server.look(line).state)
         } else {
-            is_held(self.node.line(line))
+            is_held(self.node.look(line).state)
         }
     }
 
@@ -129,9 +129,9 @@ impl<H: RatingRule> Ends<H> {
             result ≡ waiting_at (core_of w server) line }
     {
         if server {
-            self.server.waiting(line)
+            self.server.look(line).waiting
         } else {
-            self.node.waiting(line)
+            self.node.look(line).waiting
         }
     }
 }

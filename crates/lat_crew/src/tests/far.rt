@@ -73,7 +73,7 @@ impl<C: Core> Far<C> {
     }
 
     fn put_back(&mut self, alloc: Global, line: u8) -> Result<(), Memory> {
-        if self.core.waiting(line) == 0 {
+        if self.core.look(line).waiting == 0 {
             return Ok(());
         }
         if let Answer::Took(items) = self.tell(alloc, &Event::Take { line, n: 4096 })? {

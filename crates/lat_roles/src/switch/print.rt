@@ -14,7 +14,8 @@ pub fn shown_onto(text: &mut String, switch: &SwitchCore, line: u8) -> Result<()
     let Some(shown) = switch.shown(line) else {
         return Ok(());
     };
-    let (state, waiting) = (state_word(switch.line(line)), switch.waiting(line));
+    let look = switch.look(line);
+    let (state, waiting) = (state_word(look.state), look.waiting);
     write!(
         text,
         "line {line} shows {shown} {state} waiting {waiting}\n"

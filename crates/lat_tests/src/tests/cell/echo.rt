@@ -5,8 +5,8 @@ ghost use Rattle.std.specs.Prelude.{◌≡◌, [], OnErr, OnOk, IfOk};
 ghost use Rattle.lat_tests.specs.Echoes.{Echoes, fresh_echoes, byte_at, with_byte, bytes_of, echo_heard, echo_waiting, put_answer};
 
 use lat_base::{
-    Answer, Core, EVERYONE, Event, Item, Items, Mark, Memory, OutBox, OutFrame, Payload,
-    SessionState,
+    Answer, CircuitLook, Core, Correspondent, EVERYONE, Event, Item, Items, LineLook, Mark, Memory,
+    Name, NodeLook, OutBox, OutFrame, Payload, ServiceLook, SessionState, WaiterLook,
 };
 use std::alloc::Global;
 use std::marker::Model;
@@ -100,9 +100,8 @@ fn put(line: u8, bytes: &[u8], out: &mut OutBox) -> Answer
 }
 
 impl Core for Echo {
-    ghost use Rattle.std.specs.Prelude.{◌≡◌};
-    ghost use Rattle.lat_base.specs.declared.state.SessionState.TheVariants as sessions;
-    ghost use Rattle.lat_tests.specs.Echoes.{Echoes, fresh_echoes, echo_next, echo_answer, echo_waiting};
+    ghost use Rattle.std.specs.Prelude.{◌≡◌, true, None};
+    ghost use Rattle.lat_tests.specs.Echoes.{Echoes, fresh_echoes, echo_next, echo_answer, echo_look, echo_waiting};
 
     ghost State = { Echoes };
 
@@ -120,13 +119,27 @@ impl Core for Echo {
 
     ghost frames = { λ s e frames. Unit {0} };
 
-    ghost line_of = { λ s line. sessions.Live };
+    ghost look_of = { echo_look };
+
+    ghost correspondent_of = { λ s line. None };
 
     ghost moment_of = { λ s. s.moment };
 
-    ghost waiting_of = { echo_waiting };
-
     ghost finished_of = { λ s. s.closed };
+
+    ghost living_of = { λ s. 0 };
+
+    ghost drained_of = { λ s. true };
+
+    ghost circuit_of = { λ s at. None };
+
+    ghost node_of = { λ s at. None };
+
+    ghost service_of = { λ s node at. None };
+
+    ghost offered_of = { λ s at. None };
+
+    ghost waiter_of = { λ s service at. None };
 
     ghost ready = { echo_waiting };
 
@@ -155,19 +168,53 @@ impl Core for Echo {
         }
     }
 
-    fn line(&self, _line: u8) -> SessionState {
-        SessionState::Live
+    fn look(&self, line: u8) -> LineLook {
+        LineLook {
+            newest: 1,
+            state: SessionState::Live,
+            waiting: if self.byte_at(line) == 0 { 0 } else { 1 },
+            room: 4096,
+            end: None,
+        }
+    }
+
+    fn correspondent(&self, _line: u8) -> Option<Correspondent> {
+        None
     }
 
     fn moment(&self) -> u64 {
         self.moment
     }
 
-    fn waiting(&self, line: u8) -> u16 {
-        if self.byte_at(line) == 0 { 0 } else { 1 }
-    }
-
     fn finished(&self) -> u32 {
         self.closed
+    }
+
+    fn living(&self) -> u8 {
+        0
+    }
+
+    fn is_drained(&self) -> bool {
+        true
+    }
+
+    fn circuit(&self, _at: usize) -> Option<CircuitLook> {
+        None
+    }
+
+    fn node(&self, _at: usize) -> Option<NodeLook> {
+        None
+    }
+
+    fn service(&self, _node: usize, _at: usize) -> Option<ServiceLook> {
+        None
+    }
+
+    fn offered(&self, _at: usize) -> Option<Name> {
+        None
+    }
+
+    fn waiter(&self, _service: &Name, _at: usize) -> Option<WaiterLook> {
+        None
     }
 }

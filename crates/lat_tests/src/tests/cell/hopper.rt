@@ -3,7 +3,10 @@
 ghost use Rattle.std.specs.Prelude.{◌≡◌, [], OnErr, OnOk, IfOk};
 ghost use Rattle.lat_tests.specs.Hoppers.{Hoppers, full_hopper, hopper_answer, hopper_items, hopper_next};
 
-use lat_base::{Answer, Core, Event, Item, Items, Memory, OutBox, SessionState};
+use lat_base::{
+    Answer, CircuitLook, Core, Correspondent, Event, Item, Items, LineLook, Memory, Name, NodeLook,
+    OutBox, ServiceLook, SessionState, WaiterLook,
+};
 use std::alloc::Global;
 use std::marker::Model;
 
@@ -65,9 +68,8 @@ fn items(alloc: Global, count: u16) -> Result<Items, Memory>
 }
 
 impl Core for Hopper {
-    ghost use Rattle.std.specs.Prelude.{◌≡◌};
-    ghost use Rattle.lat_base.specs.declared.state.SessionState.TheVariants as sessions;
-    ghost use Rattle.lat_tests.specs.Hoppers.{Hoppers, full_hopper, hopper_answer, hopper_next};
+    ghost use Rattle.std.specs.Prelude.{◌≡◌, true, None};
+    ghost use Rattle.lat_tests.specs.Hoppers.{Hoppers, full_hopper, hopper_answer, hopper_look, hopper_next};
 
     ghost State = { Hoppers };
 
@@ -85,13 +87,27 @@ impl Core for Hopper {
 
     ghost frames = { λ s e frames. Unit {0} };
 
-    ghost line_of = { λ s line. sessions.Live };
+    ghost look_of = { λ s line. hopper_look s };
+
+    ghost correspondent_of = { λ s line. None };
 
     ghost moment_of = { λ s. s.moment };
 
-    ghost waiting_of = { λ s line. s.waiting };
-
     ghost finished_of = { λ s. 0 };
+
+    ghost living_of = { λ s. 0 };
+
+    ghost drained_of = { λ s. true };
+
+    ghost circuit_of = { λ s at. None };
+
+    ghost node_of = { λ s at. None };
+
+    ghost service_of = { λ s node at. None };
+
+    ghost offered_of = { λ s at. None };
+
+    ghost waiter_of = { λ s service at. None };
 
     ghost ready = { λ c line. c.waiting };
 
@@ -117,19 +133,53 @@ impl Core for Hopper {
         }
     }
 
-    fn line(&self, _line: u8) -> SessionState {
-        SessionState::Live
+    fn look(&self, _line: u8) -> LineLook {
+        LineLook {
+            newest: 1,
+            state: SessionState::Live,
+            waiting: self.waiting,
+            room: 4096,
+            end: None,
+        }
+    }
+
+    fn correspondent(&self, _line: u8) -> Option<Correspondent> {
+        None
     }
 
     fn moment(&self) -> u64 {
         self.moment
     }
 
-    fn waiting(&self, _line: u8) -> u16 {
-        self.waiting
-    }
-
     fn finished(&self) -> u32 {
         0
+    }
+
+    fn living(&self) -> u8 {
+        0
+    }
+
+    fn is_drained(&self) -> bool {
+        true
+    }
+
+    fn circuit(&self, _at: usize) -> Option<CircuitLook> {
+        None
+    }
+
+    fn node(&self, _at: usize) -> Option<NodeLook> {
+        None
+    }
+
+    fn service(&self, _node: usize, _at: usize) -> Option<ServiceLook> {
+        None
+    }
+
+    fn offered(&self, _at: usize) -> Option<Name> {
+        None
+    }
+
+    fn waiter(&self, _service: &Name, _at: usize) -> Option<WaiterLook> {
+        None
     }
 }

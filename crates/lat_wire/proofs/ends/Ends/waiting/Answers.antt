@@ -1,4 +1,5 @@
-use Rattle.std.proofs.Common.{sym, subst, refl, ◌≡◌}
+use Rattle.std.proofs.Common.{sym, ap, subst, refl, ◌≡◌}
+use Rattle.lat_base.specs.declared.look.LineLook.{LineLook}
 use Rattle.lat_machines.specs.cores.Lines.{waiting_at}
 use Rattle.lat_machines.specs.world.Machines.{core_of}
 use Rattle.lat_server.specs.Stands as servers
@@ -10,11 +11,11 @@ use Rattle.lat_wire.proofs.ends.Ends.waiting.Goals as goal
 pub returns-then-server : goal.returns-then-server
 returns-then-server g c = λ w a.
     let s : servers.Stands c.self.inside.server w.server = subst (λ z. servers.Stands z.server w.server) (sym c.self.view_is) a.server in
-    subst (λ b. c.waiting.result ≡ waiting_at (core_of w b) c.args.line) (sym c.if-server.true)
-    (c.waiting.ensures.state (record { config = server_kept.config_of c.self.inside.server; state = w.server }) (record { config = refl; state = s }))
+    subst (λ b. c.look.result.waiting ≡ waiting_at (core_of w b) c.args.line) (sym c.if-server.true)
+    (ap (λ (l : LineLook). l.waiting) (c.look.ensures.state (record { config = server_kept.config_of c.self.inside.server; state = w.server }) (record { config = refl; state = s })))
 
 pub returns-else-server : goal.returns-else-server
 returns-else-server g c = λ w a.
     let s : nodes.Stands c.self.inside.node w.node = subst (λ z. nodes.Stands z.node w.node) (sym c.self.view_is) a.node in
-    subst (λ b. c.waiting-else-server.result ≡ waiting_at (core_of w b) c.args.line) (sym c.if-server.false)
-    (c.waiting-else-server.ensures.state (record { config = node_kept.config_of c.self.inside.node; rule = c.self.inside.node.rule; state = w.node }) (record { config = refl; rule = refl; state = s }))
+    subst (λ b. c.look-else-server.result.waiting ≡ waiting_at (core_of w b) c.args.line) (sym c.if-server.false)
+    (ap (λ (l : LineLook). l.waiting) (c.look-else-server.ensures.state (record { config = node_kept.config_of c.self.inside.node; rule = c.self.inside.node.rule; state = w.node }) (record { config = refl; rule = refl; state = s })))
