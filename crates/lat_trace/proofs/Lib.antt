@@ -1,0 +1,14 @@
+pub mod Slices
+pub mod Growing
+pub mod Entering
+pub mod Telling
+pub mod Counting
+pub mod Happening
+pub mod Playing
+pub mod Framing
+pub mod Printing
+pub mod Stations
+pub mod Wording
+pub mod Statuses
+pub mod Gathering
+pub mod Leading
