@@ -11,18 +11,18 @@ use Rattle.lat_replay.specs.Stands.{Stands}
 use Rattle.lat_replay.specs.Played.{State, next, refusal, Played, Through, Refused, unless, played_from, played, StandsAt, StopsBy}
 
 -- what was played is not refused at its first event
-passes : (o : Option EventFault) (i : ℕ) (s t : State) (rest : Played) → unless o i s rest ≡ Through t → o ≡ None
+pub passes : (o : Option EventFault) (i : ℕ) (s t : State) (rest : Played) → unless o i s rest ≡ Through t → o ≡ None
 passes None i s t rest e = refl
 passes (Some f) i s t rest e = let z : ⊥ = cc in absurd z
 
-past : (o : Option EventFault) (i : ℕ) (s : State) (rest : Played) → o ≡ None → unless o i s rest ≡ rest
+pub past : (o : Option EventFault) (i : ℕ) (s : State) (rest : Played) → o ≡ None → unless o i s rest ≡ rest
 past None i s rest e = refl
 past (Some f) i s rest e = let z : ⊥ = cc in absurd z
 
 stops : (o : Option EventFault) (i : ℕ) (s : State) (rest : Played) (f : EventFault) → o ≡ Some f → unless o i s rest ≡ Refused i f s
 stops o i s rest f e = ap (λ z. unless z i s rest) e
 
-same_state : (s t : State) → Through s ≡ Through t → s ≡ t
+pub same_state : (s t : State) → Through s ≡ Through t → s ≡ t
 same_state s t e = cc
 
 same_event : (x e : WorldEvent) → Some x ≡ Some e → x ≡ e

@@ -4,13 +4,13 @@ use Rattle.std.specs.Prelude.{Option, Some, None, Ok, Err}
 use Rattle.lat_schedule.specs.Places.{Place, Over, Unended, Numbered, line_at, many}
 
 -- a line that goes on
-said_more : {S : Type 0} (more : S → ℕ → List ℕ → Option S) (before after : S) (number : ℕ) (line : List ℕ) (rest : Place)
+pub said_more : {S : Type 0} (more : S → ℕ → List ℕ → Option S) (before after : S) (number : ℕ) (line : List ℕ) (rest : Place)
     → more before number line ≡ Some after → many more before (Numbered number line rest) ≡ many more after rest
 unfolding many
 said_more more before after number line rest is = rw (is, many) refl
 
 -- a line that doesn't
-said_none : {S : Type 0} (more : S → ℕ → List ℕ → Option S) (before : S) (number : ℕ) (line : List ℕ) (rest : Place)
+pub said_none : {S : Type 0} (more : S → ℕ → List ℕ → Option S) (before : S) (number : ℕ) (line : List ℕ) (rest : Place)
     → more before number line ≡ None → many more before (Numbered number line rest) ≡ (before, Numbered number line rest)
 unfolding many
 said_none more before number line rest is = rw (is, many) refl

@@ -12,3 +12,4 @@ pub mod Listed
 pub mod ScheduleText
 pub mod EventText
 pub mod ReadsAll
+pub mod ReadBack

@@ -6,6 +6,7 @@ mod event;
 mod event_line;
 mod front;
 mod groups;
+pub mod laws;
 mod line_numbers;
 mod listed;
 mod numbers;
