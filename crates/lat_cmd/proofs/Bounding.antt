@@ -20,7 +20,9 @@ plain_bounded w =
     (if_bounded (bytes_eq w (codes "choose")) _ _ tt
     (if_bounded (bytes_eq w (codes "replay")) _ _ tt
     (if_bounded (bytes_eq w (codes "audit")) _ _ tt
-    (if_bounded (bytes_eq w (codes "pcap")) _ _ tt tt))))
+    (if_bounded (bytes_eq w (codes "pcap")) _ _ tt
+    (if_bounded (bytes_eq w (codes "trace")) _ _ tt
+    (if_bounded (bytes_eq w (codes "draw")) _ _ tt tt))))))
 
 map_bounded : (f : ℕ → Command) (o : Option ℕ) → IfSome o (λ n. IsBounded (f n)) → IfSome (option_map f o) IsBounded
 map_bounded f None h = tt

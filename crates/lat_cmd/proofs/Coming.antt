@@ -20,9 +20,12 @@ use Rattle.lat_wire.specs.declared.fault.EventFault.TheVariants as faults
 use Rattle.lat_replay.specs.Kept.{Kept}
 use Rattle.lat_replay.specs.Setups.{setups_shown}
 use Rattle.lat_replay.specs.Played.{State, Played, Through, Refused, open_state, played}
+use Rattle.lat_trace.specs.TraceText.{trace_text, trace_of}
+use Rattle.lat_trace.proofs.Statuses.{told_statuses}
+use Rattle.lat_draw.specs.DrawText.{draw_text, draw_of}
 use Rattle.lat_cmd.specs.generate.Grown as gen
 use Rattle.lat_cmd.specs.declared.command.Command.{Command}
-use Rattle.lat_cmd.specs.declared.command.Command.TheVariants.{Show, Choose, Replay, Capture, Settle, Audit, Pcap, Gen, Bench}
+use Rattle.lat_cmd.specs.declared.command.Command.TheVariants.{Show, Choose, Replay, Capture, Settle, Audit, Pcap, Trace, Draw, Gen, Bench}
 use Rattle.lat_cmd.specs.Answers.{Ended, Answer, Tale, plain, with_world, tale_answer, answered_of, tale_answer_at, answered_behind, reported, captured, settled}
 use Rattle.lat_cmd.specs.Answers.{settled_to, gen_of, bench_of, answer_to, HandsBack}
 use Rattle.lat_cmd.specs.Commands.{ComesTo, makes_world}
@@ -114,6 +117,9 @@ bench_fits seed = grown_fits (gen.bench_text seed) gen.setups (gen.grown seed).s
 done_fits : (status : ℕ) (is : Bool) → (status ≡ 0) × (is ≡ true) → is ≡ (true && nat_eq status 0)
 done_fits status is h = h.1 ∙ ap (λ n. nat_eq n 0) (sym h.0)
 
+told_fits : (c : Command) (a : ℕ × List ℕ) → makes_world c ≡ false → ((status : ℕ) → ComesTo Replay status → ComesTo c status) → ComesTo Replay a.0 → Fits c (plain a)
+told_fits c a none same of = (same a.0 of, sym (ap (λ b. b && nat_eq a.0 0) none))
+
 pub fits : (c : Command) (input : List ℕ) → Fits c (answer_to c input)
 fits Show input = show_fits (shows.lines_printed 1 (lines_of input))
 fits Choose input = choose_fits (chooses.printed_after (chooses.opening_of (lines_of input)))
@@ -122,6 +128,8 @@ fits (Capture p) input = tale_fits (captured p) input (capture_fits p)
 fits (Settle count) input = tale_fits (settled count) input (settle_fits count)
 fits Audit input = audit_fits (capture_of input)
 fits Pcap input = pcap_fits (contents_of input)
+fits Trace input = told_fits Trace (trace_of input) refl (λ status of. of) (told_statuses 100000 trace_text input)
+fits Draw input = told_fits Draw (draw_of input) refl (λ status of. of) (told_statuses 2000 draw_text input)
 fits (Gen seed) input = ((gen_fits seed).0, done_fits (gen_of seed).status (is_some (gen_of seed).world) (gen_fits seed))
 fits (Bench seed) input = ((bench_fits seed).0, done_fits (bench_of seed).status (is_some (bench_of seed).world) (bench_fits seed))
 

@@ -4,9 +4,9 @@ use Rattle.std.proofs.Common.{refl, sym, ap, ◌∙◌, subst, arith}
 use Rattle.std.specs.Prelude.{IfSome, codes}
 use Rattle.std.proofs.lemmas.Bool.Decides.{nat_tests}
 use Rattle.lat_cmd.specs.declared.command.Command.{Command}
-use Rattle.lat_cmd.specs.declared.command.Command.TheVariants.{Show, Choose, Replay, Capture, Settle, Audit, Pcap, Gen, Bench}
+use Rattle.lat_cmd.specs.declared.command.Command.TheVariants.{Show, Choose, Replay, Capture, Settle, Audit, Pcap, Trace, Draw, Gen, Bench}
 use Rattle.lat_cmd.specs.declared.end.RunEnd.{RunEnd}
-use Rattle.lat_cmd.specs.Answers.{Answer, plain, answer_of, answer_to, capture_of, input_of}
+use Rattle.lat_cmd.specs.Answers.{Answer, plain, answer_of, answer_to, capture_of, gen_of, input_of}
 use Rattle.lat_cmd.specs.Laws.{SettleTakesAll, IsLawful, ObeysLaw}
 use Rattle.lat_cmd.specs.Outcomes.{IsEarly, WritesAnswer, Answers}
 use Rattle.lat_cmd.specs.Runs.{IsRead}
@@ -73,7 +73,9 @@ lawless Choose left status before now undone passes = tt
 lawless Replay left status before now undone passes = tt
 lawless Audit left status before now undone passes = tt
 lawless Pcap left status before now undone passes = tt
-lawless (Gen seed) left status before now undone passes = tt
+lawless Trace left status before now undone passes = tt
+lawless Draw left status before now undone passes = tt
+lawless (Gen seed) left status before now undone passes = λ done. absurd (undone done)
 lawless (Bench seed) left status before now undone passes = tt
 
 failed : (c : Command) (left : Option (List ℕ)) (status : ℕ) (before now : Option (List ℕ)) → status ≡ 5 → ObeysLaw c left status before now
@@ -95,5 +97,7 @@ lawful_told Choose left input end before now read law (inl told) = tt
 lawful_told Replay left input end before now read law (inl told) = tt
 lawful_told Audit left input end before now read law (inl told) = tt
 lawful_told Pcap left input end before now read law (inl told) = tt
-lawful_told (Gen seed) left input end before now read law (inl told) = tt
+lawful_told Trace left input end before now read law (inl told) = tt
+lawful_told Draw left input end before now read law (inl told) = tt
+lawful_told (Gen seed) left input end before now read law (inl told) = λ done. ((gen_of seed).text, told.1, law)
 lawful_told (Bench seed) left input end before now read law (inl told) = tt

@@ -38,7 +38,7 @@ pub opens : {H : Type 0} (k : Kept H) → Stands k (open_machines (setups_of k))
 opens k stands moment = record { machines = stands; moment = moment }
 
 -- a schedule that is played whole
-through :
+pub through :
     (tale : Tale) (s : Schedule) (u v : Setups) (t : State) → u ≡ setups_shown s.setup → v ≡ u → played u (open_state u) s.events ≡ Through t →
     answered_of tale s ≡ tale v t
 unfolding answered_of

@@ -6,7 +6,7 @@ use Rattle.lat_replay.specs.Kept.{Kept}
 use Rattle.lat_replay.specs.Stands.{Stands}
 use Rattle.lat_replay.proofs.Promising.{stands_promises, stands_safe}
 use Rattle.lat_cmd.specs.declared.command.Command.{Command}
-use Rattle.lat_cmd.specs.declared.command.Command.TheVariants.{Show, Choose, Replay, Capture, Settle, Audit, Pcap, Gen, Bench}
+use Rattle.lat_cmd.specs.declared.command.Command.TheVariants.{Show, Choose, Replay, Capture, Settle, Audit, Pcap, Trace, Draw, Gen, Bench}
 use Rattle.lat_cmd.specs.declared.end.RunEnd.{RunEnd}
 use Rattle.lat_cmd.specs.Answers.{Ended, Answer, plain, answer_to, input_of, HandsBack}
 use Rattle.lat_cmd.specs.Commands.{ComesTo, IsStatusOf, makes_world, reads}
@@ -33,6 +33,8 @@ one_of (Capture p) status is = is
 one_of (Settle count) status is = is
 one_of Audit status is = two status is
 one_of Pcap status is = two status is
+one_of Trace status is = is
+one_of Draw status is = is
 one_of (Gen seed) status is = inl is
 one_of (Bench seed) status is = inl is
 

@@ -5,6 +5,8 @@ use Rattle.lat_machines.specs.world.Reports.{report}
 use Rattle.lat_show.specs.ShowOf.{show_of}
 use Rattle.lat_show.specs.choice.ChooseOf.{choose_of}
 use Rattle.lat_dump.specs.DumpOf.{dump_of}
+use Rattle.lat_trace.specs.TraceText.{trace_of}
+use Rattle.lat_draw.specs.DrawText.{draw_of}
 use Rattle.lat_audit.specs.AuditOf.{audit_of}
 use Rattle.lat_audit.specs.CapturedText.{captured_text}
 use Rattle.lat_settle.specs.Rounds as rounds
@@ -22,7 +24,7 @@ use Rattle.lat_schedule.specs.declared.schedule.ScheduleFault.{ScheduleFault}
 use Rattle.lat_schedule.specs.declared.schedule.ScheduleFault.TheVariants as faults
 use Rattle.lat_text.specs.WrongLine.{wrong_line}
 use Rattle.lat_cmd.specs.declared.command.Command.{Command}
-use Rattle.lat_cmd.specs.declared.command.Command.TheVariants.{Show, Choose, Replay, Capture, Settle, Audit, Pcap, Gen, Bench}
+use Rattle.lat_cmd.specs.declared.command.Command.TheVariants.{Show, Choose, Replay, Capture, Settle, Audit, Pcap, Trace, Draw, Gen, Bench}
 use Rattle.lat_cmd.specs.Commands.{reads}
 use Rattle.lat_replay.specs.Refusals.{refused_of}
 
@@ -110,6 +112,8 @@ answer_to (Capture circuit) input = capture_of circuit input
 answer_to (Settle count) input = settle_of count input
 answer_to Audit input = plain (audit_of input)
 answer_to Pcap input = plain (dump_of input)
+answer_to Trace input = plain (trace_of input)
+answer_to Draw input = plain (draw_of input)
 answer_to (Gen seed) input = gen_of seed
 answer_to (Bench seed) input = bench_of seed
 

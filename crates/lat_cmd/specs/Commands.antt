@@ -3,7 +3,7 @@ use Rattle.std.specs.Prelude.{◌≡◌, ◌≤◌, ◌⊎◌, ℕ, ◌-◌, ◌
 use Rattle.std.specs.Str.{bytes_eq}
 use Rattle.lat_text.specs.Numbers.{number_within}
 use Rattle.lat_cmd.specs.declared.command.Command.{Command}
-use Rattle.lat_cmd.specs.declared.command.Command.TheVariants.{Show, Choose, Replay, Capture, Settle, Audit, Pcap, Gen, Bench}
+use Rattle.lat_cmd.specs.declared.command.Command.TheVariants.{Show, Choose, Replay, Capture, Settle, Audit, Pcap, Trace, Draw, Gen, Bench}
 
 -- a word alone
 abbrev pub plain_of : List ℕ → Option Command
@@ -13,6 +13,8 @@ plain_of w =
     else if bytes_eq w (codes "replay") then Some Replay
     else if bytes_eq w (codes "audit") then Some Audit
     else if bytes_eq w (codes "pcap") then Some Pcap
+    else if bytes_eq w (codes "trace") then Some Trace
+    else if bytes_eq w (codes "draw") then Some Draw
     else None
 
 -- a word with a number behind it: one below 2^64, a circuit, or so many rounds
@@ -47,6 +49,8 @@ makes_world Show = false
 makes_world Choose = false
 makes_world Audit = false
 makes_world Pcap = false
+makes_world Trace = false
+makes_world Draw = false
 makes_world command = true
 
 -- the statuses of what a command comes to; what reads nothing finds nothing wrong
@@ -54,6 +58,8 @@ abbrev pub ComesTo : Command → ℕ → Type 0
 ComesTo (Gen seed) status = status ≡ 0
 ComesTo (Bench seed) status = status ≡ 0
 ComesTo Replay status = (status ≡ 0) ⊎ (status ≡ 2) ⊎ (status ≡ 3) ⊎ (status ≡ 6)
+ComesTo Trace status = (status ≡ 0) ⊎ (status ≡ 2) ⊎ (status ≡ 3) ⊎ (status ≡ 6)
+ComesTo Draw status = (status ≡ 0) ⊎ (status ≡ 2) ⊎ (status ≡ 3) ⊎ (status ≡ 6)
 ComesTo (Capture circuit) status = (status ≡ 0) ⊎ (status ≡ 2) ⊎ (status ≡ 3) ⊎ (status ≡ 6)
 ComesTo (Settle rounds) status = (status ≡ 0) ⊎ (status ≡ 2) ⊎ (status ≡ 3) ⊎ (status ≡ 6)
 ComesTo command status = (status ≡ 0) ⊎ (status ≡ 2)

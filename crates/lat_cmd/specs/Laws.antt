@@ -15,8 +15,9 @@ use Rattle.lat_replay.specs.Kept.{Kept, setups_of}
 use Rattle.lat_replay.specs.Stands.{Stands}
 use Rattle.lat_replay.specs.Promises.{Promises}
 use Rattle.lat_cmd.specs.declared.command.Command.{Command}
-use Rattle.lat_cmd.specs.declared.command.Command.TheVariants.{Capture, Settle, Audit}
-use Rattle.lat_cmd.specs.Answers.{Ended, plain, replay_of, capture_of, settle_of, answer_of}
+use Rattle.lat_cmd.specs.declared.command.Command.TheVariants.{Capture, Settle, Audit, Gen}
+use Rattle.lat_cmd.specs.Answers.{Ended, plain, replay_of, capture_of, settle_of, gen_of, answer_of}
+use Rattle.lat_cmd.specs.generate.Reread.{IsReplayed}
 
 -- the line `none`; or a capture: where it is within the limit of an input, `audit` answers `legal` to it, with its RUNs
 abbrev pub IsLegalText : List ℕ → Type 0
@@ -56,13 +57,15 @@ SettleTakesAll count input status =
 abbrev pub IsLawful : Command → List ℕ → Type 0
 IsLawful (Capture p) input = CaptureIsLegal p input
 IsLawful (Settle count) input = SettleTakesAll count input (settle_of count input).status
+IsLawful (Gen seed) input = IsReplayed seed (gen_of seed).text
 IsLawful command input = Unit {0}
 
--- What holds of a run with this status: what it wrote of a circuit is legal; and its rounds brought all that was put behind the
--- schedule that the source had left, where that is known
+-- What holds of a run with this status: what it wrote of a circuit is legal; its rounds brought all that was put behind the
+-- schedule that the source had left, where that is known; and `replay` leads the schedule that it generated to its world
 abbrev pub ObeysLaw : Command → (left : Option (List ℕ)) → (status : ℕ) → (before now : Option (List ℕ)) → Type 0
 ObeysLaw (Capture p) left status before now = status ≡ 0 → (text : List ℕ) × Appends before now text × IsLegalText text
 ObeysLaw (Settle count) left status before now = IfSome left (λ input. SettleTakesAll count input status)
+ObeysLaw (Gen seed) left status before now = status ≡ 0 → (text : List ℕ) × Appends before now text × IsReplayed seed text
 ObeysLaw command left status before now = Unit {0}
 
 -- A world stands for two machines; and all that it stands for keep what both ends are promised, and all laws of the machines

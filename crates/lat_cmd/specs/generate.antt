@@ -3,3 +3,4 @@ pub mod Growths
 pub mod Draws
 pub mod Turns
 pub mod Front
+pub mod Reread

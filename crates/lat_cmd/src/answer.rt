@@ -13,7 +13,7 @@ use crate::growth::{made, measured};
 use crate::outcome::Outcome;
 use crate::replay::replay;
 use crate::settle::settle;
-use crate::texts::{audited, chosen, dumped, shown};
+use crate::texts::{audited, chosen, drawn, dumped, shown, traced};
 use lat_base::Memory;
 use lat_node::RatingRule;
 use std::alloc::Global;
@@ -39,6 +39,8 @@ pub(crate) fn answered<H: RatingRule>(
         Command::Settle(rounds) => settle(alloc, rule, input, rounds),
         Command::Audit => audited(alloc, input),
         Command::Pcap => dumped(alloc, input),
+        Command::Trace => traced(alloc, rule, input),
+        Command::Draw => drawn(alloc, rule, input),
         Command::Gen(seed) => made(alloc, seed, rule),
         Command::Bench(seed) => measured(alloc, seed, rule),
     }

@@ -23,6 +23,10 @@ pub enum Command {
     Audit,
     /// `pcap`: prints the frames that the input, a pcap file, holds.
     Pcap,
+    /// `trace`: plays the schedule, and prints all that happened, in order.
+    Trace,
+    /// `draw`: plays the schedule, and prints a picture of all that happened.
+    Draw,
     /// `gen N`: prints the schedule that is generated from this number.
     Gen(u64),
     /// `bench N`: plays that schedule, and prints what it came to in one line.
@@ -48,6 +52,8 @@ fn plain_of(word: &str) -> Option<Command>
         "replay" => Some(Command::Replay),
         "audit" => Some(Command::Audit),
         "pcap" => Some(Command::Pcap),
+        "trace" => Some(Command::Trace),
+        "draw" => Some(Command::Draw),
         _ => None,
     }
 }

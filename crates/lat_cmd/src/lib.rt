@@ -8,6 +8,7 @@ mod course;
 mod end;
 mod generate;
 mod growth;
+pub mod laws;
 mod outcome;
 mod replay;
 mod settle;

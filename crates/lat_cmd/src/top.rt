@@ -102,11 +102,12 @@ fn obeyed<S: Source, K: Sink, H: RatingRule>(
 /// - 1: the words are no command; nothing was read, and `words` was written;
 /// - 2: the input isn't of the command's form; `line N form` was written, N the first wrong line, counted from 1; of `pcap`
 ///   what stands in front of the first wrong part, and `bad PART PLACE`;
-/// - 3: an event of the schedule, or of a round, is refused; the line that says why was written;
+/// - 3: an event of the schedule, or of a round, is refused; the line that says why was written, of `trace` behind all that
+///   happened before it, and of `draw` as the last words of the picture;
 /// - 4: a read failed; nothing was written;
 /// - 5: a write failed; a prefix of the output was written;
-/// - 6: the input has more than 16,777,216 bytes, the schedule more than 100,000 events, or its world sent too many frames;
-///   the line that says so was written;
+/// - 6: the input has more than 16,777,216 bytes, the schedule more than 100,000 events (of `draw` 2,000), or its world sent too
+///   many frames; the line that says so was written;
 /// - 9: no memory was found; nothing was written.
 ///
 /// It reads the source to its end before it writes, and makes its whole output first; `gen` and `bench` read nothing. It makes
@@ -139,7 +140,8 @@ pub fn run<S: Source, K: Sink, H: RatingRule>(
         reads c ≡ false → src.new ≡ src.old) }
 
     // What it prints of a circuit is `none`, or `audit` finds it legal; and where nothing was lost, enough rounds bring all that
-    // was put, and are refused for the number of frames alone.
+    // was put, and are refused for the number of frames alone. To the schedule that it generates `replay` answers 0, with the
+    // report of the world that is handed back.
     ensures law { IfSome (command_of (map string_bytes words.now)) (λ c.
         ObeysLaw c (S.left src.old) result.status (K.written out.old) (K.written out.new)) }
 

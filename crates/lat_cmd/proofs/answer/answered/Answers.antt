@@ -1,5 +1,6 @@
-use Rattle.lat_cmd.specs.declared.command.Command.TheVariants.{Show, Choose, Replay, Capture, Settle, Audit, Pcap, Gen, Bench}
+use Rattle.lat_cmd.specs.declared.command.Command.TheVariants.{Show, Choose, Replay, Capture, Settle, Audit, Pcap, Trace, Draw, Gen, Bench}
 use Rattle.lat_cmd.proofs.Forming.{answers_as, lawful_as, no_law}
+use Rattle.lat_cmd.proofs.generate.Rereads.{gen_replayed}
 use Rattle.lat_cmd.proofs.answer.answered.Goals as goal
 
 pub returns-in-Show-clause-answer : goal.returns-in-Show-clause-answer
@@ -47,11 +48,23 @@ returns-in-Pcap-clause-answer g c = answers_as c.args.command Pcap c.args.input.
 pub returns-in-Pcap-clause-law : goal.returns-in-Pcap-clause-law
 returns-in-Pcap-clause-law g c = no_law c.args.command Pcap c.args.input.now c.dumped.result c.in-Pcap.is tt
 
+pub returns-in-Trace-clause-answer : goal.returns-in-Trace-clause-answer
+returns-in-Trace-clause-answer g c = answers_as c.args.command Trace c.args.input.now c.traced.result c.in-Trace.is c.traced.ensures
+
+pub returns-in-Trace-clause-law : goal.returns-in-Trace-clause-law
+returns-in-Trace-clause-law g c = no_law c.args.command Trace c.args.input.now c.traced.result c.in-Trace.is tt
+
+pub returns-in-Draw-clause-answer : goal.returns-in-Draw-clause-answer
+returns-in-Draw-clause-answer g c = answers_as c.args.command Draw c.args.input.now c.drawn.result c.in-Draw.is c.drawn.ensures
+
+pub returns-in-Draw-clause-law : goal.returns-in-Draw-clause-law
+returns-in-Draw-clause-law g c = no_law c.args.command Draw c.args.input.now c.drawn.result c.in-Draw.is tt
+
 pub returns-in-Gen-clause-answer : goal.returns-in-Gen-clause-answer
 returns-in-Gen-clause-answer g c = answers_as c.args.command (Gen c.in-Gen.seed) c.args.input.now c.made.result c.in-Gen.is c.made.ensures
 
 pub returns-in-Gen-clause-law : goal.returns-in-Gen-clause-law
-returns-in-Gen-clause-law g c = no_law c.args.command (Gen c.in-Gen.seed) c.args.input.now c.made.result c.in-Gen.is tt
+returns-in-Gen-clause-law g c = no_law c.args.command (Gen c.in-Gen.seed) c.args.input.now c.made.result c.in-Gen.is (gen_replayed c.in-Gen.seed)
 
 pub returns-in-Bench-clause-answer : goal.returns-in-Bench-clause-answer
 returns-in-Bench-clause-answer g c = answers_as c.args.command (Bench c.in-Bench.seed) c.args.input.now c.measured.result c.in-Bench.is c.measured.ensures
