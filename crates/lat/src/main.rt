@@ -1,4 +1,4 @@
-//! The program `lat`: hands its words, standard input and standard output to `run`, and ends with its status.
+//! The program `lat`: hands its words, standard input, standard output and standard error to `run`, and ends with its status.
 #![tactic(auto)]
 
 ghost use Rattle.std.specs.Prelude.{◌≡◌, ◌-◌, ◌≤◌, min};
@@ -23,26 +23,33 @@ fn words_of(alloc: Global, all: Args<Global>) -> Result<Vec<String>, AllocError>
 }
 
 // The status of the program, whose node rates its services by this rule.
-fn status_by<H: RatingRule, S: Source, K: Sink>(
+fn status_by<H: RatingRule, S: Source, K: Sink, E: Sink>(
     alloc: Global,
     words: &[String],
     rule: H,
     source: &mut S,
     sink: &mut K,
+    told: &mut E,
 ) -> u8
     requires fact { H.fact rule }
     requires rates { RatesWhatIsLeft (H.may rule) }
 {
-    run(alloc, words, rule, source, sink).status
+    run(alloc, words, rule, source, sink, told).status
 }
 
 // The status of the program, whose node rates its services by the lines that are free, 255 at most.
-fn status<S: Source, K: Sink>(alloc: Global, words: &[String], source: &mut S, sink: &mut K) -> u8 {
+fn status<S: Source, K: Sink, E: Sink>(
+    alloc: Global,
+    words: &[String],
+    source: &mut S,
+    sink: &mut K,
+    told: &mut E,
+) -> u8 {
     let rule = |_place: usize, used: u16, max: u16| -> u8
         requires { used ≤ max }
         ensures { result ≡ min (max - used) 255 }
     { (max - used).min(255) as u8 };
-    status_by(alloc, words, RateHook::new(rule), source, sink)
+    status_by(alloc, words, RateHook::new(rule), source, sink, told)
 }
 
 fn main(rt: HostRuntime) -> ExitCode {
@@ -57,5 +64,6 @@ fn main(rt: HostRuntime) -> ExitCode {
     };
     let mut source = StdSource::new(rt.stdin());
     let mut sink = StdSink::new(io::writer(&rt));
-    ExitCode::from(status(rt.alloc(), &words, &mut source, &mut sink))
+    let mut told = StdSink::new(rt.stderr());
+    ExitCode::from(status(rt.alloc(), &words, &mut source, &mut sink, &mut told))
 }

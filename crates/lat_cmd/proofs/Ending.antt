@@ -1,5 +1,5 @@
 -- What a run answers to its input, and the laws of what it prints.
-use Rattle.std.proofs.Common.{◌≡◌, ◌≢◌, ℕ, ◌<◌, ◌≤◌, ◌⊎◌, inl, inr, Bool, true, false, ltb, ◌&&◌, List, length, Option, Some, None}
+use Rattle.std.proofs.Common.{◌≡◌, ◌≢◌, ℕ, ◌<◌, ◌≤◌, inl, inr, true, false, ltb, List, length, Option, Some, None}
 use Rattle.std.proofs.Common.{refl, sym, ap, ◌∙◌, subst, arith}
 use Rattle.std.specs.Prelude.{IfSome, codes}
 use Rattle.std.proofs.lemmas.Bool.Decides.{nat_tests}
@@ -12,7 +12,7 @@ use Rattle.lat_cmd.specs.Outcomes.{IsEarly, WritesAnswer, Answers}
 use Rattle.lat_cmd.specs.Runs.{IsRead}
 
 -- an input past the limit
-past_limit : (c : Command) (input : List ℕ) → 16777216 < length input → answer_of c input ≡ plain (6, codes "limit bytes\n")
+pub past_limit : (c : Command) (input : List ℕ) → 16777216 < length input → answer_of c input ≡ plain (6, codes "limit bytes\n")
 past_limit c input h =
     let past : ltb 16777216 (length input) ≡ true = grind (arith, nat_tests) in
     rw past
@@ -23,14 +23,14 @@ within_limit c input h =
     let within : ltb 16777216 (length input) ≡ false = grind (arith, nat_tests) in
     rw within
 
-known : (P : List ℕ → Type 0) (o : Option (List ℕ)) (xs : List ℕ) → o ≡ Some xs → IfSome o P → P xs
+pub known : (P : List ℕ → Type 0) (o : Option (List ℕ)) (xs : List ℕ) → o ≡ Some xs → IfSome o P → P xs
 known P o xs is p = subst (λ z. IfSome z P) is p
 
 -- what the command of the words is
 pub of_command : (P : Command → Type 0) (words : Option Command) (command : Command) → words ≡ Some command → P command → IfSome words P
 of_command P words command is p = subst (λ z. IfSome z P) (sym is) p
 
-if_known : (P : List ℕ → Type 0) (o : Option (List ℕ)) → ((xs : List ℕ) → o ≡ Some xs → P xs) → IfSome o P
+pub if_known : (P : List ℕ → Type 0) (o : Option (List ℕ)) → ((xs : List ℕ) → o ≡ Some xs → P xs) → IfSome o P
 if_known P None p = tt
 if_known P (Some xs) p = p xs refl
 

@@ -6,3 +6,6 @@ pub mod Replaying
 pub mod Capturing
 pub mod Rounding
 pub mod Running
+pub mod Telling
+pub mod Keeping
+pub mod Refusing

@@ -1,6 +1,6 @@
 -- Where a schedule leads.
-use Rattle.std.proofs.Common.{◌≡◌, ◌≢◌, ℕ, suc, ◌+◌, ◌<◌, length, List, [], ◌∷◌, Option, Some, None, Result, Ok, Err, refl, sym, ap}
-use Rattle.std.proofs.Common.{◌∙◌, subst, arith}
+use Rattle.std.proofs.Common.{◌≡◌, ◌≢◌, ℕ, List, Result, Ok, Err, refl, sym, ap}
+use Rattle.std.proofs.Common.{◌∙◌, subst}
 use Rattle.std.specs.Prelude.{IfOk, get_or}
 use Rattle.lat_base.specs.declared.memory.Memory as memory
 use Rattle.lat_model.specs.Lists.{Each}
@@ -68,7 +68,7 @@ runs_through s k new es setup events made are same p =
     let all : played u (open_state u) s.events ≡ Through p.0 = subst (λ (xs : List WorldEvent). played u (open_state u) xs ≡ Through p.0) are p.1 in
     (p.0, p.2, leaves s u (setups_of new) p.0 setup events made same all, λ tale. through tale s u (setups_of new) p.0 made same all)
 
-stops :
+pub stops :
     (u : Setups) (s : State) (es : List WorldEvent) (index : ℕ) (fault : EventFault) (t : State) → fault ≢ faults.Memory →
     StopsBy u s es index fault t → played u s es ≡ plays.Refused index fault t
 stops u s es index faults.Memory t other by = absurd (other refl)

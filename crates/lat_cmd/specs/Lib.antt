@@ -2,6 +2,9 @@ pub mod generate
 pub mod Commands
 pub mod Answers
 pub mod Outcomes
+pub mod Befores
+pub mod Help
+pub mod Explanations
 pub mod Courses
 pub mod Laws
 pub mod Runs

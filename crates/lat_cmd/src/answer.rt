@@ -1,10 +1,11 @@
 //! What each command comes to.
 
-ghost use Rattle.std.specs.Prelude.{IfOk};
+ghost use Rattle.std.specs.Prelude.{◌≡◌, IfOk};
 ghost use Rattle.lat_wire.specs.Rates.{RatesWhatIsLeft};
 ghost use Rattle.lat_cmd.specs.Answers.{answer_to};
 ghost use Rattle.lat_cmd.specs.Commands.{IsBounded};
 ghost use Rattle.lat_cmd.specs.Laws.{IsLawful};
+ghost use Rattle.lat_cmd.specs.Befores.{shown, before_of};
 ghost use Rattle.lat_cmd.specs.Outcomes.{IsOutcome};
 
 use crate::capture::capture;
@@ -30,6 +31,7 @@ pub(crate) fn answered<H: RatingRule>(
     requires bounded { IsBounded command }
     ensures answer { IfOk result (λ o. IsOutcome (answer_to command input.now) o) }
     ensures law { IfOk result (λ o. IsLawful command input.now) }
+    ensures before { IfOk result (λ o. shown o.before ≡ before_of command input.now) }
 {
     match command {
         Command::Show => shown(alloc, input),

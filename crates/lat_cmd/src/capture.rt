@@ -1,12 +1,13 @@
 //! What `capture` comes to.
 
-ghost use Rattle.std.specs.Prelude.{IfOk};
+ghost use Rattle.std.specs.Prelude.{◌≡◌, None, IfOk};
 ghost use Rattle.lat_audit.specs.CapturedText.{AuditIsLegal};
 ghost use Rattle.lat_wire.specs.Rates.{RatesWhatIsLeft};
 ghost use Rattle.lat_replay.specs.Kept.{setups_of};
 ghost use Rattle.lat_replay.specs.Played.{State, StandsAt};
 ghost use Rattle.lat_cmd.specs.Answers.{captured, capture_of};
 ghost use Rattle.lat_cmd.specs.Laws.{CaptureIsLegal};
+ghost use Rattle.lat_cmd.specs.Befores.{shown, text_before};
 ghost use Rattle.lat_cmd.specs.Outcomes.{IsOutcome};
 
 use crate::course::{Course, course_of};
@@ -26,6 +27,7 @@ fn captured<H: RatingRule>(
         (t : State) → StandsAt world t → IsOutcome (captured circuit (setups_of world) t) o) }
     ensures legal { IfOk result (λ o.
         (t : State) → StandsAt world t → AuditIsLegal (setups_of world) t.machines circuit) }
+    ensures before { IfOk result (λ o. o.before ≡ None) }
 {
     let text = lat_audit::captured(alloc, world.wire(), circuit)?;
     Ok(Outcome::done(text, world))
@@ -42,6 +44,7 @@ pub(crate) fn capture<H: RatingRule>(
     requires rates { RatesWhatIsLeft (H.may rule) }
     ensures answer { IfOk result (λ o. IsOutcome (capture_of circuit input.now) o) }
     ensures legal { IfOk result (λ o. CaptureIsLegal circuit input.now) }
+    ensures before { IfOk result (λ o. shown o.before ≡ text_before input.now) }
 {
     match course_of(alloc, rule, input)? {
         Course::Through(world) => captured(alloc, world, circuit),

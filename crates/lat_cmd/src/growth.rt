@@ -1,6 +1,6 @@
 //! What the commands on generated schedules come to.
 
-ghost use Rattle.std.specs.Prelude.{IfOk};
+ghost use Rattle.std.specs.Prelude.{◌≡◌, None, IfOk};
 ghost use Rattle.lat_wire.specs.Rates.{RatesWhatIsLeft};
 ghost use Rattle.lat_cmd.specs.Answers.{gen_of, bench_of};
 ghost use Rattle.lat_cmd.specs.Outcomes.{IsOutcome};
@@ -15,7 +15,8 @@ use std::alloc::Global;
 pub(crate) fn made<H: RatingRule>(alloc: Global, seed: u64, rule: H) -> Result<Outcome<H>, Memory>
     requires fact { H.fact rule }
     requires rates { RatesWhatIsLeft (H.may rule) }
-    ensures { IfOk result (λ o. IsOutcome (gen_of seed) o) }
+    ensures answer { IfOk result (λ o. IsOutcome (gen_of seed) o) }
+    ensures before { IfOk result (λ o. o.before ≡ None) }
 {
     let (text, world) = generated(alloc, seed, rule)?;
     Ok(Outcome::done(text, world))
@@ -29,7 +30,8 @@ pub(crate) fn measured<H: RatingRule>(
 ) -> Result<Outcome<H>, Memory>
     requires fact { H.fact rule }
     requires rates { RatesWhatIsLeft (H.may rule) }
-    ensures { IfOk result (λ o. IsOutcome (bench_of seed) o) }
+    ensures answer { IfOk result (λ o. IsOutcome (bench_of seed) o) }
+    ensures before { IfOk result (λ o. o.before ≡ None) }
 {
     let (text, world) = benched(alloc, seed, rule)?;
     Ok(Outcome::done(text, world))

@@ -2,12 +2,15 @@
 #![tactic(auto)]
 
 mod answer;
+mod before;
 mod capture;
 mod command;
 mod course;
 mod end;
+mod explain;
 mod generate;
 mod growth;
+mod help;
 pub mod laws;
 mod outcome;
 mod replay;

@@ -1,12 +1,13 @@
 //! What `settle` comes to.
 
-ghost use Rattle.std.specs.Prelude.{◌<◌, ◌≤◌, ◌^◌, IfOk};
+ghost use Rattle.std.specs.Prelude.{◌≡◌, ◌<◌, ◌≤◌, ◌^◌, None, IfOk};
 ghost use Rattle.lat_settle.specs.Rounds.{rounds_moment};
 ghost use Rattle.lat_wire.specs.Rates.{RatesWhatIsLeft};
 ghost use Rattle.lat_replay.specs.Kept.{moment_of, setups_of};
 ghost use Rattle.lat_replay.specs.Played.{State, StandsAt};
 ghost use Rattle.lat_cmd.specs.Answers.{settled, settle_of};
 ghost use Rattle.lat_cmd.specs.Laws.{SettleTakesAll};
+ghost use Rattle.lat_cmd.specs.Befores.{shown, text_before};
 ghost use Rattle.lat_cmd.specs.Outcomes.{IsOutcome};
 
 use crate::course::{Course, course_of};
@@ -24,8 +25,9 @@ fn settled<H: RatingRule>(
     rounds: u32,
 ) -> Result<Outcome<H>, Memory>
     requires { rounds_moment (setups_of world) (moment_of world) rounds < 2 ^ 64 }
-    ensures { IfOk result (λ o.
+    ensures answer { IfOk result (λ o.
         (t : State) → StandsAt world t → IsOutcome (settled rounds (setups_of world) t) o) }
+    ensures before { IfOk result (λ o. o.before ≡ None) }
 {
     let mut text = String::new(alloc);
     let status = settle_onto(alloc, &mut world, rounds, &mut text)?;
@@ -49,6 +51,7 @@ pub(crate) fn settle<H: RatingRule>(
     ensures answer { IfOk result (λ o. IsOutcome (settle_of rounds input.now) o) }
     ensures all { IfOk result (λ o.
         SettleTakesAll rounds input.now (settle_of rounds input.now).status) }
+    ensures before { IfOk result (λ o. shown o.before ≡ text_before input.now) }
 {
     match course_of(alloc, rule, input)? {
         Course::Through(world) => settled(alloc, world, rounds),

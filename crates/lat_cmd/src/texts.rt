@@ -1,6 +1,6 @@
 //! What the commands come to that make no world.
 
-ghost use Rattle.std.specs.Prelude.{IfOk};
+ghost use Rattle.std.specs.Prelude.{◌≡◌, None, IfOk};
 ghost use Rattle.lat_show.specs.ShowOf.{show_of};
 ghost use Rattle.lat_dump.specs.DumpOf.{dump_of};
 ghost use Rattle.lat_trace.specs.TraceText.{trace_of};
@@ -23,7 +23,8 @@ use std::alloc::Global;
 
 /// Prints payloads.
 pub(crate) fn shown<H: RatingRule>(alloc: Global, input: &[u8]) -> Result<Outcome<H>, Memory>
-    ensures { IfOk result (λ o. IsOutcome (plain (show_of input.now)) o) }
+    ensures answer { IfOk result (λ o. IsOutcome (plain (show_of input.now)) o) }
+    ensures before { IfOk result (λ o. o.before ≡ None) }
 {
     let (status, text) = show(alloc, input)?;
     Ok(Outcome::plain(status, text))
@@ -31,7 +32,8 @@ pub(crate) fn shown<H: RatingRule>(alloc: Global, input: &[u8]) -> Result<Outcom
 
 /// Names the best nodes.
 pub(crate) fn chosen<H: RatingRule>(alloc: Global, input: &[u8]) -> Result<Outcome<H>, Memory>
-    ensures { IfOk result (λ o. IsOutcome (plain (choose_of input.now)) o) }
+    ensures answer { IfOk result (λ o. IsOutcome (plain (choose_of input.now)) o) }
+    ensures before { IfOk result (λ o. o.before ≡ None) }
 {
     let (status, text) = choose(alloc, input)?;
     Ok(Outcome::plain(status, text))
@@ -39,7 +41,8 @@ pub(crate) fn chosen<H: RatingRule>(alloc: Global, input: &[u8]) -> Result<Outco
 
 /// Audits a capture.
 pub(crate) fn audited<H: RatingRule>(alloc: Global, input: &[u8]) -> Result<Outcome<H>, Memory>
-    ensures { IfOk result (λ o. IsOutcome (plain (audit_of input.now)) o) }
+    ensures answer { IfOk result (λ o. IsOutcome (plain (audit_of input.now)) o) }
+    ensures before { IfOk result (λ o. o.before ≡ None) }
 {
     let (status, text) = audit(alloc, input)?;
     Ok(Outcome::plain(status, text))
@@ -47,7 +50,8 @@ pub(crate) fn audited<H: RatingRule>(alloc: Global, input: &[u8]) -> Result<Outc
 
 /// Prints the frames of a pcap file.
 pub(crate) fn dumped<H: RatingRule>(alloc: Global, input: &[u8]) -> Result<Outcome<H>, Memory>
-    ensures { IfOk result (λ o. IsOutcome (plain (dump_of input.now)) o) }
+    ensures answer { IfOk result (λ o. IsOutcome (plain (dump_of input.now)) o) }
+    ensures before { IfOk result (λ o. o.before ≡ None) }
 {
     let (status, text) = dump(alloc, input)?;
     Ok(Outcome::plain(status, text))
@@ -61,7 +65,8 @@ pub(crate) fn traced<H: RatingRule>(
 ) -> Result<Outcome<H>, Memory>
     requires fact { H.fact rule }
     requires rates { RatesWhatIsLeft (H.may rule) }
-    ensures { IfOk result (λ o. IsOutcome (plain (trace_of input.now)) o) }
+    ensures answer { IfOk result (λ o. IsOutcome (plain (trace_of input.now)) o) }
+    ensures before { IfOk result (λ o. o.before ≡ None) }
 {
     let (status, text) = trace(alloc, rule, input)?;
     Ok(Outcome::plain(status, text))
@@ -75,7 +80,8 @@ pub(crate) fn drawn<H: RatingRule>(
 ) -> Result<Outcome<H>, Memory>
     requires fact { H.fact rule }
     requires rates { RatesWhatIsLeft (H.may rule) }
-    ensures { IfOk result (λ o. IsOutcome (plain (draw_of input.now)) o) }
+    ensures answer { IfOk result (λ o. IsOutcome (plain (draw_of input.now)) o) }
+    ensures before { IfOk result (λ o. o.before ≡ None) }
 {
     let (status, text) = draw(alloc, rule, input)?;
     Ok(Outcome::plain(status, text))

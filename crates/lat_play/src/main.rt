@@ -19,6 +19,7 @@
 //! | `words WORDS` | keeps the input; these are the words of the next runs |
 //! | `pipe WORDS` | what the last run wrote is the input of the next runs, and these are their words |
 //! | `run` | runs the program: prints its status and what it wrote |
+//! | `told` | runs it, and prints its status and what it wrote to standard error |
 //! | `measure` | runs it, and prints its status and of what it wrote the bytes, the lines and a sum over all bytes: begun with 0, it is taken 31 times and each byte added, modulo 2^64 |
 //! | `outside READ FAILING WRITE FAILING` | runs it over a source that gives at most READ bytes a call and fails at the call FAILING, counted from 1, and a sink that takes at most WRITE bytes a call and fails likewise; 0 fails never |
 //! | `reads READ CALLS`, `writes WRITE CALLS` | does so for each failing call from 1 to CALLS, of the source and of the sink, and prints each status and what was written |

@@ -18,6 +18,8 @@ struct Play {
     words: Vec<String>,
     input: Input,
     written: Vec<u8>,
+    // What the last run told on standard error.
+    told: Vec<u8>,
 }
 
 // How the outside behaves: the bytes of a call, and the call that fails.
@@ -60,8 +62,14 @@ fn words_of(alloc: Global, line: &str) -> Result<Vec<String>, Memory> {
 }
 
 // Runs the program, whose node rates its services by the lines that are left, and gives its status.
-fn status_of(alloc: Global, words: &[String], source: &mut MemSource, sink: &mut MemSink) -> u8 {
-    run(alloc, words, FreeLines, source, sink).status
+fn status_of(
+    alloc: Global,
+    words: &[String],
+    source: &mut MemSource,
+    sink: &mut MemSink,
+    told: &mut MemSink,
+) -> u8 {
+    run(alloc, words, FreeLines, source, sink, told).status
 }
 
 // How many line feeds there are, and the sum over all bytes: taken 31 times before each byte is added.
@@ -87,6 +95,7 @@ impl Play {
             words: words_of(alloc, words)?,
             input: Input::new(alloc),
             written: Vec::new(alloc),
+            told: Vec::new(alloc),
         })
     }
 
@@ -113,9 +122,12 @@ impl Play {
             &failing_reads,
         );
         let mut sink = MemSink::new(alloc, outside.write_most, &failing_writes);
-        let status = status_of(alloc, &self.words, &mut source, &mut sink);
+        let mut told = MemSink::new(alloc, 4096, &[]);
+        let status = status_of(alloc, &self.words, &mut source, &mut sink, &mut told);
         self.written.clear();
         self.written.extend_from_slice(sink.bytes())?;
+        self.told.clear();
+        self.told.extend_from_slice(told.bytes())?;
         Ok(status)
     }
 
@@ -124,6 +136,13 @@ impl Play {
         let status = self.made(alloc, outside)?;
         write!(text, "status {status}\n")?;
         written_onto(text, &self.written)
+    }
+
+    // Runs the program, and prints its status and what it told.
+    fn tell(&mut self, alloc: Global, text: &mut String) -> Result<(), Memory> {
+        let status = self.made(alloc, SOUND)?;
+        write!(text, "status {status}\n")?;
+        written_onto(text, &self.told)
     }
 
     // Runs the program, and prints its status and the measure of what it wrote.
@@ -196,6 +215,7 @@ impl Play {
     fn runs(&mut self, alloc: Global, line: &str, text: &mut String) -> Result<(), ScriptFault> {
         match word(line, 0) {
             "run" => Ok(self.run(alloc, SOUND, text)?),
+            "told" => Ok(self.tell(alloc, text)?),
             "measure" => Ok(self.measure(alloc, text)?),
             "outside" => self.outside(alloc, line, text),
             "reads" => self.reads(alloc, line, text),

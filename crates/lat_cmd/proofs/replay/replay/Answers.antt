@@ -1,13 +1,24 @@
 use Rattle.lat_cmd.specs.Answers.{reported, answered_behind}
 use Rattle.lat_cmd.specs.Laws.{SaysCalm}
+use Rattle.lat_cmd.specs.Befores.{text_before}
+use Rattle.lat_cmd.proofs.Keeping.{before_through, before_stopped}
 use Rattle.lat_cmd.proofs.Replaying.{of_through, of_stopped}
 use Rattle.lat_cmd.proofs.replay.replay.Goals as goal
 
-pub returns-in-Through : goal.returns-in-Through
-returns-in-Through g c =
+pub returns-in-Through-clause-answer : goal.returns-in-Through-clause-answer
+returns-in-Through-clause-answer g c =
     of_through (SaysCalm c.args.input.now) reported (λ tale. answered_behind tale c.args.input.now) c.in_ok-world.field-0 c.in-Through.world c.reported.result c.in-Through.is
-    c.in_ok-world.ensures c.reported.ensures
+    c.in_ok-world.ensures.runs c.reported.ensures.answer
 
-pub returns-in-Stopped : goal.returns-in-Stopped
-returns-in-Stopped g c =
-    of_stopped (SaysCalm c.args.input.now) reported (λ tale. answered_behind tale c.args.input.now) c.in_ok-world.field-0 c.in-Stopped.outcome c.in-Stopped.is c.in_ok-world.ensures
+pub returns-in-Stopped-clause-answer : goal.returns-in-Stopped-clause-answer
+returns-in-Stopped-clause-answer g c =
+    of_stopped (SaysCalm c.args.input.now) reported (λ tale. answered_behind tale c.args.input.now) c.in_ok-world.field-0 c.in-Stopped.outcome c.in-Stopped.is c.in_ok-world.ensures.runs
+
+pub returns-in-Through-clause-before : goal.returns-in-Through-clause-before
+returns-in-Through-clause-before g c =
+    before_through (text_before c.args.input.now) c.in_ok-world.field-0 c.in-Through.world c.reported.result c.in-Through.is c.in_ok-world.ensures.before
+    c.reported.ensures.before
+
+pub returns-in-Stopped-clause-before : goal.returns-in-Stopped-clause-before
+returns-in-Stopped-clause-before g c =
+    before_stopped (text_before c.args.input.now) c.in_ok-world.field-0 c.in-Stopped.outcome c.in-Stopped.is c.in_ok-world.ensures.before

@@ -5,7 +5,7 @@ use Rattle.lat_cmd.specs.Outcomes.{IsOutcome}
 use Rattle.lat_cmd.proofs.Forming.{is_reported}
 use Rattle.lat_cmd.proofs.replay.reported.Goals as goal
 
-pub returns : goal.returns
-returns g c = λ t stands.
+pub returns-clause-answer : goal.returns-clause-answer
+returns-clause-answer g c = λ t stands.
     subst (λ o. IsOutcome (reported (setups_of c.args.world) t) o) (sym c.done.ensures)
     (is_reported c.args.world _ (string_bytes c.new-text.result) c.new-text.ensures.bytes refl refl c.in_ok-report.ensures.ok t stands)

@@ -1,8 +1,9 @@
-use Rattle.std.proofs.Common.{codes, refl, sym, map, string_bytes}
+use Rattle.std.proofs.Common.{refl, sym, map, string_bytes}
 use Rattle.lat_cmd.proofs.Bounding.{bounded}
 use Rattle.lat_cmd.proofs.Ending.{of_command}
 use Rattle.lat_cmd.proofs.Running.{told_keeps}
 use Rattle.lat_cmd.specs.Answers.{plain}
+use Rattle.lat_cmd.specs.Help.{words_answer}
 use Rattle.lat_cmd.proofs.top.run.Goals as goal
 
 pub obeyed-requires-clause-bounded : goal.obeyed-requires-clause-bounded
@@ -26,9 +27,12 @@ returns-in-Some-clause-law g c = of_command _ _ c.in-Some.command (sym c.in-Some
 pub returns-in-Some-clause-promises : goal.returns-in-Some-clause-promises
 returns-in-Some-clause-promises g c = c.obeyed.ensures.run.promises
 
+pub returns-in-Some-clause-told : goal.returns-in-Some-clause-told
+returns-in-Some-clause-told g c = of_command _ _ c.in-Some.command (sym c.in-Some.ensures) c.obeyed.ensures.told
+
 pub returns-in-None-clause-words : goal.returns-in-None-clause-words
-returns-in-None-clause-words g c = λ none. (c.end_with.ensures.tells (plain (1, codes "words\n")) refl refl tt, refl)
+returns-in-None-clause-words g c = λ none. (c.said.ensures.answer, (c.said.ensures.told, refl))
 
 pub returns-in-None-clause-promises : goal.returns-in-None-clause-promises
 returns-in-None-clause-promises g c =
-    told_keeps (plain (1, codes "words\n")) c.end_with.result _ _ (c.end_with.ensures.tells (plain (1, codes "words\n")) refl refl tt)
+    told_keeps (plain (words_answer (map string_bytes c.args.words.now))) c.said.result _ _ c.said.ensures.answer

@@ -1,0 +1,7 @@
+mod Counts
+mod Fronts
+mod Begun
+mod Befores
+mod Behinds
+mod Offers
+mod Pieces

@@ -1,0 +1,7 @@
+use Rattle.std.proofs.Common.{◌≡◌, ◌-◌, []}
+use Rattle.lat_text.specs.Lines.{lines_of}
+use Rattle.lat_explain.specs.Before.{last_line}
+use Rattle.lat_explain.proofs.before.last_line.Given as goal
+
+abbrev pub invariant-loop : goal.invariant-loop
+invariant-loop l = last_line l.count (lines_of l.text) [] ≡ last_line (l.count - l.counter) (lines_of l.rest) l.found

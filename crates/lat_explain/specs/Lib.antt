@@ -1,0 +1,10 @@
+pub mod Forms
+pub mod Walks
+pub mod Before
+pub mod Awaited
+pub mod Found
+pub mod Wanted
+pub mod LineExplained
+pub mod RefusedExplained
+pub mod WordsExplained
+pub mod FileExplained
