@@ -7,14 +7,12 @@ use Rattle.lat_past.specs.Counts.{past_bytes, past_items}
 use Rattle.lat_history.specs.declared.fault.SeatFault.{SeatFault}
 use Rattle.lat_history.specs.CellView.{SeatView}
 use Rattle.lat_history.specs.Audits.{audit_of}
-use Rattle.lat_cell.specs.declared.seat.LineDone.{LineDone}
-use Rattle.lat_cell.specs.declared.seat.LineDone.TheVariants as done
+use Rattle.lat_turns.specs.declared.worker.LineDone.{LineDone}
+use Rattle.lat_turns.specs.declared.worker.LineDone.TheVariants as done
 
 abbrev pub word_of : LineDone → List ℕ
 word_of done.End = codes "end"
-word_of done.Fault = codes "fault"
 word_of done.CountsOut = codes "counts-out"
-word_of done.Memory = codes "memory"
 
 -- of a line that put so many bytes and took so many items
 abbrev pub line_text : ℕ → ℕ → ℕ → LineDone → List ℕ

@@ -1,12 +1,14 @@
 //! The clock's worker.
 
 ghost use Rattle.std.specs.Prelude.{◌≡◌, ◌||◌, ◌*◌, ℕ, Some, None, IfSome, option_map, OnErr, if◌then◌else◌};
-ghost use Rattle.lat_cell.specs.Dues.{has_come, is_due};
-ghost use Rattle.lat_cell.specs.Ticks.{Ticked, announcement};
+ghost use Rattle.lat_cell.specs.Dues.{begun, has_come, has_lingered, is_due};
+ghost use Rattle.lat_cell.specs.Refusals.{HasCause};
+ghost use Rattle.lat_cell.specs.Ticks.{Beaten, Ticked, WoundUp, announced_by, announcement, wound_by};
 ghost use Rattle.lat_history.specs.Asked.{Tried};
 ghost use Rattle.lat_history.specs.History.{state_of};
 ghost use Rattle.lat_past.specs.Counts.{seat_of};
 
+use crate::telling::halt;
 use lat_base::{Core, Event};
 use lat_history::{Cell, CellFault, LineShare};
 use lat_outside::{Clock, Tx};
@@ -63,6 +65,7 @@ fn applied<C: Core, T: Tx, E: Ledger, B: Ledger>(
 ) -> Result<Option<u64>, CellFault>
     requires { IfSome event (λ e. seat_of e ≡ share.old.seat) }
     ensures tried { Tried C.opening C.next C.answer cell.old cell.new event result }
+    ensures cause { HasCause cell.old event result }
     ensures refused { OnErr result (share.new ≡ share.old) }
     ensures seat { (share.new.seat ≡ share.old.seat) × (share.new.parts ≡ share.old.parts) }
 {
@@ -72,51 +75,44 @@ fn applied<C: Core, T: Tx, E: Ledger, B: Ledger>(
     }
 }
 
-// Says that all workers are to end, where so many sessions have become free.
-fn stop_if<C: Core, T: Tx, E: Ledger, B: Ledger>(cell: &mut Cell<C, T, E, B>, sessions: Option<u32>)
+// Says that the daemon is to end, where so many sessions that were live have ended.
+fn stop_if<C: Core, T: Tx, E: Ledger, B: Ledger>(cell: &mut Cell<C, T, E, B>, sessions: Option<u64>)
     ensures { cell.new ≡ record cell.old {
-      stopping = cell.old.stopping || has_come sessions (C.finished_of (state_of C.opening C.next cell.old));
+      stopping = cell.old.stopping || has_come sessions cell.old.served;
     } }
 {
-    if sessions.is_some_and(|count| cell.finished() >= count) {
+    if sessions.is_some_and(|count| cell.served() >= count) {
         cell.stop();
     }
 }
 
-/// What came of a tick: the places of its events, or why they were refused, and whether all workers are to end.
+/// What came of a tick: the places of its events, or why they were refused.
 #[derive(Drop)]
 pub struct TickDone {
     pub told: Result<Option<u64>, CellFault>,
     pub announced: Result<Option<u64>, CellFault>,
-    pub over: bool,
 }
 
-/// Tells the time, announces where it is due, and stops the cell where it is to end.
+/// Tells the time, announces where it is due, and stops the cell where so many sessions that were live have ended.
 pub fn tick<C: Core, T: Tx, E: Ledger, B: Ledger>(
     alloc: Global,
     cell: &mut Cell<C, T, E, B>,
     share: &mut LineShare<E, B>,
     now: u64,
     announcing: &mut Announcing,
-    sessions: Option<u32>,
+    sessions: Option<u64>,
 ) -> TickDone
     requires { share.old.seat ≡ 65 }
-    ensures ticked { Ticked C.opening C.next C.answer C.finished_of (has_come sessions) cell.old cell.new now
+    ensures ticked { Ticked C.opening C.next C.answer (has_come sessions) cell.old cell.new now
         (is_due announcing.old now) result.told result.announced }
-    ensures due { announcing.new ≡ (if is_due announcing.old now
-        then record announcing.old { last = Some now } else announcing.old) }
-    ensures over { result.over ≡ cell.new.stopping }
+    ensures due { announcing.new ≡ announced_by announcing.old now }
     ensures seat { (share.new.seat ≡ share.old.seat) × (share.new.parts ≡ share.old.parts) }
 {
     let told = applied(alloc, cell, share, Some(Event::Time { now }));
     let due = announcement(announcing.is_due(now));
     let announced = applied(alloc, cell, share, due);
     stop_if(cell, sessions);
-    TickDone {
-        told,
-        announced,
-        over: cell.stopping(),
-    }
+    TickDone { told, announced }
 }
 
 // An announcement where one is due.
@@ -127,35 +123,150 @@ fn announcement(due: bool) -> Option<Event>
     if due { Some(Event::Announce) } else { None }
 }
 
-/// Tells the cell the time, at once and then after each pause of 80 ms, until it stops. Where `announce_each` is given,
-/// announcements go out at the start and each time so many seconds have passed. Where `sessions` is given, the cell is stopped
-/// once so many sessions have become free. An event that is refused is left out. It may wait, and its return isn't promised.
+/// Since when the daemon has been ending, if it has, and how many milliseconds it waits at most until its core is drained.
+#[derive(Clone, Copy, Drop)]
+pub struct Winding {
+    pub since: Option<u64>,
+    pub linger: u64,
+}
+
+impl Winding {
+    /// It isn't ending yet, and will wait for so many seconds.
+    pub fn up(linger: u8) -> Winding
+        ensures { (result.since ≡ None) × (result.linger ≡ linger * 1000) }
+    {
+        Winding {
+            since: None,
+            linger: linger as u64 * 1000,
+        }
+    }
+
+    // Whether it has been ending for as long as it waits, or its core is drained; the first call says since when it is.
+    fn is_done(&mut self, now: u64, is_drained: bool) -> bool
+        ensures done { result ≡ is_drained || has_lingered self.old now }
+        ensures since { self.new ≡ begun self.old now }
+    {
+        let since = self.since.unwrap_or(now);
+        self.since = Some(since);
+        is_drained || now.saturating_sub(since) >= self.linger
+    }
+}
+
+/// Halts the core of a daemon that is ending, once it is drained or the daemon has waited for long enough, and then says that the
+/// workers of the wire and of the clock are to end. A halt that is refused for want of memory is tried again at the next tick.
+pub fn wind_up<C: Core, T: Tx, E: Ledger, B: Ledger>(
+    alloc: Global,
+    cell: &mut Cell<C, T, E, B>,
+    share: &mut LineShare<E, B>,
+    now: u64,
+    winding: &mut Winding,
+) -> Result<Option<u64>, CellFault>
+    requires { share.old.seat ≡ 65 }
+    ensures wound { WoundUp C.opening C.next C.answer C.drained_of cell.old cell.new now winding.old result }
+    ensures since { winding.new ≡ wound_by cell.old.stopping winding.old now }
+    ensures seat { (share.new.seat ≡ share.old.seat) × (share.new.parts ≡ share.old.parts) }
+{
+    if !cell.stopping() || !winding.is_done(now, cell.is_drained()) {
+        return Ok(None);
+    }
+    match halt(alloc, cell, share) {
+        Ok(place) => {
+            cell.finish();
+            Ok(Some(place))
+        }
+        Err(fault) => Err(fault),
+    }
+}
+
+// What came of a turn of the clock's worker.
+#[derive(Drop)]
+struct BeatDone {
+    tick: TickDone,
+    halted: Result<Option<u64>, CellFault>,
+    is_over: bool,
+}
+
+// One turn of the clock's worker. It tells what came of it, and whether the worker ends.
+fn beat<C: Core, T: Tx, E: Ledger, B: Ledger>(
+    alloc: Global,
+    cell: &mut Cell<C, T, E, B>,
+    share: &mut LineShare<E, B>,
+    now: u64,
+    rhythm: &mut Rhythm,
+) -> BeatDone
+    requires { share.old.seat ≡ 65 }
+    ensures beats { Beaten C.opening C.next C.answer C.drained_of cell.old cell.new now rhythm.old rhythm.new
+        result.tick.told result.tick.announced result.halted }
+    ensures over { result.is_over ≡ cell.new.over }
+    ensures seat { (share.new.seat ≡ share.old.seat) × (share.new.parts ≡ share.old.parts) }
+{
+    let sessions = rhythm.sessions;
+    let tick = tick(alloc, cell, share, now, &mut rhythm.announcing, sessions);
+    let halted = wind_up(alloc, cell, share, now, &mut rhythm.winding);
+    let is_over = cell.is_over();
+    BeatDone {
+        tick,
+        halted,
+        is_over,
+    }
+}
+
+// What the clock's worker goes by.
+#[derive(Drop)]
+struct Rhythm {
+    announcing: Announcing,
+    sessions: Option<u64>,
+    winding: Winding,
+}
+
+impl Rhythm {
+    // A course's, at its start.
+    fn of(course: Course) -> Rhythm
+        ensures announcing { (result.announcing.each ≡ option_map (λ s. s * 1000) course.announce)
+            × (result.announcing.last ≡ None) }
+        ensures sessions { result.sessions ≡ course.sessions }
+        ensures winding { (result.winding.since ≡ None) × (result.winding.linger ≡ course.linger * 1000) }
+    {
+        Rhythm {
+            announcing: Announcing::each(course.announce),
+            sessions: course.sessions,
+            winding: Winding::up(course.linger),
+        }
+    }
+}
+
+/// What a daemon's clock goes by.
+#[derive(Clone, Copy, Drop)]
+pub struct Course {
+    /// Announcements go out at the start, and each time so many seconds have passed.
+    pub announce: Option<u8>,
+    /// The daemon ends once so many sessions that were live have ended.
+    pub sessions: Option<u64>,
+    /// How many seconds it waits at its end, at most, until its core is drained.
+    pub linger: u8,
+}
+
+/// Tells the cell the time, at once and then after each pause of 80 ms, until the daemon has ended. Where `announce` is given,
+/// announcements go out at the start and each time so many seconds have passed. Where `sessions` is given, the daemon is to end
+/// once so many sessions that were live have ended. One that ends is halted once its core is drained, or after `linger` seconds.
+/// An event that is refused is left out. It may wait, and its return isn't promised.
 pub fn time_worker<C: Core, T: Tx, K: Clock, E: Ledger, B: Ledger, R: Wait>(
     rt: &R,
     alloc: Global,
     cell: &Mutex<Cell<C, T, E, B>>,
     share: LineShare<E, B>,
     clock: K,
-    announce_each: Option<u8>,
-    sessions: Option<u32>,
+    course: Course,
 ) -> LineShare<E, B>
     requires { share.seat ≡ 65 }
     ensures { (result.seat ≡ share.seat) × (result.parts ≡ share.parts) }
 {
     let mut share = share;
     let mut clock = clock;
-    let mut announcing = Announcing::each(announce_each);
+    let mut rhythm = Rhythm::of(course);
     for _ in rt.forever() {
         let now = clock.now();
-        let done = tick(
-            alloc,
-            &mut cell.lock(rt),
-            &mut share,
-            now,
-            &mut announcing,
-            sessions,
-        );
-        if done.over {
+        if beat(alloc, &mut cell.lock(rt), &mut share, now, &mut rhythm).is_over {
             return share;
         }
         clock.pause(PAUSE_MS);

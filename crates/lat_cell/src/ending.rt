@@ -4,11 +4,11 @@ ghost use Rattle.std.specs.Prelude.{◌≡◌, ◌≤◌, ◌++◌, length, OnOk
 ghost use Rattle.lat_history.specs.Audits.{audit_of};
 ghost use Rattle.lat_cell.specs.EndText.{word_of, line_text, lines_text, end_text, fault_text, shown_of, status_of, Ended};
 
-use crate::seat::LineDone;
 use lat_base::Core;
 use lat_history::{Cell, LineShare, SeatFault};
 use lat_outside::{Sink, Tx, write_all};
 use lat_past::SeatTotals;
+use lat_turns::LineDone;
 use std::alloc::{AllocError, Global};
 use std::sync::ledger::Ledger;
 
@@ -17,9 +17,7 @@ fn word_of(done: LineDone) -> &'static str
 {
     match done {
         LineDone::End => "end",
-        LineDone::Fault => "fault",
         LineDone::CountsOut => "counts-out",
-        LineDone::Memory => "memory",
     }
 }
 

@@ -1,6 +1,7 @@
 //! The wire's worker.
 
 ghost use Rattle.std.specs.Prelude.{◌≡◌, ◌≤◌, IfOk, OnErr};
+ghost use Rattle.lat_cell.specs.Refusals.{HasCause};
 ghost use Rattle.lat_cell.specs.Wires.{heard_event};
 ghost use Rattle.lat_history.specs.Asked.{Tried};
 ghost use Rattle.lat_history.specs.History.{state_of};
@@ -26,6 +27,8 @@ pub fn hear<C: Core, T: Tx, E: Ledger, B: Ledger>(
     requires bound { IfOk got (λ g. frame_bytes g ≤ 1500) }
     ensures tried { Tried C.opening C.next C.answer cell.old cell.new
         (heard_event got buf.now (C.moment_of (state_of C.opening C.next cell.old))) result }
+    ensures cause { HasCause cell.old
+        (heard_event got buf.now (C.moment_of (state_of C.opening C.next cell.old))) result }
     ensures refused { OnErr result (share.new ≡ share.old) }
     ensures seat { (share.new.seat ≡ share.old.seat) × (share.new.parts ≡ share.old.parts) }
 {
@@ -40,9 +43,9 @@ pub fn hear<C: Core, T: Tx, E: Ledger, B: Ledger>(
     }
 }
 
-/// Applies what the wire brings, until the cell stops. A frame whose event is refused is left out. A read that fails is counted by
+/// Applies what the wire brings, until the daemon has ended. A frame whose event is refused is left out. A read that fails is counted by
 /// the carrier alone: it brings nothing, as a quiet one, and the next follows at once. The worker itself never pauses, so a carrier
-/// whose every read fails without waiting is read without rest until the cell stops.
+/// whose every read fails without waiting is read without rest until then.
 pub fn wire_worker<C: Core, T: Tx, X: Rx, E: Ledger, B: Ledger, R: Wait>(
     rt: &R,
     alloc: Global,
@@ -57,7 +60,7 @@ pub fn wire_worker<C: Core, T: Tx, X: Rx, E: Ledger, B: Ledger, R: Wait>(
     let mut rx = rx;
     let mut buf = [0; PAYLOAD_BYTES];
     for _ in rt.forever() {
-        if cell.lock(rt).stopping() {
+        if cell.lock(rt).is_over() {
             return share;
         }
         let got = rx.recv(&mut buf);

@@ -1,6 +1,6 @@
 //! The cell.
 
-ghost use Rattle.std.specs.Prelude.{◌≡◌, ◌≤◌, ◌++◌, length, true, IfOk, is_some};
+ghost use Rattle.std.specs.Prelude.{◌≡◌, ◌≤◌, ◌++◌, ◌+◌, ◌-◌, ◌^◌, min, length, true, IfOk, is_some};
 ghost use Rattle.lat_history.specs.CellView.{IsEmpty};
 ghost use Rattle.lat_history.specs.History.{IsRun, HasSent, state_of};
 ghost use Rattle.lat_history.specs.Ledgers.{AreBlanks};
@@ -12,6 +12,7 @@ ghost use Rattle.lat_past.specs.Entries.{entries_of, last_fitting};
 
 use crate::seen::Seen;
 use crate::shares::{Blanks, Shares, opened};
+use crate::stage::Stage;
 use lat_base::{Core, Correspondent, LineLook, Memory, Name, OutBox};
 use lat_outside::Tx;
 use lat_past::{Entry, History, SeatTotals};
@@ -31,7 +32,9 @@ pub struct Cell<C: Core, T: Tx, E: Ledger, B: Ledger> {
     pub(crate) sent: u64,
     pub(crate) history: History,
     pub(crate) out: OutBox,
-    pub(crate) stopping: bool,
+    pub(crate) stage: Stage,
+    /// How many sessions that were live have ended.
+    pub(crate) served: u64,
     pub(crate) events: Book<E>,
     pub(crate) bytes: Book<B>,
 }
@@ -44,7 +47,8 @@ impl<C: Core, T: Tx, E: Ledger, B: Ledger> Drop for Cell<C, T, E, B> {
             sent,
             history,
             out,
-            stopping,
+            stage,
+            served,
             events,
             bytes,
         } = self;
@@ -56,6 +60,7 @@ impl<C: Core, T: Tx, E: Ledger, B: Ledger> Model for Cell<C, T, E, B> {
     ghost use Rattle.lat_history.specs.CellView.{CellView};
     ghost use Rattle.lat_history.specs.History.{IsRun, FramesOf, LastAre};
     ghost use Rattle.lat_history.specs.Numbers.{Counted};
+    ghost use Rattle.lat_history.specs.Stages.{is_ending, is_over};
 
     ghost Value = { CellView C T };
 
@@ -65,7 +70,9 @@ impl<C: Core, T: Tx, E: Ledger, B: Ledger> Model for Cell<C, T, E, B> {
       sent = a.sent;
       history = a.history.items;
       most = a.history.most;
-      stopping = a.stopping;
+      stopping = is_ending a.stage;
+      over = is_over a.stage;
+      served = a.served;
     } };
 
     ghost invariant = { λ a. IsRun C.made C.opening C.stands C.next C.answer a.core a.history.items
@@ -106,7 +113,8 @@ impl<C: Core, T: Tx, E: Ledger, B: Ledger> Cell<C, T, E, B> {
             sent: 0,
             history: History::new(alloc, most),
             out: OutBox::make(alloc)?,
-            stopping: false,
+            stage: Stage::Serving,
+            served: 0,
             events,
             bytes,
         };
@@ -153,18 +161,53 @@ impl<C: Core, T: Tx, E: Ledger, B: Ledger> Cell<C, T, E, B> {
         (&self.events, &self.bytes)
     }
 
-    /// Says that all workers are to end. Nothing else changes.
+    /// Says that the daemon is to end: no caller is taken any more, and sessions are closed. Nothing else changes.
     pub fn stop(&mut self)
         ensures { self.new ≡ record self.old { stopping = true } }
     {
-        self.stopping = true;
+        self.stage = self.stage.stopped();
     }
 
-    /// Whether all workers are to end.
+    /// Says that the workers of the wire and of the clock are to end too. Nothing else changes.
+    pub fn finish(&mut self)
+        ensures { self.new ≡ record self.old { stopping = true; over = true } }
+    {
+        self.stage = Stage::Over;
+    }
+
+    /// Whether the daemon is ending.
     pub fn stopping(&self) -> bool
         ensures { result ≡ self.now.stopping }
     {
-        self.stopping
+        self.stage.is_ending()
+    }
+
+    /// Whether the workers of the wire and of the clock are to end.
+    pub fn is_over(&self) -> bool
+        ensures { result ≡ self.now.over }
+    {
+        self.stage.is_over()
+    }
+
+    /// Counts a session that was live and has ended, up to 2^64 - 1. Nothing else changes.
+    pub fn count_served(&mut self)
+        ensures { self.new ≡ record self.old { served = min (self.old.served + 1) (2 ^ 64 - 1) } }
+    {
+        self.served = self.served.saturating_add(1);
+    }
+
+    /// How many sessions that were live have ended.
+    pub fn served(&self) -> u64
+        ensures { result ≡ self.now.served }
+    {
+        self.served
+    }
+
+    /// Whether each living circuit of the core has only sessions that are free or left, and no message unacknowledged.
+    pub fn is_drained(&self) -> bool
+        ensures { result ≡ C.drained_of (state_of C.opening C.next self.now) }
+    {
+        self.core.is_drained()
     }
 
     /// The core's moment, in milliseconds.
@@ -211,7 +254,7 @@ impl<C: Core, T: Tx, E: Ledger, B: Ledger> Cell<C, T, E, B> {
         Seen {
             state: look.state,
             waiting: look.waiting,
-            stopping: self.stopping,
+            stopping: self.stopping(),
             moment: self.core.moment(),
         }
     }

@@ -15,6 +15,11 @@ has_caller (phases.Waiting w) = true
 has_caller (phases.Joined g) = true
 has_caller _ = false
 
+-- a caller has the line whose session was seen live
+abbrev pub was_live : Phase → Bool
+was_live (phases.Joined g) = g.live
+was_live _ = false
+
 -- a caller that has just got this session
 abbrev pub fresh_guest : ℕ → Option ℕ → Bool → Bool → Guest
 fresh_guest session tried beside failed = record {

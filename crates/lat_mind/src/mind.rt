@@ -1,7 +1,7 @@
 //! The mind: the next move, and what is told.
 
 ghost use Rattle.std.specs.Prelude.{◌≡◌};
-ghost use Rattle.lat_mind.specs.Phases.{has_caller};
+ghost use Rattle.lat_mind.specs.Phases.{has_caller, was_live};
 ghost use Rattle.lat_mind.specs.Runs.{left_in, owed_in};
 ghost use Rattle.lat_mind.specs.Minds.{away_after, calm_after, fresh_for, fresh_mind, is_late, may_try, mind_next, mind_told, next_alone, next_close, next_ending, next_joined, next_live, next_lost, next_over, next_serving, next_waiting, patience_of, ready_after, seen_after, shut_after, since_after, spent, sweeps, to_dial, try_of};
 
@@ -179,11 +179,35 @@ impl LineMind {
         }
     }
 
+    /// How far its line is with its caller.
+    pub fn phase(&self) -> Phase
+        ensures { result ≡ self.now.phase }
+    {
+        self.phase
+    }
+
+    /// The number of the last session that it closed.
+    pub fn shut(&self) -> u64
+        ensures { result ≡ self.now.shut }
+    {
+        self.shut
+    }
+
     /// Whether its line has a caller.
     pub fn has_caller(&self) -> bool
         ensures { result ≡ has_caller self.now.phase }
     {
         self.phase.has_caller()
+    }
+
+    /// Whether its caller has a session that was seen live.
+    pub fn was_live(&self) -> bool
+        ensures { result ≡ was_live self.now.phase }
+    {
+        match self.phase {
+            Phase::Joined(guest) => guest.live,
+            _ => false,
+        }
     }
 
     /// How long an accept, a watch, a read or a rest may wait for something to happen, in milliseconds: 0 behind anything that

@@ -2,7 +2,6 @@
 
 mod callers;
 mod cell;
-mod moves;
 mod names;
 mod outside;
 mod ports;

@@ -5,4 +5,4 @@ mod hopper;
 mod lent;
 mod outside;
 mod rows;
-mod turns;
+mod ticks;

@@ -32,20 +32,21 @@ const WRONG: [(&str, &str); 17] = [
     ("--lines", "33"),
     ("--line-port", "65535"),
     ("--service", "V%41X"),
-    ("--sessions", "0"),
+    ("--sessions", "00"),
     ("--sessions", "1000001"),
     ("peer", "7001 65536"),
     ("peer", "1 2 3 4 5 6 7 8 9"),
 ];
 
 // Values that leave them right.
-const RIGHT: [(&str, &str); 8] = [
+const RIGHT: [(&str, &str); 9] = [
     ("--role", "node"),
     ("--role", "switch"),
     ("--role", "tariff"),
     ("--lines", "32"),
     ("--line-port", "65534"),
     ("--service", "%fe"),
+    ("--sessions", "0"),
     ("--sessions", "1000000"),
     ("peer", "1 2 3 4 5 6 7 65535"),
 ];

@@ -6,14 +6,13 @@ ghost use Rattle.lat_history.specs.Ledgers.{AreBlanks};
 use super::echo::Echo;
 use super::outside::FailingTx;
 use lat_base::{Bytes, Core, Event};
-use lat_cell::{Blanks, Cell, CellFault, LineDone, LineShare, Receipt, SeatFault, line_worker};
-use lat_outside::{FreeGate, MemLine, MemTx, Tx};
+use lat_cell::{Blanks, Cell, CellFault, LineShare, Receipt, SeatFault};
+use lat_outside::{MemTx, Tx};
 use lat_past::{Entry, SeatTotals, seat};
 use std::alloc::Global;
 use std::marker::Brand;
 use std::sync::atomic::{AtomicU64, Ordering};
 use std::sync::ledger::Ledger;
-use std::sync::{Mutex, Wait};
 
 /// How many entries the cells keep, where it doesn't matter.
 const KEPT: usize = 2;
@@ -182,32 +181,6 @@ fn tried<E: Ledger, B: Ledger>(alloc: Global, fails: u64, blanks: Blanks) -> Opt
     Some((tried.load(Ordering::SeqCst), events))
 }
 
-// How a worker ends whose line gives three bytes and fails at its second read, with its events, the history's, and the bytes that
-// were put: their number, and those of the frames tried, of which the core makes one for each byte that it takes, one a put.
-fn failed<E: Ledger, B: Ledger, R: Wait>(
-    rt: &R,
-    alloc: Global,
-    blanks: Blanks,
-) -> Option<(LineDone, u64, u64, u64, u64)>
-    requires blanks { AreBlanks blanks E.name E.parts B.name B.parts }
-{
-    let tried = AtomicU64::new(0);
-    let tx = FailingTx {
-        tried: &tried,
-        fails: 0,
-        sends: 0,
-        faults: 0,
-    };
-    let OpenCell { cell, line, .. } = make_cell::<FailingTx, E, B>(alloc, tx, KEPT, blanks)?;
-    let cell = Mutex::new(cell);
-    let end = MemLine::new(alloc, b"abc", 9, 9, &[2]);
-    let (share, done, _) = line_worker(rt, alloc, &cell, line, end, &FreeGate, None);
-    let cell = cell.into_inner();
-    let events = cell.of_seat(1).events;
-    let bytes = tried.load(Ordering::SeqCst);
-    Some((done, share.events(), events, share.bytes(), bytes))
-}
-
 #[test]
 fn cells(rt: HostRuntime) {
     let alloc = rt.alloc();
@@ -238,6 +211,4 @@ fn cells(rt: HostRuntime) {
         let came = tried::<Brand, Brand>(alloc, fails, Blanks::new());
         assert_eq!(rt; came, Some((0x61_62_63, 3)));
     }
-    let came = failed::<Brand, Brand, HostRuntime>(&rt, alloc, Blanks::new());
-    assert_eq!(rt; came, Some((LineDone::Fault, 4, 4, 3, 0x61_62_63)));
 }

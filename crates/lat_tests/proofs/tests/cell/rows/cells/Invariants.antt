@@ -17,9 +17,3 @@ ghosts-tried-E-Ledger g a = record { name = a.blanks.events.name; parts = a.blan
 
 abbrev pub ghosts-tried-B-Ledger : goal.ghosts-tried-B-Ledger
 ghosts-tried-B-Ledger g a = record { name = a.blanks.bytes.name; parts = a.blanks.bytes.parts }
-
-abbrev pub ghosts-failed-E-Ledger : goal.ghosts-failed-E-Ledger
-ghosts-failed-E-Ledger g a = record { name = a.blanks.events.name; parts = a.blanks.events.parts }
-
-abbrev pub ghosts-failed-B-Ledger : goal.ghosts-failed-B-Ledger
-ghosts-failed-B-Ledger g a = record { name = a.blanks.bytes.name; parts = a.blanks.bytes.parts }

@@ -1,0 +1,10 @@
+pub mod Turned
+pub mod Bytes
+pub mod Front
+pub mod Moves
+pub mod Ties
+pub mod Overs
+pub mod Acted
+pub mod Going
+pub mod Fitting
+pub mod Keeping

@@ -1,0 +1,11 @@
+pub mod Lives
+pub mod Written
+pub mod Hands
+pub mod Kept
+pub mod Doors
+pub mod Events
+pub mod Holds
+pub mod Acts
+pub mod Served
+pub mod Tied
+pub mod Work
