@@ -1,5 +1,5 @@
-//! Whether the workers of a cell do their work, and at the same time: what no contract of theirs can say. Tests alone, over a
-//! server core in the cell and a node core at the other end of its carrier, by the workers themselves and by a daemon's call.
+//! Whether the workers of a daemon do their work, and at the same time: what no contract of theirs can say. Tests alone, over pairs of
+//! daemons on the loopback address.
 #![tactic(auto)]
 
 #[cfg(test)]

@@ -1,13 +1,7 @@
-//! A server's cell with its workers in threads, and a node which puts back what it takes; the same through a daemon, and pairs of
-//! daemons over the loopback address.
+//! Pairs of daemons over the loopback address, with callers in turn on their lines; and daemons that don't come to run.
 
-mod cores;
-mod crew;
 mod daemon;
-mod far;
+mod ends;
 mod loopback;
-mod opener;
-mod outside;
-mod served;
+mod refused;
 mod steady;
-mod threads;

@@ -1,14 +1,24 @@
 -- The shares of all seats, given to the seats, and given back.
-use Rattle.std.proofs.Common.{◌≡◌, ◌≤◌, ◌<◌, ℕ, zero, suc, ◌+◌, ◌-◌, List, [], ◌∷◌, ◌++◌, length, length-append, map, take, drop, refl, sym, ap, ap₂, subst₂, ◌∙◌, arith, append_assoc, append-nil}
-use Rattle.std.specs.Prelude.{slice_index_or, reverse, sum_by, remove}
+use Rattle.std.proofs.Common.{◌≡◌, ◌≤◌, ◌<◌, ℕ, zero, suc, ◌+◌, ◌-◌, List, [], ◌∷◌, ◌++◌, length, length-append, map, take, drop, refl, sym, ap, ap₂, subst, subst₂, ◌∙◌, arith, append_assoc, append-nil}
+use Rattle.std.specs.Prelude.{IsSome, Option, true, false, slice_index_or, reverse, sum_by, remove}
 use Rattle.std.proofs.lemmas.List.{take_at, drop_at, length-map, map-append, reverse-append}
 use Rattle.std.proofs.lemmas.List.Sums.{sum_by-cons, sum_by_push}
-use Rattle.lat_outside.specs.Causes.{Rose}
 use Rattle.lat_history.specs.CellView.{SeatView}
 use Rattle.lat_history.specs.Seats.{all_seats, fresh, seats_from}
-use Rattle.lat_cell.specs.declared.seat.Seat.{Seat}
-use Rattle.lat_cell.specs.declared.seat.LineDone.{LineDone}
-use Rattle.lat_live.specs.Seating.{EachPair, share_of, done_of, line_of, SamePlace, IsWorked, AreAllSeats, FaultsCounted}
+use Rattle.lat_turns.specs.declared.worker.LineWorker.{LineWorker}
+use Rattle.lat_turns.specs.declared.worker.LineDone.{LineDone}
+use Rattle.lat_mind.specs.Good.{Each}
+use Rattle.lat_mind.specs.Kinds.{is_calling}
+use Rattle.lat_turns.specs.Doors.{DoorView}
+use Rattle.lat_turns.specs.Lives.{DeskView, life_of}
+use Rattle.lat_live.specs.declared.seats.Post.{Post}
+use Rattle.lat_live.specs.declared.seats.Post.TheVariants as posts
+use Rattle.lat_mind.specs.declared.kind.Kind.{Kind}
+use Rattle.lat_outside.specs.Visits.{VisitsView, no_visits}
+use Rattle.lat_turns.specs.Tied.{Tied}
+use Rattle.lat_live.specs.Opened.{IsNew}
+use Rattle.lat_live.specs.Posts.{IsPosted, kind_of}
+use Rattle.lat_live.specs.Seating.{HasServed, MayWork, EachPair, callers_of, share_of, SamePlace, IsWorked, AreAllSeats}
 
 pub length_seats : (k seat : ℕ) → length (seats_from k seat) ≡ k
 unfolding seats_from
@@ -69,6 +79,27 @@ pub all_given : {A B : Type 0} (f : A → B) (given all : List B) (left : List A
 all_given f given all [] none told = sym (append-nil given) ∙ told
 all_given f given all (x ∷ xs) none told = absurd (omega (arith, none))
 
+-- what holds of each, and of one more, holds of them all
+pub each_push : {A : Type 0} (P : A → Type 0) (xs : List A) (x : A) → Each P xs → P x → Each P (xs ++ x ∷ [])
+each_push P [] x all one = (one, tt)
+each_push P (y ∷ ys) x all one = (all.0, each_push P ys x all.1 one)
+
+-- at each place
+pub each_at : {A : Type 0} (P : A → Type 0) (xs : List A) → Each P xs → (i : ℕ) (d : A) → i < length xs → P (slice_index_or xs i d)
+each_at P [] all i d less = absurd (omega (arith, less))
+each_at P (x ∷ xs) all zero d less = all.0
+each_at P (x ∷ xs) all (suc i) d less = each_at P xs all.1 i d (omega (arith, less))
+
+-- workers of a post may work
+pub may_work : {K P E B : Type 0} (post : Post) (w : LineWorker K P E B) → IsPosted post w → MayWork w
+may_work (posts.Calling service) w posted called = subst (λ (d : DoorView). IsSome d.service) (sym posted.door) refl
+may_work (posts.Switching service) w posted called = subst (λ (d : DoorView). IsSome d.service) (sym posted.door) refl
+may_work posts.Answering w posted called = absurd (let no : false ≡ true = sym (ap (λ (d : DeskView). is_calling d.kind) posted.desk) ∙ called in cc)
+
+pub each_may : {K P E B : Type 0} (post : Post) (ws : List (LineWorker K P E B)) → Each (IsPosted post) ws → Each MayWork ws
+each_may post [] all = tt
+each_may post (w ∷ ws) all = (may_work post w all.0, each_may post ws all.1)
+
 -- what holds at each place holds of both lists
 pub each_pair : {A : Type 0} (R : A → A → Type 0) (xs ys : List A) → length xs ≡ length ys → ((i : ℕ) (d : A) → i < length xs → R (slice_index_or xs i d) (slice_index_or ys i d)) → EachPair R xs ys
 each_pair R [] [] same holds = tt
@@ -76,10 +107,6 @@ each_pair R [] (y ∷ ys) same holds = absurd (omega (arith, same))
 each_pair R (x ∷ xs) [] same holds = absurd (omega (arith, same))
 each_pair R (x ∷ xs) (y ∷ ys) same holds =
     (holds 0 x (omega arith), each_pair R xs ys (omega (arith, same)) (λ i d less. holds (suc i) d (omega (arith, less))))
-
--- a count that rose isn't 0
-pub rose_counts : (before now : ℕ) → Rose before now → 0 < now
-rose_counts before now rose = omega (arith, rose)
 
 -- so many seats from this one on have so many parts
 parts_from : (k seat : ℕ) → sum_by (λ (s : SeatView). s.parts) (seats_from k seat) ≡ k
@@ -90,26 +117,19 @@ parts_from (suc k) seat =
     sum_by-cons parts (fresh seat 1) (seats_from k (seat + 1)) ∙ ap (λ n. 1 + n) (parts_from k (seat + 1)) ∙ omega arith
 
 -- the seats of the lines' shares, and their parts of the books, stay where workers have worked
-kept_seats : {L E B : Type 0} (faults : L → ℕ) (old new : List (Seat L E B)) → EachPair (IsWorked faults) old new → map (λ (s : SeatView). s.seat) (map share_of new) ≡ map (λ (s : SeatView). s.seat) (map share_of old)
-kept_seats faults [] (y ∷ ys) worked = elim worked [ ]
-kept_seats faults (x ∷ xs) [] worked = elim worked [ ]
-kept_seats faults [] [] worked = refl
-kept_seats faults (x ∷ xs) (y ∷ ys) worked = ap₂ (λ (a : ℕ) (l : List ℕ). a ∷ l) worked.0.place.seat (kept_seats faults xs ys worked.1)
+kept_seats : {K P E B : Type 0} (visits : K → VisitsView) (old new : List (LineWorker K P E B)) → EachPair (IsWorked visits) old new → map (λ (s : SeatView). s.seat) (map share_of new) ≡ map (λ (s : SeatView). s.seat) (map share_of old)
+kept_seats visits [] (y ∷ ys) worked = elim worked [ ]
+kept_seats visits (x ∷ xs) [] worked = elim worked [ ]
+kept_seats visits [] [] worked = refl
+kept_seats visits (x ∷ xs) (y ∷ ys) worked = ap₂ (λ (a : ℕ) (l : List ℕ). a ∷ l) worked.0.place.seat (kept_seats visits xs ys worked.1)
 
-kept_parts : {L E B : Type 0} (faults : L → ℕ) (old new : List (Seat L E B)) → EachPair (IsWorked faults) old new → sum_by (λ (s : SeatView). s.parts) (map share_of new) ≡ sum_by (λ (s : SeatView). s.parts) (map share_of old)
-kept_parts faults [] (y ∷ ys) worked = elim worked [ ]
-kept_parts faults (x ∷ xs) [] worked = elim worked [ ]
-kept_parts faults [] [] worked = refl
-kept_parts faults (x ∷ xs) (y ∷ ys) worked =
+kept_parts : {K P E B : Type 0} (visits : K → VisitsView) (old new : List (LineWorker K P E B)) → EachPair (IsWorked visits) old new → sum_by (λ (s : SeatView). s.parts) (map share_of new) ≡ sum_by (λ (s : SeatView). s.parts) (map share_of old)
+kept_parts visits [] (y ∷ ys) worked = elim worked [ ]
+kept_parts visits (x ∷ xs) [] worked = elim worked [ ]
+kept_parts visits [] [] worked = refl
+kept_parts visits (x ∷ xs) (y ∷ ys) worked =
     let parts : SeatView → ℕ = λ s. s.parts in
-    sum_by-cons parts y.share (map share_of ys) ∙ ap₂ (λ (a b : ℕ). a + b) worked.0.place.parts (kept_parts faults xs ys worked.1) ∙ sym (sum_by-cons parts x.share (map share_of xs))
-
-pub faults_counted : {L E B : Type 0} (faults : L → ℕ) (old new : List (Seat L E B)) → EachPair (IsWorked faults) old new → FaultsCounted faults (map done_of new) (map line_of new)
-faults_counted faults [] (y ∷ ys) worked = elim worked [ ]
-faults_counted faults (x ∷ xs) [] worked = elim worked [ ]
-faults_counted faults [] [] worked = tt
-faults_counted faults (x ∷ xs) (y ∷ ys) worked =
-    (λ fault. rose_counts (faults x.line) (faults y.line) (worked.0.fault fault), faults_counted faults xs ys worked.1)
+    sum_by-cons parts y.share (map share_of ys) ∙ ap₂ (λ (a b : ℕ). a + b) worked.0.place.parts (kept_parts visits xs ys worked.1) ∙ sym (sum_by-cons parts x.share (map share_of xs))
 
 seats_split : (lines n : ℕ) → n ≡ lines + 1 → seats_from n 0 ≡ fresh 0 1 ∷ seats_from lines 1
 unfolding seats_from
@@ -120,19 +140,19 @@ all_split : (lines : ℕ) → all_seats lines ≡ fresh 0 1 ∷ seats_from lines
 all_split lines = ap (λ l. l ++ fresh 65 (65 - lines) ∷ []) (seats_split lines (lines + 1) refl)
 
 -- what the workers give back are the shares of all seats
-pub all_back : {L E B : Type 0} (faults : L → ℕ) (lines : ℕ) (old new : List (Seat L E B)) (wire clock wire_back clock_back : SeatView) (shares : List SeatView) →
+pub all_back : {K P E B : Type 0} (visits : K → VisitsView) (lines : ℕ) (old new : List (LineWorker K P E B)) (wire clock wire_back clock_back : SeatView) (shares : List SeatView) →
     lines ≤ 64 → wire ≡ fresh 0 1 → clock ≡ fresh 65 (65 - lines) → map share_of old ≡ seats_from lines 1 →
-    SamePlace wire wire_back → SamePlace clock clock_back → EachPair (IsWorked faults) old new →
+    SamePlace wire wire_back → SamePlace clock clock_back → EachPair (IsWorked visits) old new →
     shares ≡ wire_back ∷ map share_of new ++ clock_back ∷ [] → AreAllSeats lines shares
-all_back faults lines old new wire clock wire_back clock_back shares most w c told wire_same clock_same worked is =
+all_back visits lines old new wire clock wire_back clock_back shares most w c told wire_same clock_same worked is =
     let seat : SeatView → ℕ = λ s. s.seat in
     let parts : SeatView → ℕ = λ s. s.parts in
     let first : wire_back.seat ≡ 0 = wire_same.seat ∙ ap seat w in
     let last : clock_back.seat ≡ 65 = clock_same.seat ∙ ap seat c in
-    let middle : map seat (map share_of new) ≡ map seat (seats_from lines 1) = kept_seats faults old new worked ∙ ap (map seat) told in
+    let middle : map seat (map share_of new) ≡ map seat (seats_from lines 1) = kept_seats visits old new worked ∙ ap (map seat) told in
     let first_parts : wire_back.parts ≡ 1 = wire_same.parts ∙ ap parts w in
     let last_parts : clock_back.parts ≡ 65 - lines = clock_same.parts ∙ ap parts c in
-    let middle_parts : sum_by parts (map share_of new) ≡ lines = kept_parts faults old new worked ∙ ap (sum_by parts) told ∙ parts_from lines 1 in
+    let middle_parts : sum_by parts (map share_of new) ≡ lines = kept_parts visits old new worked ∙ ap (sum_by parts) told ∙ parts_from lines 1 in
     let now : map seat shares ≡ 0 ∷ map seat (seats_from lines 1) ++ 65 ∷ [] =
     ap (map seat) is ∙ ap₂ (λ (h : ℕ) (t : List ℕ). h ∷ t) first (map-append seat (map share_of new) (clock_back ∷ []) ∙ ap₂ (λ (m : List ℕ) (k : ℕ). m ++ k ∷ []) middle last) in
     let all : map seat (all_seats lines) ≡ 0 ∷ map seat (seats_from lines 1) ++ 65 ∷ [] =
@@ -148,16 +168,36 @@ pair_length R [] [] holds = refl
 pair_length R (x ∷ xs) (y ∷ ys) holds = ap suc (pair_length R xs ys holds.1)
 
 -- there is one for each line of what the seats give back
-pub many_back : {L E B G : Type 0} (faults : L → ℕ) (lines : ℕ) (f : Seat L E B → G) (old new : List (Seat L E B)) (given : List G) →
-    map share_of old ≡ seats_from lines 1 → EachPair (IsWorked faults) old new → given ≡ map f new → length given ≡ lines
-many_back faults lines f old new given told worked is =
+pub many_back : {K P E B G : Type 0} (visits : K → VisitsView) (lines : ℕ) (f : LineWorker K P E B → G) (old new : List (LineWorker K P E B)) (given : List G) →
+    map share_of old ≡ seats_from lines 1 → EachPair (IsWorked visits) old new → given ≡ map f new → length given ≡ lines
+many_back visits lines f old new given told worked is =
     let long : length given ≡ length new = ap length is ∙ length-map new f in
-    let same : length new ≡ length old = pair_length (IsWorked faults) old new worked in
+    let same : length new ≡ length old = pair_length (IsWorked visits) old new worked in
     let count : length old ≡ lines = sym (length-map old share_of) ∙ ap length told ∙ length_seats lines 1 in
     long ∙ same ∙ count
 
--- each that ended with a fault has counted one
-pub counted_back : {L E B : Type 0} (faults : L → ℕ) (old new : List (Seat L E B)) (ends : List LineDone) (lines : List L) →
-    EachPair (IsWorked faults) old new → ends ≡ map done_of new → lines ≡ map line_of new → FaultsCounted faults ends lines
-counted_back faults old new ends lines worked e l =
-    subst₂ (λ a b. FaultsCounted faults a b) (sym e) (sym l) (faults_counted faults old new worked)
+-- what holds of each of the lines holds of the lines of their workers
+pub each_of : {A B : Type 0} (f : A → B) (P : B → Type 0) (xs : List A) → Each P (map f xs) → Each (λ x. P (f x)) xs
+each_of f P [] all = tt
+each_of f P (x ∷ xs) all = (all.0, each_of f P xs all.1)
+
+-- nobody has come, and nothing was done
+tied_first : (kind : Kind) (port : Option ℕ) → Tied (life_of kind []) (no_visits port)
+tied_first kind port = record { over = tt; now = (refl, refl) }
+
+-- a worker that has done nothing is tied to a line that nobody has come to
+begins : {K P E B : Type 0} (visits : K → VisitsView) (post : Post) (w : LineWorker K P E B) → IsPosted post w → IsNew (visits w.callers) → Tied w.desk (visits w.callers)
+begins visits post w posted new =
+    subst₂ (λ (d : DeskView) (vs : VisitsView). Tied d vs) (sym posted.desk) (sym new.1) (tied_first (kind_of post) new.0)
+
+-- the callers of each line were served by its worker
+pub served_back : {K P E B : Type 0} (visits : K → VisitsView) (post : Post) (old new : List (LineWorker K P E B)) →
+    Each (IsPosted post) old → Each (λ w. IsNew (visits w.callers)) old → EachPair (IsWorked visits) old new →
+    Each (λ callers. HasServed (visits callers)) (map callers_of new)
+served_back visits post [] [] posted fresh worked = tt
+served_back visits post [] (y ∷ ys) posted fresh worked = elim worked [ ]
+served_back visits post (x ∷ xs) [] posted fresh worked = elim worked [ ]
+served_back visits post (x ∷ xs) (y ∷ ys) posted fresh worked = (
+  record { desk = y.desk; life = worked.0.life; tied = worked.0.tied (begins visits post x posted.0 fresh.0) },
+  served_back visits post xs ys posted.1 fresh.1 worked.1,
+)

@@ -4,7 +4,7 @@ use Rattle.lat_past.specs.declared.past.Past.{Past}
 use Rattle.lat_history.specs.declared.fault.SeatFault.{SeatFault}
 use Rattle.lat_history.specs.CellView.{SeatView}
 use Rattle.lat_history.specs.Audits.{audit_of}
-use Rattle.lat_cell.specs.declared.seat.LineDone.{LineDone}
+use Rattle.lat_turns.specs.declared.worker.LineDone.{LineDone}
 use Rattle.lat_cell.specs.EndText.{Ended, status_of}
 use Rattle.lat_live.specs.Printed.{IsOwn}
 

@@ -1,5 +1,9 @@
+pub mod Asked
+pub mod Opened
 pub mod Openings
 pub mod Plans
+pub mod Posts
 pub mod Printed
+pub mod Refusals
 pub mod Seating
 pub mod Served

@@ -4,7 +4,7 @@ use Rattle.std.specs.Io.KnownBytes.{Appends}
 use Rattle.lat_outside.specs.Causes.{Rose}
 use Rattle.lat_past.specs.declared.past.Past.{Past}
 use Rattle.lat_history.specs.CellView.{CellView, SeatView}
-use Rattle.lat_cell.specs.declared.seat.LineDone.{LineDone}
+use Rattle.lat_turns.specs.declared.worker.LineDone.{LineDone}
 use Rattle.lat_cell.specs.EndText.{Ended}
 
 -- what a cell tells at its end: its history, from the first event on

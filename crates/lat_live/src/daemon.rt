@@ -1,19 +1,19 @@
 //! The call that does all that the program `latd` does.
 
-ghost use Rattle.std.specs.Prelude.{◌≡◌, ◌⊎◌, map, string_bytes, []};
+ghost use Rattle.std.specs.Prelude.{◌≡◌, ◌≢◌, ◌⊎◌, map, string_bytes, []};
 ghost use Rattle.lat_history.specs.Ledgers.{AreBlanks};
 ghost use Rattle.std.specs.Io.KnownBytes.{Appends};
 ghost use Rattle.lat_tariff.specs.Tariffs.{AreKnown};
 ghost use Rattle.lat_live.specs.declared.ran.Ran.TheVariants as ran;
 ghost use Rattle.lat_live.specs.Printed.{AppendsPart, IsOwn, RoseIn};
-ghost use Rattle.lat_live.specs.Served.{AreRight, AreWrong, BackOf, HasPrinted, IsNotRun, IsRefusal, IsRoleOf, refusal};
+ghost use Rattle.lat_live.specs.Served.{AreRight, AreWrong, AskedOf, BackOf, HasPrinted, IsNotRun, IsRefusal, IsRoleOf, RefusedOf, refusal};
 
 use crate::ran::Served;
 use crate::roles::serve_in_role;
 use lat_base::Memory;
 use lat_cell::Blanks;
 use lat_node::RatingRule;
-use lat_outside::{Clock, Gate, LineEnd, Opener, Sink, Tx, write_all};
+use lat_outside::{Clock, Gate, PortOpener, Sink, write_all};
 use lat_tariff::{SteadyRule, Tariff};
 use lat_words::config_of;
 use std::alloc::Global;
@@ -45,8 +45,8 @@ fn refuse<S: Sink>(out: &mut S) -> u8
 /// back, what was written and the status are those that `print_end` gives of this cell, these shares and these ends, and the shares
 /// are those of all its seats. `Ran::Not` comes only at 1, 4 and 9, and at 5 where the words aren't right.
 pub fn serve<
-    O: Opener,
-    K: Clock + Send,
+    O: PortOpener,
+    K: Clock + Copy + Send,
     G: Gate + Sync,
     H: RatingRule + Send,
     P: SteadyRule + Send,
@@ -66,7 +66,7 @@ pub fn serve<
     rule: H,
     tariff: Tariff<P>,
     out: &mut S,
-) -> Served<H, P, O::T, O::L, E, B>
+) -> Served<H, P, O::T, O::C, E, B>
     requires fact { H.fact rule }
     requires rules { AreKnown P.fact tariff }
     requires blanks { AreBlanks blanks E.name E.parts B.name B.parts }
@@ -75,7 +75,12 @@ pub fn serve<
     ensures written { result.status ≡ 1 → Appends (S.written out.old) (S.written out.new) refusal }
     ensures part { AreWrong (map string_bytes words.now) → result.status ≡ 5 →
         AppendsPart (S.written out.old) (S.written out.new) refusal }
+    ensures unopened { AreWrong (map string_bytes words.now) → O.asked opener.new ≡ O.asked opener.old }
     ensures opener { result.status ≡ 4 → RoseIn O.faults opener.old opener.new }
+    ensures port { RefusedOf (map string_bytes words.now) tenths (O.asked opener.old) (O.asked opener.new)
+        result.status result.refused }
+    ensures asked { result.ran ≢ ran.Not →
+        AskedOf (map string_bytes words.now) tenths (O.asked opener.old) (O.asked opener.new) }
     ensures sink { result.status ≡ 5 → RoseIn S.faults out.old out.new }
     ensures silent { result.status ≡ 4 → S.written out.new ≡ S.written out.old }
     ensures memory { result.status ≡ 9 → S.written out.new ≡ S.written out.old }
@@ -87,7 +92,7 @@ pub fn serve<
         (result.shares ≡ []) × (result.ends ≡ []) × (result.lines ≡ []) }
     ensures role { IsRoleOf (map string_bytes words.now) result.ran }
     ensures ended { HasPrinted S.written S.faults out.old out.new result }
-    ensures back { BackOf O.L.faults (map string_bytes words.now) result }
+    ensures back { BackOf O.C.visits (map string_bytes words.now) result }
 {
     let config = match config_of(alloc, words) {
         Ok(Some(config)) => config,

@@ -2,8 +2,8 @@
 
 ghost use Rattle.std.specs.Prelude.{◌≡◌, []};
 
-use lat_cell::LineDone;
-use lat_outside::LineEnd;
+use lat_outside::Callers;
+use lat_turns::LineDone;
 use std::alloc::Global;
 use std::marker::Model;
 
@@ -15,7 +15,7 @@ pub struct Ends {
 
 impl Model for Ends {
     ghost use Rattle.std.specs.Prelude.{List};
-    ghost use Rattle.lat_cell.specs.declared.seat.LineDone.{LineDone};
+    ghost use Rattle.lat_turns.specs.declared.worker.LineDone.{LineDone};
 
     ghost Value = { List LineDone };
 
@@ -47,30 +47,30 @@ impl Ends {
     }
 }
 
-/// The lines, by rising number. Contracts see the list.
+/// The lines' callers, by rising number of the line. Contracts see the list.
 #[derive(Drop)]
-pub struct Lines<L: LineEnd> {
-    lines: Vec<L>,
+pub struct Lines<K: Callers> {
+    lines: Vec<K>,
 }
 
-impl<L: LineEnd> Model for Lines<L> {
+impl<K: Callers> Model for Lines<K> {
     ghost use Rattle.std.specs.Prelude.{List};
 
-    ghost Value = { List L };
+    ghost Value = { List K };
 
     ghost view = { λ a. a.lines.items };
 }
 
-impl<L: LineEnd> Lines<L> {
+impl<K: Callers> Lines<K> {
     /// These lines.
-    pub fn of(lines: Vec<L>) -> Lines<L>
+    pub fn of(lines: Vec<K>) -> Lines<K>
         ensures { result ≡ lines.items }
     {
         Lines { lines }
     }
 
     /// No line. It takes no memory.
-    pub fn none(alloc: Global) -> Lines<L>
+    pub fn none(alloc: Global) -> Lines<K>
         ensures { result ≡ [] }
     {
         Lines {
@@ -79,7 +79,7 @@ impl<L: LineEnd> Lines<L> {
     }
 
     /// The lines, first to last.
-    pub fn as_slice(&self) -> &[L]
+    pub fn as_slice(&self) -> &[K]
         ensures { result.now ≡ self.now }
     {
         self.lines.as_slice()

@@ -1,30 +1,38 @@
 //! What is opened.
 
-ghost use Rattle.std.specs.Prelude.{◌≡◌, ◌+◌, ◌<◌, ◌≤◌, Err, IfOk, vec_len};
-ghost use Rattle.lat_outside.specs.Causes.{Rose};
+ghost use Rattle.std.specs.Prelude.{◌≡◌, ◌+◌, ◌<◌, ◌≤◌, Some, IfOk, IfErr, OnOk, vec_len};
+ghost use Rattle.lat_mind.specs.Good.{Each};
+ghost use Rattle.lat_outside.specs.Openings.{with_carrier, with_line};
+ghost use Rattle.lat_outside.specs.Visits.{no_visits};
+ghost use Rattle.lat_live.specs.Opened.{CarrierRefused, IsNew, IsRefusedAt, LineRefused, RoseIfRefused, with_lines};
 
-use lat_base::Memory;
-use lat_outside::{Failed, LineEnd, Opener};
+use lat_base::{Addr, Memory};
+use lat_outside::{PortFault, PortOpener};
 use std::alloc::{AllocError, Global};
+
+/// What a port is for.
+#[derive(Clone, Copy, Debug, PartialEq, Eq)]
+pub enum PortOf {
+    Carrier,
+    /// The line of this number, from 1 on.
+    Line(u8),
+}
+
+/// A port that couldn't be opened, on the loopback address.
+#[derive(Clone, Copy, Debug, PartialEq, Eq)]
+pub struct Refused {
+    pub of: PortOf,
+    pub port: u16,
+    pub fault: PortFault,
+}
 
 /// Why no worker was started.
 #[derive(Clone, Copy)]
 pub enum StartFault {
     /// The carrier or a line wasn't opened.
-    Failed,
+    Refused(Refused),
     /// No memory was found.
     Memory,
-}
-
-impl From<Failed> for StartFault {
-    ghost use Rattle.std.specs.Prelude.{◌≡◌};
-    ghost use Rattle.lat_live.specs.declared.opening.StartFault.TheVariants as faults;
-
-    ghost from_gives = { λ _ e. e ≡ faults.Failed };
-
-    fn from(_e: Failed) -> StartFault {
-        StartFault::Failed
-    }
 }
 
 impl From<Memory> for StartFault {
@@ -49,22 +57,64 @@ impl From<AllocError> for StartFault {
     }
 }
 
+/// Opens the carrier of the station with this address: frames come to this port, and go to the peers' ports.
+pub fn open_carrier<O: PortOpener>(
+    opener: &mut O,
+    own: Addr,
+    port: u16,
+    peers: &[u16],
+) -> Result<(O::T, O::R), StartFault>
+    ensures asked { O.asked opener.new ≡ with_carrier (O.asked opener.old) own port peers.now }
+    ensures refused { IfErr result (CarrierRefused port) }
+    ensures later { O.faults opener.old ≤ O.faults opener.new }
+    ensures cause { IfErr result (RoseIfRefused (O.faults opener.old) (O.faults opener.new)) }
+{
+    match opener.open_carrier(own, port, peers) {
+        Ok(halves) => Ok(halves),
+        Err(fault) => Err(StartFault::Refused(Refused {
+            of: PortOf::Carrier,
+            port,
+            fault,
+        })),
+    }
+}
+
+// Opens a line at this port.
+fn open_line<O: PortOpener>(opener: &mut O, line: u8, port: u16) -> Result<O::C, StartFault>
+    ensures asked { O.asked opener.new ≡ with_line (O.asked opener.old) (Some port) }
+    ensures line { IfOk result (λ callers. O.C.visits callers ≡ no_visits (Some port)) }
+    ensures refused { IfErr result (IsRefusedAt line port) }
+    ensures later { O.faults opener.old ≤ O.faults opener.new }
+    ensures cause { IfErr result (RoseIfRefused (O.faults opener.old) (O.faults opener.new)) }
+{
+    match opener.open_port(port) {
+        Ok(callers) => Ok(callers),
+        Err(fault) => Err(StartFault::Refused(Refused {
+            of: PortOf::Line(line),
+            port,
+            fault,
+        })),
+    }
+}
+
 /// Opens so many lines by rising number, each on the port behind that of the one before.
-pub fn open_lines<O: Opener>(
+pub fn open_lines<O: PortOpener>(
     alloc: Global,
     opener: &mut O,
     first: u16,
     count: u8,
-) -> Result<Vec<O::L>, StartFault>
-    requires { first + count ≤ 65536 }
+) -> Result<Vec<O::C>, StartFault>
+    requires { (first + count ≤ 65536) × (count < 255) }
     ensures count { IfOk result (λ lines. vec_len lines ≡ count) }
+    ensures asked { OnOk result (O.asked opener.new ≡ with_lines first count (O.asked opener.old)) }
+    ensures fresh { IfOk result (λ lines. Each (λ callers. IsNew (O.C.visits callers)) lines.items) }
+    ensures refused { IfErr result (LineRefused first count (O.asked opener.old) (O.asked opener.new)) }
     ensures later { O.faults opener.old ≤ O.faults opener.new }
-    ensures fault { result ≡ Err StartFault.Failed →
-        Rose (O.faults opener.old) (O.faults opener.new) }
+    ensures cause { IfErr result (RoseIfRefused (O.faults opener.old) (O.faults opener.new)) }
 {
     let mut lines = Vec::with_capacity(alloc, count as usize)?;
     for k in 0..count {
-        lines.push_reserved(opener.open_line(first + k as u16)?);
+        lines.push_reserved(open_line(opener, k + 1, first + k as u16)?);
     }
     Ok(lines)
 }

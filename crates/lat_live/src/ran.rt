@@ -1,16 +1,17 @@
 //! What became of a daemon.
 
-ghost use Rattle.std.specs.Prelude.{◌≡◌, []};
+ghost use Rattle.std.specs.Prelude.{◌≡◌, None, []};
 ghost use Rattle.lat_words.specs.declared.config.Role.TheVariants as roles;
 ghost use Rattle.lat_live.specs.declared.ran.Ran.TheVariants as rans;
 ghost use Rattle.lat_live.specs.Served.{CameOf};
 
 use crate::lists::{Ends, Lines};
+use crate::opening::Refused;
 use crate::seats::Given;
 use crate::serving::CoreServed;
 use lat_cell::{Cell, Shares};
 use lat_node::{NodeCore, RatingRule};
-use lat_outside::{LineEnd, Tx};
+use lat_outside::{Callers, Tx};
 use lat_server::ServerCore;
 use lat_switch::SwitchCore;
 use lat_tariff::{SteadyRule, Tariff};
@@ -29,10 +30,11 @@ pub enum Ran<H: RatingRule, P: SteadyRule, T: Tx, E: Ledger, B: Ledger> {
 }
 
 /// What a daemon hands back: the status to end with, its cell, the shares of all seats (the wire, the lines by rising number, the
-/// clock), and of each line how its worker ended, and the line.
+/// clock), and of each line how its worker ended, and its callers; and the port that couldn't be opened, if one couldn't.
 #[derive(Drop)]
-pub struct Served<H: RatingRule, P: SteadyRule, T: Tx, L: LineEnd, E: Ledger, B: Ledger> {
+pub struct Served<H: RatingRule, P: SteadyRule, T: Tx, L: Callers, E: Ledger, B: Ledger> {
     pub status: u8,
+    pub refused: Option<Refused>,
     pub ran: Ran<H, P, T, E, B>,
     pub shares: Shares<E, B>,
     pub ends: Ends,
@@ -40,12 +42,14 @@ pub struct Served<H: RatingRule, P: SteadyRule, T: Tx, L: LineEnd, E: Ledger, B:
 }
 
 // What ran, with this status, and what its seats gave back.
-fn handed_back<H: RatingRule, P: SteadyRule, T: Tx, L: LineEnd, E: Ledger, B: Ledger>(
+fn handed_back<H: RatingRule, P: SteadyRule, T: Tx, L: Callers, E: Ledger, B: Ledger>(
     status: u8,
+    refused: Option<Refused>,
     ran: Ran<H, P, T, E, B>,
     given: Given<L, E, B>,
 ) -> Served<H, P, T, L, E, B>
     ensures status { result.status ≡ status }
+    ensures refused { result.refused ≡ refused }
     ensures ran { result.ran ≡ ran }
     ensures shares { result.shares ≡ given.shares.items }
     ensures ends { result.ends ≡ given.ends.items }
@@ -58,6 +62,7 @@ fn handed_back<H: RatingRule, P: SteadyRule, T: Tx, L: LineEnd, E: Ledger, B: Le
     } = given;
     Served {
         status,
+        refused,
         ran,
         shares: Shares::of(shares),
         ends: Ends::of(ends),
@@ -65,7 +70,7 @@ fn handed_back<H: RatingRule, P: SteadyRule, T: Tx, L: LineEnd, E: Ledger, B: Le
     }
 }
 
-impl<H: RatingRule, P: SteadyRule, T: Tx, L: LineEnd, E: Ledger, B: Ledger> Served<
+impl<H: RatingRule, P: SteadyRule, T: Tx, L: Callers, E: Ledger, B: Ledger> Served<
     H,
     P,
     T,
@@ -77,19 +82,25 @@ impl<H: RatingRule, P: SteadyRule, T: Tx, L: LineEnd, E: Ledger, B: Ledger> Serv
     pub(crate) fn nothing(alloc: Global, status: u8) -> Served<H, P, T, L, E, B>
         ensures status { result.status ≡ status }
         ensures none { result.ran ≡ rans.Not }
+        ensures refused { result.refused ≡ None }
         ensures empty { (result.shares ≡ []) × (result.ends ≡ []) × (result.lines ≡ []) }
     {
-        handed_back(status, Ran::Not, Given::none(alloc))
+        handed_back(status, None, Ran::Not, Given::none(alloc))
     }
 
     /// What came of a server.
     pub(crate) fn of_server(done: CoreServed<ServerCore, T, L, E, B>) -> Served<H, P, T, L, E, B>
         ensures { CameOf roles.Server done result }
     {
-        let CoreServed { status, ran, given } = done;
+        let CoreServed {
+            status,
+            refused,
+            ran,
+            given,
+        } = done;
         match ran {
-            Some(cell) => handed_back(status, Ran::Server(cell), given),
-            None => handed_back(status, Ran::Not, given),
+            Some(cell) => handed_back(status, refused, Ran::Server(cell), given),
+            None => handed_back(status, refused, Ran::Not, given),
         }
     }
 
@@ -97,10 +108,15 @@ impl<H: RatingRule, P: SteadyRule, T: Tx, L: LineEnd, E: Ledger, B: Ledger> Serv
     pub(crate) fn of_switch(done: CoreServed<SwitchCore, T, L, E, B>) -> Served<H, P, T, L, E, B>
         ensures { CameOf roles.Switch done result }
     {
-        let CoreServed { status, ran, given } = done;
+        let CoreServed {
+            status,
+            refused,
+            ran,
+            given,
+        } = done;
         match ran {
-            Some(cell) => handed_back(status, Ran::Switch(cell), given),
-            None => handed_back(status, Ran::Not, given),
+            Some(cell) => handed_back(status, refused, Ran::Switch(cell), given),
+            None => handed_back(status, refused, Ran::Not, given),
         }
     }
 
@@ -108,10 +124,15 @@ impl<H: RatingRule, P: SteadyRule, T: Tx, L: LineEnd, E: Ledger, B: Ledger> Serv
     pub(crate) fn of_node(done: CoreServed<NodeCore<H>, T, L, E, B>) -> Served<H, P, T, L, E, B>
         ensures { CameOf roles.Node done result }
     {
-        let CoreServed { status, ran, given } = done;
+        let CoreServed {
+            status,
+            refused,
+            ran,
+            given,
+        } = done;
         match ran {
-            Some(cell) => handed_back(status, Ran::Node(cell), given),
-            None => handed_back(status, Ran::Not, given),
+            Some(cell) => handed_back(status, refused, Ran::Node(cell), given),
+            None => handed_back(status, refused, Ran::Not, given),
         }
     }
 
@@ -121,10 +142,15 @@ impl<H: RatingRule, P: SteadyRule, T: Tx, L: LineEnd, E: Ledger, B: Ledger> Serv
     ) -> Served<H, P, T, L, E, B>
         ensures { CameOf roles.Tariff done result }
     {
-        let CoreServed { status, ran, given } = done;
+        let CoreServed {
+            status,
+            refused,
+            ran,
+            given,
+        } = done;
         match ran {
-            Some(cell) => handed_back(status, Ran::Tariff(cell), given),
-            None => handed_back(status, Ran::Not, given),
+            Some(cell) => handed_back(status, refused, Ran::Tariff(cell), given),
+            None => handed_back(status, refused, Ran::Not, given),
         }
     }
 }

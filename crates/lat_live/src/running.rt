@@ -1,32 +1,26 @@
 //! The workers in threads.
 
 ghost use Rattle.std.specs.Prelude.{◌≡◌, ◌<◌, vec_len};
-ghost use Rattle.lat_live.specs.Seating.{EachPair, IsWorked, SamePlace};
+ghost use Rattle.lat_mind.specs.Good.{Each};
+ghost use Rattle.lat_live.specs.Seating.{EachPair, IsWorked, MayWork, SamePlace};
 
 use crate::seats::Seated;
 use lat_base::Core;
-use lat_cell::{Cell, LineShare, Seat, time_worker, wire_worker};
-use lat_outside::{Clock, Gate, LineEnd, Rx, Tx};
+use lat_cell::{Cell, Course, LineShare, time_worker, wire_worker};
+use lat_outside::{Callers, Clock, Gate, Rx, Tx};
+use lat_turns::LineWorker;
 use std::alloc::Global;
 use std::sync::ledger::Ledger;
 use std::sync::{Mutex, Wait};
 use std::thread;
 use std::thread::Threads;
 
-/// When announcements go out, and when the cell is stopped.
-#[derive(Clone, Copy, Drop)]
-pub struct Ending {
-    /// Announcements go out at the start, and each time so many seconds have passed.
-    pub announce: Option<u8>,
-    /// The cell is stopped once so many sessions have become free, or else when all lines have ended.
-    pub sessions: Option<u32>,
-}
-
 // Works all lines at once.
 fn crew<
     C: Core + Send,
     T: Tx + Send,
-    L: LineEnd + Send,
+    L: Callers + Send,
+    K: Clock + Send,
     G: Gate + Sync,
     E: Ledger + Sync,
     B: Ledger + Sync,
@@ -35,12 +29,13 @@ fn crew<
     rt: &R,
     alloc: Global,
     cell: &Mutex<Cell<C, T, E, B>>,
-    seats: Vec<Seat<L, E, B>>,
+    seats: Vec<LineWorker<'static, L, K, E, B>>,
     gate: &G,
-) -> Vec<Seat<L, E, B>>
-    requires { 0 < vec_len seats }
-    ensures count { vec_len result ≡ vec_len seats }
-    ensures worked { EachPair (IsWorked L.faults) seats.items result.items }
+) -> Vec<LineWorker<'static, L, K, E, B>>
+    requires some { 0 < vec_len seats }
+    requires may { Each MayWork seats.items }
+    ensures count { vec_len result ≡ vec_len seats.entry }
+    ensures worked { EachPair (IsWorked L.visits) seats.entry.items result.items }
 {
     let mut seats = seats;
     let count = seats.len();
@@ -49,17 +44,19 @@ fn crew<
         seats.as_mut_slice(),
         count,
         &|_, seat|
-            ensures { IsWorked L.faults seat.entry.now seat.exit.now }
+            requires { MayWork seat.now }
+            ensures { IsWorked L.visits seat.entry.now seat.exit.now }
         { seat.work(rt, alloc, cell, gate) },
     );
     seats
 }
 
-// Works all lines at once, and stops the cell behind them where it is to.
+// Works all lines at once, and says behind them that the daemon is to end.
 fn crew_then_stop<
     C: Core + Send,
     T: Tx + Send,
-    L: LineEnd + Send,
+    L: Callers + Send,
+    K: Clock + Send,
     G: Gate + Sync,
     E: Ledger + Sync,
     B: Ledger + Sync,
@@ -68,18 +65,16 @@ fn crew_then_stop<
     rt: &R,
     alloc: Global,
     cell: &Mutex<Cell<C, T, E, B>>,
-    seats: Vec<Seat<L, E, B>>,
+    seats: Vec<LineWorker<'static, L, K, E, B>>,
     gate: &G,
-    stops: bool,
-) -> Vec<Seat<L, E, B>>
-    requires { 0 < vec_len seats }
-    ensures count { vec_len result ≡ vec_len seats }
-    ensures worked { EachPair (IsWorked L.faults) seats.items result.items }
+) -> Vec<LineWorker<'static, L, K, E, B>>
+    requires some { 0 < vec_len seats }
+    requires may { Each MayWork seats.items }
+    ensures count { vec_len result ≡ vec_len seats.entry }
+    ensures worked { EachPair (IsWorked L.visits) seats.entry.items result.items }
 {
     let seats = crew(rt, alloc, cell, seats, gate);
-    if stops {
-        cell.lock(rt).stop();
-    }
+    cell.lock(rt).stop();
     seats
 }
 
@@ -100,7 +95,7 @@ fn outside<
     rx: X,
     time: LineShare<E, B>,
     clock: K,
-    ending: Ending,
+    course: Course,
 ) -> (LineShare<E, B>, LineShare<E, B>)
     requires { (wire.seat ≡ 0) × (time.seat ≡ 65) }
     ensures { SamePlace wire result.0 × SamePlace time result.1 }
@@ -112,17 +107,7 @@ fn outside<
         { wire_worker(rt, alloc, cell, wire, rx) },
         move ||
             requires { time.seat ≡ 65 }
-        {
-            time_worker(
-                rt,
-                alloc,
-                cell,
-                time,
-                clock,
-                ending.announce,
-                ending.sessions,
-            )
-        },
+        { time_worker(rt, alloc, cell, time, clock, course) },
     )
 }
 
@@ -131,7 +116,7 @@ pub fn run_all<
     C: Core + Send,
     T: Tx + Send,
     X: Rx + Send,
-    L: LineEnd + Send,
+    L: Callers + Send,
     K: Clock + Send,
     G: Gate + Sync,
     E: Ledger + Sync,
@@ -142,15 +127,17 @@ pub fn run_all<
     alloc: Global,
     cell: Cell<C, T, E, B>,
     rx: X,
-    seated: Seated<L, E, B>,
+    seated: Seated<L, K, E, B>,
     clock: K,
     gate: &G,
-    ending: Ending,
-) -> (Cell<C, T, E, B>, Seated<L, E, B>)
+    course: Course,
+) -> (Cell<C, T, E, B>, Seated<L, K, E, B>)
     requires some { 0 < vec_len seated.lines }
+    requires may { Each MayWork seated.lines.items }
     requires seats { (seated.wire.seat ≡ 0) × (seated.clock.seat ≡ 65) }
-    ensures around { SamePlace seated.wire result.1.wire × SamePlace seated.clock result.1.clock }
-    ensures lines { EachPair (IsWorked L.faults) seated.lines.items result.1.lines.items }
+    ensures around { SamePlace seated.wire result.1.wire
+        × SamePlace seated.clock result.1.clock }
+    ensures lines { EachPair (IsWorked L.visits) seated.lines.items result.1.lines.items }
     ensures count { vec_len result.1.lines ≡ vec_len seated.lines }
 {
     let Seated {
@@ -160,15 +147,15 @@ pub fn run_all<
     } = seated;
     let cell = Mutex::new(cell);
     let shared = &cell;
-    let stops = ending.sessions.is_none();
     let ((wire, time), lines) = thread::join(
         rt,
         move ||
             requires { (wire.seat ≡ 0) × (time.seat ≡ 65) }
-        { outside(rt, alloc, shared, wire, rx, time, clock, ending) },
+        { outside(rt, alloc, shared, wire, rx, time, clock, course) },
         move ||
-            requires { 0 < vec_len lines }
-        { crew_then_stop(rt, alloc, shared, lines, gate, stops) },
+            requires some { 0 < vec_len lines }
+            requires may { Each MayWork lines.items }
+        { crew_then_stop(rt, alloc, shared, lines, gate) },
     );
     let seated = Seated {
         wire,

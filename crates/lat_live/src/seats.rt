@@ -2,69 +2,132 @@
 
 ghost use Rattle.std.specs.Prelude.{◌≡◌, ◌+◌, ◌-◌, ◌<◌, ◌≤◌, [], ◌∷◌, ◌++◌, map, IfOk, vec_len, vec_capacity};
 ghost use Rattle.lat_history.specs.Seats.{all_seats, seats_from};
-ghost use Rattle.lat_live.specs.Seating.{HasRoom, IsFreshAround, IsNothing, share_of, done_of, line_of};
+ghost use Rattle.lat_mind.specs.Good.{Each};
+ghost use Rattle.lat_live.specs.Posts.{IsPosted, kind_of, service_of, sessions_of};
+ghost use Rattle.lat_live.specs.Seating.{HasRoom, IsFreshAround, IsNothing, share_of, done_of, callers_of};
 
 use lat_base::Name;
-use lat_cell::{LineDone, LineShare, Seat, Shares};
-use lat_outside::LineEnd;
+use lat_cell::{LineShare, Shares};
+use lat_mind::Kind;
+use lat_outside::{Callers, Clock};
+use lat_turns::{Desk, Door, LineDone, LineWorker, Sessions};
 use std::alloc::{AllocError, Global};
 use std::sync::ledger::Ledger;
 
-/// The shares of the wire and of the clock, and the lines with theirs, by rising number.
+/// The shares of the wire and of the clock, and the lines' workers with theirs, by rising number.
 #[derive(Drop)]
-pub struct Seated<L: LineEnd, E: Ledger, B: Ledger> {
+pub struct Seated<K: Callers, P: Clock, E: Ledger, B: Ledger> {
     pub wire: LineShare<E, B>,
-    pub lines: Vec<Seat<L, E, B>>,
+    pub lines: Vec<LineWorker<'static, K, P, E, B>>,
     pub clock: LineShare<E, B>,
 }
 
-/// Gives each line its share.
-pub fn take_seats<L: LineEnd, E: Ledger, B: Ledger>(
+/// How a daemon's lines come to callers and to sessions. Callers come to each line's port.
+#[derive(Clone, Copy)]
+pub enum Post {
+    /// Each caller is connected to this service.
+    Calling(Name),
+    /// The same, and a caller may switch between several sessions.
+    Switching(Name),
+    /// Sessions come by themselves, and each is for the caller who waits, or who comes next.
+    Answering,
+}
+
+impl Post {
+    fn kind(&self) -> Kind
+        ensures { result ≡ kind_of self.now }
+    {
+        match self {
+            Post::Calling(_) | Post::Switching(_) => Kind::Calling,
+            Post::Answering => Kind::Answering,
+        }
+    }
+
+    fn service(&self) -> Option<Name>
+        ensures { result ≡ service_of self.now }
+    {
+        match self {
+            Post::Calling(service) | Post::Switching(service) => Some(*service),
+            Post::Answering => None,
+        }
+    }
+
+    fn sessions(&self) -> Sessions
+        ensures { result ≡ sessions_of self.now }
+    {
+        match self {
+            Post::Switching(_) => Sessions::Several,
+            Post::Calling(_) | Post::Answering => Sessions::One,
+        }
+    }
+
+    // A line's worker that has done nothing yet.
+    fn worker<K: Callers, P: Clock, E: Ledger, B: Ledger>(
+        &self,
+        alloc: Global,
+        share: LineShare<E, B>,
+        callers: K,
+        clock: P,
+    ) -> LineWorker<'static, K, P, E, B>
+        ensures share { result.share ≡ share }
+        ensures callers { result.callers ≡ callers }
+        ensures posted { IsPosted self.now result }
+    {
+        LineWorker {
+            share,
+            callers,
+            door: Door::new(self.service(), &[], None, self.sessions()),
+            clock,
+            desk: Desk::new(alloc, self.kind()),
+            done: LineDone::End,
+        }
+    }
+}
+
+/// Gives each line its share, its post and a clock.
+pub fn take_seats<K: Callers, P: Clock + Copy, E: Ledger, B: Ledger>(
     alloc: Global,
     shares: Shares<E, B>,
-    lines: Vec<L>,
-    service: &Option<Name>,
-) -> Result<Seated<L, E, B>, AllocError>
+    lines: Vec<K>,
+    post: &Post,
+    clock: P,
+) -> Result<Seated<K, P, E, B>, AllocError>
     requires shares { shares ≡ all_seats (vec_len lines) }
     ensures around { IfOk result (IsFreshAround (vec_len lines)) }
     ensures shares { IfOk result (λ s. map share_of s.lines.items ≡ seats_from (vec_len lines) 1) }
-    ensures lines { IfOk result (λ s. map line_of s.lines.items ≡ lines.items) }
+    ensures lines { IfOk result (λ s. map callers_of s.lines.items ≡ lines.items) }
+    ensures posted { IfOk result (λ s. Each (IsPosted post.now) s.lines.items) }
     ensures count { IfOk result (λ s. vec_len s.lines ≡ vec_len lines) }
 {
     let mut seats = Vec::with_capacity(alloc, lines.len())?;
     let mut shares = shares.into_vec();
-    let clock = shares.take_last();
+    let time = shares.take_last();
     let wire = shares.remove(0);
     let mut lines = lines;
     lines.reverse();
     shares.reverse();
     while let Some(line) = lines.pop() {
         let share = shares.take_last();
-        seats.push_reserved(Seat {
-            share,
-            line,
-            service: *service,
-            done: LineDone::End,
-        });
+        seats.push_reserved(post.worker(alloc, share, line, clock));
     }
     Ok(Seated {
         wire,
         lines: seats,
-        clock,
+        clock: time,
     })
 }
 
-/// What the seats give back: all shares in the order of the seats, and of each line how its worker ended, and the line.
+/// What the seats give back: all shares in the order of the seats, and of each line how its worker ended, and its callers.
 #[derive(Drop)]
-pub struct Given<L: LineEnd, E: Ledger, B: Ledger> {
+pub struct Given<K: Callers, E: Ledger, B: Ledger> {
     pub shares: Vec<LineShare<E, B>>,
     pub ends: Vec<LineDone>,
-    pub lines: Vec<L>,
+    pub lines: Vec<K>,
 }
 
-impl<L: LineEnd, E: Ledger, B: Ledger> Given<L, E, B> {
+impl<K: Callers, E: Ledger, B: Ledger> Given<K, E, B> {
     /// Nothing. It takes no memory.
-    pub fn none(alloc: Global) -> Given<L, E, B>
+    pub fn none(alloc: Global) -> Given<K, E, B>
         ensures { IsNothing result }
     {
         Given {
@@ -75,7 +138,7 @@ impl<L: LineEnd, E: Ledger, B: Ledger> Given<L, E, B> {
     }
 
     /// Memory for so many lines.
-    pub fn reserved(alloc: Global, lines: usize) -> Result<Given<L, E, B>, AllocError>
+    pub fn reserved(alloc: Global, lines: usize) -> Result<Given<K, E, B>, AllocError>
         requires { lines ≤ 64 }
         ensures empty { IfOk result IsNothing }
         ensures room { IfOk result (λ g. lines + 2 ≤ vec_capacity g.shares) }
@@ -89,14 +152,14 @@ impl<L: LineEnd, E: Ledger, B: Ledger> Given<L, E, B> {
     }
 
     /// What the seats have, in the memory that was taken before.
-    pub fn filled(self, seated: Seated<L, E, B>) -> Given<L, E, B>
+    pub fn filled<P: Clock>(self, seated: Seated<K, P, E, B>) -> Given<K, E, B>
         requires empty { IsNothing self }
         requires room { vec_len seated.lines + 2 ≤ vec_capacity self.shares }
         requires lines { HasRoom (vec_len seated.lines) self }
         ensures shares { result.shares.items
             ≡ seated.wire ∷ map share_of seated.lines.items ++ seated.clock ∷ [] }
         ensures ends { result.ends.items ≡ map done_of seated.lines.items }
-        ensures lines { result.lines.items ≡ map line_of seated.lines.items }
+        ensures lines { result.lines.items ≡ map callers_of seated.lines.items }
         ensures count { (vec_len result.ends ≡ vec_len seated.lines)
             × (vec_len result.lines ≡ vec_len seated.lines) }
     {
@@ -113,15 +176,15 @@ impl<L: LineEnd, E: Ledger, B: Ledger> Given<L, E, B> {
         shares.push_reserved(wire);
         seats.reverse();
         while let Some(seat) = seats.pop() {
-            let Seat {
+            let LineWorker {
                 share,
-                line,
+                callers,
                 done,
                 ..
             } = seat;
             shares.push_reserved(share);
             ends.push_reserved(done);
-            lines.push_reserved(line);
+            lines.push_reserved(callers);
         }
         shares.push_reserved(clock);
         Given {

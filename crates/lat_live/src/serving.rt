@@ -1,18 +1,21 @@
 //! The call that does all that a daemon does once its words are read and its core is made.
 
-ghost use Rattle.std.specs.Prelude.{◌≡◌, ◌≢◌, ◌⊎◌, ◌+◌, ◌≤◌, IfOk, None, Err, vec_len};
+ghost use Rattle.std.specs.Prelude.{◌≡◌, ◌≢◌, ◌⊎◌, ◌+◌, ◌≤◌, IfOk, IfErr, OnOk, None, vec_len};
 ghost use Rattle.lat_history.specs.Ledgers.{AreBlanks};
-ghost use Rattle.lat_outside.specs.Causes.{Rose};
+ghost use Rattle.lat_live.specs.Asked.{IsRefused, PlanRefused, asked_by};
+ghost use Rattle.lat_history.specs.CellView.{IsEmpty};
+ghost use Rattle.lat_live.specs.Opened.{IsNew, RoseIfRefused};
+ghost use Rattle.lat_mind.specs.Good.{Each};
 ghost use Rattle.lat_live.specs.Printed.{IsOwn, RoseIn};
 ghost use Rattle.lat_live.specs.Seating.{AreFresh, IsNothing};
 ghost use Rattle.lat_live.specs.Served.{CoreHasPrinted, CoreIsBack};
 
-use crate::opening::{StartFault, open_lines};
-use crate::running::{Ending, run_all};
-use crate::seats::{Given, Seated, take_seats};
-use lat_base::{Addr, Core, Memory, Name};
-use lat_cell::{Blanks, Cell, print_end};
-use lat_outside::{Clock, Gate, LineEnd, Opener, Rx, Sink, Tx};
+use crate::opening::{Refused, StartFault, open_carrier, open_lines};
+use crate::running::run_all;
+use crate::seats::{Given, Post, Seated, take_seats};
+use lat_base::{Addr, Core, Memory};
+use lat_cell::{Blanks, Cell, Course, print_end};
+use lat_outside::{Callers, Clock, Gate, PortOpener, Rx, Sink, Tx};
 use std::alloc::Global;
 use std::sync::Wait;
 use std::sync::ledger::Ledger;
@@ -31,80 +34,86 @@ pub struct Plan<'a> {
     pub lines: u8,
     /// The port of line 1.
     pub line_port: u16,
-    /// What each line is connected to. A line without one waits for a session.
-    pub service: Option<Name>,
-    /// Announcements go out at the start, and each time so many seconds have passed.
-    pub announce: Option<u8>,
-    /// The cell is stopped once so many sessions have become free, or else when all lines have ended.
-    pub sessions: Option<u32>,
+    /// How each line comes to callers and to sessions.
+    pub post: Post,
+    /// When announcements go out, and when it ends.
+    pub course: Course,
     /// How many entries of its history the cell keeps, 1,000,000 at most.
     pub kept: usize,
     /// The id of its first circuit, 1 to 65,535, and a node's incarnation.
     pub first: u16,
 }
 
-/// What came of it: the status, the cell, and what the seats gave back.
+/// What came of it: the status, the cell, and what the seats gave back; and the port that couldn't be opened, if one couldn't.
 #[derive(Drop)]
-pub struct CoreServed<C: Core, T: Tx, L: LineEnd, E: Ledger, B: Ledger> {
+pub struct CoreServed<C: Core, T: Tx, L: Callers, E: Ledger, B: Ledger> {
     pub status: u8,
+    pub refused: Option<Refused>,
     pub ran: Option<Cell<C, T, E, B>>,
     pub given: Given<L, E, B>,
 }
 
 // All that the workers need, and the memory for what they give back.
 #[derive(Drop)]
-struct Start<C: Core, T: Tx, X: Rx, L: LineEnd, E: Ledger, B: Ledger> {
+struct Start<C: Core, T: Tx, X: Rx, L: Callers, K: Clock, E: Ledger, B: Ledger> {
     cell: Cell<C, T, E, B>,
     rx: X,
-    seated: Seated<L, E, B>,
+    seated: Seated<L, K, E, B>,
     given: Given<L, E, B>,
 }
 
 // The carrier's two halves, and the lines by rising number.
 #[derive(Drop)]
-struct Outside<T: Tx, X: Rx, L: LineEnd> {
+struct Outside<T: Tx, X: Rx, L: Callers> {
     tx: T,
     rx: X,
     lines: Vec<L>,
 }
 
 // Opens the carrier and the lines.
-fn open_outside<O: Opener>(
+fn open_outside<O: PortOpener>(
     alloc: Global,
     plan: &Plan,
     opener: &mut O,
-) -> Result<Outside<O::T, O::R, O::L>, StartFault>
-    requires { plan.now.line_port + plan.now.lines ≤ 65536 }
+) -> Result<Outside<O::T, O::R, O::C>, StartFault>
+    requires { (plan.now.line_port + plan.now.lines ≤ 65536) × (plan.now.lines ≤ 64) }
     ensures count { IfOk result (λ o. vec_len o.lines ≡ plan.now.lines) }
-    ensures fault { result ≡ Err StartFault.Failed →
-        Rose (O.faults opener.old) (O.faults opener.new) }
+    ensures new { IfOk result (λ o. Each (λ callers. IsNew (O.C.visits callers)) o.lines.items) }
+    ensures asked { OnOk result (O.asked opener.new ≡ asked_by plan.now (O.asked opener.old)) }
+    ensures refused { IfErr result (PlanRefused plan.now (O.asked opener.old) (O.asked opener.new)) }
+    ensures later { O.faults opener.old ≤ O.faults opener.new }
+    ensures cause { IfErr result (RoseIfRefused (O.faults opener.old) (O.faults opener.new)) }
 {
-    let (tx, rx) = opener.open_carrier(plan.own, plan.port, plan.peers)?;
+    let (tx, rx) = open_carrier(opener, plan.own, plan.port, plan.peers)?;
     let lines = open_lines(alloc, opener, plan.line_port, plan.lines)?;
     Ok(Outside { tx, rx, lines })
 }
 
 // Takes all memory for a core and what was opened for it.
-fn started<C: Core, T: Tx, X: Rx, L: LineEnd, E: Ledger, B: Ledger>(
+fn started<C: Core, T: Tx, X: Rx, L: Callers, K: Clock + Copy, E: Ledger, B: Ledger>(
     alloc: Global,
     plan: &Plan,
     core: C,
     blanks: Blanks,
     outside: Outside<T, X, L>,
-) -> Result<Start<C, T, X, L, E, B>, Memory>
+    clock: K,
+) -> Result<Start<C, T, X, L, K, E, B>, Memory>
     requires made { C.made (C.opening core) }
     requires stands { C.stands core (C.opening core) }
     requires valid { C.valid core }
     requires lines { (1 ≤ plan.now.lines) × (plan.now.lines ≤ 64) }
     requires count { vec_len outside.lines ≡ plan.now.lines }
+    requires new { Each (λ callers. IsNew (L.visits callers)) outside.lines.items }
     requires kept { plan.now.kept ≤ 1000000 }
     requires blanks { AreBlanks blanks E.name E.parts B.name B.parts }
-    ensures { IfOk result (λ s. AreFresh plan.now.lines s.seated s.given) }
+    ensures fresh { IfOk result (λ s. AreFresh L.visits plan.now.lines plan.now.post s.seated s.given) }
+    ensures cell { IfOk result (λ s.
+        (s.cell.core ≡ core) × (s.cell.most ≡ plan.now.kept) × IsEmpty s.cell) }
 {
     let Outside { tx, rx, lines } = outside;
     let given = Given::reserved(alloc, lines.len())?;
     let (cell, shares) = Cell::make(alloc, core, tx, plan.lines, plan.kept, blanks)?;
-    let seated = take_seats(alloc, shares, lines, &plan.service)?;
+    let seated = take_seats(alloc, shares, lines, &plan.post, clock)?;
     Ok(Start {
         cell,
         rx,
@@ -114,13 +123,14 @@ fn started<C: Core, T: Tx, X: Rx, L: LineEnd, E: Ledger, B: Ledger>(
 }
 
 // Opens all, and takes all memory, where it was found for the core.
-fn opened<O: Opener, C: Core, E: Ledger, B: Ledger>(
+fn opened<O: PortOpener, C: Core, K: Clock + Copy, E: Ledger, B: Ledger>(
     alloc: Global,
     plan: &Plan,
     core: Result<C, Memory>,
     blanks: Blanks,
     opener: &mut O,
-) -> Result<Start<C, O::T, O::R, O::L, E, B>, StartFault>
+    clock: K,
+) -> Result<Start<C, O::T, O::R, O::C, K, E, B>, StartFault>
     requires made { IfOk core (λ c. C.made (C.opening c)) }
     requires stands { IfOk core (λ c. C.stands c (C.opening c)) }
     requires valid { IfOk core C.valid }
@@ -128,25 +138,29 @@ fn opened<O: Opener, C: Core, E: Ledger, B: Ledger>(
         × (plan.now.line_port + plan.now.lines ≤ 65536) }
     requires kept { plan.now.kept ≤ 1000000 }
     requires blanks { AreBlanks blanks E.name E.parts B.name B.parts }
-    ensures fresh { IfOk result (λ s. AreFresh plan.now.lines s.seated s.given) }
-    ensures fault { result ≡ Err StartFault.Failed →
-        Rose (O.faults opener.old) (O.faults opener.new) }
+    ensures fresh { IfOk result (λ s. AreFresh O.C.visits plan.now.lines plan.now.post s.seated s.given) }
+    ensures asked { OnOk result (O.asked opener.new ≡ asked_by plan.now (O.asked opener.old)) }
+    ensures refused { IfErr result (PlanRefused plan.now (O.asked opener.old) (O.asked opener.new)) }
+    ensures cause { IfErr result (RoseIfRefused (O.faults opener.old) (O.faults opener.new)) }
 {
     let core = core?;
     let outside = open_outside(alloc, plan, opener)?;
-    Ok(started(alloc, plan, core, blanks, outside)?)
+    Ok(started(alloc, plan, core, blanks, outside, clock)?)
 }
 
 // Nothing ran.
-fn not_run<C: Core, T: Tx, L: LineEnd, E: Ledger, B: Ledger>(
+fn not_run<C: Core, T: Tx, L: Callers, E: Ledger, B: Ledger>(
     alloc: Global,
     status: u8,
+    refused: Option<Refused>,
 ) -> CoreServed<C, T, L, E, B>
     ensures ran { (result.status ≡ status) × (result.ran ≡ None) }
+    ensures refused { result.refused ≡ refused }
     ensures given { IsNothing result.given }
 {
     CoreServed {
         status,
+        refused,
         ran: None,
         given: Given::none(alloc),
     }
@@ -157,7 +171,7 @@ fn run_started<
     C: Core + Send,
     T: Tx + Send,
     X: Rx + Send,
-    L: LineEnd + Send,
+    L: Callers + Send,
     K: Clock + Send,
     G: Gate + Sync,
     S: Sink,
@@ -168,20 +182,21 @@ fn run_started<
     rt: &R,
     alloc: Global,
     plan: &Plan,
-    start: Start<C, T, X, L, E, B>,
+    start: Start<C, T, X, L, K, E, B>,
     clock: K,
     gate: &G,
     out: &mut S,
 ) -> CoreServed<C, T, L, E, B>
     requires lines { (1 ≤ plan.now.lines) × (plan.now.lines ≤ 64) }
-    requires fresh { AreFresh plan.now.lines start.seated start.given }
+    requires fresh { AreFresh L.visits plan.now.lines plan.now.post start.seated start.given }
     ensures ended { CoreHasPrinted S.written S.faults out.old out.new result }
-    ensures back { CoreIsBack L.faults plan.now.lines result }
+    ensures back { CoreIsBack L.visits plan.now.lines result }
     ensures own { IsOwn result.status ⊎ (result.status ≡ 5) }
     ensures other { result.status ≢ 4 }
     ensures sink { result.status ≡ 5 → RoseIn S.faults out.old out.new }
     ensures memory { result.status ≡ 9 → S.written out.new ≡ S.written out.old }
     ensures ran { result.ran ≢ None }
+    ensures refused { result.refused ≡ None }
 {
     let Start {
         cell,
@@ -189,16 +204,13 @@ fn run_started<
         seated,
         given,
     } = start;
-    let ending = Ending {
-        announce: plan.announce,
-        sessions: plan.sessions,
-    };
-    let (cell, seated) = run_all(rt, alloc, cell, rx, seated, clock, gate, ending);
+    let (cell, seated) = run_all(rt, alloc, cell, rx, seated, clock, gate, plan.course);
     let given = given.filled(seated);
     let (shares, ends) = (given.shares.as_slice(), given.ends.as_slice());
     let status = print_end(alloc, &cell, shares, ends, out);
     CoreServed {
         status,
+        refused: None,
         ran: Some(cell),
         given,
     }
@@ -208,12 +220,12 @@ fn run_started<
 /// and prints what came of it. It may wait, and its return isn't promised. The core is as it was made; where no memory was found
 /// for it, nothing is opened.
 ///
-/// The status is 4 only where the opener's count of faults rose, with nothing written; 9 for want of memory; else that of the
+/// The status is 4 exactly where the opener refused a port, which is told then, with nothing written, and its count of faults rose; 9 for want of memory; else that of the
 /// text, which is printed of the cell, the shares and the ends that are handed back. No cell is handed back only at 4 and 9.
 pub fn serve_core<
-    O: Opener,
+    O: PortOpener,
     C: Core + Send,
-    K: Clock + Send,
+    K: Clock + Copy + Send,
     G: Gate + Sync,
     S: Sink,
     E: Ledger + Sync,
@@ -229,7 +241,7 @@ pub fn serve_core<
     clock: K,
     gate: &G,
     out: &mut S,
-) -> CoreServed<C, O::T, O::L, E, B>
+) -> CoreServed<C, O::T, O::C, E, B>
     requires made { IfOk core (λ c. C.made (C.opening c)) }
     requires stands { IfOk core (λ c. C.stands c (C.opening c)) }
     requires valid { IfOk core C.valid }
@@ -238,18 +250,20 @@ pub fn serve_core<
     requires kept { plan.now.kept ≤ 1000000 }
     requires blanks { AreBlanks blanks E.name E.parts B.name B.parts }
     ensures ended { CoreHasPrinted S.written S.faults out.old out.new result }
-    ensures back { CoreIsBack O.L.faults plan.now.lines result }
+    ensures back { CoreIsBack O.C.visits plan.now.lines result }
     ensures own { IsOwn result.status ⊎ ((result.status ≡ 4) ⊎ (result.status ≡ 5)) }
     ensures opener { result.status ≡ 4 → RoseIn O.faults opener.old opener.new }
+    ensures refused { IsRefused plan.now (O.asked opener.old) (O.asked opener.new) result.status result.refused }
+    ensures asked { result.ran ≢ None → O.asked opener.new ≡ asked_by plan.now (O.asked opener.old) }
     ensures sink { result.status ≡ 5 → RoseIn S.faults out.old out.new }
     ensures silent { result.status ≡ 4 → S.written out.new ≡ S.written out.old }
     ensures memory { result.status ≡ 9 → S.written out.new ≡ S.written out.old }
     ensures none { result.ran ≡ None → (result.status ≡ 4) ⊎ (result.status ≡ 9) }
     ensures empty { result.ran ≡ None → IsNothing result.given }
 {
-    match opened::<O, C, E, B>(alloc, plan, core, blanks, opener) {
+    match opened::<O, C, K, E, B>(alloc, plan, core, blanks, opener, clock) {
         Ok(start) => run_started(rt, alloc, plan, start, clock, gate, out),
-        Err(StartFault::Failed) => not_run(alloc, 4),
-        Err(StartFault::Memory) => not_run(alloc, 9),
+        Err(StartFault::Refused(refused)) => not_run(alloc, 4, Some(refused)),
+        Err(StartFault::Memory) => not_run(alloc, 9, None),
     }
 }

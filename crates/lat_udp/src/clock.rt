@@ -5,14 +5,14 @@ use std::time::{Duration, Instant};
 use std::{thread, time};
 
 /// Tells the milliseconds since it was made. Where the system's clock can't be read, it stands still.
-#[derive(Drop)]
-pub struct RealClock<R: time::Clock + Drop> {
+#[derive(Clone, Copy)]
+pub struct RealClock<R: time::Clock + Copy> {
     rt: R,
     start: Option<Instant>,
     last: u64,
 }
 
-impl<R: time::Clock + Drop> RealClock<R> {
+impl<R: time::Clock + Copy> RealClock<R> {
     /// It starts now, at 0.
     pub fn new(rt: R) -> RealClock<R> {
         let start = Instant::now(&rt).ok();
@@ -20,7 +20,7 @@ impl<R: time::Clock + Drop> RealClock<R> {
     }
 }
 
-impl<R: time::Clock + Drop> Clock for RealClock<R> {
+impl<R: time::Clock + Copy> Clock for RealClock<R> {
     fn now(&mut self) -> u64 {
         let Some(start) = self.start else {
             return self.last;

@@ -68,7 +68,7 @@ lines_of role rows = do
   count ← number_of (codes "lines") 1 (most_lines role) rows
   port ← number_of (codes "line-port") 1 (65536 - count) rows
   service ← name_at (codes "service") rows
-  sessions ← number_of (codes "sessions") 1 1000000 rows
+  sessions ← number_of (codes "sessions") 0 1000000 rows
   Some (record { count = count; port = port; service = service; sessions = sessions })
 
 abbrev pub config_in : List Row → Option Config

@@ -47,8 +47,7 @@ pub struct Lines {
     /// What the lines of a server or a switch are connected to, or what a node offers. A tariff node offers the services of
     /// its tariff and ignores it.
     pub service: Name,
-    /// After so many sessions a node or a tariff node ends; an ask that it rejects counts as one. A server and a switch ignore
-    /// it.
+    /// After so many sessions that were live the daemon ends; 0 says that it stays.
     pub sessions: u32,
 }
 

@@ -99,7 +99,7 @@ fn lines_of(role: Role, found: &ArgMatches<'_>) -> Option<Lines>
     let count = number_of(found, "lines", 1, most_lines(role))?;
     let port = number_of(found, "line-port", 1, 65_536 - count)?;
     let service = name_at(found, "service")?;
-    let sessions = number_of(found, "sessions", 1, 1_000_000)?;
+    let sessions = number_of(found, "sessions", 0, 1_000_000)?;
     Some(Lines {
         count: count as u8,
         port: port as u16,

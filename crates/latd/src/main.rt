@@ -1,5 +1,5 @@
-//! The program `latd`: hands its words, the time of its start, the sockets, the system's clock and standard output to `serve`, and
-//! ends with its status.
+//! The program `latd`: hands its words, the time of its start, the sockets, the system's clock and standard output to `serve`, tells
+//! on standard error which port couldn't be opened, if one couldn't, and ends with the status.
 #![tactic(auto)]
 
 ghost use Rattle.std.specs.Prelude.{◌≡◌, codes};
@@ -8,14 +8,14 @@ ghost use Rattle.lat_tariff.specs.Tariffs.{AreKnown};
 
 use lat_base::Name;
 use lat_cell::Blanks;
-use lat_live::{Served, serve};
+use lat_live::{Refused, Served, refused_text, serve};
 use lat_node::{FreeLines, RatingRule};
-use lat_outside::{FreeGate, LineEnd, StdSink, Tx};
+use lat_outside::{Callers, FreeGate, StdSink, Tx};
 use lat_tariff::{Rule, SteadyRule, Tariff, TwentyPerFreeLine, WhileFree};
-use lat_udp::{NetOpener, RealClock};
+use lat_udp::{NetPorts, RealClock};
 use std::alloc::{AllocError, Global};
 use std::env::{Args, args};
-use std::io::{self, Print};
+use std::io::{self, Eprint, Print};
 use std::marker::Brand;
 use std::net::{Net, TcpListener, TcpStream};
 use std::process::ExitCode;
@@ -46,13 +46,23 @@ fn tenths<R: Clock>(rt: &R) -> u64 {
     }
 }
 
-// The status alone; all else that a daemon hands back is dropped.
-fn status_of<H: RatingRule, P: SteadyRule, T: Tx, L: LineEnd, E: Ledger, B: Ledger>(
+// The status, and the port that couldn't be opened; all else that a daemon hands back is dropped.
+fn status_of<H: RatingRule, P: SteadyRule, T: Tx, L: Callers, E: Ledger, B: Ledger>(
     served: Served<H, P, T, L, E, B>,
-) -> u8
-    ensures { result ≡ served.status }
+) -> (u8, Option<Refused>)
+    ensures { result ≡ (served.status, served.refused) }
 {
-    served.status
+    (served.status, served.refused)
+}
+
+// Tells on standard error which port couldn't be opened. Where that can't be written, the status tells it alone.
+fn tell<R: Eprint>(rt: &R, alloc: Global, refused: Option<Refused>) {
+    let Some(refused) = refused else {
+        return;
+    };
+    if let Ok(text) = refused_text(alloc, refused) {
+        let _ = rt.eprint(text);
+    }
 }
 
 // The status of the daemon, whose node rates its services by this rule, or by those of this tariff.
@@ -66,6 +76,7 @@ fn status_by<
         + Net<Listener = TcpListener, Stream = TcpStream>
         + Clock
         + Print
+        + Eprint
         + Copy
         + Send
         + Sync,
@@ -74,10 +85,10 @@ fn status_by<
     requires rules { AreKnown P.fact tariff }
     requires blanks { AreBlanks blanks E.name E.parts B.name B.parts }
 {
-    let mut opener = NetOpener::new(*rt);
+    let mut opener = NetPorts::new(*rt);
     let clock = RealClock::new(*rt);
     let mut out = StdSink::new(io::writer(rt));
-    status_of(serve::<_, _, _, _, _, _, E, B, R>(
+    let (status, refused) = status_of(serve::<_, _, _, _, _, _, E, B, R>(
         rt,
         alloc,
         words,
@@ -89,7 +100,9 @@ fn status_by<
         rule,
         tariff,
         &mut out,
-    ))
+    ));
+    tell(rt, alloc, refused);
+    status
 }
 
 // The names of the tariff's services.
@@ -112,6 +125,7 @@ fn status<
         + Net<Listener = TcpListener, Stream = TcpStream>
         + Clock
         + Print
+        + Eprint
         + Copy
         + Send
         + Sync,

@@ -1,6 +1,7 @@
-//! A tariff that the daemon isn't asked for.
+//! A tariff of one service, which a daemon in another role isn't asked for.
 
-ghost use Rattle.std.specs.Prelude.{IfOk};
+ghost use Rattle.std.specs.Prelude.{◌≡◌, true, is_ok, IfOk};
+ghost use Rattle.lat_base.specs.Names.{name_read};
 ghost use Rattle.lat_tariff.specs.Tariffs.{AreKnown};
 
 use lat_base::{Memory, Name};
@@ -26,6 +27,16 @@ impl SteadyRule for OneWhileFree {
     fn rate(&self, used: u16, max: u16) -> u8 {
         u8::from(used < max)
     }
+}
+
+/// The name that these bytes are.
+pub fn name(bytes: &[u8]) -> Name
+    requires { is_ok (name_read bytes.now) ≡ true }
+{
+    let Ok(name) = Name::read(bytes) else {
+        unreachable!()
+    };
+    name
 }
 
 /// The tariff of this service alone.

@@ -1,6 +1,6 @@
 use Rattle.std.proofs.Common.{◌≡◌, ◌⊎◌, ◌∙◌, sym, subst}
 use Rattle.lat_live.specs.Printed.{IsOwn}
-use Rattle.lat_live.proofs.Came.{came_back, came_printed, came_role}
+use Rattle.lat_live.proofs.Came.{came_asked, came_back, came_printed, came_refused, came_role}
 use Rattle.lat_live.proofs.roles.serve_in_role.Goals as goal
 
 pub returns-in-Server : goal.returns-in-Server
@@ -10,7 +10,7 @@ returns-in-Server g c =
     record {
       role = came_role _ _ _ _ came c.in-Server.is;
       ended = came_printed g.S.Sink.written g.S.Sink.faults _ _ _ _ _ came core.ended;
-      back = came_back g.O.L.LineEnd.faults _ _ _ _ _ came c.plan_of-plan.ensures.lines core.back;
+      back = came_back g.O.C.Callers.visits _ _ _ _ _ came c.plan_of-plan.ensures.lines core.back;
       own = subst (λ n. IsOwn n ⊎ ((n ≡ 4) ⊎ (n ≡ 5))) (sym came.status) core.own;
       opener = λ four. core.opener (sym came.status ∙ four);
       sink = λ five. core.sink (sym came.status ∙ five);
@@ -18,6 +18,8 @@ returns-in-Server g c =
       silent = λ four. core.silent (sym came.status ∙ four);
       memory = λ nine. core.memory (sym came.status ∙ nine);
       empty = λ not. let none = core.empty (came.none not) in (came.shares ∙ none.0, came.ends ∙ none.1, came.lines ∙ none.2);
+      refused = came_refused _ _ _ _ _ _ _ _ came c.plan_of-plan.ensures core.refused;
+      asked = came_asked _ _ _ _ _ _ _ _ came c.plan_of-plan.ensures core.asked;
     }
 
 pub returns-in-Switch : goal.returns-in-Switch
@@ -27,7 +29,7 @@ returns-in-Switch g c =
     record {
       role = came_role _ _ _ _ came c.in-Switch.is;
       ended = came_printed g.S.Sink.written g.S.Sink.faults _ _ _ _ _ came core.ended;
-      back = came_back g.O.L.LineEnd.faults _ _ _ _ _ came c.plan_of-plan.ensures.lines core.back;
+      back = came_back g.O.C.Callers.visits _ _ _ _ _ came c.plan_of-plan.ensures.lines core.back;
       own = subst (λ n. IsOwn n ⊎ ((n ≡ 4) ⊎ (n ≡ 5))) (sym came.status) core.own;
       opener = λ four. core.opener (sym came.status ∙ four);
       sink = λ five. core.sink (sym came.status ∙ five);
@@ -35,6 +37,8 @@ returns-in-Switch g c =
       silent = λ four. core.silent (sym came.status ∙ four);
       memory = λ nine. core.memory (sym came.status ∙ nine);
       empty = λ not. let none = core.empty (came.none not) in (came.shares ∙ none.0, came.ends ∙ none.1, came.lines ∙ none.2);
+      refused = came_refused _ _ _ _ _ _ _ _ came c.plan_of-plan.ensures core.refused;
+      asked = came_asked _ _ _ _ _ _ _ _ came c.plan_of-plan.ensures core.asked;
     }
 
 pub returns-in-Node : goal.returns-in-Node
@@ -44,7 +48,7 @@ returns-in-Node g c =
     record {
       role = came_role _ _ _ _ came c.in-Node.is;
       ended = came_printed g.S.Sink.written g.S.Sink.faults _ _ _ _ _ came core.ended;
-      back = came_back g.O.L.LineEnd.faults _ _ _ _ _ came c.plan_of-plan.ensures.lines core.back;
+      back = came_back g.O.C.Callers.visits _ _ _ _ _ came c.plan_of-plan.ensures.lines core.back;
       own = subst (λ n. IsOwn n ⊎ ((n ≡ 4) ⊎ (n ≡ 5))) (sym came.status) core.own;
       opener = λ four. core.opener (sym came.status ∙ four);
       sink = λ five. core.sink (sym came.status ∙ five);
@@ -52,6 +56,8 @@ returns-in-Node g c =
       silent = λ four. core.silent (sym came.status ∙ four);
       memory = λ nine. core.memory (sym came.status ∙ nine);
       empty = λ not. let none = core.empty (came.none not) in (came.shares ∙ none.0, came.ends ∙ none.1, came.lines ∙ none.2);
+      refused = came_refused _ _ _ _ _ _ _ _ came c.plan_of-plan.ensures core.refused;
+      asked = came_asked _ _ _ _ _ _ _ _ came c.plan_of-plan.ensures core.asked;
     }
 
 pub returns-in-Tariff : goal.returns-in-Tariff
@@ -61,7 +67,7 @@ returns-in-Tariff g c =
     record {
       role = came_role _ _ _ _ came c.in-Tariff.is;
       ended = came_printed g.S.Sink.written g.S.Sink.faults _ _ _ _ _ came core.ended;
-      back = came_back g.O.L.LineEnd.faults _ _ _ _ _ came c.plan_of-plan.ensures.lines core.back;
+      back = came_back g.O.C.Callers.visits _ _ _ _ _ came c.plan_of-plan.ensures.lines core.back;
       own = subst (λ n. IsOwn n ⊎ ((n ≡ 4) ⊎ (n ≡ 5))) (sym came.status) core.own;
       opener = λ four. core.opener (sym came.status ∙ four);
       sink = λ five. core.sink (sym came.status ∙ five);
@@ -69,4 +75,6 @@ returns-in-Tariff g c =
       silent = λ four. core.silent (sym came.status ∙ four);
       memory = λ nine. core.memory (sym came.status ∙ nine);
       empty = λ not. let none = core.empty (came.none not) in (came.shares ∙ none.0, came.ends ∙ none.1, came.lines ∙ none.2);
+      refused = came_refused _ _ _ _ _ _ _ _ came c.plan_of-plan.ensures core.refused;
+      asked = came_asked _ _ _ _ _ _ _ _ came c.plan_of-plan.ensures core.asked;
     }

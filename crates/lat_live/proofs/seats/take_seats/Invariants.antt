@@ -1,7 +1,9 @@
 use Rattle.std.proofs.Common.{◌≡◌, ◌+◌, ◌≤◌, ◌++◌, map, vec_len, vec_capacity}
 use Rattle.std.specs.Prelude.{reverse}
 use Rattle.lat_history.specs.Seats.{seats_from}
-use Rattle.lat_live.specs.Seating.{share_of, line_of}
+use Rattle.lat_mind.specs.Good.{Each}
+use Rattle.lat_live.specs.Posts.{IsPosted}
+use Rattle.lat_live.specs.Seating.{share_of, callers_of}
 use Rattle.lat_live.proofs.seats.take_seats.Given as goal
 
 abbrev pub invariant-loop-line : goal.invariant-loop-line
@@ -9,7 +11,8 @@ invariant-loop-line g l = record {
   count : vec_len l.seats + vec_len l.lines ≡ vec_len l.fn.lines;
   shares : vec_len l.shares ≡ vec_len l.lines;
   room : vec_len l.fn.lines ≤ vec_capacity l.seats;
-  ends : map line_of l.seats.items ++ reverse l.lines.items ≡ l.fn.lines.items;
+  ends : map callers_of l.seats.items ++ reverse l.lines.items ≡ l.fn.lines.items;
+  posted : Each (IsPosted l.fn.post) l.seats.items;
   told : map share_of l.seats.items ++ reverse l.shares.items ≡ seats_from (vec_len l.fn.lines) 1;
 }
 

@@ -15,4 +15,5 @@ returns-in-Some g c = record {
   shares = c.handed_back.ensures.shares;
   ends = c.handed_back.ensures.ends;
   lines = c.handed_back.ensures.lines;
+  refused = c.handed_back.ensures.refused;
 }

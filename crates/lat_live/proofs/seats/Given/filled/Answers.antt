@@ -1,7 +1,7 @@
 use Rattle.std.proofs.Common.{◌≡◌, [], ◌∷◌, ◌++◌, map, length, ap, ap₂, ◌∙◌, rules}
 use Rattle.std.specs.Prelude.{reverse}
 use Rattle.std.proofs.lemmas.List.{reverse-reverse}
-use Rattle.lat_live.specs.Seating.{share_of, done_of, line_of}
+use Rattle.lat_live.specs.Seating.{share_of, done_of, callers_of}
 use Rattle.lat_live.proofs.Seating.{one_given, all_given}
 use Rattle.lat_live.proofs.seats.Given.filled.Goals as goal
 
@@ -18,7 +18,7 @@ loop-seat-init g c =
       lines_room = search rules;
       shares = ap₂ (λ q r. q ++ map share_of r) (c.push_reserved.ensures.items ∙ ap (λ q. q ++ wire ∷ []) c.requires.empty.0) back;
       ends = ap₂ (λ q r. q ++ map done_of r) c.requires.empty.1 back;
-      lines = ap₂ (λ q r. q ++ map line_of r) c.requires.empty.2 back;
+      lines = ap₂ (λ q r. q ++ map callers_of r) c.requires.empty.2 back;
     }
 
 pub loop-seat-preserved : goal.loop-seat-preserved
@@ -34,7 +34,7 @@ loop-seat-preserved g c =
       lines_room = search rules;
       shares = ap (λ q. q ++ map share_of (reverse rest)) c.push_reserved-in-Some.ensures.items ∙ one_given share_of s.shares.items _ s.seats.items rest c.in-Some.seat c.in-Some.ensures.items s.invariant.shares;
       ends = ap (λ q. q ++ map done_of (reverse rest)) c.push_reserved-in-Some-2.ensures.items ∙ one_given done_of s.ends.items _ s.seats.items rest c.in-Some.seat c.in-Some.ensures.items s.invariant.ends;
-      lines = ap (λ q. q ++ map line_of (reverse rest)) c.push_reserved-in-Some-3.ensures.items ∙ one_given line_of s.lines.items _ s.seats.items rest c.in-Some.seat c.in-Some.ensures.items s.invariant.lines;
+      lines = ap (λ q. q ++ map callers_of (reverse rest)) c.push_reserved-in-Some-3.ensures.items ∙ one_given callers_of s.lines.items _ s.seats.items rest c.in-Some.seat c.in-Some.ensures.items s.invariant.lines;
     }
 
 pub returns-clause-shares : goal.returns-clause-shares
@@ -53,4 +53,4 @@ pub returns-clause-lines : goal.returns-clause-lines
 returns-clause-lines g c =
     let s = c.loop-seat in
     let none : length s.seats.items ≡ 0 = search rules in
-    all_given line_of s.lines.items _ s.seats.items none s.invariant.lines
+    all_given callers_of s.lines.items _ s.seats.items none s.invariant.lines

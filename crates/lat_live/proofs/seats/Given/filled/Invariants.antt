@@ -1,6 +1,6 @@
 use Rattle.std.proofs.Common.{◌≡◌, ◌+◌, ◌++◌, ◌∷◌, map, vec_len, vec_capacity}
 use Rattle.std.specs.Prelude.{reverse}
-use Rattle.lat_live.specs.Seating.{share_of, done_of, line_of}
+use Rattle.lat_live.specs.Seating.{share_of, done_of, callers_of}
 use Rattle.lat_live.proofs.seats.Given.filled.Given as goal
 
 abbrev pub invariant-loop-seat : goal.invariant-loop-seat
@@ -13,7 +13,7 @@ invariant-loop-seat g l = record {
   lines_room : vec_capacity l.lines ≡ vec_capacity l.initial.lines;
   shares : l.shares.items ++ map share_of (reverse l.seats.items) ≡ l.fn.seated.wire ∷ map share_of l.fn.seated.lines.items;
   ends : l.ends.items ++ map done_of (reverse l.seats.items) ≡ map done_of l.fn.seated.lines.items;
-  lines : l.lines.items ++ map line_of (reverse l.seats.items) ≡ map line_of l.fn.seated.lines.items;
+  lines : l.lines.items ++ map callers_of (reverse l.seats.items) ≡ map callers_of l.fn.seated.lines.items;
 }
 
 abbrev pub decreases-loop-seat : goal.decreases-loop-seat

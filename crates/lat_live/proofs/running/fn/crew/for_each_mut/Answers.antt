@@ -5,5 +5,8 @@ returns g c =
     let worked = c.work.ensures in
     record {
       place = record { seat = worked.seat.0; parts = worked.seat.1 };
-      fault = worked.fault;
+      life = worked.life;
+      went = worked.went;
+      tied = worked.tied;
+      done = worked.done;
     }

@@ -1,4 +1,4 @@
-use Rattle.lat_crew.proofs.tests.loopback.two_lines_at_once.Given as goal
+use Rattle.lat_crew.proofs.tests.loopback.lines_serve_caller_after_caller.Given as goal
 
 abbrev pub ghosts-session-E-Ledger : goal.ghosts-session-E-Ledger
 ghosts-session-E-Ledger g a = record { name = a.blanks.events.name; parts = a.blanks.events.parts }
