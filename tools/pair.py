@@ -74,7 +74,7 @@ class Pair:
         server_port, node_port = base, base + 1
         server_lines, node_lines = base + 10, base + 10 + lines
         self.node = start(latd, "node", "VAX1", NODE, node_port, lines, node_lines, "VAX", lines, [node_peer or server_port])
-        self.server = start(latd, "server", "TS1", SERVER, server_port, lines, server_lines, "VAX", 1, [server_peer or node_port])
+        self.server = start(latd, "server", "TS1", SERVER, server_port, lines, server_lines, "VAX", lines, [server_peer or node_port])
         self.at_node = [client(node_lines + k) for k in range(lines)]
         self.at_server = [client(server_lines + k) for k in range(lines)]
 
