@@ -65,8 +65,7 @@ fn announced<E: Ledger, B: Ledger>(
     Some(all)
 }
 
-// How a daemon ends whose core is never drained, and which lingers for a second: whether it is over at each of these moments, from
-// the one on at which it is told to end.
+// Whether a daemon is over at each of these moments, whose core is drained, and which is told to end before the first.
 fn wound<E: Ledger, B: Ledger>(alloc: Global, moments: &[u64], blanks: Blanks) -> Option<Vec<bool>>
     requires { AreBlanks blanks E.name E.parts B.name B.parts }
 {
@@ -94,8 +93,8 @@ fn ticks(rt: HostRuntime) -> Result<(), AllocError> {
     let came = announced::<Brand, Brand>(alloc, &moments, Blanks::new());
     let due = vec![in alloc; true, false, true, false, false, true]?;
     assert!(rt; came == Some(due));
-    let came = wound::<Brand, Brand>(alloc, &[500, 1_499, 1_500], Blanks::new());
-    let due = vec![in alloc; false, false, true]?;
+    let came = wound::<Brand, Brand>(alloc, &[500, 1_500], Blanks::new());
+    let due = vec![in alloc; true, true]?;
     assert!(rt; came == Some(due));
     Ok(())
 }
