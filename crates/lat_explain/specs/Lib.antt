@@ -4,7 +4,9 @@ pub mod Before
 pub mod Awaited
 pub mod Found
 pub mod Wanted
+pub mod Laws
 pub mod LineExplained
 pub mod RefusedExplained
 pub mod WordsExplained
 pub mod FileExplained
+pub mod Columns

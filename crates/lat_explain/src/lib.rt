@@ -6,6 +6,7 @@ mod before;
 mod file;
 mod form;
 mod found;
+pub mod laws;
 mod line;
 mod refused;
 mod walk;

@@ -3,6 +3,7 @@
 ghost use Rattle.std.specs.Prelude.{◌≡◌, ◌==◌, ◌≤◌, ◌+◌, ◌^◌, ◌<◌, ◌++◌, OnOk, IfOk, length, position, string_bytes, nat_lt};
 ghost use Rattle.lat_text.specs.Lines.{lines_of};
 ghost use Rattle.lat_explain.specs.Awaited.{said_before, said_shown};
+ghost use Rattle.lat_explain.specs.Columns.{TellsColumn};
 ghost use Rattle.lat_explain.specs.LineExplained.{
   feed_in,
   text_behind,
@@ -172,6 +173,7 @@ fn walk_at(
 ) -> Result<Walk, AllocError>
     ensures walk { IfOk result (λ w. shown w ≡ walk_at input before silent text.now rest.now) }
     ensures within { IfOk result (λ w. w.best ≤ length rest.now) }
+    ensures line { IfOk result (λ w. w.best ≤ length (front_line rest.now)) }
 {
     if is_open_comment(input, before, text, rest) {
         return comment_walk(alloc, front_line(rest));
@@ -251,7 +253,8 @@ pub fn line_explained(
     text: &[u8],
 ) -> Result<String, AllocError>
     requires { before ≤ length text.now }
-    ensures { IfOk result (λ told. string_bytes told ≡ line_explained input before text.now) }
+    ensures told { IfOk result (λ told. string_bytes told ≡ line_explained input before text.now) }
+    ensures column { IfOk result (λ told. TellsColumn input before text.now (string_bytes told)) }
 {
     let passed = passed(input, before, text);
     let behind = before + passed;
