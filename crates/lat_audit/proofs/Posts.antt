@@ -1,13 +1,13 @@
 -- The frames of a wire, one by one.
 use Rattle.std.proofs.Common.{◌≡◌, ℕ, zero, suc, ◌+◌, ◌<◌, ◌≤◌, Bool, true, false, cond, ◌&&◌, List, [], ◌∷◌, ◌++◌, length, take, drop, refl, sym, ap, ◌∙◌, subst, arith, add-one}
 use Rattle.std.specs.Prelude.{Option, Some, None, option_map, is_some, slice_get, nat_eq}
-use Rattle.lat_base.specs.declared.outbox.OutFrame.{OutFrame}
 use Rattle.lat_machines.specs.values.Messages as model
 use Rattle.lat_machines.specs.values.Frames as machines
 use Rattle.lat_machines.specs.world.Machines.{Setups, Posted, Machines}
 use Rattle.lat_captures.specs.Captured.{RunHead, first_up}
-use Rattle.lat_wire.specs.declared.ledger.post.Post.{Post}
+use Rattle.lat_wire.specs.declared.ledger.post.SentFrame.{SentFrame}
 use Rattle.lat_wire.specs.ledger.Books.{ArePosts, IsReadable}
+use Rattle.lat_wire.specs.ledger.Posts.{PostView}
 use Rattle.lat_wire.specs.Kept.{Kept}
 use Rattle.lat_wire.specs.Stands.{Stands}
 use Rattle.lat_wire.specs.Told.{ShowsPost}
@@ -15,19 +15,19 @@ use Rattle.lat_audit.specs.declared.run_seen.RunSeen.{RunSeen}
 use Rattle.lat_audit.specs.Runs.{seen_of}
 use Rattle.lat_audit.specs.Tapped.{IsSeenAs, up_seen}
 
-readable_at : (ss : List Post) (ps : List Posted) (i : ℕ) (x : Posted) → ArePosts ss ps → slice_get ps i ≡ Some x → IsReadable x.frame
+readable_at : (ss : List PostView) (ps : List Posted) (i : ℕ) (x : Posted) → ArePosts ss ps → slice_get ps i ≡ Some x → IsReadable x.frame
 readable_at ss [] i x are e = let z : ⊥ = cc in absurd z
 readable_at [] (p ∷ ps) i x are e = absurd are
 readable_at (s ∷ ss) (p ∷ ps) zero x are e = let same : p ≡ x = cc in let P : Posted → Type 0 = λ z. IsReadable z.frame in subst P same are.0.readable
 readable_at (s ∷ ss) (p ∷ ps) (suc i) x are e = readable_at ss ps i x are.1 e
 
 -- the frame of a place
-pub record SeenAt (w : Machines) (i : ℕ) (by_server : Bool) (f : OutFrame) : Type 0 where
+pub record SeenAt (w : Machines) (i : ℕ) (by_server : Bool) (f : SentFrame) : Type 0 where
   pub post : Posted
   pub there : slice_get w.posts i ≡ Some post
   pub seen_as : IsSeenAs by_server f post
 
-pub seen_at : {H : Type 0} (k : Kept H) (w : Machines) (i : ℕ) (by_server : Bool) (f : OutFrame) → Stands k w → ShowsPost w.posts i by_server f → SeenAt w i by_server f
+pub seen_at : {H : Type 0} (k : Kept H) (w : Machines) (i : ℕ) (by_server : Bool) (f : SentFrame) → Stands k w → ShowsPost w.posts i by_server f → SeenAt w i by_server f
 seen_at k w i by_server f stands shows = record {
   post = shows.post;
   there = shows.is;

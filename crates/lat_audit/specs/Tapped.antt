@@ -1,11 +1,11 @@
 -- Which frames are captured of a circuit.
 use Rattle.std.specs.Prelude.{◌≡◌, ℕ, Bool, false, cond, ◌&&◌, List, [], map, Option, Some, None, option_and_then, nat_eq}
-use Rattle.lat_base.specs.declared.outbox.OutFrame.{OutFrame}
 use Rattle.lat_machines.specs.values.Addresses.{address}
 use Rattle.lat_machines.specs.world.Machines.{Setups, Posted}
-use Rattle.lat_circuit.specs.Frames.{frame_view}
 use Rattle.lat_payload.specs.Frames.{expected, payload_of}
+use Rattle.lat_wire.specs.declared.ledger.post.SentFrame.{SentFrame}
 use Rattle.lat_wire.specs.ledger.Books.{IsReadable}
+use Rattle.lat_wire.specs.ledger.Posts.{frame_shown}
 use Rattle.lat_circuit.specs.Payloads.{slots_as_text}
 use Rattle.lat_captures.specs.Captured.{RunHead, run_head_of, is_between, entries_of}
 use Rattle.lat_audit.specs.Written.{entry_text, entries_text}
@@ -20,9 +20,9 @@ pub record IsTap (u : Setups) (t : Tap) : Type 0 where
   pub node : u.node.own ≡ address t.node.0
 
 -- a frame with its sender's side is this one of the machines
-pub record IsSeenAs (by_server : Bool) (f : OutFrame) (x : Posted) : Type 0 where
+pub record IsSeenAs (by_server : Bool) (f : SentFrame) (x : Posted) : Type 0 where
   pub side : by_server ≡ x.by_server
-  pub frame : frame_view f ≡ expected x.frame
+  pub frame : frame_shown f ≡ expected x.frame
   pub readable : IsReadable x.frame
 
 -- a RUN of the server to the node with this source

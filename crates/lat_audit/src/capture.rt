@@ -28,7 +28,7 @@ fn first_up<H: RatingRule>(wire: &Wire<H>, tap: &Tap) -> Option<RunSeen>
         let Some((by_server, frame)) = wire.frame(index) else {
             unreachable!()
         };
-        let run = tap.run_up(by_server, frame);
+        let run = tap.run_up(by_server, &frame);
         if run.is_some() {
             return run;
         }
@@ -56,7 +56,7 @@ fn entries_onto<H: RatingRule>(
         let Some((by_server, frame)) = wire.frame(index) else {
             unreachable!()
         };
-        tap.frame_onto(alloc, text, slave, by_server, frame)?;
+        tap.frame_onto(alloc, text, slave, by_server, &frame)?;
     }
     Ok(())
 }

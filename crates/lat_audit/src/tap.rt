@@ -9,8 +9,8 @@ ghost use Rattle.lat_audit.specs.Tapped.{IsTap, IsSeenAs, up_seen, is_captured, 
 
 use crate::print::entry_onto;
 use crate::run_seen::{RunSeen, run_of};
-use lat_base::{Addr, Memory, OutFrame};
-use lat_wire::{RatingRule, Wire};
+use lat_base::{Addr, Memory};
+use lat_wire::{RatingRule, SentFrame, Wire};
 use std::alloc::Global;
 
 /// A tap on the wire between these stations, for one circuit of the server.
@@ -51,11 +51,11 @@ impl Tap {
     }
 
     /// What a frame says of its circuit, where it is a RUN that the server sent the node with this source.
-    pub(crate) fn run_up(&self, by_server: bool, frame: &OutFrame) -> Option<RunSeen>
+    pub(crate) fn run_up(&self, by_server: bool, frame: &SentFrame<'_>) -> Option<RunSeen>
         ensures { (u : Setups) (x : Posted) → IsTap u self.now → IsSeenAs by_server frame.now x →
             result ≡ up_seen u self.now.circuit x }
     {
-        let run = run_of(frame.payload.bytes())?;
+        let run = run_of(frame.payload)?;
         if by_server && self.is_up(frame.to, run) {
             Some(run)
         } else {
@@ -64,14 +64,14 @@ impl Tap {
     }
 
     // Whether a frame is a RUN of the server to the node with this source, or one of the node back with both ids.
-    fn captures(&self, slave: u16, by_server: bool, frame: &OutFrame) -> bool
+    fn captures(&self, slave: u16, by_server: bool, frame: &SentFrame<'_>) -> bool
         ensures value { (u : Setups) (x : Posted) →
             IsTap u self.now →
             IsSeenAs by_server frame.now x →
             result ≡ is_captured u self.now.circuit slave x }
-        ensures bytes { IsBytes frame.now.payload }
+        ensures bytes { IsBytes frame.now.payload.now }
     {
-        let Some(run) = run_of(frame.payload.bytes()) else {
+        let Some(run) = run_of(frame.payload) else {
             return false;
         };
         if by_server {
@@ -88,17 +88,17 @@ impl Tap {
         text: &mut String,
         slave: u16,
         by_server: bool,
-        frame: &OutFrame,
+        frame: &SentFrame<'_>,
     ) -> Result<(), Memory>
         ensures text { (u : Setups) (x : Posted) →
             IsTap u self.now →
             IsSeenAs by_server frame.now x →
             OnOk result (string_bytes text.new
             ≡ string_bytes text.old ++ line_of u self.now.circuit slave x) }
-        ensures bytes { IsBytes frame.now.payload }
+        ensures bytes { IsBytes frame.now.payload.now }
     {
         if self.captures(slave, by_server, frame) {
-            entry_onto(alloc, text, by_server, frame.payload.bytes())?;
+            entry_onto(alloc, text, by_server, frame.payload)?;
         }
         Ok(())
     }

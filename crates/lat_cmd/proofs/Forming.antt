@@ -1,5 +1,5 @@
 -- A status, a text and perhaps a world make an outcome.
-use Rattle.std.proofs.Common.{◌≡◌, ℕ, ◌++◌, [], List, Option, Some, None, Result, Ok, Err, refl, sym, ap, ◌∙◌, subst}
+use Rattle.std.proofs.Common.{◌≡◌, ℕ, List, Option, Some, None, Result, Ok, Err, refl, sym, ap, subst}
 use Rattle.std.specs.Prelude.{IfOk, string_bytes}
 use Rattle.lat_base.specs.declared.memory.Memory.{Memory}
 use Rattle.lat_machines.specs.world.Machines.{Setups, Machines}
@@ -45,13 +45,12 @@ is_with_world text u t k o status same is made stands = record {
 
 -- the report of a world
 pub is_reported :
-    {H : Type 0} (k : Kept H) (o : Outcome H) (before : List ℕ) → before ≡ [] → o.status ≡ 0 → o.world ≡ Some k →
-    ((w : Machines) → Stands k w → string_bytes o.text ≡ before ++ report_text (report (setups_of k) w)) → (t : State) → StandsAt k t →
+    {H : Type 0} (k : Kept H) (o : Outcome H) → o.status ≡ 0 → o.world ≡ Some k →
+    ((w : Machines) → Stands k w → string_bytes o.text ≡ report_text (report (setups_of k) w)) → (t : State) → StandsAt k t →
     IsOutcome (reported (setups_of k) t) o
 unfolding reported
-is_reported k o before none status is text t stands =
-    is_with_world (report_text (report (setups_of k) t.machines)) (setups_of k) t k o status
-    (text t.machines stands.machines ∙ ap (λ xs. xs ++ report_text (report (setups_of k) t.machines)) none) is refl stands
+is_reported k o status is text t stands =
+    is_with_world (report_text (report (setups_of k) t.machines)) (setups_of k) t k o status (text t.machines stands.machines) is refl stands
 
 -- what is captured in a world
 pub is_captured :

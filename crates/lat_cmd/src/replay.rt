@@ -21,8 +21,7 @@ fn reported<H: RatingRule>(alloc: Global, world: World<H>) -> Result<Outcome<H>,
         (t : State) → StandsAt world t → IsOutcome (reported (setups_of world) t) o) }
     ensures before { IfOk result (λ o. o.before ≡ None) }
 {
-    let mut text = String::new(alloc);
-    world.report(alloc, &mut text)?;
+    let text = world.reported(alloc)?;
     Ok(Outcome::done(text, world))
 }
 

@@ -127,7 +127,7 @@ pub(crate) fn came_onto<H: RatingRule>(
     let Some((by_server, frame)) = wire.frame(*index) else {
         return Ok(());
     };
-    let words = frame_words(alloc, frame)?;
+    let words = frame_words(alloc, &frame)?;
     let again = came_before(*index, before);
     let from = layout.row_made(*index);
     Ok(arrow_onto(text, again, by_server, from, row, words.as_str())?)

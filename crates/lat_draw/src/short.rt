@@ -2,7 +2,7 @@
 
 ghost use Rattle.std.specs.Prelude.{◌≡◌, ◌++◌, IfOk, OnOk, string_bytes};
 ghost use Rattle.std.specs.List.{flat_map};
-ghost use Rattle.lat_circuit.specs.Frames.{frame_view};
+ghost use Rattle.lat_wire.specs.ledger.Posts.{frame_shown};
 ghost use Rattle.lat_machines.specs.world.Machines.{Posted};
 ghost use Rattle.lat_notices.specs.declared.notice.Notice.TheVariants as notices;
 ghost use Rattle.lat_payload.specs.Frames.{expected};
@@ -10,13 +10,14 @@ ghost use Rattle.lat_print.specs.AnswerWords.{bad_words};
 ghost use Rattle.lat_draw.specs.Events.{frame_short};
 ghost use Rattle.lat_draw.specs.Short.{slot_short, run_short, message_short, action_short, notice_short, value_short, payload_short};
 
-use lat_base::{Bad, Memory, OutFrame};
+use lat_base::{Bad, Memory};
 use lat_fields::LayoutFault;
 use lat_frames::Message;
 use lat_notices::{Action, Command, Notice, Status};
 use lat_slots::Slot;
 use lat_text::name_onto;
 use lat_value::{Value, read_value};
+use lat_wire::SentFrame;
 use std::alloc::{AllocError, Global};
 
 fn slot_onto(text: &mut String, slot: &Slot) -> Result<(), AllocError>
@@ -158,11 +159,11 @@ fn payload_onto(alloc: Global, text: &mut String, payload: &[u8]) -> Result<(), 
 }
 
 /// A frame in few words.
-pub(crate) fn frame_words(alloc: Global, frame: &OutFrame) -> Result<String, Memory>
-    ensures { (p : Posted) → frame_view frame.now ≡ expected p.frame →
+pub(crate) fn frame_words(alloc: Global, frame: &SentFrame<'_>) -> Result<String, Memory>
+    ensures { (p : Posted) → frame_shown frame.now ≡ expected p.frame →
         IfOk result (λ words. string_bytes words ≡ frame_short p) }
 {
     let mut words = String::new(alloc);
-    payload_onto(alloc, &mut words, frame.payload.bytes())?;
+    payload_onto(alloc, &mut words, frame.payload)?;
     Ok(words)
 }

@@ -37,7 +37,7 @@ fn frame_onto<H: RatingRule>(
     let Some((by_server, frame)) = wire.frame(number) else {
         unreachable!()
     };
-    let words = frame_words(alloc, frame)?;
+    let words = frame_words(alloc, &frame)?;
     Ok(stub_onto(text, lost, by_server, row, words.as_str())?)
 }
 

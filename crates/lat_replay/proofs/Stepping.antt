@@ -3,7 +3,6 @@ use Rattle.std.proofs.Common.{◌≡◌, ℕ, sym, ap, ◌∙◌, refl, subst, B
 use Rattle.std.specs.Prelude.{OnOk, OnErr}
 use Rattle.lat_base.specs.declared.answer.Answer as base_answer
 use Rattle.lat_base.specs.declared.event.Event as base
-use Rattle.lat_base.specs.declared.outbox.OutFrame.{OutFrame}
 use Rattle.lat_machines.specs.values.Answers as machines
 use Rattle.lat_machines.specs.values.Events.{Event, is_heard}
 use Rattle.lat_machines.specs.values.Frames.{Reading}
@@ -23,6 +22,7 @@ use Rattle.lat_wire.specs.Kept as wires
 use Rattle.lat_wire.specs.Rates.{rates}
 use Rattle.lat_wire.specs.Refusals.{RefusedAs, first_of, full, inject_refusal}
 use Rattle.lat_wire.specs.Stands as wire_stands
+use Rattle.lat_wire.specs.declared.ledger.post.SentFrame.{SentFrame}
 use Rattle.lat_wire.specs.Told.{answered, answered_to, ShowsPost}
 use Rattle.lat_replay.specs.roster.Moves.{IsReached, end_told, hearer, items_added}
 use Rattle.lat_replay.specs.roster.Reserved.{FitsIn}
@@ -131,7 +131,7 @@ frame_stands k new w i now hearing a before room same reserved follows answer he
 same_post : (x y : Posted) → Some x ≡ Some y → x ≡ y
 same_post x y e = cc
 
-pub other_side : (w : Machines) (i : ℕ) (by_server : Bool) (f : OutFrame) (p : Posted) → ShowsPost w.posts i by_server f → slice_get w.posts i ≡ Some p → not by_server ≡ not p.by_server
+pub other_side : (w : Machines) (i : ℕ) (by_server : Bool) (f : SentFrame) (p : Posted) → ShowsPost w.posts i by_server f → slice_get w.posts i ≡ Some p → not by_server ≡ not p.by_server
 other_side w i by_server f p t q = ap not (t.side ∙ ap (λ (z : Posted). z.by_server) (same_post t.post p (sym t.is ∙ q)))
 
 pub no_post : (w : Machines) (i : ℕ) (b : Bool) (p : Posted) → slice_get w.posts i ≡ None → slice_get w.posts i ≡ Some p → b ≡ not p.by_server

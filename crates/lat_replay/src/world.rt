@@ -21,11 +21,11 @@ ghost use Rattle.lat_replay.specs.Stands.{Stands};
 use crate::counts::{Counts, counts_of};
 use crate::roster::Roster;
 use crate::summary::report_onto;
-use lat_base::{Memory, OutFrame};
+use lat_base::Memory;
 use lat_node::{NodeCore, RatingRule};
 use lat_schedule::Setup;
 use lat_server::ServerCore;
-use lat_wire::Wire;
+use lat_wire::{SentFrame, Wire};
 use std::alloc::Global;
 use std::marker::Model;
 
@@ -130,11 +130,11 @@ impl<H: RatingRule> World<H> {
     }
 
     /// The frame of this index, and whether the server sent it. `None` exactly past the last.
-    pub fn frame(&self, index: u64) -> Option<(bool, &OutFrame)>
+    pub fn frame(&self, index: u64) -> Option<(bool, SentFrame<'_>)>
         ensures { (w : Machines) →
             Stands self.now w →
             MatchOption result (slice_get w.posts index ≡ None) (λ shown.
-            ShowsPost w.posts index shown.0 shown.1.now) }
+            ShowsPost w.posts index shown.0 shown.1) }
     {
         self.wire.frame(index)
     }
@@ -186,9 +186,18 @@ impl<H: RatingRule> World<H> {
             ≡ string_bytes out.old ++ report_text (report (setups_of self.now) w)) }
         ensures err { OnErr result (string_bytes out.new ≡ string_bytes out.old) }
     {
+        let text = self.reported(alloc)?;
+        Ok(out.push_str(&text)?)
+    }
+
+    /// The report. `Memory` as for `report`.
+    pub fn reported(&self, alloc: Global) -> Result<String, Memory>
+        ensures { IfOk result (λ text. (w : Machines) → Stands self.now w →
+            string_bytes text ≡ report_text (report (setups_of self.now) w)) }
+    {
         let mut text = String::new(alloc);
         report_onto(alloc, &self.wire, &self.roster, &mut text)?;
-        Ok(out.push_str(&text)?)
+        Ok(text)
     }
 
     /// The frames sent so far, the sessions of the report, and the items put and taken over both directions of all of them.

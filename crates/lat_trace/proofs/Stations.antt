@@ -2,8 +2,9 @@
 use Rattle.std.proofs.Common.{◌≡◌, ℕ, ◌+◌, ◌*◌, ◌/◌, ◌%◌, ◌<◌, List, [], ◌∷◌, ◌++◌, Bool, length, get_or, refl, sym, ap, ◌∙◌, arith}
 use Rattle.hex.specs.Hex.{encode_lower}
 use Rattle.lat_base.specs.declared.addr.Addr.{Addr}
-use Rattle.lat_base.specs.declared.outbox.OutFrame as base
-use Rattle.lat_circuit.specs.Frames.{FrameView, frame_view}
+use Rattle.lat_circuit.specs.Frames.{FrameView}
+use Rattle.lat_wire.specs.declared.ledger.post.SentFrame.{SentFrame}
+use Rattle.lat_wire.specs.ledger.Posts.{frame_shown}
 use Rattle.lat_machines.specs.values.Addresses.{address}
 use Rattle.lat_machines.specs.values.Frames.{OutFrame}
 use Rattle.lat_payload.specs.Frames.{expected, payload_of}
@@ -49,17 +50,17 @@ pub station_printed : (station : Addr) → length station.0 ≡ 6 → ((i : ℕ)
 station_printed station long small = ap encode_lower (sym (bytes_of_address station.0 long small))
 
 -- the station of a frame is that of the machines' frame
-station_same : (f : base.OutFrame) (g : OutFrame) → frame_view f ≡ expected g → address f.to.0 ≡ g.to
+station_same : (f : SentFrame) (g : OutFrame) → frame_shown f ≡ expected g → address f.to.0 ≡ g.to
 station_same f g same = ap (λ (v : FrameView). v.to) same
 
 -- and its payload is that which is written
-payload_same : (f : base.OutFrame) (g : OutFrame) → frame_view f ≡ expected g → f.payload ≡ payload_of g.value
+payload_same : (f : SentFrame) (g : OutFrame) → frame_shown f ≡ expected g → f.payload.now ≡ payload_of g.value
 payload_same f g same = ap (λ (v : FrameView). v.payload) same
 
 -- a frame's line, and behind it its payload
 pub frame_printed :
-    (events : List WorldEvent) (number count : ℕ) (by_server : Bool) (f : base.OutFrame) (p : Posted) (before mid new printed : List ℕ) →
-    count ≡ deliveries number events → by_server ≡ p.by_server → frame_view f ≡ expected p.frame → printed ≡ payload_printed f.payload →
+    (events : List WorldEvent) (number count : ℕ) (by_server : Bool) (f : SentFrame) (p : Posted) (before mid new printed : List ℕ) →
+    count ≡ deliveries number events → by_server ≡ p.by_server → frame_shown f ≡ expected p.frame → printed ≡ payload_printed f.payload.now →
     mid ≡ before ++ sent_line number by_server (station_text (address f.to.0)) count → new ≡ mid ++ indented printed → new ≡ before ++ frame_text events number p
 unfolding frame_text
 frame_printed events number count by_server f p before mid new printed often side same shown was now =

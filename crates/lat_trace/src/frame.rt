@@ -4,17 +4,18 @@ ghost use Rattle.std.specs.Prelude.{◌≡◌, ◌++◌, List, ℕ, OnOk, string
 ghost use Rattle.lat_machines.specs.values.Addresses.{address};
 ghost use Rattle.lat_machines.specs.world.Machines.{Posted};
 ghost use Rattle.lat_schedule.specs.declared.event.WorldEvent.{WorldEvent};
-ghost use Rattle.lat_circuit.specs.Frames.{frame_view};
 ghost use Rattle.lat_payload.specs.Frames.{expected};
+ghost use Rattle.lat_wire.specs.ledger.Posts.{frame_shown};
 ghost use Rattle.lat_schedule.specs.EventText.{letter};
 ghost use Rattle.lat_trace.specs.Fates.{deliveries};
 ghost use Rattle.lat_trace.specs.TraceText.{frame_text, sent_line, station_text};
 
 use crate::fates::fate_onto;
-use lat_base::{Addr, Memory, OutFrame};
+use lat_base::{Addr, Memory};
 use lat_print::indented_onto;
 use lat_show::payload_onto;
 use lat_text::address_onto;
+use lat_wire::SentFrame;
 use std::alloc::{AllocError, Global};
 
 // The letter of an end.
@@ -37,7 +38,7 @@ fn line_onto(
     text: &mut String,
     number: u64,
     by_server: bool,
-    frame: &OutFrame,
+    frame: &SentFrame<'_>,
     count: u32,
 ) -> Result<(), AllocError>
     ensures { OnOk result (string_bytes text.new
@@ -58,17 +59,17 @@ pub(crate) fn frame_onto(
     text: &mut String,
     number: u64,
     by_server: bool,
-    frame: &OutFrame,
+    frame: &SentFrame<'_>,
     count: u32,
 ) -> Result<(), Memory>
     ensures { (events : List WorldEvent) (p : Posted) →
         count ≡ deliveries number events →
-        by_server ≡ p.by_server → frame_view frame.now ≡ expected p.frame →
+        by_server ≡ p.by_server → frame_shown frame.now ≡ expected p.frame →
         OnOk result (string_bytes text.new
         ≡ string_bytes text.old ++ frame_text events number p) }
 {
     let mut printed = String::new(alloc);
-    payload_onto(alloc, &mut printed, frame.payload.bytes())?;
+    payload_onto(alloc, &mut printed, frame.payload)?;
     line_onto(text, number, by_server, frame, count)?;
     indented_onto(text, printed.as_str())?;
     Ok(())

@@ -42,7 +42,7 @@ fn frames_onto<H: RatingRule>(
         let Some((by_server, frame)) = wire.frame(number) else {
             unreachable!()
         };
-        frame_onto(alloc, text, number, by_server, frame, fates.at(number))?;
+        frame_onto(alloc, text, number, by_server, &frame, fates.at(number))?;
     }
     Ok(())
 }

@@ -11,11 +11,11 @@ use Rattle.lat_machines.specs.world.Tally.{formed_in, shown_in}
 use Rattle.lat_machines.specs.world.Young.{head_of}
 use Rattle.lat_payload.specs.Reads.{reading_of}
 use Rattle.lat_circuit.specs.Frames.{FrameView}
-use Rattle.lat_wire.specs.declared.ledger.post.Post.{Post}
 use Rattle.lat_laws.specs.rounds.Lossless.{sent_from}
 use Rattle.lat_wire.specs.declared.ledger.post.Sent.{Sent}
 use Rattle.lat_wire.specs.ledger.Logs.{IsAt, IsMarked}
-use Rattle.lat_wire.specs.ledger.Ways.{mark_of}
+use Rattle.lat_wire.specs.ledger.Posts.{PostView, post_shown}
+use Rattle.lat_wire.specs.ledger.Ways.{mark_shown}
 use Rattle.lat_wire.specs.declared.ledger.tallies.Tally.{Tally}
 use Rattle.lat_wire.specs.ledger.Tallies.{tally_at}
 use Rattle.lat_wire.specs.declared.ledger.heading.Heading.{Heading}
@@ -27,19 +27,19 @@ use Rattle.lat_wire.specs.Ends.{half_at}
 use Rattle.lat_wire.specs.Refusals.{MarksRun, RefusedAs, first_of, full, no_frame, old_so, old_frame, old_run}
 use Rattle.lat_wire.specs.Told.{IsSent}
 
-pub posts_length : (ss : List Post) (ps : List Posted) → ArePosts ss ps → length ss ≡ length ps
+pub posts_length : (ss : List PostView) (ps : List Posted) → ArePosts ss ps → length ss ≡ length ps
 posts_length [] [] h = refl
 posts_length [] (p ∷ ps) h = absurd h
 posts_length (s ∷ ss) [] h = absurd h
 posts_length (s ∷ ss) (p ∷ ps) h = let n : length ss ≡ length ps = posts_length ss ps h.1 in omega (arith, n)
 
 -- the frame of an index
-pub record PostAt (ps : List Posted) (i : ℕ) (s : Post) : Type 0 where
+pub record PostAt (ps : List Posted) (i : ℕ) (s : PostView) : Type 0 where
   pub post : Posted
   pub there : slice_get ps i ≡ Some post
   pub is : IsPost s post
 
-pub post_at : (ss : List Post) (ps : List Posted) (i : ℕ) (s : Post) → ArePosts ss ps → slice_get ss i ≡ Some s → PostAt ps i s
+pub post_at : (ss : List PostView) (ps : List Posted) (i : ℕ) (s : PostView) → ArePosts ss ps → slice_get ss i ≡ Some s → PostAt ps i s
 post_at [] ps i s h e = let z : ⊥ = cc in absurd z
 post_at (x ∷ ss) [] i s h e = absurd h
 post_at (x ∷ ss) (p ∷ ps) zero s h e = let same : x ≡ s = cc in record { post = p; there = refl; is = subst (λ z. IsPost z p) same h.0 }
@@ -86,24 +86,24 @@ some_head h None e = let z : ⊥ = cc in absurd z
 some_head h (Some k) e = (k, refl)
 
 -- what is read of a post
-pub read_post : (s : Post) (p : Posted) → IsPost s p → reading_of s.frame.payload ≡ Whole p.frame.value
+pub read_post : (s : PostView) (p : Posted) → IsPost s p → reading_of s.frame.payload ≡ Whole p.frame.value
 read_post s p i = ap (λ (x : FrameView). reading_of x.payload) i.same ∙ i.readable
 
-pub refused_half : (u : Setups) (w : Machines) (p : Posted) (s : Post) (h : Heading) (from : ℕ) (half : Option ℕ) → IsPost s p → heading_of p.frame.value ≡ Some h → own_of u s.by_server ≡ from → half ≡ half_at (core_of w (not s.by_server)) from h → old_run u w p (head_of p.frame.value) ≡ refused_by half (core_of w p.by_server) p.frame
+pub refused_half : (u : Setups) (w : Machines) (p : Posted) (s : PostView) (h : Heading) (from : ℕ) (half : Option ℕ) → IsPost s p → heading_of p.frame.value ≡ Some h → own_of u s.by_server ≡ from → half ≡ half_at (core_of w (not s.by_server)) from h → old_run u w p (head_of p.frame.value) ≡ refused_by half (core_of w p.by_server) p.frame
 refused_half u w p s h from half i e own is =
     run_by u w p h (head_of p.frame.value) e
     ∙ ap (λ z. refused_by z (core_of w p.by_server) p.frame)
     (sym (is ∙ (ap (λ z. half_at (core_of w (not s.by_server)) z h) (sym own) ∙ ap (λ b. half_at (core_of w (not b)) (own_of u b) h) i.by_server)))
 
 -- what is known of a RUN that names a circuit: its numbers, and what its circuit formed and has shown
-pub record Heads (u : Setups) (w : Machines) (p : Posted) (s : Post) (h : Heading) (half : Option ℕ) (t : Tally) : Type 0 where
+pub record Heads (u : Setups) (w : Machines) (p : Posted) (s : PostView) (h : Heading) (half : Option ℕ) (t : Tally) : Type 0 where
   pub refused : old_run u w p (head_of p.frame.value) ≡ refused_by half (core_of w p.by_server) p.frame
   pub number : s.number ≡ p.frame.number
   pub acknowledgement : s.acknowledgement ≡ p.frame.acknowledgement
   pub formed : t.formed ≡ formed_in (core_of w p.by_server) p.frame.circuit
   pub shown : t.shown ≡ shown_in (core_of w p.by_server) p.frame.circuit
 
-pub heads : (u : Setups) (w : Machines) (k : Book) (p : Posted) (s : Post) (h : Heading) (from : ℕ) (half : Option ℕ) (t : Tally) → IsBookOf u k w → IsPost s p → MarksRun p.frame → heading_of p.frame.value ≡ Some h → own_of u s.by_server ≡ from → half ≡ half_at (core_of w (not s.by_server)) from h → t ≡ tally_at (tallies_of k s.by_server) s.frame.circuit → s.frame.circuit < 2 ^ 16 → Heads u w p s h half t
+pub heads : (u : Setups) (w : Machines) (k : Book) (p : Posted) (s : PostView) (h : Heading) (from : ℕ) (half : Option ℕ) (t : Tally) → IsBookOf u k w → IsPost s p → MarksRun p.frame → heading_of p.frame.value ≡ Some h → own_of u s.by_server ≡ from → half ≡ half_at (core_of w (not s.by_server)) from h → t ≡ tally_at (tallies_of k s.by_server) s.frame.circuit → s.frame.circuit < 2 ^ 16 → Heads u w p s h half t
 heads u w k p s h from half t book i marks e own is tally fits =
     let head : (x : Head) × (head_of p.frame.value ≡ Some x) = some_head h (head_of p.frame.value) e in
     let n : Numbered s p.frame = i.numbered (marks head.0 head.1) in
@@ -119,7 +119,7 @@ heads u w k p s h from half t book i marks e own is tally fits =
     }
 
 -- by its two numbers, where both are told
-pub recent_run : {A : Type 0} (u : Setups) (w : Machines) (p : Posted) (s : Post) (h : Heading) (half : ℕ) (t : Tally) (r : Result A EventFault) → Heads u w p s h (Some half) t → RefusedAs r (first_of (old_so false half s.number t.formed ∷ old_so true half s.acknowledgement t.shown ∷ [])) → RefusedAs r (old_run u w p (head_of p.frame.value))
+pub recent_run : {A : Type 0} (u : Setups) (w : Machines) (p : Posted) (s : PostView) (h : Heading) (half : ℕ) (t : Tally) (r : Result A EventFault) → Heads u w p s h (Some half) t → RefusedAs r (first_of (old_so false half s.number t.formed ∷ old_so true half s.acknowledgement t.shown ∷ [])) → RefusedAs r (old_run u w p (head_of p.frame.value))
 recent_run u w p s h half t r k o =
     subst (RefusedAs r)
     (ap₂ (λ x y. first_of (x ∷ y ∷ [])) (ap₂ (old_so false half) k.number k.formed) (ap₂ (old_so true half) k.acknowledgement k.shown) ∙ sym k.refused)
@@ -178,6 +178,6 @@ some_cond false n = refl
 
 pub sent_at : (u : Setups) (w : Machines) (k : Book) (i : ℕ) (s : Sent) → IsBookOf u k w → IsAt k.log i s → IsSent u w i s
 sent_at u w k i s h a =
-    let r : PostAt w.posts i s.post = post_at k.log.posts w.posts i s.post h.posts a.post in
-    let m : IsMarked u w.posts w.delivered i (mark_of s) r.post = h.log.each i (mark_of s) r.post a.mark r.there in
+    let r : PostAt w.posts i (post_shown s.post) = post_at k.log.posts w.posts i (post_shown s.post) h.posts a.post in
+    let m : IsMarked u w.posts w.delivered i (mark_shown s) r.post = h.log.each i (mark_shown s) r.post a.mark r.there in
     record { post = r.post; there = r.there; is = r.is; for_other = ap is_some m.turn ∙ some_cond (is_for_other u r.post) (length (sent_from u r.post.by_server 0 (take i w.posts))) }

@@ -35,6 +35,7 @@ use Rattle.lat_wire.specs.declared.fault.EventFault.TheVariants.{Old}
 use Rattle.lat_wire.specs.Kept.{Kept, setups_of}
 use Rattle.lat_wire.specs.Rates.{rates}
 use Rattle.lat_wire.specs.Refusals.{MarksRun, first_of, old_so, old_frame, old_run, old}
+use Rattle.lat_wire.specs.ledger.Posts.{post_shown}
 use Rattle.lat_wire.specs.Told.{IsSent, answered, answered_to}
 use Rattle.lat_wire.proofs.Refusing.{read_post}
 use Rattle.lat_wire.specs.Notes.{note_shown}
@@ -174,18 +175,18 @@ pub nobody_stands : {H : Type 0} (k new : Kept H) (w : Machines) (i now : ℕ) (
 nobody_stands k new w i now sent q none same m s = stands_on k new w (HearsFrame i now (rates (setups_of k) w)) same s (subst (Mirrors new) (nobody_happens (setups_of k) w i now q.post (rates (setups_of k) w) q.there (sym q.for_other ∙ none)) m)
 
 -- a frame that is heard, by its bytes
-bytes_heard : (u : Setups) (w : Machines) (i now own : ℕ) (sent : Sent) (q : IsSent u w i sent) → own_of u sent.post.by_server ≡ own → Hears own (reading_of sent.post.frame.payload) None now ≡ Hears (own_of u q.post.by_server) (Whole q.post.frame.value) None now
-bytes_heard u w i now own sent q e = ap₂ (λ x y. Hears x y None now) (sym e ∙ ap (own_of u) q.is.by_server) (read_post sent.post q.post q.is)
+bytes_heard : (u : Setups) (w : Machines) (i now own : ℕ) (sent : Sent) (q : IsSent u w i sent) → own_of u sent.post.by_server ≡ own → Hears own (reading_of sent.post.frame.payload.now) None now ≡ Hears (own_of u q.post.by_server) (Whole q.post.frame.value) None now
+bytes_heard u w i now own sent q e = ap₂ (λ x y. Hears x y None now) (sym e ∙ ap (own_of u) q.is.by_server) (read_post (post_shown sent.post) q.post q.is)
 
-pub frame_stands : {H : Type 0} (k told new : Kept H) (w : Machines) (i now own : ℕ) (sent : Sent) (q : IsSent (setups_of k) w i sent) → is_some sent.turn ≡ true → own_of (setups_of k) sent.post.by_server ≡ own → old_run (setups_of k) w q.post (head_of q.post.frame.value) ≡ None → setups_of new ≡ setups_of k → (Mirrors k w → RunTallies (setups_of k) w → Mirrors told (tell (setups_of k) w (not sent.post.by_server) (Hears own (reading_of sent.post.frame.payload) None now) (rates (setups_of k) w))) → ((v : Machines) → Mirrors told v → Mirrors new (marked_delivered i v)) → Stands k w → Stands new (happens (setups_of k) w (HearsFrame i now (rates (setups_of k) w)))
+pub frame_stands : {H : Type 0} (k told new : Kept H) (w : Machines) (i now own : ℕ) (sent : Sent) (q : IsSent (setups_of k) w i sent) → is_some sent.turn ≡ true → own_of (setups_of k) sent.post.by_server ≡ own → old_run (setups_of k) w q.post (head_of q.post.frame.value) ≡ None → setups_of new ≡ setups_of k → (Mirrors k w → RunTallies (setups_of k) w → Mirrors told (tell (setups_of k) w (not sent.post.by_server) (Hears own (reading_of sent.post.frame.payload.now) None now) (rates (setups_of k) w))) → ((v : Machines) → Mirrors told v → Mirrors new (marked_delivered i v)) → Stands k w → Stands new (happens (setups_of k) w (HearsFrame i now (rates (setups_of k) w)))
 frame_stands k told new w i now own sent q some e young same mirrors come s =
     stands_on k new w (HearsFrame i now (rates (setups_of k) w)) same s
     (subst (Mirrors new)
     (ap₂ (λ b z. marked_delivered i (tell (setups_of k) w (not b) z (rates (setups_of k) w))) q.is.by_server (bytes_heard (setups_of k) w i now own sent q e)
     ∙ heard_happens (setups_of k) w i now q.post (rates (setups_of k) w) (stands_safe k w s).bytes q.there (sym q.for_other ∙ some) (young_of (setups_of k) w q.post young))
-    (come (tell (setups_of k) w (not sent.post.by_server) (Hears own (reading_of sent.post.frame.payload) None now) (rates (setups_of k) w)) (mirrors s.parts (stands_tallies k w s))))
+    (come (tell (setups_of k) w (not sent.post.by_server) (Hears own (reading_of sent.post.frame.payload.now) None now) (rates (setups_of k) w)) (mirrors s.parts (stands_tallies k w s))))
 
-pub frame_answers : {H : Type 0} (k : Kept H) (w : Machines) (i now own : ℕ) (sent : Sent) (a : base.Answer) (q : IsSent (setups_of k) w i sent) → is_some sent.turn ≡ true → own_of (setups_of k) sent.post.by_server ≡ own → old_run (setups_of k) w q.post (head_of q.post.frame.value) ≡ None → a ≡ answered (setups_of k) w (not sent.post.by_server) (Hears own (reading_of sent.post.frame.payload) None now) → Stands k w → Some a ≡ answered_to (setups_of k) w now (slice_get w.posts i)
+pub frame_answers : {H : Type 0} (k : Kept H) (w : Machines) (i now own : ℕ) (sent : Sent) (a : base.Answer) (q : IsSent (setups_of k) w i sent) → is_some sent.turn ≡ true → own_of (setups_of k) sent.post.by_server ≡ own → old_run (setups_of k) w q.post (head_of q.post.frame.value) ≡ None → a ≡ answered (setups_of k) w (not sent.post.by_server) (Hears own (reading_of sent.post.frame.payload.now) None now) → Stands k w → Some a ≡ answered_to (setups_of k) w now (slice_get w.posts i)
 frame_answers k w i now own sent a q some e young is s =
     let other : is_for_other (setups_of k) q.post ≡ true = sym q.for_other ∙ some in
     let answer : a ≡ answered (setups_of k) w (not q.post.by_server) (heard_as (setups_of k) q.post now) = is ∙ (ap₂ (λ b z. answered (setups_of k) w (not b) z) q.is.by_server (bytes_heard (setups_of k) w i now own sent q e) ∙ ap answer_of (young_answers k w i now q.post s q.there other (young_of (setups_of k) w q.post young))) in

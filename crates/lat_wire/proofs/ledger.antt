@@ -1,4 +1,5 @@
 pub mod Lists
+pub mod Payloads
 pub mod Pushed
 pub mod Delivered
 pub mod Nexts
@@ -6,3 +7,4 @@ pub mod Posting
 pub mod Heads
 pub mod Entered
 pub mod Behind
+pub mod Growing

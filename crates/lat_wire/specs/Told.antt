@@ -1,13 +1,13 @@
 -- What the calls of a wire are told and answer.
 use Rattle.std.specs.Prelude.{◌≡◌, ℕ, Bool, false, not, cond, List, Option, Some, None, is_some, slice_get}
 use Rattle.lat_base.specs.declared.answer.Answer as base
-use Rattle.lat_base.specs.declared.outbox.OutFrame.{OutFrame}
 use Rattle.lat_machines.specs.values.Events.{Event, Time, is_heard}
 use Rattle.lat_machines.specs.world.Machines.{Setups, Posted, Machines, is_for_other, heard_as}
 use Rattle.lat_machines.specs.world.Safe.{answer_by}
-use Rattle.lat_circuit.specs.Frames.{frame_view}
 use Rattle.lat_payload.specs.Frames.{expected}
 use Rattle.lat_wire.specs.declared.ledger.post.Sent.{Sent}
+use Rattle.lat_wire.specs.declared.ledger.post.SentFrame.{SentFrame}
+use Rattle.lat_wire.specs.ledger.Posts.{frame_shown, post_shown}
 use Rattle.lat_wire.specs.ledger.Books.{IsPost}
 use Rattle.lat_lines.specs.AnswerValues.{answer_of}
 use Rattle.lat_wire.specs.Kept.{Kept, setups_of}
@@ -36,15 +36,15 @@ answered_to u w now None = None
 answered_to u w now (Some p) = cond (is_for_other u p) (Some (answered u w (not p.by_server) (heard_as u p now))) None
 
 -- a frame with its sender's side is that of this place
-pub record ShowsPost (posts : List Posted) (index : ℕ) (by_server : Bool) (f : OutFrame) : Type 0 where
+pub record ShowsPost (posts : List Posted) (index : ℕ) (by_server : Bool) (f : SentFrame) : Type 0 where
   pub post : Posted
   pub is : slice_get posts index ≡ Some post
   pub side : by_server ≡ post.by_server
-  pub frame : frame_view f ≡ expected post.frame
+  pub frame : frame_shown f ≡ expected post.frame
 
 -- the frame of this place, and whether it is for the other end
 pub record IsSent (u : Setups) (w : Machines) (index : ℕ) (s : Sent) : Type 0 where
   pub post : Posted
   pub there : slice_get w.posts index ≡ Some post
-  pub is : IsPost s.post post
+  pub is : IsPost (post_shown s.post) post
   pub for_other : is_some s.turn ≡ is_for_other u post

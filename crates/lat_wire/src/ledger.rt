@@ -5,10 +5,11 @@
 mod heading;
 mod post;
 mod posts;
+mod row;
 mod stations;
 mod tallies;
 
-ghost use Rattle.std.specs.Prelude.{◌≡◌, ℕ, ◌+◌, ◌-◌, ◌<◌, ◌≤◌, ◌^◌, Bool, not, cond, List, [], ◌∷◌, ◌++◌, length, map, nat_eq, IfOk, OnOk};
+ghost use Rattle.std.specs.Prelude.{◌≡◌, ℕ, ◌+◌, ◌-◌, ◌*◌, ◌<◌, ◌≤◌, ◌^◌, Bool, not, cond, List, [], ◌∷◌, ◌++◌, length, map, nat_eq, IfOk, OnOk};
 ghost use Rattle.lat_machines.specs.values.Addresses.{address};
 ghost use Rattle.lat_machines.specs.values.Frames as machines;
 ghost use Rattle.lat_machines.specs.world.Machines.{Setups, Posted, own_of, post_all};
@@ -16,6 +17,7 @@ ghost use Rattle.lat_machines.specs.world.Tally.{Tallied, TalliedBy};
 ghost use Rattle.lat_model.specs.Lists.{Each};
 ghost use Rattle.lat_circuit.specs.Frames.{frame_view};
 ghost use Rattle.lat_payload.specs.Frames.{expected, mark_of};
+ghost use Rattle.lat_wire.specs.ledger.Posts.{post_shown};
 ghost use Rattle.lat_wire.specs.ledger.Tallies.{nothing, tally_at};
 ghost use Rattle.lat_wire.specs.ledger.Ways.{CameAtMost};
 ghost use Rattle.lat_wire.specs.ledger.Books.{Counts, IsBook, IsPost, IsReadable, no_counts, with_side};
@@ -23,7 +25,7 @@ ghost use Rattle.lat_wire.specs.ledger.Books.{behind, behind_all, number_by, tal
 
 pub use heading::{Heading, heading_of};
 use lat_base::{Addr, Mark, Memory, OutFrame};
-pub use post::{Post, Sent};
+pub use post::{Post, Sent, SentFrame};
 use posts::Posts;
 use stations::is_for;
 use std::alloc::Global;
@@ -59,6 +61,7 @@ impl Model for Ledger {
         node = a.node;
       };
       reserved = a.posts.reserved;
+      bytes = a.posts.bytes;
     } };
 }
 
@@ -106,25 +109,27 @@ fn tally_behind(mark: Mark, tally: Tally) -> Tally
     }
 }
 
-// A frame as it is kept.
-fn post_of(frame: &OutFrame, by_server: bool, tally: Tally) -> Post
+// A frame with its sender and its numbers.
+fn post_of(frame: &OutFrame, by_server: bool, tally: Tally) -> Post<'_>
     requires { tally.formed < 2 ^ 32 }
-    ensures { (f : machines.OutFrame) →
+    ensures post { (f : machines.OutFrame) →
         frame_view frame.now ≡ expected f →
         IsReadable f →
         TalliedBy f.mark tally.formed tally.taken f →
-        IsPost result (record { by_server = by_server; frame = f }) }
+        IsPost (post_shown result) (record { by_server = by_server; frame = f }) }
+    ensures side { result.by_server ≡ by_server }
+    ensures most { length result.frame.payload.now ≤ 1500 }
 {
     Post {
         by_server,
-        number: number_of(frame.mark, tally.formed),
-        acknowledgement: tally.taken,
-        frame: OutFrame {
+        frame: SentFrame {
             to: frame.to,
-            payload: frame.payload.copy(),
+            payload: frame.payload.bytes(),
             circuit: frame.circuit,
             mark: frame.mark,
         },
+        number: number_of(frame.mark, tally.formed),
+        acknowledgement: tally.taken,
     }
 }
 
@@ -161,6 +166,7 @@ impl Ledger {
             ≡ tallies_of self.old.book (not server) }
         ensures log { self.new.book.log ≡ self.old.book.log }
         ensures reserved { self.new.reserved ≡ self.old.reserved }
+        ensures bytes { self.new.bytes ≡ self.old.bytes }
     {
         if server {
             self.server.set(circuit, tally);
@@ -181,6 +187,7 @@ impl Ledger {
             ≡ tallies_of self.old.book (not server) }
         ensures log { self.new.book.log ≡ self.old.book.log }
         ensures reserved { self.new.reserved ≡ self.old.reserved }
+        ensures bytes { self.new.bytes ≡ self.old.bytes }
     {
         let Tally {
             formed,
@@ -202,6 +209,7 @@ impl Ledger {
     /// for them.
     pub fn enter_all(&mut self, by_server: bool, other: &Addr, frames: &[OutFrame])
         requires reserved { length frames.now ≤ self.old.reserved }
+        requires bytes { 1500 * length frames.now ≤ self.old.bytes }
         requires few { length self.old.book.log.posts + length frames.now < 2 ^ 32 }
         requires formed { (x : ℕ) → (tally_at (tallies_of self.old.book by_server) x).formed ≤ length self.old.book.log.posts }
         ensures book { (u : Setups) (sent : List Posted) (done : List ℕ) (counts : Bool → Counts)
@@ -232,6 +240,7 @@ impl Ledger {
 
     fn enter(&mut self, by_server: bool, other: &Addr, frame: &OutFrame)
         requires reserved { 0 < self.old.reserved }
+        requires bytes { 1500 ≤ self.old.bytes }
         requires few { length self.old.book.log.posts < 2 ^ 32 }
         requires formed { (x : ℕ) → (tally_at (tallies_of self.old.book by_server) x).formed ≤ length self.old.book.log.posts }
         ensures book { (u : Setups) (sent : List Posted) (done : List ℕ) (counts : Bool → Counts)
@@ -254,10 +263,11 @@ impl Ledger {
         ensures came { (n : ℕ) → CameAtMost n self.old.book.log.ways →
             CameAtMost n self.new.book.log.ways }
         ensures reserved { self.old.reserved ≡ self.new.reserved + 1 }
+        ensures bytes { self.old.bytes ≤ self.new.bytes + 1500 }
     {
         let tally = self.tally(by_server, frame.circuit);
         let post = post_of(frame, by_server, tally);
-        self.posts.push(post, is_for(frame.to, *other));
+        self.posts.push(&post, is_for(frame.to, *other));
         self.set(by_server, frame.circuit, tally_behind(frame.mark, tally));
     }
 }

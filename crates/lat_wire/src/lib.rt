@@ -15,7 +15,7 @@ mod wire;
 pub use fault::EventFault;
 pub use lat_node::{NodeConfig, NodeCore, RateHook, RatingRule};
 pub use lat_server::{ServerConfig, ServerCore};
-pub use ledger::{Heading, heading_of};
+pub use ledger::{Heading, SentFrame, heading_of};
 pub use notes::Note;
 pub use report::{
     Flow, Noted, Refusal, Refused, SessionRow, done_onto, frames_onto, grant_onto, noted_onto,

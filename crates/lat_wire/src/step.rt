@@ -65,10 +65,10 @@ impl<H: RatingRule> Wire<H> {
             self.pass_by(index)?;
             return Ok(None);
         }
-        let post = &sent.post;
-        self.is_young(post)?;
+        let post = sent.post;
+        self.is_young(&post)?;
         let by_server = post.by_server;
-        let event = self.heard(alloc, self.own(by_server), post.frame.payload.bytes())?;
+        let event = self.heard(alloc, self.own(by_server), post.frame.payload)?;
         let answer = self.tell(alloc, !by_server, &event)?;
         self.come(index);
         Ok(Some(answer))

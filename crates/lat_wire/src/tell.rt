@@ -4,6 +4,7 @@ ghost use Rattle.std.specs.Prelude.{
   ◌≡◌,
   ◌+◌,
   ◌-◌,
+  ◌*◌,
   ◌<◌,
   ◌≤◌,
   ◌^◌,
@@ -33,6 +34,7 @@ ghost use Rattle.lat_machines.specs.world.Machines.{Setups, Posted, Machines, co
 ghost use Rattle.lat_machines.specs.world.Tally.{RunTallies};
 ghost use Rattle.lat_machines.specs.world.Young.{head_of};
 ghost use Rattle.lat_lines.specs.Events.{event_shown};
+ghost use Rattle.lat_wire.specs.ledger.Posts.{post_shown};
 ghost use Rattle.lat_wire.specs.ledger.Tallies.{tally_at};
 ghost use Rattle.lat_wire.specs.ledger.Ways.{CameAtMost};
 ghost use Rattle.lat_wire.specs.ledger.Books.{IsBookOf, IsPost, tallies_of};
@@ -92,11 +94,11 @@ impl<H: RatingRule> Wire<H> {
     }
 
     /// The frame of this index. Refused where there is none.
-    pub(crate) fn sent(&self, index: u64) -> Result<&Sent, EventFault>
+    pub(crate) fn sent(&self, index: u64) -> Result<Sent<'_>, EventFault>
         ensures refused { (w : Machines) → Mirrors self.now w →
             RefusedAs result (no_frame w index) }
         ensures ok { IfOk result (λ sent.
-            (w : Machines) → Mirrors self.now w → IsSent (setups_of self.now) w index sent.now) }
+            (w : Machines) → Mirrors self.now w → IsSent (setups_of self.now) w index sent) }
         ensures there { OnOk result (index < length self.now.book.log.posts) }
     {
         let sent = self.ledger.posts.len() as u64;
@@ -135,14 +137,14 @@ impl<H: RatingRule> Wire<H> {
     }
 
     /// Refused where the circuit that a frame for the other end names lives there, and the frame isn't young.
-    pub(crate) fn is_young(&self, post: &Post) -> Result<(), EventFault>
+    pub(crate) fn is_young(&self, post: &Post<'_>) -> Result<(), EventFault>
         ensures { (w : Machines) (p : Posted) →
             Mirrors self.now w →
-            IsPost post.now p →
+            IsPost (post_shown post.now) p →
             MarksRun p.frame →
             RefusedAs result (old_run (setups_of self.now) w p (head_of p.frame.value)) }
     {
-        let Some(heading) = heading_of(post.frame.payload.bytes()) else {
+        let Some(heading) = heading_of(post.frame.payload) else {
             return Ok(());
         };
         let by_server = post.by_server;
@@ -233,6 +235,7 @@ fn reserve(ledger: &mut Ledger, notes: &mut Vec<Note>) -> Result<(), Memory>
     ensures book { ledger.new.book ≡ ledger.old.book }
     ensures notes { notes.new.items ≡ notes.old.items }
     ensures reserved { OnOk result (256 ≤ ledger.new.reserved) }
+    ensures bytes { OnOk result (1500 * 256 ≤ ledger.new.bytes) }
     ensures spare { OnOk result (vec_len notes.new < vec_capacity notes.new) }
 {
     ledger.posts.reserve()?;
@@ -263,6 +266,7 @@ fn take(ledger: &mut Ledger, server: bool, taker: Option<u16>)
         ≡ tallies_of ledger.old.book (not server) }
     ensures log { ledger.new.book.log ≡ ledger.old.book.log }
     ensures reserved { ledger.new.reserved ≡ ledger.old.reserved }
+    ensures bytes { ledger.new.bytes ≡ ledger.old.bytes }
 {
     if let Some(circuit) = taker {
         ledger.take(server, circuit);
@@ -295,7 +299,7 @@ fn is_recent(acknowledgement: bool, number: u64, newest: u64, half: u64) -> Resu
 }
 
 // Refused where the number of a post, or else its acknowledgement, does.
-fn are_recent(post: &Post, tally: Tally, half: u64) -> Result<(), EventFault>
+fn are_recent(post: &Post<'_>, tally: Tally, half: u64) -> Result<(), EventFault>
     requires { 0 < half }
     ensures { RefusedAs result (first_of (old_so false half post.now.number tally.formed
         ∷ old_so true half post.now.acknowledgement tally.shown ∷ [])) }

@@ -15,9 +15,9 @@ ghost use Rattle.lat_wire.specs.Stands.{Stands};
 ghost use Rattle.lat_wire.specs.Told.{ShowsPost};
 
 use crate::ends::Ends;
-use crate::ledger::Ledger;
+use crate::ledger::{Ledger, SentFrame};
 use crate::notes::Note;
-use lat_base::{Addr, Memory, OutBox, OutFrame};
+use lat_base::{Addr, Memory, OutBox};
 use lat_node::{NodeConfig, NodeCore, RatingRule};
 use lat_server::{ServerConfig, ServerCore};
 use std::alloc::Global;
@@ -130,15 +130,15 @@ impl<H: RatingRule> Wire<H> {
     }
 
     /// The frame of this index, and whether the server sent it. `None` exactly past the last.
-    pub fn frame(&self, index: u64) -> Option<(bool, &OutFrame)>
+    pub fn frame(&self, index: u64) -> Option<(bool, SentFrame<'_>)>
         ensures value { (w : Machines) →
             Stands self.now w →
             MatchOption result (slice_get w.posts index ≡ None) (λ shown.
-            ShowsPost w.posts index shown.0 shown.1.now) }
+            ShowsPost w.posts index shown.0 shown.1) }
         ensures there { IsSome result ↔ (index < frame_count self.now) }
     {
         let sent = self.ledger.posts.get(index)?;
-        Some((sent.post.by_server, &sent.post.frame))
+        Some((sent.post.by_server, sent.post.frame))
     }
 
     /// The first frame that was sent to the other end or to everyone and never delivered. `None` exactly where there is none.

@@ -1,7 +1,6 @@
 -- Bytes are drawn one after another.
 use Rattle.std.proofs.Common.{◌≡◌, ℕ, suc, ◌+◌, List, [], ◌∷◌, ◌++◌, sym, ap, ◌∙◌, append_assoc}
 use Rattle.std.proofs.lemmas.List.{append-nil}
-use Rattle.std.specs.Prelude.{Result, Ok, Err, IfOk}
 use Rattle.lat_cmd.specs.declared.generate.generator.Generator.{Generator}
 use Rattle.lat_cmd.specs.generate.Draws.{Drawn, below, before, so_many, bytes}
 
@@ -29,8 +28,3 @@ all_drawn m n left g h now xs drawn same none =
     ∙ ap (λ k. behind xs (so_many k now)) (sym none)
     ∙ sym same
     ∙ ap (λ (d : Drawn ℕ). so_many (1 + d.0) d.1) drawn
-
--- a copy of them is what was drawn
-pub copied : {E : Type 0} (r : Result (List ℕ) E) (xs : List ℕ) (g : Generator) (all : Drawn (List ℕ)) → IfOk r (λ ys. ys ≡ xs) → (xs, g) ≡ all → IfOk r (λ ys. (ys, g) ≡ all)
-copied (Ok ys) xs g all same is = ap (λ zs. (zs, g)) same ∙ is
-copied (Err e) xs g all same is = tt

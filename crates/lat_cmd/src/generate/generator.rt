@@ -71,6 +71,6 @@ impl Generator {
         while drawn.len() < count {
             drawn.push(self.below(256) as u8)?;
         }
-        Bytes::copy(alloc, &drawn)
+        Ok(Bytes::of(drawn))
     }
 }

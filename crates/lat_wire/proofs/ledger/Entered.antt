@@ -9,14 +9,14 @@ use Rattle.lat_machines.specs.world.Machines.{Setups, Posted, post_all}
 use Rattle.lat_machines.specs.world.Tally.{new_messages, is_run, Tallied, TalliedBy}
 use Rattle.lat_circuit.specs.Frames.{frame_view}
 use Rattle.lat_payload.specs.Frames.{expected}
-use Rattle.lat_wire.specs.declared.ledger.post.Post.{Post}
 use Rattle.lat_wire.specs.declared.ledger.tallies.Tally.{Tally}
+use Rattle.lat_wire.specs.ledger.Posts.{PostView}
 use Rattle.lat_wire.specs.ledger.Ways.{Log}
 use Rattle.lat_wire.specs.ledger.Logs.{IsLog}
 use Rattle.lat_wire.specs.ledger.Tallies.{tally_at}
 use Rattle.lat_wire.specs.ledger.Books.{Book, Counts, ArePosts, IsBook, IsPost, IsReadable, HaveCounts, behind, behind_all, number_by, tallies_of, tally_of, tally_by, with_side}
 
-pub are_more : (ss : List Post) (ps : List Posted) (s : Post) (p : Posted) → ArePosts ss ps → IsPost s p → ArePosts (ss ++ s ∷ []) (ps ++ p ∷ [])
+pub are_more : (ss : List PostView) (ps : List Posted) (s : PostView) (p : Posted) → ArePosts ss ps → IsPost s p → ArePosts (ss ++ s ∷ []) (ps ++ p ∷ [])
 are_more [] [] s p h q = (q, tt)
 are_more [] (x ∷ ps) s p h q = absurd h
 are_more (z ∷ ss) [] s p h q = absurd h
@@ -37,7 +37,7 @@ same_eq x y = go (nat_eq x y) refl (nat_eq y x) refl
     go false e true g = absurd (eqb-false x y e (sym (eqb-true y x g)))
 
 -- what is kept behind a frame of this circuit
-pub record Enters (k new : Book) (by : Bool) (post : Post) (circuit : ℕ) (t : Tally) : Type 0 where
+pub record Enters (k new : Book) (by : Bool) (post : PostView) (circuit : ℕ) (t : Tally) : Type 0 where
   pub posts : new.log.posts ≡ k.log.posts ++ post ∷ []
   pub side : (x : ℕ) → tally_at (tallies_of new by) x ≡ cond (nat_eq x circuit) t (tally_at (tallies_of k by) x)
   pub other : tallies_of new (not by) ≡ tallies_of k (not by)
@@ -64,7 +64,7 @@ tells_behind old new n f t h c e s x l = s x ∙ go (nat_eq x f.circuit) refl (n
     go true p false q = absurd (eqb-false f.circuit x q (sym (eqb-true x f.circuit p)))
     go false p true q = absurd (eqb-false x f.circuit p (sym (eqb-true f.circuit x q)))
 
-pub entered : (u : Setups) (k new : Book) (sent : List Posted) (done : List ℕ) (counts : Bool → Counts) (by : Bool) (post : Post) (f : OutFrame) (t : Tally) → Enters k new by post f.circuit t → f.circuit < 2 ^ 16 → t ≡ tally_by f.mark (tally_at (tallies_of k by) f.circuit) → IsPost post (record { by_server = by; frame = f }) → IsLog u new.log (sent ++ record { by_server = by; frame = f } ∷ []) done → IsBook u k sent done counts → IsBook u new (sent ++ record { by_server = by; frame = f } ∷ []) done (with_side by (behind f (counts by)) counts)
+pub entered : (u : Setups) (k new : Book) (sent : List Posted) (done : List ℕ) (counts : Bool → Counts) (by : Bool) (post : PostView) (f : OutFrame) (t : Tally) → Enters k new by post f.circuit t → f.circuit < 2 ^ 16 → t ≡ tally_by f.mark (tally_at (tallies_of k by) f.circuit) → IsPost post (record { by_server = by; frame = f }) → IsLog u new.log (sent ++ record { by_server = by; frame = f } ∷ []) done → IsBook u k sent done counts → IsBook u new (sent ++ record { by_server = by; frame = f } ∷ []) done (with_side by (behind f (counts by)) counts)
 entered u k new sent done counts by post f t h c e p l b = record {
   posts = subst (λ z. ArePosts z (sent ++ record { by_server = by; frame = f } ∷ [])) (sym h.posts) (are_more k.log.posts sent post (record { by_server = by; frame = f }) b.posts p);
   log = l;
@@ -78,7 +78,7 @@ entered u k new sent done counts by post f t h c e p l b = record {
     go false s o e false = tells_behind k.node new.node (counts false) f t (b.tallies false) c e s
 
 -- the same, from the parts of the ledger
-pub entered_all : (u : Setups) (l m : Log) (s n : List Tally) (new : Book) (sent : List Posted) (done : List ℕ) (counts : Bool → Counts) (by : Bool) (post : Post) (circuit : ℕ) (t : Tally) (f : OutFrame) → m.posts ≡ l.posts ++ post ∷ [] → ((x : ℕ) → tally_at (tallies_of new by) x ≡ cond (nat_eq x circuit) t (tally_at (tallies_of (record { log = m; server = s; node = n }) by) x)) → tallies_of new (not by) ≡ tallies_of (record { log = m; server = s; node = n }) (not by) → new.log ≡ m → circuit ≡ f.circuit → f.circuit < 2 ^ 16 → t ≡ tally_by f.mark (tally_at (tallies_of (record { log = l; server = s; node = n }) by) circuit) → IsPost post (record { by_server = by; frame = f }) → IsLog u m (sent ++ record { by_server = by; frame = f } ∷ []) done → IsBook u (record { log = l; server = s; node = n }) sent done counts → IsBook u new (sent ++ record { by_server = by; frame = f } ∷ []) done (with_side by (behind f (counts by)) counts)
+pub entered_all : (u : Setups) (l m : Log) (s n : List Tally) (new : Book) (sent : List Posted) (done : List ℕ) (counts : Bool → Counts) (by : Bool) (post : PostView) (circuit : ℕ) (t : Tally) (f : OutFrame) → m.posts ≡ l.posts ++ post ∷ [] → ((x : ℕ) → tally_at (tallies_of new by) x ≡ cond (nat_eq x circuit) t (tally_at (tallies_of (record { log = m; server = s; node = n }) by) x)) → tallies_of new (not by) ≡ tallies_of (record { log = m; server = s; node = n }) (not by) → new.log ≡ m → circuit ≡ f.circuit → f.circuit < 2 ^ 16 → t ≡ tally_by f.mark (tally_at (tallies_of (record { log = l; server = s; node = n }) by) circuit) → IsPost post (record { by_server = by; frame = f }) → IsLog u m (sent ++ record { by_server = by; frame = f } ∷ []) done → IsBook u (record { log = l; server = s; node = n }) sent done counts → IsBook u new (sent ++ record { by_server = by; frame = f } ∷ []) done (with_side by (behind f (counts by)) counts)
 entered_all u l m s n new sent done counts true post circuit t f p side other log is few h i g b =
     entered u (record { log = l; server = s; node = n }) new sent done counts true post f t
     (record { posts = ap (λ z. z.posts) log ∙ p; side = subst (λ z. (x : ℕ) → tally_at new.server x ≡ cond (nat_eq x z) t (tally_at s x)) is side; other = other })

@@ -6,7 +6,7 @@ use Rattle.lat_machines.specs.world.Machines.{Setups, Posted, is_for_other}
 use Rattle.lat_laws.specs.rounds.Lossless.{is_in, sent_from}
 use Rattle.lat_laws.specs.rounds.Rounds.{undelivered_from}
 use Rattle.lat_wire.specs.declared.ledger.posts.Mark.{Mark}
-use Rattle.lat_wire.specs.declared.ledger.post.Sent.{Sent}
+use Rattle.lat_wire.specs.declared.ledger.row.PostRow.{PostRow}
 use Rattle.lat_wire.specs.ledger.Ways.{Log, mark_of, is_through, AllThrough, IsNext, marked}
 use Rattle.lat_wire.specs.ledger.Logs.{IsMarked, IsLog}
 use Rattle.lat_wire.proofs.ledger.Lists.{end_get}
@@ -97,7 +97,7 @@ marked_all ms i next h j m l e =
     ap is_through w.is ∙ marked_through (nat_eq j i) w.before (h j w.before l w.there)
 
 -- the frame of a mark is delivered
-pub map-set_marked : (xs : List Sent) (i : ℕ) (x y : Sent) → slice_get xs i ≡ Some x → mark_of y ≡ record (mark_of x) { delivered = true } → map mark_of (slice_set xs i y) ≡ marked (map mark_of xs) i
+pub map-set_marked : (xs : List PostRow) (i : ℕ) (x y : PostRow) → slice_get xs i ≡ Some x → mark_of y ≡ record (mark_of x) { delivered = true } → map mark_of (slice_set xs i y) ≡ marked (map mark_of xs) i
 map-set_marked [] i x y e h = refl
 map-set_marked (z ∷ xs) zero x y e h = let s : z ≡ x = cc in ap (λ a. a ∷ map mark_of xs) (h ∙ ap (λ q. record (mark_of q) { delivered = true }) (sym s))
 map-set_marked (z ∷ xs) (suc i) x y e h = ap (λ a. mark_of z ∷ a) (map-set_marked xs i x y e h)

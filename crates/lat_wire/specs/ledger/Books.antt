@@ -5,10 +5,9 @@ use Rattle.lat_machines.specs.cores.Cores.{Core}
 use Rattle.lat_machines.specs.world.Machines.{Setups, Posted, Machines, core_of}
 use Rattle.lat_machines.specs.world.Tally.{formed_in, taken_in, shown_in, new_messages, number_of, is_run}
 use Rattle.lat_payload.specs.Reads.{reading_of}
-use Rattle.lat_circuit.specs.Frames.{frame_view}
 use Rattle.lat_payload.specs.Frames.{expected, payload_of}
-use Rattle.lat_wire.specs.declared.ledger.post.Post.{Post}
 use Rattle.lat_wire.specs.declared.ledger.tallies.Tally.{Tally}
+use Rattle.lat_wire.specs.ledger.Posts.{PostView}
 use Rattle.lat_wire.specs.ledger.Ways.{Log}
 use Rattle.lat_wire.specs.ledger.Logs.{IsLog}
 use Rattle.lat_wire.specs.ledger.Tallies.{tally_at}
@@ -23,10 +22,11 @@ abbrev pub tallies_of : Book → Bool → List Tally
 tallies_of k true = k.server
 tallies_of k false = k.node
 
--- with the room for so many more frames
+-- with the room for so many more frames, and for so many more bytes of payloads
 pub record Kept : Type 0 where
   pub book : Book
   pub reserved : ℕ
+  pub bytes : ℕ
 
 -- frames
 
@@ -34,18 +34,18 @@ pub record Kept : Type 0 where
 abbrev pub IsReadable : OutFrame → Type 0
 IsReadable f = reading_of (payload_of f.value) ≡ Whole f.value
 
-pub record Numbered (s : Post) (f : OutFrame) : Type 0 where
+pub record Numbered (s : PostView) (f : OutFrame) : Type 0 where
   pub number : s.number ≡ f.number
   pub acknowledgement : s.acknowledgement ≡ f.acknowledgement
 
 -- a frame is kept as one of the machines; of a RUN its two numbers too
-pub record IsPost (s : Post) (p : Posted) : Type 0 where
+pub record IsPost (s : PostView) (p : Posted) : Type 0 where
   pub by_server : s.by_server ≡ p.by_server
-  pub same : frame_view s.frame ≡ expected p.frame
+  pub same : s.frame ≡ expected p.frame
   pub readable : IsReadable p.frame
   pub numbered : is_run p.frame.mark ≡ true → Numbered s p.frame
 
-abbrev pub ArePosts : List Post → List Posted → Type 0
+abbrev pub ArePosts : List PostView → List Posted → Type 0
 ArePosts [] [] = Unit {0}
 ArePosts [] (p ∷ ps) = ⊥
 ArePosts (s ∷ ss) [] = ⊥

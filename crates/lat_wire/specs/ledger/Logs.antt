@@ -6,7 +6,8 @@ use Rattle.lat_laws.specs.rounds.Lossless.{is_in, sent_from}
 use Rattle.lat_wire.specs.declared.ledger.post.Sent.{Sent}
 use Rattle.lat_wire.specs.ledger.Lossless.{came_in, LosslessIn}
 use Rattle.lat_wire.specs.declared.ledger.posts.Mark.{Mark}
-use Rattle.lat_wire.specs.ledger.Ways.{Log, post_of, mark_of, way_of}
+use Rattle.lat_wire.specs.ledger.Posts.{post_shown}
+use Rattle.lat_wire.specs.ledger.Ways.{Log, mark_shown, way_of}
 
 -- the place of a frame among those that its sender sent the other end, or everyone, behind these
 abbrev pub turn_of : Setups → List Posted → Posted → Option ℕ
@@ -33,5 +34,5 @@ pub record IsLog (u : Setups) (k : Log) (posts : List Posted) (delivered : List 
 
 -- the frame of an index, with what is known of it
 pub record IsAt (k : Log) (i : ℕ) (s : Sent) : Type 0 where
-  pub post : slice_get k.posts i ≡ Some (post_of s)
-  pub mark : slice_get k.marks i ≡ Some (mark_of s)
+  pub post : slice_get k.posts i ≡ Some (post_shown s.post)
+  pub mark : slice_get k.marks i ≡ Some (mark_shown s)

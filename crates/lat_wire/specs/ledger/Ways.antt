@@ -1,16 +1,19 @@
 -- What is counted of the frames that one end sent the other.
 use Rattle.std.specs.Prelude.{◌≡◌, ℕ, zero, suc, ◌+◌, ◌<◌, ◌≤◌, Bool, true, false, cond, ◌&&◌, ◌||◌, List, [], ◌∷◌, length, Option, Some, None, is_none, nat_eq, slice_get}
-use Rattle.lat_wire.specs.declared.ledger.post.Post.{Post}
 use Rattle.lat_wire.specs.declared.ledger.post.Sent.{Sent}
 use Rattle.lat_wire.specs.declared.ledger.posts.Mark.{Mark}
 use Rattle.lat_wire.specs.declared.ledger.posts.Way.{Way}
 use Rattle.lat_wire.specs.declared.ledger.posts.Ways.{Ways}
+use Rattle.lat_wire.specs.declared.ledger.row.PostRow.{PostRow}
+use Rattle.lat_wire.specs.ledger.Posts.{PostView}
 
-abbrev pub post_of : Sent → Post
-post_of s = s.post
+-- what is known of a frame, as it is told and as it is kept
 
-abbrev pub mark_of : Sent → Mark
-mark_of s = record { by_server = s.post.by_server; turn = s.turn; delivered = s.delivered }
+abbrev pub mark_shown : Sent → Mark
+mark_shown s = record { by_server = s.post.by_server; turn = s.turn; delivered = s.delivered }
+
+abbrev pub mark_of : PostRow → Mark
+mark_of r = record { by_server = r.by_server; turn = r.turn; delivered = r.delivered }
 
 -- it is not to be delivered any more: it was, or it isn't for the other end
 abbrev pub is_through : Mark → Bool
@@ -60,14 +63,15 @@ abbrev pub come_behind : Mark → Ways → Ways
 come_behind m w = cond m.delivered w (come_first m.by_server m.turn w)
 
 pub record Log : Type 0 where
-  pub posts : List Post
+  pub posts : List PostView
   pub marks : List Mark
   pub ways : Ways
 
 abbrev pub way_of : Log → Bool → Way
 way_of k b = side_of k.ways b
 
--- with the room for so many more frames
+-- with the room for so many more frames, and for so many more bytes of payloads
 pub record Kept : Type 0 where
   pub log : Log
   pub reserved : ℕ
+  pub bytes : ℕ

@@ -1,6 +1,6 @@
 //! What is counted of the circuits of one end.
 
-ghost use Rattle.std.specs.Prelude.{◌≡◌, ℕ, cond, length, nat_eq, IfOk};
+ghost use Rattle.std.specs.Prelude.{◌≡◌, ℕ, ◌≤◌, cond, nat_eq, vec_len, vec_capacity, IfOk};
 ghost use Rattle.lat_wire.specs.ledger.Tallies.{nothing, tally_at};
 
 use lat_base::Memory;
@@ -24,7 +24,8 @@ const NOTHING: Tally = Tally {
     shown: 0,
 };
 
-/// The tallies of one end, each found by the id of its circuit.
+/// The tallies of one end, each found by the id of its circuit. It has room for all ids from the beginning, and grows up to the
+/// greatest id of which anything was counted.
 pub struct Tallies {
     table: Vec<Tally>,
 }
@@ -36,22 +37,27 @@ impl Drop for Tallies {
 }
 
 impl Model for Tallies {
-    ghost use Rattle.std.specs.Prelude.{◌≡◌, List, length};
+    ghost use Rattle.std.specs.Prelude.{List, ◌≤◌, vec_len, vec_capacity};
     ghost use Rattle.lat_wire.specs.declared.ledger.tallies.Tally.{Tally};
 
     ghost Value = { List Tally };
 
     ghost view = { λ a. a.table.items };
 
-    ghost invariant = { λ a. length a.table.items ≡ 65536 };
+    ghost invariant = { λ a. (vec_len a.table ≤ 65536) × (65536 ≤ vec_capacity a.table) };
 }
 
-// A table of so many ids of which nothing is counted.
-fn table(alloc: Global, ids: usize) -> Result<Vec<Tally>, Memory>
-    ensures length { IfOk result (λ made. length made.items ≡ ids) }
-    ensures nothing { IfOk result (λ made. (x : ℕ) → tally_at made.items x ≡ nothing) }
+// Sees to it that the table has so many ids. Nothing is counted of those that come to it.
+fn reach(table: &mut Vec<Tally>, ids: usize)
+    requires ids { ids ≤ 65536 }
+    requires room { (vec_len table.old ≤ 65536) × (65536 ≤ vec_capacity table.old) }
+    ensures there { (ids ≤ vec_len table.new) × (vec_len table.new ≤ 65536) }
+    ensures room { 65536 ≤ vec_capacity table.new }
+    ensures same { (x : ℕ) → tally_at table.new.items x ≡ tally_at table.old.items x }
 {
-    Ok(vec![in alloc; NOTHING; ids]?)
+    while table.len() < ids {
+        table.push_reserved(NOTHING);
+    }
 }
 
 impl Tallies {
@@ -60,7 +66,7 @@ impl Tallies {
         ensures { IfOk result (λ made. (x : ℕ) → tally_at made x ≡ nothing) }
     {
         Ok(Tallies {
-            table: table(alloc, IDS)?,
+            table: Vec::with_capacity(alloc, IDS)?,
         })
     }
 
@@ -68,7 +74,10 @@ impl Tallies {
     pub fn of(&self, circuit: u16) -> Tally
         ensures { result ≡ tally_at self.now circuit }
     {
-        self.table[circuit as usize]
+        match self.table.get(circuit as usize) {
+            Some(tally) => *tally,
+            None => NOTHING,
+        }
     }
 
     /// Counts this of the circuit of this id.
@@ -76,6 +85,8 @@ impl Tallies {
         ensures { (x : ℕ) → tally_at self.new x
             ≡ cond (nat_eq x circuit) tally (tally_at self.old x) }
     {
-        self.table[circuit as usize] = tally;
+        let at = circuit as usize;
+        reach(&mut self.table, at + 1);
+        self.table[at] = tally;
     }
 }

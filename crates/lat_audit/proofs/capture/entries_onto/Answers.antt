@@ -13,12 +13,12 @@ use Rattle.lat_audit.proofs.capture.entries_onto.Goals as goal
 pub loop-index-preserved : goal.loop-index-preserved
 loop-index-preserved g c = record {
   text = λ w s.
-      let x : SeenAt w c.loop-index.index c.in-Some.by_server c.in-Some.frame.now = seen_at c.args.wire.now w c.loop-index.index _ _ s (c.in-Some.ensures.value w s) in
+      let x : SeenAt w c.loop-index.index c.in-Some.by_server c.in-Some.frame = seen_at c.args.wire.now w c.loop-index.index _ _ s (c.in-Some.ensures.value w s) in
       lines_more (setups_of c.args.wire.now) c.args.tap.now.circuit c.args.slave w.posts c.loop-index.index x.post (string_bytes c.args.text.now) (string_bytes c.loop-index.text) (string_bytes c.frame_onto.new.text)
       x.there (c.loop-index.invariant.text w s)
       (c.in_ok-frame_onto.ensures.text (setups_of c.args.wire.now) x.post c.requires x.seen_as);
   bytes = λ w s.
-      let x : SeenAt w c.loop-index.index c.in-Some.by_server c.in-Some.frame.now = seen_at c.args.wire.now w c.loop-index.index _ _ s (c.in-Some.ensures.value w s) in
+      let x : SeenAt w c.loop-index.index c.in-Some.by_server c.in-Some.frame = seen_at c.args.wire.now w c.loop-index.index _ _ s (c.in-Some.ensures.value w s) in
       all_more w.posts c.loop-index.index x.post x.there (goes_out _ _ x.post x.seen_as c.in_ok-frame_onto.ensures.bytes) (c.loop-index.invariant.bytes w s);
 }
 

@@ -1,4 +1,4 @@
-use Rattle.std.proofs.Common.{refl, sym, subst, string_bytes}
+use Rattle.std.proofs.Common.{refl, sym, subst}
 use Rattle.lat_replay.specs.Kept.{setups_of}
 use Rattle.lat_cmd.specs.Answers.{reported}
 use Rattle.lat_cmd.specs.Outcomes.{IsOutcome}
@@ -8,4 +8,4 @@ use Rattle.lat_cmd.proofs.replay.reported.Goals as goal
 pub returns-clause-answer : goal.returns-clause-answer
 returns-clause-answer g c = λ t stands.
     subst (λ o. IsOutcome (reported (setups_of c.args.world) t) o) (sym c.done.ensures)
-    (is_reported c.args.world _ (string_bytes c.new-text.result) c.new-text.ensures.bytes refl refl c.in_ok-report.ensures.ok t stands)
+    (is_reported c.args.world _ refl refl c.in_ok-text.ensures t stands)

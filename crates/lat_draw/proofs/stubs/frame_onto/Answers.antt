@@ -1,6 +1,6 @@
 use Rattle.std.proofs.Common.{◌≡◌, ◌++◌, ap, ◌∙◌, string_bytes}
-use Rattle.lat_circuit.specs.Frames.{frame_view}
 use Rattle.lat_payload.specs.Frames.{expected}
+use Rattle.lat_wire.specs.ledger.Posts.{frame_shown}
 use Rattle.lat_draw.specs.Layout.{height}
 use Rattle.lat_draw.specs.Lines.{stub}
 use Rattle.lat_draw.proofs.stubs.frame_onto.Goals as goal
@@ -9,7 +9,7 @@ pub returns : goal.returns
 returns g c = λ w s.
     let q = c.in-Some.ensures.value w s in
     let side : c.in-Some.by_server ≡ q.post.by_server = cc in
-    let same : frame_view c.in-Some.frame.now ≡ expected q.post.frame = cc in (
+    let same : frame_shown c.in-Some.frame ≡ expected q.post.frame = cc in (
       q.post,
       q.is,
       c.in_ok-stub_onto.ensures ∙ ap (λ z. string_bytes c.args.text.now ++ z)

@@ -17,7 +17,7 @@ loop-number-preserved g c = record {
   text = λ w events s counts.
       let first = c.args.entry.now.first in
       let number = c.loop-number.number in
-      let sent : ShowsPost w.posts number c.in-Some.by_server c.in-Some.frame.now = c.in-Some.ensures.value w s in
+      let sent : ShowsPost w.posts number c.in-Some.by_server c.in-Some.frame = c.in-Some.ensures.value w s in
       subst (λ n. string_bytes c.frame_onto.new.text ≡ string_bytes c.args.text.now ++ frames_text events first (between first n w.posts)) (sym (add-one number))
       (frames_more events first number w.posts sent.post (string_bytes c.args.text.now) (string_bytes c.loop-number.text) (string_bytes c.frame_onto.new.text) c.loop-number.invariant.low sent.is
       (c.loop-number.invariant.text w events s counts) (c.in_ok-frame_onto.ensures events sent.post (c.at.ensures events counts) sent.side sent.frame));

@@ -3,7 +3,7 @@ use Rattle.lat_wire.specs.ledger.Ways.{AllThrough, mark_of}
 use Rattle.lat_wire.proofs.ledger.posts.next_in.Given as goal
 
 abbrev pub invariant-loop-next : goal.invariant-loop-next
-invariant-loop-next l = (l.next ≤ length l.frames) × AllThrough (map mark_of l.frames) l.next
+invariant-loop-next l = (l.next ≤ length l.rows) × AllThrough (map mark_of l.rows) l.next
 
 abbrev pub decreases-loop-next : goal.decreases-loop-next
-decreases-loop-next l = length l.frames - l.next
+decreases-loop-next l = length l.rows - l.next

@@ -1,7 +1,6 @@
-use Rattle.std.proofs.Common.{◌≡◌, ℕ, suc, ◌+◌, ◌-◌, List, [], ◌∷◌, ◌++◌, ap, sym, subst, ◌∙◌, arith, rules, vec_len}
-use Rattle.std.specs.Prelude.{IfOk}
+use Rattle.std.proofs.Common.{◌≡◌, ℕ, suc, ◌+◌, ◌-◌, [], ◌∷◌, ◌++◌, ap, sym, ◌∙◌, arith, rules, vec_len}
 use Rattle.lat_cmd.specs.generate.Draws.{so_many, bytes}
-use Rattle.lat_cmd.proofs.generate.Bytes.{behind, one_more, all_drawn, copied}
+use Rattle.lat_cmd.proofs.generate.Bytes.{behind, one_more, all_drawn}
 use Rattle.lat_cmd.proofs.generate.generator.Generator.bytes.Goals as goal
 
 pub loop-drawn-preserved : goal.loop-drawn-preserved
@@ -28,4 +27,4 @@ returns-clause-value c =
     let none : 1 + c.below.result - vec_len l.drawn ≡ 0 = omega arith in
     let all : (l.drawn.items, l.self) ≡ bytes c.args.most c.args.self.now =
     all_drawn c.args.most c.below.result (1 + c.below.result - vec_len l.drawn) c.args.self.now c.below.new.self l.self l.drawn.items c.below.ensures.value l.invariant.drawn none in
-    copied c.copy.result l.drawn.items l.self (bytes c.args.most c.args.self.now) (subst (λ (xs : List ℕ). IfOk c.copy.result (λ ys. ys ≡ xs)) c.deref.ensures.value c.copy.ensures) all
+    ap (λ xs. (xs, l.self)) c.of.ensures ∙ all
