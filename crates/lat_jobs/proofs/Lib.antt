@@ -1,0 +1,4 @@
+pub mod Reasons
+pub mod Runs
+pub mod RunLaws
+pub mod QueueLaws

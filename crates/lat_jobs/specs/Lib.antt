@@ -1,0 +1,11 @@
+pub mod Looks
+pub mod Facts
+pub mod Phases
+pub mod Minds
+pub mod Reasons
+pub mod Runs
+pub mod Good
+pub mod Laws
+pub mod Numbers
+pub mod Queues
+pub mod QueueRuns
