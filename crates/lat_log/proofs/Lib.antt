@@ -1,0 +1,4 @@
+pub mod Gathered
+pub mod UnseenLines
+pub mod Added
+pub mod Silent

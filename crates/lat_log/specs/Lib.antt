@@ -1,0 +1,14 @@
+pub mod Reasons
+pub mod Words
+pub mod Stamps
+pub mod Lines
+pub mod Triggers
+pub mod BadRates
+pub mod Sights
+pub mod CircuitNews
+pub mod LineNews
+pub mod WaitingNews
+pub mod ServiceNews
+pub mod Watches
+pub mod Journals
+pub mod Laws
