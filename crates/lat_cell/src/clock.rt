@@ -16,9 +16,6 @@ use std::alloc::Global;
 use std::sync::ledger::Ledger;
 use std::sync::{Mutex, Wait};
 
-/// How long the clock pauses between two time events, in milliseconds.
-const PAUSE_MS: u64 = 80;
-
 /// When announcements go out: at once, and each time so many milliseconds have passed since the last one.
 #[derive(Clone, Copy, Drop)]
 pub struct Announcing {
@@ -244,9 +241,20 @@ pub struct Course {
     pub sessions: Option<u64>,
     /// How many seconds it waits at its end, at most, until its core is drained.
     pub linger: u8,
+    /// How long the clock pauses between two time events, in 10 ms.
+    pub timer: u8,
 }
 
-/// Tells the cell the time, at once and then after each pause of 80 ms, until the daemon has ended. Where `announce` is given,
+impl Course {
+    // The clock's pause, in milliseconds.
+    fn pause(&self) -> u64
+        ensures { result ≡ 10 * self.now.timer }
+    {
+        10 * self.timer as u64
+    }
+}
+
+/// Tells the cell the time, at once and then after each pause of `timer` times 10 ms, until the daemon has ended. Where `announce` is given,
 /// announcements go out at the start and each time so many seconds have passed. Where `sessions` is given, the daemon is to end
 /// once so many sessions that were live have ended. One that ends is halted once its core is drained, or after `linger` seconds.
 /// An event that is refused is left out. It may wait, and its return isn't promised.
@@ -264,12 +272,13 @@ pub fn time_worker<C: Core, T: Tx, K: Clock, E: Ledger, B: Ledger, R: Wait>(
     let mut share = share;
     let mut clock = clock;
     let mut rhythm = Rhythm::of(course);
+    let pause = course.pause();
     for _ in rt.forever() {
         let now = clock.now();
         if beat(alloc, &mut cell.lock(rt), &mut share, now, &mut rhythm).is_over {
             return share;
         }
-        clock.pause(PAUSE_MS);
+        clock.pause(pause);
     }
     unreachable!()
 }

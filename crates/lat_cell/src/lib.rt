@@ -5,6 +5,7 @@
 
 mod clock;
 mod ending;
+mod logging;
 mod telling;
 mod wire;
 
@@ -15,5 +16,6 @@ pub use lat_history::{
 };
 pub use lat_past::Past;
 pub use lat_turns::LineDone;
+pub use logging::{Heading, LogWriter, log_worker};
 pub use telling::halt;
 pub use wire::{hear, wire_worker};

@@ -1,7 +1,9 @@
-//! Pairs of daemons over the loopback address, with callers in turn on their lines; and daemons that don't come to run.
+//! Pairs of daemons over the loopback address, with callers in turn on their lines; daemons that don't come to run; and what people at
+//! their lines see, scene by scene.
 
 mod daemon;
 mod ends;
 mod loopback;
 mod refused;
-mod steady;
+mod scenes;
+mod stage;

@@ -14,6 +14,7 @@ use crate::seen::Seen;
 use crate::shares::{Blanks, Shares, opened};
 use crate::stage::Stage;
 use lat_base::{Core, Correspondent, LineLook, Memory, Name, OutBox};
+use lat_log::Journal;
 use lat_outside::Tx;
 use lat_past::{Entry, History, SeatTotals};
 use std::alloc::Global;
@@ -24,7 +25,7 @@ use std::sync::ledger::{Book, Ledger};
 /// the middle of a call, the core is the run of the history from the opening that it was made with, and the frames tried since
 /// then are those of the history, in order. The history has no limit: as a whole it exists in the proofs alone, and what is in
 /// memory are its counts and its last entries. Two ledgers count the events and the bytes put; each seat has its share of them.
-/// See "Cells" in docs/PROTOCOL.md.
+/// Beside all this it may have a log, which is told of each event and changes nothing. See "Cells" in docs/PROTOCOL.md.
 pub struct Cell<C: Core, T: Tx, E: Ledger, B: Ledger> {
     pub(crate) core: C,
     pub(crate) tx: T,
@@ -37,6 +38,8 @@ pub struct Cell<C: Core, T: Tx, E: Ledger, B: Ledger> {
     pub(crate) served: u64,
     pub(crate) events: Book<E>,
     pub(crate) bytes: Book<B>,
+    /// The log, where there is one.
+    pub(crate) journal: Option<Journal>,
 }
 
 impl<C: Core, T: Tx, E: Ledger, B: Ledger> Drop for Cell<C, T, E, B> {
@@ -51,6 +54,7 @@ impl<C: Core, T: Tx, E: Ledger, B: Ledger> Drop for Cell<C, T, E, B> {
             served,
             events,
             bytes,
+            journal,
         } = self;
     }
 }
@@ -83,8 +87,8 @@ impl<C: Core, T: Tx, E: Ledger, B: Ledger> Model for Cell<C, T, E, B> {
 }
 
 impl<C: Core, T: Tx, E: Ledger, B: Ledger> Cell<C, T, E, B> {
-    /// A cell of a core as it was made, with an empty history, of which at most so many entries are kept, and the shares of its
-    /// seats: the wire, the lines by rising number, the clock. There are 1 to 64 lines, and each blank has 66 parts. `Memory`
+    /// A cell of a core as it was made, without a log, with an empty history, of which at most so many entries are kept, and the
+    /// shares of its seats: the wire, the lines by rising number, the clock. There are 1 to 64 lines, and each blank has 66 parts. `Memory`
     /// where none is found.
     pub fn make(
         alloc: Global,
@@ -117,6 +121,7 @@ impl<C: Core, T: Tx, E: Ledger, B: Ledger> Cell<C, T, E, B> {
             served: 0,
             events,
             bytes,
+            journal: None,
         };
         Ok((cell, shares))
     }

@@ -1,23 +1,25 @@
 -- The shares of all seats, given to the seats, and given back.
-use Rattle.std.proofs.Common.{◌≡◌, ◌≤◌, ◌<◌, ℕ, zero, suc, ◌+◌, ◌-◌, List, [], ◌∷◌, ◌++◌, length, length-append, map, take, drop, refl, sym, ap, ap₂, subst, subst₂, ◌∙◌, arith, append_assoc, append-nil}
+use Rattle.std.proofs.Common.{◌≡◌, ◌≤◌, ◌<◌, ℕ, zero, suc, ◌+◌, ◌-◌, List, [], ◌∷◌, ◌++◌, length, length-append, map, take, drop, get_or, refl, sym, ap, ap₂, subst, subst₂, ◌∙◌, arith, append_assoc, append-nil}
 use Rattle.std.specs.Prelude.{IsSome, Option, true, false, slice_index_or, reverse, sum_by, remove}
 use Rattle.std.proofs.lemmas.List.{take_at, drop_at, length-map, map-append, reverse-append}
 use Rattle.std.proofs.lemmas.List.Sums.{sum_by-cons, sum_by_push}
 use Rattle.lat_history.specs.CellView.{SeatView}
 use Rattle.lat_history.specs.Seats.{all_seats, fresh, seats_from}
 use Rattle.lat_turns.specs.declared.worker.LineWorker.{LineWorker}
-use Rattle.lat_turns.specs.declared.worker.LineDone.{LineDone}
 use Rattle.lat_mind.specs.Good.{Each}
 use Rattle.lat_mind.specs.Kinds.{is_calling}
 use Rattle.lat_turns.specs.Doors.{DoorView}
 use Rattle.lat_turns.specs.Lives.{DeskView, life_of}
-use Rattle.lat_live.specs.declared.seats.Post.{Post}
-use Rattle.lat_live.specs.declared.seats.Post.TheVariants as posts
+use Rattle.lat_live.specs.declared.plan.Post.{Post}
+use Rattle.lat_live.specs.declared.plan.Post.TheVariants as posts
+use Rattle.lat_live.specs.declared.plan.LinePlan.{LinePlan}
+use Rattle.lat_live.specs.declared.plan.Plan.{Plan}
+use Rattle.lat_live.proofs.Steps.{next}
 use Rattle.lat_mind.specs.declared.kind.Kind.{Kind}
 use Rattle.lat_outside.specs.Visits.{VisitsView, no_visits}
 use Rattle.lat_turns.specs.Tied.{Tied}
 use Rattle.lat_live.specs.Opened.{IsNew}
-use Rattle.lat_live.specs.Posts.{IsPosted, kind_of}
+use Rattle.lat_live.specs.Posts.{IsPosted, door_of, kind_of}
 use Rattle.lat_live.specs.Seating.{HasServed, MayWork, EachPair, callers_of, share_of, SamePlace, IsWorked, AreAllSeats}
 
 pub length_seats : (k seat : ℕ) → length (seats_from k seat) ≡ k
@@ -90,15 +92,32 @@ each_at P [] all i d less = absurd (omega (arith, less))
 each_at P (x ∷ xs) all zero d less = all.0
 each_at P (x ∷ xs) all (suc i) d less = each_at P xs all.1 i d (omega (arith, less))
 
--- workers of a post may work
-pub may_work : {K P E B : Type 0} (post : Post) (w : LineWorker K P E B) → IsPosted post w → MayWork w
-may_work (posts.Calling service) w posted called = subst (λ (d : DoorView). IsSome d.service) (sym posted.door) refl
-may_work (posts.Switching service) w posted called = subst (λ (d : DoorView). IsSome d.service) (sym posted.door) refl
-may_work posts.Answering w posted called = absurd (let no : false ≡ true = sym (ap (λ (d : DeskView). is_calling d.kind) posted.desk) ∙ called in cc)
+-- what holds of each pair, and of one more
+pair_more : {A B : Type 0} (R : A → B → Type 0) (xs : List A) (ys : List B) (x : A) (y : B) → EachPair R xs ys → R x y → EachPair R (xs ++ x ∷ []) (ys ++ y ∷ [])
+pair_more R [] [] x y all one = (one, tt)
+pair_more R [] (b ∷ ys) x y all one = elim all [ ]
+pair_more R (a ∷ xs) [] x y all one = elim all [ ]
+pair_more R (a ∷ xs) (b ∷ ys) x y all one = (all.0, pair_more R xs ys x y all.1 one)
 
-pub each_may : {K P E B : Type 0} (post : Post) (ws : List (LineWorker K P E B)) → Each (IsPosted post) ws → Each MayWork ws
-each_may post [] all = tt
-each_may post (w ∷ ws) all = (may_work post w all.0, each_may post ws all.1)
+pub pair_push : {A B : Type 0} (R : A → B → Type 0) (xs : List A) (ys : List B) (i : ℕ) (x : A) (y : B) → EachPair R (take i xs) ys → i < length xs → x ≡ get_or xs i x → R x y →
+    EachPair R (take (i + 1) xs) (ys ++ y ∷ [])
+pair_push R xs ys i x y all less is one =
+    subst (λ l. EachPair R l (ys ++ y ∷ [])) (sym (next xs i x less is)) (pair_more R (take i xs) ys x y all one)
+
+-- workers of a post may work
+may_work : {K P E B : Type 0} (plan : Plan) (line : LinePlan) (w : LineWorker K P E B) → IsPosted plan line w → MayWork w
+may_work plan line w posted called = go line.post posted.desk posted.door
+  where
+    go : (post : Post) → w.desk ≡ life_of (kind_of post) [] → w.door ≡ door_of plan.devices.now post → IsSome w.door.service
+    go (posts.Calling service) desk door = subst (λ (d : DoorView). IsSome d.service) (sym door) refl
+    go (posts.Switching service) desk door = subst (λ (d : DoorView). IsSome d.service) (sym door) refl
+    go posts.Answering desk door = absurd (let no : false ≡ true = sym (ap (λ (d : DeskView). is_calling d.kind) desk) ∙ called in cc)
+    go (posts.Offering device) desk door = absurd (let no : false ≡ true = sym (ap (λ (d : DeskView). is_calling d.kind) desk) ∙ called in cc)
+
+pub each_may : {K P E B : Type 0} (plan : Plan) (lines : List LinePlan) (ws : List (LineWorker K P E B)) → EachPair (IsPosted plan) lines ws → Each MayWork ws
+each_may plan lines [] all = tt
+each_may plan [] (w ∷ ws) all = elim all [ ]
+each_may plan (line ∷ lines) (w ∷ ws) all = (may_work plan line w all.0, each_may plan lines ws all.1)
 
 -- what holds at each place holds of both lists
 pub each_pair : {A : Type 0} (R : A → A → Type 0) (xs ys : List A) → length xs ≡ length ys → ((i : ℕ) (d : A) → i < length xs → R (slice_index_or xs i d) (slice_index_or ys i d)) → EachPair R xs ys
@@ -186,18 +205,19 @@ tied_first : (kind : Kind) (port : Option ℕ) → Tied (life_of kind []) (no_vi
 tied_first kind port = record { over = tt; now = (refl, refl) }
 
 -- a worker that has done nothing is tied to a line that nobody has come to
-begins : {K P E B : Type 0} (visits : K → VisitsView) (post : Post) (w : LineWorker K P E B) → IsPosted post w → IsNew (visits w.callers) → Tied w.desk (visits w.callers)
-begins visits post w posted new =
-    subst₂ (λ (d : DeskView) (vs : VisitsView). Tied d vs) (sym posted.desk) (sym new.1) (tied_first (kind_of post) new.0)
+begins : {K P E B : Type 0} (visits : K → VisitsView) (plan : Plan) (line : LinePlan) (w : LineWorker K P E B) → IsPosted plan line w → IsNew (visits w.callers) → Tied w.desk (visits w.callers)
+begins visits plan line w posted new =
+    subst₂ (λ (d : DeskView) (vs : VisitsView). Tied d vs) (sym posted.desk) (sym new.1) (tied_first (kind_of line.post) new.0)
 
 -- the callers of each line were served by its worker
-pub served_back : {K P E B : Type 0} (visits : K → VisitsView) (post : Post) (old new : List (LineWorker K P E B)) →
-    Each (IsPosted post) old → Each (λ w. IsNew (visits w.callers)) old → EachPair (IsWorked visits) old new →
+pub served_back : {K P E B : Type 0} (visits : K → VisitsView) (plan : Plan) (lines : List LinePlan) (old new : List (LineWorker K P E B)) →
+    EachPair (IsPosted plan) lines old → Each (λ w. IsNew (visits w.callers)) old → EachPair (IsWorked visits) old new →
     Each (λ callers. HasServed (visits callers)) (map callers_of new)
-served_back visits post [] [] posted fresh worked = tt
-served_back visits post [] (y ∷ ys) posted fresh worked = elim worked [ ]
-served_back visits post (x ∷ xs) [] posted fresh worked = elim worked [ ]
-served_back visits post (x ∷ xs) (y ∷ ys) posted fresh worked = (
-  record { desk = y.desk; life = worked.0.life; tied = worked.0.tied (begins visits post x posted.0 fresh.0) },
-  served_back visits post xs ys posted.1 fresh.1 worked.1,
+served_back visits plan lines [] [] posted fresh worked = tt
+served_back visits plan lines [] (y ∷ ys) posted fresh worked = elim worked [ ]
+served_back visits plan lines (x ∷ xs) [] posted fresh worked = elim worked [ ]
+served_back visits plan [] (x ∷ xs) (y ∷ ys) posted fresh worked = elim posted [ ]
+served_back visits plan (line ∷ lines) (x ∷ xs) (y ∷ ys) posted fresh worked = (
+  record { desk = y.desk; life = worked.0.life; tied = worked.0.tied (begins visits plan line x posted.0 fresh.0) },
+  served_back visits plan lines xs ys posted.1 fresh.1 worked.1,
 )

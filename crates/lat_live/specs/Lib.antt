@@ -1,9 +1,12 @@
 pub mod Asked
+pub mod Lines
 pub mod Opened
 pub mod Openings
 pub mod Plans
 pub mod Posts
 pub mod Printed
+pub mod Rated
+pub mod Rating
 pub mod Refusals
 pub mod Seating
 pub mod Served

@@ -1,5 +1,5 @@
 -- What the seats of a daemon have, and what their workers leave of them.
-use Rattle.std.specs.Prelude.{◌≡◌, true, IsSome, ℕ, ◌+◌, ◌-◌, ◌<◌, ◌≤◌, List, [], ◌∷◌, length, map, sum_by, vec_len, vec_capacity}
+use Rattle.std.specs.Prelude.{◌≡◌, true, IsSome, ℕ, ◌+◌, ◌-◌, ◌≤◌, List, [], ◌∷◌, length, map, sum_by, vec_len, vec_capacity}
 use Rattle.lat_history.specs.CellView.{SeatView}
 use Rattle.lat_history.specs.Seats.{all_seats, fresh, seats_from}
 use Rattle.lat_turns.specs.declared.worker.LineWorker.{LineWorker}
@@ -12,7 +12,7 @@ use Rattle.lat_turns.specs.Tied.{Tied}
 use Rattle.lat_turns.specs.Work.{IsDone, WentOn}
 use Rattle.lat_live.specs.Opened.{IsNew}
 use Rattle.lat_live.specs.Posts.{IsPosted}
-use Rattle.lat_live.specs.declared.seats.Post.{Post}
+use Rattle.lat_live.specs.declared.plan.Plan.{Plan}
 use Rattle.lat_live.specs.declared.seats.Seated.{Seated}
 use Rattle.lat_live.specs.declared.seats.Given.{Given}
 
@@ -44,16 +44,16 @@ done_of w = w.done
 abbrev pub callers_of : {K P E B : Type 0} → LineWorker K P E B → K
 callers_of w = w.callers
 
--- nothing is done yet at any seat of so many lines with this post, and there is room for all that the seats give back
-pub record AreFresh {K P E B : Type 0} (visits : K → VisitsView) (lines : ℕ) (post : Post) (seated : Seated K P E B) (given : Given K E B) : Type 0 where
-  pub around : IsFreshAround lines seated
-  pub shares : map share_of seated.lines.items ≡ seats_from lines 1
-  pub posted : Each (IsPosted post) seated.lines.items
+-- nothing is done yet at any seat of the plan's lines, each of which has its post, and there is room for all that the seats give back
+pub record AreFresh {K P E B : Type 0} (visits : K → VisitsView) (plan : Plan) (seated : Seated K P E B) (given : Given K E B) : Type 0 where
+  pub around : IsFreshAround (length plan.lines.now) seated
+  pub shares : map share_of seated.lines.items ≡ seats_from (length plan.lines.now) 1
+  pub posted : EachPair (IsPosted plan) plan.lines.now seated.lines.items
   pub new : Each (λ w. IsNew (visits w.callers)) seated.lines.items
-  pub count : vec_len seated.lines ≡ lines
+  pub count : vec_len seated.lines ≡ length plan.lines.now
   pub empty : IsNothing given
-  pub room : lines + 2 ≤ vec_capacity given.shares
-  pub rooms : HasRoom lines given
+  pub room : length plan.lines.now + 2 ≤ vec_capacity given.shares
+  pub rooms : HasRoom (length plan.lines.now) given
 
 -- a worker gives back the share of its seat, with the same parts of the books
 pub record SamePlace (old new : SeatView) : Type 0 where

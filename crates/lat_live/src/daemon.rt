@@ -1,55 +1,57 @@
 //! The call that does all that the program `latd` does.
 
-ghost use Rattle.std.specs.Prelude.{◌≡◌, ◌≢◌, ◌⊎◌, map, string_bytes, []};
+ghost use Rattle.std.specs.Prelude.{◌≡◌, ◌≢◌, ◌⊎◌, map, string_bytes, [], Ok};
 ghost use Rattle.lat_history.specs.Ledgers.{AreBlanks};
 ghost use Rattle.std.specs.Io.KnownBytes.{Appends};
-ghost use Rattle.lat_tariff.specs.Tariffs.{AreKnown};
+ghost use Rattle.lat_words.specs.Reader.{words_of};
+ghost use Rattle.lat_words.specs.declared.settings.Words.TheVariants as asks;
 ghost use Rattle.lat_live.specs.declared.ran.Ran.TheVariants as ran;
 ghost use Rattle.lat_live.specs.Printed.{AppendsPart, IsOwn, RoseIn};
-ghost use Rattle.lat_live.specs.Served.{AreRight, AreWrong, AskedOf, BackOf, HasPrinted, IsNotRun, IsRefusal, IsRoleOf, RefusedOf, refusal};
+ghost use Rattle.lat_live.specs.Served.{AreNoRun, AreRight, AreWrong, AskedOf, BackOf, HasPrinted, IsFaultOf, IsNotRun, IsRefusal, IsRoleOf, RefusedOf, refusal, version_text};
 
+use crate::logging::Log;
 use crate::ran::Served;
 use crate::roles::serve_in_role;
-use lat_base::Memory;
+use crate::said::say;
 use lat_cell::Blanks;
-use lat_node::RatingRule;
-use lat_outside::{Clock, Gate, PortOpener, Sink, write_all};
-use lat_tariff::{SteadyRule, Tariff};
-use lat_words::config_of;
+use lat_outside::{Clock, Gate, PortOpener, Sink};
+use lat_words::{Words, WordsFault, help_text, read_words};
 use std::alloc::Global;
 use std::sync::Wait;
 use std::sync::ledger::Ledger;
 use std::thread::Threads;
 
-// The words aren't right: says so.
-fn refuse<S: Sink>(out: &mut S) -> u8
-    ensures status { (result ≡ 1) ⊎ (result ≡ 5) }
-    ensures written { result ≡ 1 → Appends (S.written out.old) (S.written out.new) refusal }
-    ensures part { result ≡ 5 → AppendsPart (S.written out.old) (S.written out.new) refusal }
+/// What is printed of the version.
+const VERSION: &str = "latd 5.1\n";
+
+// Says how the daemon is called.
+fn help<S: Sink>(alloc: Global, out: &mut S) -> u8
+    ensures status { (result ≡ 0) ⊎ ((result ≡ 5) ⊎ (result ≡ 9)) }
     ensures fault { result ≡ 5 → RoseIn S.faults out.old out.new }
+    ensures silent { result ≡ 9 → S.written out.new ≡ S.written out.old }
 {
-    match write_all(out, "words\n".as_bytes()) {
-        Ok(()) => 1,
-        Err(_) => 5,
+    match help_text(alloc) {
+        Ok(text) => say(out, text.as_str(), 0),
+        Err(_) => 9,
     }
 }
 
 /// Does all that the program `latd` does: reads the words, the program's name first; opens the carrier and then the lines by rising
 /// number; runs all workers of a cell at once, round the core that the words tell of, until each has ended; and prints what came of
-/// it. A node rates its service by the rule; one with a tariff offers the tariff's services, and rates each by its own rule. The time
-/// at which it starts, in tenths of a second from any moment on that is the same at each start, gives the id of its first circuit and
-/// a node's incarnation, so that it isn't taken for the daemon that ran before it. It may wait, and its return isn't promised.
+/// it. What it has to say meanwhile goes to its log. The time at which it starts, in tenths of a second from any moment on that is the same at each start, gives the id of its
+/// first circuit and a node's incarnation, so that it isn't taken for the daemon that ran before it. It may wait, and its return
+/// isn't promised.
 ///
-/// The status is 1 where the words aren't right, with `words` written; 4 only where the opener's count of faults rose, and 9 for want
-/// of memory, with nothing written; 5 only where the sink's count of faults rose; else that of the last text. Where a cell is handed
+/// Where the words ask for help or for the version, that is written, and the status is 0. The status is 1 where the words aren't
+/// right, with `words` written, and what is wrong is handed back; 4 only where the opener's count of faults rose, and 9 for want of
+/// memory, with nothing written; 5 only where the sink's count of faults rose; else that of the last text. Where a cell is handed
 /// back, what was written and the status are those that `print_end` gives of this cell, these shares and these ends, and the shares
-/// are those of all its seats. `Ran::Not` comes only at 1, 4 and 9, and at 5 where the words aren't right.
+/// are those of all its seats. `Ran::Not` comes only at 1, 4 and 9, and at 0 and 5 where the words don't ask that it runs.
 pub fn serve<
     O: PortOpener,
     K: Clock + Copy + Send,
     G: Gate + Sync,
-    H: RatingRule + Send,
-    P: SteadyRule + Send,
+    W: Sink + Send,
     S: Sink,
     E: Ledger + Sync,
     B: Ledger + Sync,
@@ -63,19 +65,19 @@ pub fn serve<
     opener: &mut O,
     clock: K,
     gate: &G,
-    rule: H,
-    tariff: Tariff<P>,
+    log: Log<'_, W>,
     out: &mut S,
-) -> Served<H, P, O::T, O::C, E, B>
-    requires fact { H.fact rule }
-    requires rules { AreKnown P.fact tariff }
+) -> Served<O::T, O::C, E, B>
     requires blanks { AreBlanks blanks E.name E.parts B.name B.parts }
     ensures wrong { result.status ≡ 1 → AreWrong (map string_bytes words.now) }
     ensures refused { AreWrong (map string_bytes words.now) → IsRefusal result.status }
+    ensures told { IsFaultOf (words_of (map string_bytes words.now)) result.status result.wrong }
     ensures written { result.status ≡ 1 → Appends (S.written out.old) (S.written out.new) refusal }
     ensures part { AreWrong (map string_bytes words.now) → result.status ≡ 5 →
         AppendsPart (S.written out.old) (S.written out.new) refusal }
-    ensures unopened { AreWrong (map string_bytes words.now) → O.asked opener.new ≡ O.asked opener.old }
+    ensures version { words_of (map string_bytes words.now) ≡ Ok asks.Version → result.status ≡ 0 →
+        Appends (S.written out.old) (S.written out.new) version_text }
+    ensures unopened { AreNoRun (map string_bytes words.now) → O.asked opener.new ≡ O.asked opener.old }
     ensures opener { result.status ≡ 4 → RoseIn O.faults opener.old opener.new }
     ensures port { RefusedOf (map string_bytes words.now) tenths (O.asked opener.old) (O.asked opener.new)
         result.status result.refused }
@@ -94,12 +96,15 @@ pub fn serve<
     ensures ended { HasPrinted S.written S.faults out.old out.new result }
     ensures back { BackOf O.C.visits (map string_bytes words.now) result }
 {
-    let config = match config_of(alloc, words) {
-        Ok(Some(config)) => config,
-        Ok(None) => return Served::nothing(alloc, refuse(out)),
-        Err(Memory) => return Served::nothing(alloc, 9),
-    };
-    serve_in_role(
-        rt, alloc, &config, tenths, blanks, opener, clock, gate, rule, tariff, out,
-    )
+    match read_words(alloc, words) {
+        Ok(Words::Run(settings)) => {
+            serve_in_role(
+                rt, alloc, &settings, tenths, blanks, opener, clock, gate, log, out,
+            )
+        }
+        Ok(Words::Help) => Served::nothing(alloc, help(alloc, out), None),
+        Ok(Words::Version) => Served::nothing(alloc, say(out, VERSION, 0), None),
+        Err(WordsFault::Memory) => Served::nothing(alloc, 9, None),
+        Err(fault) => Served::nothing(alloc, say(out, "words\n", 1), Some(fault)),
+    }
 }

@@ -1,11 +1,12 @@
 //! What is opened.
 
-ghost use Rattle.std.specs.Prelude.{◌≡◌, ◌+◌, ◌<◌, ◌≤◌, Some, IfOk, IfErr, OnOk, vec_len};
+ghost use Rattle.std.specs.Prelude.{◌≡◌, ◌<◌, ◌≤◌, length, IfOk, IfErr, OnOk, vec_len};
 ghost use Rattle.lat_mind.specs.Good.{Each};
 ghost use Rattle.lat_outside.specs.Openings.{with_carrier, with_line};
 ghost use Rattle.lat_outside.specs.Visits.{no_visits};
 ghost use Rattle.lat_live.specs.Opened.{CarrierRefused, IsNew, IsRefusedAt, LineRefused, RoseIfRefused, with_lines};
 
+use crate::plan::LinePlan;
 use lat_base::{Addr, Memory};
 use lat_outside::{PortFault, PortOpener};
 use std::alloc::{AllocError, Global};
@@ -79,14 +80,17 @@ pub fn open_carrier<O: PortOpener>(
     }
 }
 
-// Opens a line at this port.
-fn open_line<O: PortOpener>(opener: &mut O, line: u8, port: u16) -> Result<O::C, StartFault>
-    ensures asked { O.asked opener.new ≡ with_line (O.asked opener.old) (Some port) }
-    ensures line { IfOk result (λ callers. O.C.visits callers ≡ no_visits (Some port)) }
+// Opens a line, at its port if it listens.
+fn open_line<O: PortOpener>(opener: &mut O, line: u8, port: Option<u16>) -> Result<O::C, StartFault>
+    ensures asked { O.asked opener.new ≡ with_line (O.asked opener.old) port }
+    ensures line { IfOk result (λ callers. O.C.visits callers ≡ no_visits port) }
     ensures refused { IfErr result (IsRefusedAt line port) }
     ensures later { O.faults opener.old ≤ O.faults opener.new }
     ensures cause { IfErr result (RoseIfRefused (O.faults opener.old) (O.faults opener.new)) }
 {
+    let Some(port) = port else {
+        return Ok(opener.open_dialling());
+    };
     match opener.open_port(port) {
         Ok(callers) => Ok(callers),
         Err(fault) => Err(StartFault::Refused(Refused {
@@ -97,24 +101,24 @@ fn open_line<O: PortOpener>(opener: &mut O, line: u8, port: u16) -> Result<O::C,
     }
 }
 
-/// Opens so many lines by rising number, each on the port behind that of the one before.
+/// Opens these lines by rising number, each that listens at its port, and the others to dial.
 pub fn open_lines<O: PortOpener>(
     alloc: Global,
     opener: &mut O,
-    first: u16,
-    count: u8,
+    lines: &[LinePlan],
 ) -> Result<Vec<O::C>, StartFault>
-    requires { (first + count ≤ 65536) × (count < 255) }
-    ensures count { IfOk result (λ lines. vec_len lines ≡ count) }
-    ensures asked { OnOk result (O.asked opener.new ≡ with_lines first count (O.asked opener.old)) }
-    ensures fresh { IfOk result (λ lines. Each (λ callers. IsNew (O.C.visits callers)) lines.items) }
-    ensures refused { IfErr result (LineRefused first count (O.asked opener.old) (O.asked opener.new)) }
+    requires { length lines.now < 255 }
+    ensures count { IfOk result (λ opened. vec_len opened ≡ length lines.now) }
+    ensures asked { OnOk result (O.asked opener.new ≡ with_lines lines.now (O.asked opener.old)) }
+    ensures fresh { IfOk result (λ opened. Each (λ callers. IsNew (O.C.visits callers)) opened.items) }
+    ensures refused { IfErr result (LineRefused lines.now (O.asked opener.old) (O.asked opener.new)) }
     ensures later { O.faults opener.old ≤ O.faults opener.new }
     ensures cause { IfErr result (RoseIfRefused (O.faults opener.old) (O.faults opener.new)) }
 {
-    let mut lines = Vec::with_capacity(alloc, count as usize)?;
-    for k in 0..count {
-        lines.push_reserved(open_line(opener, k + 1, first + k as u16)?);
+    let mut opened = Vec::with_capacity(alloc, lines.len())?;
+    for k in 0..lines.len() {
+        let callers = open_line(opener, k as u8 + 1, lines[k].port)?;
+        opened.push_reserved(callers);
     }
-    Ok(lines)
+    Ok(opened)
 }

@@ -7,49 +7,54 @@ ghost use Rattle.lat_live.specs.Served.{CameOf};
 
 use crate::lists::{Ends, Lines};
 use crate::opening::Refused;
+use crate::rated::RateRule;
 use crate::seats::Given;
 use crate::serving::CoreServed;
 use lat_cell::{Cell, Shares};
-use lat_node::{NodeCore, RatingRule};
+use lat_node::NodeCore;
 use lat_outside::{Callers, Tx};
 use lat_server::ServerCore;
 use lat_switch::SwitchCore;
-use lat_tariff::{SteadyRule, Tariff};
+use lat_tariff::Tariff;
+use lat_words::WordsFault;
 use std::alloc::Global;
 use std::sync::ledger::Ledger;
 
 /// The cell of a daemon, by its role.
 #[derive(Drop)]
-pub enum Ran<H: RatingRule, P: SteadyRule, T: Tx, E: Ledger, B: Ledger> {
+pub enum Ran<T: Tx, E: Ledger, B: Ledger> {
     /// No worker was started.
     Not,
     Server(Cell<ServerCore, T, E, B>),
     Switch(Cell<SwitchCore, T, E, B>),
-    Node(Cell<NodeCore<H>, T, E, B>),
-    Tariff(Cell<NodeCore<Tariff<P>>, T, E, B>),
+    /// A node, with a tariff of the words or without.
+    Node(Cell<NodeCore<Tariff<RateRule>>, T, E, B>),
 }
 
 /// What a daemon hands back: the status to end with, its cell, the shares of all seats (the wire, the lines by rising number, the
-/// clock), and of each line how its worker ended, and its callers; and the port that couldn't be opened, if one couldn't.
+/// clock), and of each line how its worker ended, and its callers; the port that couldn't be opened, if one couldn't; and what is
+/// wrong with the words, if something is.
 #[derive(Drop)]
-pub struct Served<H: RatingRule, P: SteadyRule, T: Tx, L: Callers, E: Ledger, B: Ledger> {
+pub struct Served<T: Tx, L: Callers, E: Ledger, B: Ledger> {
     pub status: u8,
     pub refused: Option<Refused>,
-    pub ran: Ran<H, P, T, E, B>,
+    pub wrong: Option<WordsFault>,
+    pub ran: Ran<T, E, B>,
     pub shares: Shares<E, B>,
     pub ends: Ends,
     pub lines: Lines<L>,
 }
 
 // What ran, with this status, and what its seats gave back.
-fn handed_back<H: RatingRule, P: SteadyRule, T: Tx, L: Callers, E: Ledger, B: Ledger>(
+fn handed_back<T: Tx, L: Callers, E: Ledger, B: Ledger>(
     status: u8,
     refused: Option<Refused>,
-    ran: Ran<H, P, T, E, B>,
+    ran: Ran<T, E, B>,
     given: Given<L, E, B>,
-) -> Served<H, P, T, L, E, B>
+) -> Served<T, L, E, B>
     ensures status { result.status ≡ status }
     ensures refused { result.refused ≡ refused }
+    ensures wrong { result.wrong ≡ None }
     ensures ran { result.ran ≡ ran }
     ensures shares { result.shares ≡ given.shares.items }
     ensures ends { result.ends ≡ given.ends.items }
@@ -63,6 +68,7 @@ fn handed_back<H: RatingRule, P: SteadyRule, T: Tx, L: Callers, E: Ledger, B: Le
     Served {
         status,
         refused,
+        wrong: None,
         ran,
         shares: Shares::of(shares),
         ends: Ends::of(ends),
@@ -70,26 +76,25 @@ fn handed_back<H: RatingRule, P: SteadyRule, T: Tx, L: Callers, E: Ledger, B: Le
     }
 }
 
-impl<H: RatingRule, P: SteadyRule, T: Tx, L: Callers, E: Ledger, B: Ledger> Served<
-    H,
-    P,
-    T,
-    L,
-    E,
-    B,
-> {
-    /// No worker was started.
-    pub(crate) fn nothing(alloc: Global, status: u8) -> Served<H, P, T, L, E, B>
+impl<T: Tx, L: Callers, E: Ledger, B: Ledger> Served<T, L, E, B> {
+    /// No worker was started, and this is wrong with the words, if anything.
+    pub(crate) fn nothing(
+        alloc: Global,
+        status: u8,
+        wrong: Option<WordsFault>,
+    ) -> Served<T, L, E, B>
         ensures status { result.status ≡ status }
         ensures none { result.ran ≡ rans.Not }
         ensures refused { result.refused ≡ None }
+        ensures wrong { result.wrong ≡ wrong }
         ensures empty { (result.shares ≡ []) × (result.ends ≡ []) × (result.lines ≡ []) }
     {
-        handed_back(status, None, Ran::Not, Given::none(alloc))
+        let nothing = handed_back(status, None, Ran::Not, Given::none(alloc));
+        Served { wrong, ..nothing }
     }
 
     /// What came of a server.
-    pub(crate) fn of_server(done: CoreServed<ServerCore, T, L, E, B>) -> Served<H, P, T, L, E, B>
+    pub(crate) fn of_server(done: CoreServed<ServerCore, T, L, E, B>) -> Served<T, L, E, B>
         ensures { CameOf roles.Server done result }
     {
         let CoreServed {
@@ -105,7 +110,7 @@ impl<H: RatingRule, P: SteadyRule, T: Tx, L: Callers, E: Ledger, B: Ledger> Serv
     }
 
     /// What came of a server with several sessions on each line.
-    pub(crate) fn of_switch(done: CoreServed<SwitchCore, T, L, E, B>) -> Served<H, P, T, L, E, B>
+    pub(crate) fn of_switch(done: CoreServed<SwitchCore, T, L, E, B>) -> Served<T, L, E, B>
         ensures { CameOf roles.Switch done result }
     {
         let CoreServed {
@@ -121,7 +126,9 @@ impl<H: RatingRule, P: SteadyRule, T: Tx, L: Callers, E: Ledger, B: Ledger> Serv
     }
 
     /// What came of a node.
-    pub(crate) fn of_node(done: CoreServed<NodeCore<H>, T, L, E, B>) -> Served<H, P, T, L, E, B>
+    pub(crate) fn of_node(
+        done: CoreServed<NodeCore<Tariff<RateRule>>, T, L, E, B>,
+    ) -> Served<T, L, E, B>
         ensures { CameOf roles.Node done result }
     {
         let CoreServed {
@@ -132,24 +139,6 @@ impl<H: RatingRule, P: SteadyRule, T: Tx, L: Callers, E: Ledger, B: Ledger> Serv
         } = done;
         match ran {
             Some(cell) => handed_back(status, refused, Ran::Node(cell), given),
-            None => handed_back(status, refused, Ran::Not, given),
-        }
-    }
-
-    /// What came of a node with a tariff.
-    pub(crate) fn of_tariff(
-        done: CoreServed<NodeCore<Tariff<P>>, T, L, E, B>,
-    ) -> Served<H, P, T, L, E, B>
-        ensures { CameOf roles.Tariff done result }
-    {
-        let CoreServed {
-            status,
-            refused,
-            ran,
-            given,
-        } = done;
-        match ran {
-            Some(cell) => handed_back(status, refused, Ran::Tariff(cell), given),
             None => handed_back(status, refused, Ran::Not, given),
         }
     }

@@ -6,8 +6,8 @@ ghost use Rattle.lat_live.specs.Seating.{EachPair, IsWorked, MayWork, SamePlace}
 
 use crate::seats::Seated;
 use lat_base::Core;
-use lat_cell::{Cell, Course, LineShare, time_worker, wire_worker};
-use lat_outside::{Callers, Clock, Gate, Rx, Tx};
+use lat_cell::{Cell, Course, LineShare, LogWriter, log_worker, time_worker, wire_worker};
+use lat_outside::{Callers, Clock, Gate, Rx, Sink, Tx};
 use lat_turns::LineWorker;
 use std::alloc::Global;
 use std::sync::ledger::Ledger;
@@ -17,6 +17,7 @@ use std::thread::Threads;
 
 // Works all lines at once.
 fn crew<
+    'a,
     C: Core + Send,
     T: Tx + Send,
     L: Callers + Send,
@@ -29,9 +30,9 @@ fn crew<
     rt: &R,
     alloc: Global,
     cell: &Mutex<Cell<C, T, E, B>>,
-    seats: Vec<LineWorker<'static, L, K, E, B>>,
+    seats: Vec<LineWorker<'a, L, K, E, B>>,
     gate: &G,
-) -> Vec<LineWorker<'static, L, K, E, B>>
+) -> Vec<LineWorker<'a, L, K, E, B>>
     requires some { 0 < vec_len seats }
     requires may { Each MayWork seats.items }
     ensures count { vec_len result ≡ vec_len seats.entry }
@@ -53,6 +54,7 @@ fn crew<
 
 // Works all lines at once, and says behind them that the daemon is to end.
 fn crew_then_stop<
+    'a,
     C: Core + Send,
     T: Tx + Send,
     L: Callers + Send,
@@ -65,9 +67,9 @@ fn crew_then_stop<
     rt: &R,
     alloc: Global,
     cell: &Mutex<Cell<C, T, E, B>>,
-    seats: Vec<LineWorker<'static, L, K, E, B>>,
+    seats: Vec<LineWorker<'a, L, K, E, B>>,
     gate: &G,
-) -> Vec<LineWorker<'static, L, K, E, B>>
+) -> Vec<LineWorker<'a, L, K, E, B>>
     requires some { 0 < vec_len seats }
     requires may { Each MayWork seats.items }
     ensures count { vec_len result ≡ vec_len seats.entry }
@@ -111,14 +113,51 @@ fn outside<
     )
 }
 
+// The same, and the log's worker.
+fn beside_log<
+    C: Core + Send,
+    T: Tx + Send,
+    X: Rx + Send,
+    K: Clock + Send,
+    W: Sink + Send,
+    E: Ledger + Sync,
+    B: Ledger + Sync,
+    R: Threads + Wait + Sync,
+>(
+    rt: &R,
+    alloc: Global,
+    cell: &Mutex<Cell<C, T, E, B>>,
+    wire: LineShare<E, B>,
+    rx: X,
+    time: LineShare<E, B>,
+    clock: K,
+    log_clock: K,
+    course: Course,
+    writer: &mut LogWriter<'_, W>,
+) -> (LineShare<E, B>, LineShare<E, B>)
+    requires { (wire.seat ≡ 0) × (time.seat ≡ 65) }
+    ensures { SamePlace wire result.0 × SamePlace time result.1 }
+{
+    let (shares, ()) = thread::join(
+        rt,
+        move ||
+            requires { (wire.seat ≡ 0) × (time.seat ≡ 65) }
+        { outside(rt, alloc, cell, wire, rx, time, clock, course) },
+        move || log_worker(rt, alloc, cell, log_clock, writer),
+    );
+    shares
+}
+
 /// Runs all workers at once until each has ended, and takes the cell out of its lock.
 pub fn run_all<
+    'a,
     C: Core + Send,
     T: Tx + Send,
     X: Rx + Send,
     L: Callers + Send,
     K: Clock + Send,
     G: Gate + Sync,
+    W: Sink + Send,
     E: Ledger + Sync,
     B: Ledger + Sync,
     R: Threads + Wait + Sync,
@@ -127,18 +166,20 @@ pub fn run_all<
     alloc: Global,
     cell: Cell<C, T, E, B>,
     rx: X,
-    seated: Seated<L, K, E, B>,
+    seated: Seated<'a, L, K, E, B>,
     clock: K,
+    log_clock: K,
     gate: &G,
     course: Course,
-) -> (Cell<C, T, E, B>, Seated<L, K, E, B>)
+    writer: &mut LogWriter<'_, W>,
+) -> (Cell<C, T, E, B>, Seated<'a, L, K, E, B>)
     requires some { 0 < vec_len seated.lines }
     requires may { Each MayWork seated.lines.items }
     requires seats { (seated.wire.seat ≡ 0) × (seated.clock.seat ≡ 65) }
-    ensures around { SamePlace seated.wire result.1.wire
-        × SamePlace seated.clock result.1.clock }
-    ensures lines { EachPair (IsWorked L.visits) seated.lines.items result.1.lines.items }
-    ensures count { vec_len result.1.lines ≡ vec_len seated.lines }
+    ensures around { SamePlace seated.entry.wire result.1.wire
+        × SamePlace seated.entry.clock result.1.clock }
+    ensures lines { EachPair (IsWorked L.visits) seated.entry.lines.items result.1.lines.items }
+    ensures count { vec_len result.1.lines ≡ vec_len seated.entry.lines }
 {
     let Seated {
         wire,
@@ -151,7 +192,11 @@ pub fn run_all<
         rt,
         move ||
             requires { (wire.seat ≡ 0) × (time.seat ≡ 65) }
-        { outside(rt, alloc, shared, wire, rx, time, clock, course) },
+        {
+            beside_log(
+                rt, alloc, shared, wire, rx, time, clock, log_clock, course, writer,
+            )
+        },
         move ||
             requires some { 0 < vec_len lines }
             requires may { Each MayWork lines.items }

@@ -1,102 +1,63 @@
 //! Who sits where.
 
-ghost use Rattle.std.specs.Prelude.{◌≡◌, ◌+◌, ◌-◌, ◌<◌, ◌≤◌, [], ◌∷◌, ◌++◌, map, IfOk, vec_len, vec_capacity};
+ghost use Rattle.std.specs.Prelude.{◌≡◌, ◌+◌, ◌-◌, ◌<◌, ◌≤◌, [], ◌∷◌, ◌++◌, length, map, IfOk, vec_len, vec_capacity};
 ghost use Rattle.lat_history.specs.Seats.{all_seats, seats_from};
-ghost use Rattle.lat_mind.specs.Good.{Each};
-ghost use Rattle.lat_live.specs.Posts.{IsPosted, kind_of, service_of, sessions_of};
-ghost use Rattle.lat_live.specs.Seating.{HasRoom, IsFreshAround, IsNothing, share_of, done_of, callers_of};
+ghost use Rattle.lat_live.specs.Posts.{IsPosted};
+ghost use Rattle.lat_live.specs.Seating.{EachPair, HasRoom, IsFreshAround, IsNothing, share_of, done_of, callers_of};
 
-use lat_base::Name;
+use crate::plan::{LinePlan, Plan};
 use lat_cell::{LineShare, Shares};
-use lat_mind::Kind;
 use lat_outside::{Callers, Clock};
-use lat_turns::{Desk, Door, LineDone, LineWorker, Sessions};
+use lat_turns::{Desk, LineDone, LineWorker};
 use std::alloc::{AllocError, Global};
 use std::sync::ledger::Ledger;
 
 /// The shares of the wire and of the clock, and the lines' workers with theirs, by rising number.
 #[derive(Drop)]
-pub struct Seated<K: Callers, P: Clock, E: Ledger, B: Ledger> {
+pub struct Seated<'a, K: Callers, P: Clock, E: Ledger, B: Ledger> {
     pub wire: LineShare<E, B>,
-    pub lines: Vec<LineWorker<'static, K, P, E, B>>,
+    pub lines: Vec<LineWorker<'a, K, P, E, B>>,
     pub clock: LineShare<E, B>,
 }
 
-/// How a daemon's lines come to callers and to sessions. Callers come to each line's port.
-#[derive(Clone, Copy)]
-pub enum Post {
-    /// Each caller is connected to this service.
-    Calling(Name),
-    /// The same, and a caller may switch between several sessions.
-    Switching(Name),
-    /// Sessions come by themselves, and each is for the caller who waits, or who comes next.
-    Answering,
-}
-
-impl Post {
-    fn kind(&self) -> Kind
-        ensures { result ≡ kind_of self.now }
-    {
-        match self {
-            Post::Calling(_) | Post::Switching(_) => Kind::Calling,
-            Post::Answering => Kind::Answering,
-        }
-    }
-
-    fn service(&self) -> Option<Name>
-        ensures { result ≡ service_of self.now }
-    {
-        match self {
-            Post::Calling(service) | Post::Switching(service) => Some(*service),
-            Post::Answering => None,
-        }
-    }
-
-    fn sessions(&self) -> Sessions
-        ensures { result ≡ sessions_of self.now }
-    {
-        match self {
-            Post::Switching(_) => Sessions::Several,
-            Post::Calling(_) | Post::Answering => Sessions::One,
-        }
-    }
-
-    // A line's worker that has done nothing yet.
-    fn worker<K: Callers, P: Clock, E: Ledger, B: Ledger>(
-        &self,
-        alloc: Global,
-        share: LineShare<E, B>,
-        callers: K,
-        clock: P,
-    ) -> LineWorker<'static, K, P, E, B>
-        ensures share { result.share ≡ share }
-        ensures callers { result.callers ≡ callers }
-        ensures posted { IsPosted self.now result }
-    {
-        LineWorker {
-            share,
-            callers,
-            door: Door::new(self.service(), &[], None, self.sessions()),
-            clock,
-            desk: Desk::new(alloc, self.kind()),
-            done: LineDone::End,
-        }
-    }
-}
-
-/// Gives each line its share, its post and a clock.
-pub fn take_seats<K: Callers, P: Clock + Copy, E: Ledger, B: Ledger>(
+// The worker of a line of the plan, who has done nothing yet.
+fn worker<'a, K: Callers, P: Clock, E: Ledger, B: Ledger>(
     alloc: Global,
+    plan: &'a Plan<'a>,
+    line: &'a LinePlan,
+    share: LineShare<E, B>,
+    callers: K,
+    clock: P,
+) -> LineWorker<'a, K, P, E, B>
+    ensures share { result.share ≡ share }
+    ensures callers { result.callers ≡ callers }
+    ensures posted { IsPosted plan.now line.now result }
+{
+    LineWorker {
+        share,
+        callers,
+        door: line.post.door(plan.devices),
+        stay: plan.stay,
+        clock,
+        desk: Desk::new(alloc, line.post.kind()),
+        done: LineDone::End,
+    }
+}
+
+/// Gives each line of the plan its share, its post and a clock.
+pub fn take_seats<'a, K: Callers, P: Clock + Copy, E: Ledger, B: Ledger>(
+    alloc: Global,
+    plan: &'a Plan<'a>,
     shares: Shares<E, B>,
     lines: Vec<K>,
-    post: &Post,
     clock: P,
-) -> Result<Seated<K, P, E, B>, AllocError>
+) -> Result<Seated<'a, K, P, E, B>, AllocError>
+    requires lines { vec_len lines ≡ length plan.now.lines.now }
     requires shares { shares ≡ all_seats (vec_len lines) }
     ensures around { IfOk result (IsFreshAround (vec_len lines)) }
     ensures shares { IfOk result (λ s. map share_of s.lines.items ≡ seats_from (vec_len lines) 1) }
     ensures lines { IfOk result (λ s. map callers_of s.lines.items ≡ lines.items) }
-    ensures posted { IfOk result (λ s. Each (IsPosted post.now) s.lines.items) }
+    ensures posted { IfOk result (λ s. EachPair (IsPosted plan.now) plan.now.lines.now s.lines.items) }
     ensures count { IfOk result (λ s. vec_len s.lines ≡ vec_len lines) }
 {
     let mut seats = Vec::with_capacity(alloc, lines.len())?;
@@ -106,9 +67,10 @@ pub fn take_seats<K: Callers, P: Clock + Copy, E: Ledger, B: Ledger>(
     let mut lines = lines;
     lines.reverse();
     shares.reverse();
-    while let Some(line) = lines.pop() {
+    while let Some(callers) = lines.pop() {
+        let line = &plan.lines[seats.len()];
         let share = shares.take_last();
-        seats.push_reserved(post.worker(alloc, share, line, clock));
+        seats.push_reserved(worker(alloc, plan, line, share, callers, clock));
     }
     Ok(Seated {
         wire,
@@ -152,16 +114,16 @@ impl<K: Callers, E: Ledger, B: Ledger> Given<K, E, B> {
     }
 
     /// What the seats have, in the memory that was taken before.
-    pub fn filled<P: Clock>(self, seated: Seated<K, P, E, B>) -> Given<K, E, B>
+    pub fn filled<P: Clock>(self, seated: Seated<'_, K, P, E, B>) -> Given<K, E, B>
         requires empty { IsNothing self }
         requires room { vec_len seated.lines + 2 ≤ vec_capacity self.shares }
         requires lines { HasRoom (vec_len seated.lines) self }
         ensures shares { result.shares.items
-            ≡ seated.wire ∷ map share_of seated.lines.items ++ seated.clock ∷ [] }
-        ensures ends { result.ends.items ≡ map done_of seated.lines.items }
-        ensures lines { result.lines.items ≡ map callers_of seated.lines.items }
-        ensures count { (vec_len result.ends ≡ vec_len seated.lines)
-            × (vec_len result.lines ≡ vec_len seated.lines) }
+            ≡ seated.entry.wire ∷ map share_of seated.entry.lines.items ++ seated.entry.clock ∷ [] }
+        ensures ends { result.ends.items ≡ map done_of seated.entry.lines.items }
+        ensures lines { result.lines.items ≡ map callers_of seated.entry.lines.items }
+        ensures count { (vec_len result.ends ≡ vec_len seated.entry.lines)
+            × (vec_len result.lines ≡ vec_len seated.entry.lines) }
     {
         let Given {
             mut shares,

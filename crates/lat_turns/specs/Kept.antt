@@ -1,5 +1,6 @@
--- What the mind of a switch's line is shown: its caller's session, whatever session the line shows now.
-use Rattle.std.specs.Prelude.{◌≡◌, ℕ, ◌==◌, ◌||◌, Bool, false, if◌then◌else◌, Option, Some, None}
+-- What the mind of a line is shown: at a switch its caller's session, whatever session the line shows now; and where it has served its
+-- one caller, that the daemon is ending.
+use Rattle.std.specs.Prelude.{◌≡◌, ℕ, ◌==◌, ◌||◌, Bool, true, false, if◌then◌else◌, Option, Some, None}
 use Rattle.lat_base.specs.declared.look.LineLook.{LineLook}
 use Rattle.lat_base.specs.declared.state.SessionState.TheVariants as states
 use Rattle.lat_mind.specs.declared.look.Look.{Look}
@@ -10,6 +11,8 @@ use Rattle.lat_mind.specs.declared.phase.Phase.TheVariants as phases
 use Rattle.lat_mind.specs.Looks.{holds_on, is_free, shows_live}
 use Rattle.lat_turns.specs.declared.kept.Sessions.{Sessions}
 use Rattle.lat_turns.specs.declared.kept.Sessions.TheVariants as sessions
+use Rattle.lat_turns.specs.declared.kept.Stay.{Stay}
+use Rattle.lat_turns.specs.declared.kept.Stay.TheVariants as stays
 
 -- the number of the caller's session, where it isn't the one that was shut
 abbrev pub kept_at : ℕ → Phase → Option ℕ
@@ -37,6 +40,20 @@ kept_look sessions.Several m see = look_as see (kept_at m.shut m.phase)
 abbrev pub lived : Phase → LineLook → Bool
 lived (phases.Joined g) line = g.live || shows_live line g.session
 lived _ line = false
+
+-- it takes no caller any more
+abbrev pub is_over : Stay → Bool
+is_over stays.Over = true
+is_over _ = false
+
+-- the one caller was hung up, and was served
+abbrev pub stay_after : Stay → Bool → Stay
+stay_after stays.OneCaller true = stays.Over
+stay_after stay served = stay
+
+-- a worker that takes no caller any more looks as at a daemon that is ending
+abbrev pub stay_look : Stay → Look → Look
+stay_look stay see = record see { stopping = see.stopping || is_over stay }
 
 -- a caller with a session that its mind hasn't shut, on a line that isn't free
 pub record IsKept (m : LineMind) (g : Guest) (see : Look) : Type 0 where

@@ -11,7 +11,7 @@ ghost use Rattle.lat_past.specs.Counts.{put_by, put_of, seat_of};
 ghost use Rattle.lat_turns.specs.Doors.{look_in};
 ghost use Rattle.lat_turns.specs.Events.{put_by_move};
 ghost use Rattle.lat_turns.specs.Holds.{AppliedAs, HeldAs, MayAct, event_turn};
-ghost use Rattle.lat_turns.specs.Kept.{kept_look};
+ghost use Rattle.lat_turns.specs.Kept.{kept_look, stay_look};
 ghost use Rattle.lat_turns.specs.Lives.{behind, offer_of, with_turn};
 ghost use Rattle.lat_turns.specs.Tied.{Tied};
 ghost use Rattle.lat_turns.specs.Work.{WentOn};
@@ -19,6 +19,7 @@ ghost use Rattle.lat_turns.specs.Work.{WentOn};
 use crate::desk::Desk;
 use crate::door::Door;
 use crate::events::{connected_as, event_of, items_of};
+use crate::kept::Stay;
 use lat_base::{Answer, Core, Event, Memory};
 use lat_history::{Cell, CellFault, LineShare, Receipt};
 use lat_mind::{Fact, Look, Move};
@@ -110,18 +111,19 @@ fn applied<C: Core, T: Tx, E: Ledger, B: Ledger>(
 
 /// What is done under one hold of the lock: a look at the line, the move that the mind makes at it, and the event of that move,
 /// whose answer is told. At a line of several sessions the mind is shown, and told with, its caller's first one until all are
-/// over. A calling line has a service.
+/// over; and at one that takes no caller any more, that the daemon is ending. A calling line has a service.
 pub fn hold<C: Core, T: Tx, E: Ledger, B: Ledger>(
     desk: &mut Desk,
     alloc: Global,
     cell: &mut Cell<C, T, E, B>,
     share: &mut LineShare<E, B>,
     door: &Door<'_>,
+    stay: Stay,
 ) -> Held
     requires { is_calling desk.old.kind ≡ true → IsSome door.now.service }
     ensures held { let s = state_of C.opening C.next cell.old in
-        let see = kept_look door.now.sessions desk.old.tale.mind (look_in C.look_of C.correspondent_of C.waiter_of
-        C.moment_of door.now s cell.old.stopping share.old.seat) in
+        let see = kept_look door.now.sessions desk.old.tale.mind (stay_look stay (look_in C.look_of
+        C.correspondent_of C.waiter_of C.moment_of door.now s cell.old.stopping share.old.seat)) in
         HeldAs C.opening C.next C.answer C.look_of cell.old cell.new share.old share.new door.now
         (C.correspondent_of s share.old.seat) see (mind_next desk.old.tale.mind see) desk.old desk.new result }
     ensures act { MayAct desk.new result }
@@ -130,7 +132,7 @@ pub fn hold<C: Core, T: Tx, E: Ledger, B: Ledger>(
     ensures seat { (share.new.seat ≡ share.old.seat) × (share.new.parts ≡ share.old.parts) }
 {
     let line = share.seat();
-    let see = desk.kept(door.sessions(), door.look(cell, line));
+    let see = desk.kept(door.sessions(), stay.shown(door.look(cell, line)));
     let go = desk.next(&see);
     desk.lives();
     match event_of(alloc, go, line, door.service(), desk.offer()) {

@@ -1,8 +1,8 @@
-//! What the mind of a switch's line is shown.
+//! What the mind of a line is shown: a switch's, and one that serves one caller.
 
 ghost use Rattle.std.specs.Prelude.{◌≡◌};
 ghost use Rattle.lat_mind.specs.Looks.{holds_on, is_answered, is_free, shows_live, was_closed};
-ghost use Rattle.lat_turns.specs.Kept.{kept_at, kept_look, line_as, lived, look_as};
+ghost use Rattle.lat_turns.specs.Kept.{is_over, kept_at, kept_look, line_as, lived, look_as, stay_after, stay_look};
 
 use lat_base::{LineLook, SessionEnd, SessionState};
 use lat_mind::{LineMind, Look, Phase};
@@ -15,6 +15,45 @@ pub enum Sessions {
     /// Several, between which the caller switches: the line shows the one that the caller is in. Its mind is shown the caller's
     /// first one in its stead, until all are over: so a switch hangs nobody up, and the end of the last session does.
     Several,
+}
+
+/// How long the worker of a line takes callers.
+#[derive(Clone, Copy)]
+pub enum Stay {
+    /// As long as the daemon stays.
+    Always,
+    /// Until one caller was served.
+    OneCaller,
+    /// No longer.
+    Over,
+}
+
+impl Stay {
+    fn is_over(self) -> bool
+        ensures { result ≡ is_over self }
+    {
+        matches!(self, Stay::Over)
+    }
+
+    /// Behind a hang-up of a caller who was served, or behind anything else.
+    pub(crate) fn after(self, served: bool) -> Stay
+        ensures { result ≡ stay_after self served }
+    {
+        match self {
+            Stay::OneCaller if served => Stay::Over,
+            _ => self,
+        }
+    }
+
+    /// The look of a worker that takes no caller any more is that at a daemon which is ending.
+    pub(crate) fn shown(self, see: Look) -> Look
+        ensures { result ≡ stay_look self see }
+    {
+        Look {
+            stopping: see.stopping || self.is_over(),
+            ..see
+        }
+    }
 }
 
 fn is_free(state: SessionState) -> bool

@@ -22,5 +22,5 @@ pub use acting::act;
 pub use desk::Desk;
 pub use door::{Device, Door};
 pub use holding::{Held, hold};
-pub use kept::Sessions;
+pub use kept::{Sessions, Stay};
 pub use worker::{LineDone, LineWorker};

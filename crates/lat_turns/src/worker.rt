@@ -11,8 +11,10 @@ use crate::acting::act;
 use crate::desk::Desk;
 use crate::door::Door;
 use crate::holding::{Held, hold};
+use crate::kept::Stay;
 use lat_base::Core;
 use lat_history::{Cell, LineShare};
+use lat_log::CallerNews;
 use lat_mind::Move;
 use lat_outside::{Callers, Clock, Gate, Tx};
 use std::alloc::Global;
@@ -28,13 +30,14 @@ pub enum LineDone {
     CountsOut,
 }
 
-/// The worker of a line: its share of the cell, the way to its callers, what the line is for, the clock by which it waits, its
-/// desk, and how it ended.
+/// The worker of a line: its share of the cell, the way to its callers, what the line is for, how long it takes callers, the clock
+/// by which it waits, its desk, and how it ended.
 #[derive(Drop)]
 pub struct LineWorker<'a, K: Callers, P: Clock, E: Ledger, B: Ledger> {
     pub share: LineShare<E, B>,
     pub callers: K,
     pub door: Door<'a>,
+    pub stay: Stay,
     pub clock: P,
     pub desk: Desk,
     pub done: LineDone,
@@ -89,6 +92,15 @@ fn was_served(desk: &Desk, held: &Held) -> bool
     }
 }
 
+// What is new of the caller of a line which had one, or hadn't, and now has one, or hasn't.
+fn news_of(had: bool, has: bool) -> Option<CallerNews> {
+    match (had, has) {
+        (false, true) => Some(CallerNews::Came),
+        (true, false) => Some(CallerNews::Left),
+        _ => None,
+    }
+}
+
 // Waits as long as the mind has patience.
 fn pause<P: Clock>(clock: &mut P, ms: u64) {
     if ms > 0 {
@@ -109,6 +121,7 @@ impl<'a, K: Callers, P: Clock, E: Ledger, B: Ledger> LineWorker<'a, K, P, E, B> 
         ensures seat { (self.new.share.seat ≡ self.old.share.seat)
             × (self.new.share.parts ≡ self.old.share.parts) }
         ensures door { self.new.door ≡ self.old.door }
+        ensures stays { self.old.stay ≡ Stay.Always → self.new.stay ≡ Stay.Always }
         ensures went { WentOn self.old.desk self.new.desk self.old.share.bytes self.new.share.bytes }
         ensures tied { Tied self.old.desk (K.visits self.old.callers) →
             Tied self.new.desk (K.visits self.new.callers) }
@@ -120,19 +133,25 @@ impl<'a, K: Callers, P: Clock, E: Ledger, B: Ledger> LineWorker<'a, K, P, E, B> 
             &mut cell.lock(rt),
             &mut self.share,
             &self.door,
+            self.stay,
         );
         pass(gate, self.share.seat(), &held);
         let served = was_served(&self.desk, &held);
+        let had = self.desk.has_caller();
         let done = settle(&mut self.desk, &mut self.callers, held);
+        self.stay = self.stay.after(served);
         if served {
             cell.lock(rt).count_served();
+        }
+        if let Some(news) = news_of(had, self.desk.has_caller()) {
+            cell.lock(rt).note_caller(self.share.seat(), news);
         }
         pause(&mut self.clock, self.desk.patience());
         done
     }
 
     /// Works the line, turn after turn, until its mind has finished or a count is out, which `done` then tells: `End` or
-    /// `CountsOut`. What it put is what its turns since then say, and its callers stay those of its whole life, those too who were
+    /// `CountsOut`. One that takes one caller ends so behind it. What it put is what its turns since then say, and its callers stay those of its whole life, those too who were
     /// hung up. It may wait, and its return isn't promised.
     pub fn work<C: Core, T: Tx, G: Gate, R: Wait>(
         &mut self,
@@ -145,6 +164,7 @@ impl<'a, K: Callers, P: Clock, E: Ledger, B: Ledger> LineWorker<'a, K, P, E, B> 
         ensures seat { (self.new.share.seat ≡ self.old.share.seat)
             × (self.new.share.parts ≡ self.old.share.parts) }
         ensures door { self.new.door ≡ self.old.door }
+        ensures stays { self.old.stay ≡ Stay.Always → self.new.stay ≡ Stay.Always }
         ensures life { IsLife self.new.desk }
         ensures went { WentOn self.old.desk self.new.desk self.old.share.bytes self.new.share.bytes }
         ensures tied { Tied self.old.desk (K.visits self.old.callers) →

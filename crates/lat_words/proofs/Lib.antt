@@ -1,3 +1,9 @@
-pub mod Simple
+pub mod Taken
+pub mod Calling
 pub mod Rows
-pub mod Ports
+pub mod NameTexts
+pub mod GroupPieces
+pub mod StrangeWords
+pub mod OneMoreOffer
+pub mod NamesStay
+pub mod OneMoreService

@@ -1,2 +1,15 @@
-pub mod Commands
-pub mod Configs
+pub mod Roles
+pub mod Options
+pub mod CommandLine
+pub mod NameTexts
+pub mod Values
+pub mod Groups
+pub mod Pieces
+pub mod Services
+pub mod Offers
+pub mod Seats
+pub mod Reader
+pub mod Told
+pub mod Within
+pub mod Rates
+pub mod Laws

@@ -1,17 +1,13 @@
 //! A daemon of the words of a text, over the sockets.
 
-ghost use Rattle.std.specs.Prelude.{◌≡◌};
-ghost use Rattle.lat_tariff.specs.Tariffs.{AreKnown};
 ghost use Rattle.lat_history.specs.Ledgers.{AreBlanks};
 
-use super::steady::{name, whole_tariff};
 use lat_base::{Bytes, Memory};
 use lat_cell::Blanks;
-use lat_live::{Refused, Served, serve};
-use lat_node::{FreeLines, RatingRule};
+use lat_live::{Log, Refused, Served, serve};
 use lat_outside::{Callers, FreeGate, MemSink, Sink, Tx};
-use lat_tariff::{SteadyRule, Tariff};
 use lat_udp::{NetPorts, RealClock};
+use lat_words::WordsFault;
 use std::alloc::{AllocError, Global};
 use std::net::{Net, TcpListener, TcpStream};
 use std::sync::Wait;
@@ -19,11 +15,12 @@ use std::sync::ledger::Ledger;
 use std::thread::Threads;
 use std::time::Clock;
 
-/// Its status, the port that couldn't be opened, if one couldn't, and what it wrote.
+/// Its status, the port that couldn't be opened, if one couldn't, what is wrong with its words, if something is, and what it wrote.
 #[derive(Drop)]
 pub struct Came {
     pub status: u8,
     pub refused: Option<Refused>,
+    pub wrong: Option<WordsFault>,
     pub text: Bytes,
 }
 
@@ -36,16 +33,30 @@ fn words_of(alloc: Global, text: &str) -> Result<Vec<String>, AllocError> {
     Ok(words)
 }
 
-// The status and the port that couldn't be opened; all else that is handed back is dropped.
-fn kept<H: RatingRule, P: SteadyRule, T: Tx, L: Callers, E: Ledger, B: Ledger>(
-    served: Served<H, P, T, L, E, B>,
-) -> (u8, Option<Refused>) {
-    (served.status, served.refused)
+// The status, the port that couldn't be opened, and what is wrong with the words; all else that is handed back is dropped.
+#[derive(Drop)]
+struct Outcome {
+    status: u8,
+    refused: Option<Refused>,
+    wrong: Option<WordsFault>,
+}
+
+fn kept<T: Tx, L: Callers, E: Ledger, B: Ledger>(served: Served<T, L, E, B>) -> Outcome {
+    let Served {
+        status,
+        refused,
+        wrong,
+        ..
+    } = served;
+    Outcome {
+        status,
+        refused,
+        wrong,
+    }
 }
 
 // The same of a daemon with these words.
 fn served<
-    P: SteadyRule + Send,
     S: Sink,
     E: Ledger + Sync,
     B: Ledger + Sync,
@@ -56,20 +67,13 @@ fn served<
         + Copy
         + Send
         + Sync,
->(
-    rt: &R,
-    alloc: Global,
-    words: &[String],
-    blanks: Blanks,
-    tariff: Tariff<P>,
-    out: &mut S,
-) -> (u8, Option<Refused>)
-    requires rules { AreKnown P.fact tariff }
+>(rt: &R, alloc: Global, words: &[String], blanks: Blanks, out: &mut S) -> Outcome
     requires blanks { AreBlanks blanks E.name E.parts B.name B.parts }
 {
     let mut opener = NetPorts::new(*rt);
     let clock = RealClock::new(*rt);
-    kept(serve::<_, _, _, _, _, _, E, B, R>(
+    let mut log = MemSink::new(alloc, 1000, &[]);
+    kept(serve::<_, _, _, _, _, E, B, R>(
         rt,
         alloc,
         words,
@@ -78,13 +82,15 @@ fn served<
         &mut opener,
         clock,
         &FreeGate,
-        FreeLines,
-        tariff,
+        Log {
+            began: 0,
+            out: &mut log,
+        },
         out,
     ))
 }
 
-/// What comes of a daemon with these words, whose tariff is that of PRINT. Those of its writes that are in `failing` fail.
+/// What comes of a daemon with these words. Those of its writes that are in `failing` fail.
 pub fn daemon<
     E: Ledger + Sync,
     B: Ledger + Sync,
@@ -99,19 +105,16 @@ pub fn daemon<
     requires { AreBlanks blanks E.name E.parts B.name B.parts }
 {
     let words = words_of(alloc, text)?;
-    let tariff = whole_tariff(alloc, name(b"PRINT"))?;
     let mut out = MemSink::new(alloc, 1000, failing);
-    let (status, refused) = served::<_, _, E, B, R>(
-        rt,
-        alloc,
-        words.as_slice(),
-        blanks,
-        tariff,
-        &mut out,
-    );
+    let Outcome {
+        status,
+        refused,
+        wrong,
+    } = served::<_, E, B, R>(rt, alloc, words.as_slice(), blanks, &mut out);
     Ok(Came {
         status,
         refused,
+        wrong,
         text: Bytes::copy(alloc, out.bytes())?,
     })
 }

@@ -7,6 +7,7 @@ use lat_base::Memory;
 use lat_cell::Blanks;
 use lat_live::{PortOf, Refused, refused_text};
 use lat_outside::PortFault;
+use lat_words::fault_text;
 use std::alloc::Global;
 use std::marker::Brand;
 use std::net::{Ipv4Addr, Net, TcpListener, TcpStream};
@@ -86,6 +87,11 @@ fn wrong_words_are_refused(rt: HostRuntime) -> Result<(), Fail> {
     let came = told::<Brand, Brand, HostRuntime>(&rt, rt.alloc(), &WRONG, Blanks::new())?;
     assert_eq!(rt; came.status, 1);
     assert!(rt; came.text.as_slice() == b"words\n".as_slice());
+    assert!(rt; came.wrong.is_some());
+    if let Some(fault) = &came.wrong {
+        let text = fault_text(rt.alloc(), fault)?;
+        assert_eq!(rt; text.as_str(), "latd: --lines: 1 to 32, not \"0\"\n");
+    }
     Ok(())
 }
 

@@ -1,136 +1,201 @@
-//! A table of a daemon's words, right and wrong ones.
+//! What the words of a daemon ask for, and what is said of wrong ones.
 
-use lat_words::{Config, Lines, Role, Station, config_of};
+mod other_rows;
+mod said;
+mod seat_rows;
+mod station_rows;
+
+use lat_words::{Role, Words, help_text, read_words};
+use said::said_of;
 use std::alloc::{AllocError, Global};
 use std::test::Fail;
 
-// Right words: the options with their values, and the words behind them.
-const WORDS: [(&str, &str); 9] = [
-    ("--role", "server"),
-    ("--name", "TS1"),
-    ("--address", "AA0004000104"),
-    ("--port", "7000"),
-    ("--lines", "2"),
-    ("--line-port", "7100"),
-    ("--service", "V%a1X"),
-    ("--sessions", "1"),
-    ("peer", "7001 7002"),
-];
+/// Words behind those of a station in a role, or words alone where there is no role; and what they ask for, or what is said of
+/// them.
+pub type Row = (&'static str, &'static str, &'static str);
 
-// Values that make the words wrong.
-const WRONG: [(&str, &str); 17] = [
-    ("--role", "router"),
-    ("--role", "server --role server"),
-    ("--role", "server --help"),
-    ("--name", "seventeen-letters"),
-    ("--address", "aa000400010"),
-    ("--address", "aa00040001040"),
-    ("--port", "0"),
-    ("--port", "65536"),
-    ("--port", "007"),
-    ("--port", "+5"),
-    ("--lines", "33"),
-    ("--line-port", "65535"),
-    ("--service", "V%41X"),
-    ("--sessions", "00"),
-    ("--sessions", "1000001"),
-    ("peer", "7001 65536"),
-    ("peer", "1 2 3 4 5 6 7 8 9"),
-];
-
-// Values that leave them right.
-const RIGHT: [(&str, &str); 9] = [
-    ("--role", "node"),
-    ("--role", "switch"),
-    ("--role", "tariff"),
-    ("--lines", "32"),
-    ("--line-port", "65534"),
-    ("--service", "%fe"),
-    ("--sessions", "0"),
-    ("--sessions", "1000000"),
-    ("peer", "1 2 3 4 5 6 7 65535"),
-];
-
-// Adds the words of a text.
+// Adds the words of a text, between which blanks stand.
 fn split_onto(alloc: Global, words: &mut Vec<String>, text: &str) -> Result<(), AllocError> {
     for word in text.split(' ') {
-        words.push(String::from_str(alloc, word)?)?;
+        if !word.is_empty() {
+            words.push(String::from_str(alloc, word)?)?;
+        }
     }
     Ok(())
 }
 
-// The right words, with another value at one option. Where the value is `none`, the option is left out.
-fn words_with(alloc: Global, other: &str, new: &str) -> Result<Vec<String>, AllocError> {
+// The words of a station in a role, and further ones.
+fn words_of(alloc: Global, role: &str, more: &str) -> Result<Vec<String>, AllocError> {
     let mut words = Vec::new(alloc);
     words.push(String::from_str(alloc, "latd")?)?;
-    for &(id, value) in WORDS.iter() {
-        let value = if id == other { new } else { value };
-        if value == "none" {
-            continue;
-        }
-        if id != "peer" {
-            split_onto(alloc, &mut words, id)?;
-        }
-        split_onto(alloc, &mut words, value)?;
+    if !role.is_empty() {
+        split_onto(alloc, &mut words, "--role")?;
+        split_onto(alloc, &mut words, role)?;
+        split_onto(alloc, &mut words, STATION)?;
     }
+    split_onto(alloc, &mut words, more)?;
     Ok(words)
 }
 
-fn config_with(alloc: Global, other: &str, new: &str) -> Result<Option<Config>, Fail> {
-    let words = words_with(alloc, other, new)?;
-    Ok(config_of(alloc, words.as_slice())?)
-}
+// The words of a station.
+const STATION: &str = "--name TS1 --address AA0004000104 --port 7000";
 
-// Whether words are taken that have another value at one option.
-fn takes(alloc: Global, other: &str, new: &str) -> Result<bool, Fail> {
-    Ok(config_with(alloc, other, new)?.is_some())
-}
-
-// Whether it is the station of the right words.
-fn is_station(station: &Station) -> bool {
-    station.name.bytes() == b"TS1".as_slice()
-        && station.address.0 == [0xaa, 0, 4, 0, 1, 4]
-        && station.port == 7000
-        && station.peers.as_slice() == [7001, 7002].as_slice()
-}
-
-// Whether these are the lines of the right words.
-fn are_lines(lines: &Lines) -> bool {
-    lines.count == 2
-        && lines.port == 7100
-        && lines.service.bytes() == [0x56, 0xa1, 0x58].as_slice()
-        && lines.sessions == 1
+// What is said otherwise than the rows have it.
+fn said_otherwise(alloc: Global, rows: &[Row]) -> Result<String, Fail> {
+    let mut text = String::new(alloc);
+    for (role, more, wanted) in rows {
+        let words = words_of(alloc, role, more)?;
+        let said = said_of(alloc, words.as_slice())?;
+        if said.as_str() != *wanted {
+            write!(&mut text, "{role} {more}: {said}\n")?;
+        }
+    }
+    Ok(text)
 }
 
 #[test]
-fn words_say(rt: HostRuntime) -> Result<(), Fail> {
-    let config = config_with(rt.alloc(), "", "")?.ok_or("right words")?;
-    assert_eq!(rt; config.role, Role::Server);
-    assert!(rt; is_station(&config.station));
-    assert!(rt; are_lines(&config.lines));
+fn needed(rt: HostRuntime) -> Result<(), Fail> {
+    assert_eq!(rt;
+        said_otherwise(rt.alloc(), station_rows::NEEDED.as_slice())?.as_str(),
+        ""
+    );
     Ok(())
 }
 
 #[test]
-fn each_is_needed(rt: HostRuntime) -> Result<(), Fail> {
-    for (id, _) in WORDS.iter() {
-        assert!(rt; !takes(rt.alloc(), id, "none")?);
+fn asked(rt: HostRuntime) -> Result<(), Fail> {
+    assert_eq!(rt;
+        said_otherwise(rt.alloc(), station_rows::ASKED.as_slice())?.as_str(),
+        ""
+    );
+    Ok(())
+}
+
+#[test]
+fn stations(rt: HostRuntime) -> Result<(), Fail> {
+    assert_eq!(rt;
+        said_otherwise(rt.alloc(), station_rows::STATIONS.as_slice())?.as_str(),
+        ""
+    );
+    Ok(())
+}
+
+#[test]
+fn lines(rt: HostRuntime) -> Result<(), Fail> {
+    assert_eq!(rt;
+        said_otherwise(rt.alloc(), seat_rows::LINES.as_slice())?.as_str(),
+        ""
+    );
+    Ok(())
+}
+
+#[test]
+fn services(rt: HostRuntime) -> Result<(), Fail> {
+    assert_eq!(rt;
+        said_otherwise(rt.alloc(), seat_rows::SERVICES.as_slice())?.as_str(),
+        ""
+    );
+    Ok(())
+}
+
+#[test]
+fn rates(rt: HostRuntime) -> Result<(), Fail> {
+    assert_eq!(rt;
+        said_otherwise(rt.alloc(), seat_rows::RATES.as_slice())?.as_str(),
+        ""
+    );
+    Ok(())
+}
+
+#[test]
+fn offers(rt: HostRuntime) -> Result<(), Fail> {
+    assert_eq!(rt;
+        said_otherwise(rt.alloc(), seat_rows::OFFERS.as_slice())?.as_str(),
+        ""
+    );
+    Ok(())
+}
+
+#[test]
+fn groups(rt: HostRuntime) -> Result<(), Fail> {
+    assert_eq!(rt;
+        said_otherwise(rt.alloc(), other_rows::GROUPS.as_slice())?.as_str(),
+        ""
+    );
+    Ok(())
+}
+
+#[test]
+fn numbers(rt: HostRuntime) -> Result<(), Fail> {
+    assert_eq!(rt;
+        said_otherwise(rt.alloc(), other_rows::NUMBERS.as_slice())?.as_str(),
+        ""
+    );
+    Ok(())
+}
+
+#[test]
+fn a_station(rt: HostRuntime) -> Result<(), Fail> {
+    let more = "--line-port 7100 --service VAX 7001";
+    for (word, role) in [
+        ("server", Role::Server),
+        ("switch", Role::Switch),
+        ("node", Role::Node),
+    ] {
+        let words = words_of(rt.alloc(), word, more)?;
+        let Ok(Words::Run(settings)) = read_words(rt.alloc(), words.as_slice()) else {
+            return Err(Fail::from("right words"));
+        };
+        assert_eq!(rt; settings.role, role);
+        assert!(rt; settings.station.name.bytes() == b"TS1".as_slice());
+        assert!(rt; settings.station.address.0 == [0xaa, 0, 4, 0, 1, 4]);
+        assert!(rt; settings.station.port == 7000);
     }
     Ok(())
 }
 
-#[test]
-fn wrong_values(rt: HostRuntime) -> Result<(), Fail> {
-    for (id, value) in WRONG.iter() {
-        assert!(rt; !takes(rt.alloc(), id, value)?);
+// What is said of a node with so many services, each with a port.
+fn offering(alloc: Global, count: usize) -> Result<String, Fail> {
+    let mut words = words_of(alloc, "node", "7001")?;
+    for i in 0..count {
+        let port = i + 1;
+        words.push(format!(in alloc; "--service=S{port}={port}")?)?;
     }
-    Ok(())
+    said_of(alloc, words.as_slice())
 }
 
 #[test]
-fn right_values(rt: HostRuntime) -> Result<(), Fail> {
-    for (id, value) in RIGHT.iter() {
-        assert!(rt; takes(rt.alloc(), id, value)?);
+fn many_services(rt: HostRuntime) -> Result<(), Fail> {
+    let alloc = rt.alloc();
+    let most = offering(alloc, 32)?;
+    assert!(rt;
+        most.as_str()
+            .ends_with(", service S31 at 31, service S32 at 32"),
+        "{most}"
+    );
+    let more = offering(alloc, 33)?;
+    assert!(rt;
+        more.as_str() == "latd: --service: 32 at most, not \"S33=33\"",
+        "{more}"
+    );
+    Ok(())
+}
+
+// Each option stands in the text of help.
+#[test]
+fn help(rt: HostRuntime) -> Result<(), Fail> {
+    let text = help_text(rt.alloc())?;
+    for option in [
+        "--role [<ROLE>]",
+        "--service [<NAME[=PORT]>]",
+        "--offer [<LINE=NAME=PORT>]",
+        "--once",
+        "--history [<N>]",
+        "--help",
+        "--version",
+        "[peer]...",
+    ] {
+        assert!(rt; text.as_str().contains(option), "{option}: {text}");
     }
     Ok(())
 }

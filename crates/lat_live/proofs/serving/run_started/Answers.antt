@@ -6,7 +6,7 @@ use Rattle.lat_live.proofs.Statuses.{printed_status, own_not_4}
 use Rattle.lat_live.proofs.serving.run_started.Goals as goal
 
 pub run_all-cell-requires-clause-may : goal.run_all-cell-requires-clause-may
-run_all-cell-requires-clause-may g c κs within = each_may _ _ c.requires.fresh.posted
+run_all-cell-requires-clause-may g c κs within = each_may _ _ _ c.requires.fresh.posted
 
 pub returns-clause-back : goal.returns-clause-back
 returns-clause-back g c =
@@ -15,10 +15,10 @@ returns-clause-back g c =
     let ran = c.run_all-cell.ensures in
     let given = c.filled-given.ensures in
     record {
-      seats = all_back visits _ _ _ _ _ _ _ _ c.requires.lines.1 (opened.around.0) (opened.around.1) opened.shares (ran.around.0) (ran.around.1) ran.lines given.shares;
+      seats = all_back visits _ _ _ _ _ _ _ _ c.requires.plan.most (opened.around.0) (opened.around.1) opened.shares (ran.around.0) (ran.around.1) ran.lines given.shares;
       each_ended = many_back visits _ done_of _ _ _ opened.shares ran.lines given.ends;
       each_line = many_back visits _ callers_of _ _ _ opened.shares ran.lines given.lines;
-      served = subst (λ ls. Each (λ callers. HasServed (visits callers)) ls) (sym given.lines) (served_back visits _ _ _ opened.posted opened.new ran.lines);
+      served = subst (λ ls. Each (λ callers. HasServed (visits callers)) ls) (sym given.lines) (served_back visits _ _ _ _ opened.posted opened.new ran.lines);
     }
 
 pub returns-clause-ended : goal.returns-clause-ended

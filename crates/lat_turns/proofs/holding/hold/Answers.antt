@@ -7,7 +7,7 @@ use Rattle.lat_mind.specs.Runs.{has_event}
 use Rattle.lat_past.specs.Counts.{put_by}
 use Rattle.lat_turns.specs.Doors.{look_in, port_at}
 use Rattle.lat_turns.specs.Events.{put_by_move}
-use Rattle.lat_turns.specs.Kept.{kept_look}
+use Rattle.lat_turns.specs.Kept.{kept_look, stay_look}
 use Rattle.lat_turns.specs.Lives.{offer_of}
 use Rattle.lat_turns.proofs.Acted.{applied_tied, lacking_tied}
 use Rattle.lat_turns.proofs.Fitting.{event_fits, held_as, kept_same, never_outside, told_event}
@@ -39,8 +39,9 @@ returns-in-Ok-None-clause-held g c =
     let s = state_of m.opening m.next c.args.cell.now in
     let door = c.args.door.now in
     let looks : ℕ → Look = λ line. look_in m.look_of m.correspondent_of m.waiter_of m.moment_of door s c.args.cell.now.stopping line in
-    let see = kept_same d.tale.mind c.sessions.result door.sessions c.look.result (looks c.args.share.now.seat) c.kept-see.result c.sessions.ensures
-    (c.look.ensures ∙ ap looks c.seat-line.ensures) c.kept-see.ensures in
+    let stayed : ℕ → Look = λ line. stay_look c.args.stay (looks line) in
+    let see = kept_same d.tale.mind c.sessions.result door.sessions c.shown.result (stayed c.args.share.now.seat) c.kept-see.result c.sessions.ensures
+    (c.shown.ensures ∙ ap (stay_look c.args.stay) (c.look.ensures ∙ ap looks c.seat-line.ensures)) c.kept-see.ensures in
     let go = c.next-go.ensures ∙ ap (mind_next d.tale.mind) see in
     let none = sym c.in-Ok-None.ensures.event ∙ c.in-Ok-None.field-0-is in
     let event : has_event c.next-go.result ≡ false = without d c.kept-see.result c.next-go.result c.seat-line.result door.service c.service.result c.offer.result.now c.lives.ensures c.requires
@@ -83,9 +84,10 @@ returns-in-Ok-Some-clause-held g c =
     let door = c.args.door.now in
     let seat = c.args.share.now.seat in
     let looks : ℕ → Look = λ line. look_in m.look_of m.correspondent_of m.waiter_of m.moment_of door s c.args.cell.now.stopping line in
-    let see = kept_same d.tale.mind c.sessions.result door.sessions c.look.result (looks c.args.share.now.seat) c.kept-see.result c.sessions.ensures
-    (c.look.ensures ∙ ap looks c.seat-line.ensures) c.kept-see.ensures in
-    let shown = kept_look door.sessions d.tale.mind (looks seat) in
+    let stayed : ℕ → Look = λ line. stay_look c.args.stay (looks line) in
+    let see = kept_same d.tale.mind c.sessions.result door.sessions c.shown.result (stayed c.args.share.now.seat) c.kept-see.result c.sessions.ensures
+    (c.shown.ensures ∙ ap (stay_look c.args.stay) (c.look.ensures ∙ ap looks c.seat-line.ensures)) c.kept-see.ensures in
+    let shown = kept_look door.sessions d.tale.mind (stayed seat) in
     let go = c.next-go.ensures ∙ ap (mind_next d.tale.mind) see in
     let is = sym c.in-Ok-Some.field-0-is ∙ c.in-Ok-Some.ensures.event in
     let fit = event_fits c.next-go.result c.seat-line.result c.service.result c.offer.result.now c.in-Ok-Some.event is in

@@ -16,4 +16,5 @@ returns-in-Some g c = record {
   ends = c.handed_back.ensures.ends;
   lines = c.handed_back.ensures.lines;
   refused = c.handed_back.ensures.refused;
+  wrong = c.handed_back.ensures.wrong;
 }

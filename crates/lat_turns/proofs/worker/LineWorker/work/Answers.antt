@@ -19,6 +19,7 @@ loop-preserved g c =
       seat = turn.seat.0 ∙ so_far.seat;
       parts = turn.seat.1 ∙ so_far.parts;
       door = turn.door ∙ so_far.door;
+      stays = λ stays. turn.stays (so_far.stays stays);
       calls = λ calls. subst P (sym turn.door) (so_far.calls (ap is_calling (sym turn.went.kind) ∙ calls));
       went = went_further first.desk old.desk new.desk first.share.bytes old.share.bytes new.share.bytes so_far.went turn.went;
       tied = λ tied. turn.tied (so_far.tied tied);

@@ -3,6 +3,7 @@ use Rattle.std.specs.Prelude.{true, IsSome}
 use Rattle.lat_mind.specs.Kinds.{is_calling}
 use Rattle.lat_turns.specs.Tied.{Tied}
 use Rattle.lat_turns.specs.Work.{WentOn}
+use Rattle.lat_turns.specs.declared.kept.Stay.TheVariants as stays
 use Rattle.lat_turns.proofs.worker.LineWorker.work.Given as goal
 
 abbrev pub invariant-loop : goal.invariant-loop
@@ -14,6 +15,7 @@ invariant-loop g l =
       seat : l.self.share.seat ≡ l.initial.self.share.seat;
       parts : l.self.share.parts ≡ l.initial.self.share.parts;
       door : l.self.door ≡ l.initial.self.door;
+      stays : l.initial.self.stay ≡ stays.Always → l.self.stay ≡ stays.Always;
       calls : is_calling l.self.desk.kind ≡ true → IsSome l.self.door.service;
       went : WentOn l.initial.self.desk l.self.desk l.initial.self.share.bytes l.self.share.bytes;
       tied : Tied l.initial.self.desk (visits l.initial.self.callers) → Tied l.self.desk (visits l.self.callers);

@@ -1,0 +1,18 @@
+use Rattle.std.proofs.Common.{◌≡◌, ◌∙◌, ap, codes}
+use Rattle.std.proofs.lemmas.Result.{IfOk-weaker}
+use Rattle.clap.specs.Words.{App, app_of}
+use Rattle.lat_words.specs.CommandLine.{with_value, with_flag}
+use Rattle.lat_words.proofs.command_line.with_stay.Goals as goal
+
+pub returns : goal.returns
+returns c =
+    let a : App = app_of c.args.command in
+    let a1 : App = with_value a (codes "sessions") in
+    let e1 : app_of c.in_ok-command.command ≡ a1 = c.in_ok-command.ensures in
+    let a2 : App = with_flag a1 (codes "once") in
+    let e2 : app_of c.in_ok-command-2.command ≡ a2 = c.in_ok-command-2.ensures ∙ ap (λ (b : App). with_flag b (codes "once")) e1 in
+    let a3 : App = with_value a2 (codes "linger") in
+    let e3 : app_of c.in_ok-command-3.command ≡ a3 = c.in_ok-command-3.ensures ∙ ap (λ (b : App). with_value b (codes "linger")) e2 in
+    let a4 : App = with_value a3 (codes "log") in
+    let e4 : app_of c.in_ok-command-4.command ≡ a4 = c.in_ok-command-4.ensures ∙ ap (λ (b : App). with_value b (codes "log")) e3 in
+    IfOk-weaker c.with_value-4.result _ _ (λ m h. h ∙ ap (λ (b : App). with_value b (codes "history")) e4) c.with_value-4.ensures

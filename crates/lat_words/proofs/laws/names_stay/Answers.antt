@@ -1,0 +1,5 @@
+use Rattle.lat_words.proofs.NamesStay as stay
+use Rattle.lat_words.proofs.laws.names_stay.Goals as goal
+
+pub returns : goal.returns
+returns c = stay.names_stay

@@ -1,0 +1,8 @@
+use Rattle.std.proofs.Common.{◌≡◌, map, drop}
+use Rattle.lat_words.specs.Options.{each_from, none}
+use Rattle.lat_words.specs.Rates.{with_rate}
+use Rattle.lat_words.proofs.rates.said_rates.Given as goal
+
+abbrev pub invariant-loop-i : goal.invariant-loop-i
+invariant-loop-i l =
+    each_from (with_rate l.services) 0 none (map (λ t. t.now) l.texts) ≡ each_from (with_rate l.services) l.i l.got (map (λ t. t.now) (drop l.i l.texts))
