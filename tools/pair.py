@@ -19,13 +19,18 @@ def kill_what_runs():
             daemon.wait()
 
 
-def start(latd, role, name, address, port, lines, line_port, service, sessions, peers):
+def start_with(latd, role, name, address, port, options, peers):
     """A daemon with these words."""
-    words = [latd, "--role", role, "--name", name, "--address", address, "--port", port, "--lines", lines, "--line-port", line_port,
-             "--service", service, "--sessions", sessions, *peers]
+    words = [latd, "--role", role, "--name", name, "--address", address, "--port", port, *options, *peers]
     daemon = subprocess.Popen([str(word) for word in words], stdout=subprocess.PIPE)
     STARTED.append(daemon)
     return daemon
+
+
+def start(latd, role, name, address, port, lines, line_port, service, sessions, peers):
+    """A daemon whose lines all have ports and one service, and which ends behind so many sessions."""
+    options = ["--lines", lines, "--line-port", line_port, "--service", service, "--sessions", sessions]
+    return start_with(latd, role, name, address, port, options, peers)
 
 
 def ended(daemon, seconds=120):
