@@ -1,7 +1,8 @@
 //! Plays written scripts over what takes a role besides the server's and the node's (a node with a tariff, and a switch with a
-//! node), and over the cell of a server. Its stored run (`stdin`, `stdout`) is how the worked examples of tariffs, of a switch and
-//! of a cell's history are seen to hold: what stands in `stdout` was worked out from the rules in docs/PROTOCOL.md, "Tariffs",
-//! "Several sessions on one line" and "Cells", and docs/FORMATS.md, "Slots, notices, circuit messages" and "Schedules".
+//! node), over the cell of a server, and over the words of a daemon. Its stored run (`stdin`, `stdout`) is how the worked examples of
+//! tariffs, of a switch, of a cell's history and of a daemon's words are seen to hold: what stands in `stdout` was worked out from
+//! the rules in docs/PROTOCOL.md, "Tariffs", "Several sessions on one line" and "Cells", and docs/FORMATS.md, "Slots, notices,
+//! circuit messages", "Schedules" and "The daemon's words".
 //!
 //! A script is a list of blocks with a line `---` between them. Each begins anew.
 //!
@@ -20,7 +21,7 @@
 //! | `hear HEX` | hears a payload from aa0004000104 at moment 0 |
 //!
 //! LINES is a number in decimal from 1 to 64, without a sign or a needless 0. A block with another word there, or whose first word
-//! is none of these two nor `cell`, is not played, and nothing is done of a line behind the first one whose first word is none of
+//! is none of these two nor `cell` nor `latd`, is not played, and nothing is done of a line behind the first one whose first word is none of
 //! the other two, nor of a line `hear` with an odd number of hex digits. Which word it is and what it isn't is printed: `line 7
 //! word 2 isn't a number from 1 to 64`, `line 7 word 1 isn't a command`, `line 7 word 2 isn't hex digits`, with the numbers of the
 //! line in the script and of its word, both counted from 1.
@@ -31,6 +32,13 @@
 //! many items wait. Other events do nothing. All frames are delivered at once, in the order in which they are made, at the latest
 //! moment so far; what is answered to them isn't printed. A block whose schedule isn't one, or has a server of more lines, is not
 //! played: `line N form` is printed, N the first wrong line of the schedule, counted from 1, or `line N limit events`.
+//!
+//! A block whose first line begins with the word `latd` has the words of daemons: each further line is a command line, whose words
+//! stand behind those of the first line, with blanks between them. The first line is printed as it is; of each further one the line
+//! itself behind `> `, and then what the words ask for, `help`, `version` or what they set, or what `latd` says of the first that is
+//! wrong. What they set is the role, the name, the address and the port, the ports of the peers, the lines, the services, their
+//! rates, the lines that offer, and the mask of the groups; and, where any of it isn't the usual one, the pace, the stay, the log
+//! and the history.
 //!
 //! A block whose first line is `cell EVENTS` tells the cell of a server with two lines so many events, 255 at most, without
 //! threads: the same ten again and again, 80 ms later each time. They are an announcement of a node that offers VAX, then of line 1
@@ -43,6 +51,7 @@
 #![tactic(auto)]
 
 mod cell;
+mod daemon;
 mod names;
 mod script;
 mod switch;

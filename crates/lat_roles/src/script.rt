@@ -1,14 +1,17 @@
 //! The blocks of a script, in order.
 
-use crate::{cell, switch, tariff};
+use crate::{cell, daemon, switch, tariff};
 use lat_base::Memory;
 use lat_script::{Part, ScriptFault, line_behind, refused_onto};
 use std::alloc::Global;
 
-// A block without a title: one that begins with `cell` is a cell's, and any other a node's with a tariff.
+// A block without a title: one that begins with `cell` is a cell's, one that begins with `latd` has the words of daemons, and any
+// other is a node's with a tariff.
 fn play_block(alloc: Global, block: Part, text: &mut String) -> Result<(), ScriptFault> {
     if block.text.starts_with("cell ") {
         cell::play_block(alloc, block, text)
+    } else if block.text.starts_with("latd") {
+        Ok(daemon::play_block(alloc, block.text, text)?)
     } else {
         tariff::play_block(alloc, block, text)
     }
