@@ -1,0 +1,9 @@
+pub mod Columns
+pub mod Cells
+pub mod Tables
+pub mod Commands
+pub mod Listings
+pub mod FieldPlaces
+pub mod CounterNames
+pub mod Counts
+pub mod Laws

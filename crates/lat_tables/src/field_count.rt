@@ -1,0 +1,116 @@
+//! The fields of the layouts, in order.
+
+ghost use Rattle.std.specs.Prelude.{◌≡◌, ◌<◌};
+ghost use Rattle.lat_tables.specs.FieldPlaces.{field_place};
+
+use lat_base::Field;
+
+/// How many fields there are.
+pub const FIELD_COUNT: usize = 47;
+
+/// The fields, in the order of `docs/FORMATS.md`, "Fields and their words".
+pub const FIELDS: [Field; 47] = [
+    Field::Size,
+    Field::Kind,
+    Field::SlotCount,
+    Field::DestinationCircuit,
+    Field::SourceCircuit,
+    Field::Sequence,
+    Field::Acknowledgement,
+    Field::SlotType,
+    Field::DestinationSlot,
+    Field::SourceSlot,
+    Field::ByteCount,
+    Field::ServiceClass,
+    Field::AttentionSize,
+    Field::DataSize,
+    Field::Service,
+    Field::Subject,
+    Field::Parameters,
+    Field::SlotEnd,
+    Field::SlotPad,
+    Field::FrameSize,
+    Field::Version,
+    Field::Eco,
+    Field::Sessions,
+    Field::Extra,
+    Field::Timer,
+    Field::KeepAlive,
+    Field::Facility,
+    Field::ProductType,
+    Field::ProductVersion,
+    Field::SlaveName,
+    Field::MasterName,
+    Field::Location,
+    Field::Reason,
+    Field::Text,
+    Field::Incarnation,
+    Field::RequestId,
+    Field::Action,
+    Field::Outcome,
+    Field::Place,
+    Field::NodeName,
+    Field::Groups,
+    Field::Description,
+    Field::ServiceCount,
+    Field::Rating,
+    Field::ServiceDescription,
+    Field::SolicitId,
+    Field::Trailing,
+];
+
+/// The place of a field in that order, counted from 0.
+pub fn field_place(field: Field) -> usize
+    ensures value { result ≡ field_place field }
+    ensures within { result < 47 }
+{
+    match field {
+        Field::Size => 0,
+        Field::Kind => 1,
+        Field::SlotCount => 2,
+        Field::DestinationCircuit => 3,
+        Field::SourceCircuit => 4,
+        Field::Sequence => 5,
+        Field::Acknowledgement => 6,
+        Field::SlotType => 7,
+        Field::DestinationSlot => 8,
+        Field::SourceSlot => 9,
+        Field::ByteCount => 10,
+        Field::ServiceClass => 11,
+        Field::AttentionSize => 12,
+        Field::DataSize => 13,
+        Field::Service => 14,
+        Field::Subject => 15,
+        Field::Parameters => 16,
+        Field::SlotEnd => 17,
+        Field::SlotPad => 18,
+        Field::FrameSize => 19,
+        Field::Version => 20,
+        Field::Eco => 21,
+        Field::Sessions => 22,
+        Field::Extra => 23,
+        Field::Timer => 24,
+        Field::KeepAlive => 25,
+        Field::Facility => 26,
+        Field::ProductType => 27,
+        Field::ProductVersion => 28,
+        Field::SlaveName => 29,
+        Field::MasterName => 30,
+        Field::Location => 31,
+        Field::Reason => 32,
+        Field::Text => 33,
+        Field::Incarnation => 34,
+        Field::RequestId => 35,
+        Field::Action => 36,
+        Field::Outcome => 37,
+        Field::Place => 38,
+        Field::NodeName => 39,
+        Field::Groups => 40,
+        Field::Description => 41,
+        Field::ServiceCount => 42,
+        Field::Rating => 43,
+        Field::ServiceDescription => 44,
+        Field::SolicitId => 45,
+        Field::Trailing => 46,
+    }
+}
