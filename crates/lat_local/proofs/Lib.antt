@@ -1,0 +1,5 @@
+mod Turns
+mod Routes
+mod Cuts
+mod Whys
+mod Appending

@@ -1,0 +1,10 @@
+pub mod Words
+pub mod Verbs
+pub mod Commands
+pub mod Phases
+pub mod Meanings
+pub mod Minds
+pub mod Tables
+pub mod Texts
+pub mod Runs
+pub mod Laws
