@@ -1,0 +1,4 @@
+pub mod Bytes
+pub mod Desks
+pub mod Seats
+pub mod Scans

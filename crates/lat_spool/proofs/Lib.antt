@@ -1,0 +1,5 @@
+pub mod Found
+pub mod Orders
+pub mod Times
+pub mod OnceEach
+pub mod Steps

@@ -1,0 +1,4 @@
+pub mod Jobs
+pub mod Spools
+pub mod Worlds
+pub mod Laws
