@@ -1,0 +1,4 @@
+mod Answering
+mod Cuts
+mod KeptLines
+mod Served

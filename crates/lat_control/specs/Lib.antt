@@ -1,0 +1,5 @@
+pub mod Answered
+pub mod Clients
+pub mod Lines
+pub mod Seats
+pub mod Sessions
