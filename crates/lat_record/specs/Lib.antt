@@ -1,0 +1,11 @@
+pub mod EventWords
+pub mod OpeningText
+pub mod RecordText
+pub mod Cursors
+pub mod EntryRead
+pub mod OpeningRead
+pub mod RecordRead
+pub mod Openings
+pub mod Recorders
+pub mod Values
+pub mod ReadBack
