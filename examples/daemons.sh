@@ -40,10 +40,22 @@ status() {
     return $all
 }
 
+# Waits until this program runs no more, five seconds at most: then its ports are free for the next start.
+gone() {
+    tries=50
+    while runs "$1" && [ $tries -gt 0 ]; do
+        sleep 0.1
+        tries=$((tries - 1))
+    done
+}
+
 stop() {
     [ -d "$folder" ] || { echo "$example: not started"; return 0; }
     for label in $(labels); do
         ! runs "$label" || kill "$(cat "$folder/$label.pid")"
+    done
+    for label in $(labels); do
+        gone "$label"
     done
     rm -rf "$folder"
     echo "$example: stopped"

@@ -67,10 +67,15 @@ def main():
     start_with(given.latd, "node", "VAX2", OTHER, base + 2, ["--lines", 1, "--service", f"VAX={two}"], [base])
     usual = ["--lines", 3, "--line-port", up, "--service", "VAX"]
     start_with(given.latd, "server", "TS1", SERVER, base, usual, [base + 1, base + 2])
-    time.sleep(1)
     wrong = []
-    caller = client(up)
-    came, took = heard(caller, 5, 10)
+    for _ in range(10):
+        # (a node that isn't heard yet isn't chosen)
+        time.sleep(1)
+        caller = client(up)
+        came, took = heard(caller, 5, 10)
+        if came == b"first":
+            break
+        caller.close()
     print(f"the first caller: {came!r} after {took:.2f} s")
     if came != b"first":
         wrong.append("the first caller isn't at the first node")

@@ -82,7 +82,7 @@ def main():
             time.sleep(0.01)
         took = time.monotonic() - begun
         slowest = max(slowest, took)
-        print(f"{'start of both' if not at else who + ' started again'}: {took:.2f} s")
+        print(f"{'start of both' if not at else who + ' started again'}: {took:.2f} s", flush=True)
         time.sleep(0.5)
     for thread in hosts + callers:
         thread.over = True

@@ -91,10 +91,12 @@ def main():
     if first is None:
         return 1
     check(f"{first} announces that it is full", is_full(station, first, 1))
+    # (the switch has heard that too, by then)
+    time.sleep(1)
     terminal.sendall(CONNECT + b"second")
     check(f"a second session, by 1c, is with {second}", where(hosts, b"second") == second)
     check(f"{second} announces that it is full", is_full(station, second, 2))
-    time.sleep(0.3)
+    time.sleep(1)
     typed, texts = turns(first, second)
     terminal.sendall(typed)
     for node in (first, second):
