@@ -250,6 +250,20 @@ impl<C: Core, T: Tx, E: Ledger, B: Ledger> Cell<C, T, E, B> {
         self.core.waiter(service, 0).is_some()
     }
 
+    /// How many ids of circuits the core has left.
+    pub fn ids_left(&self) -> u16
+        ensures { result ≡ C.ids_left_of (state_of C.opening C.next self.now) }
+    {
+        self.core.ids_left()
+    }
+
+    /// How many records of requests the core has left; `None` where it keeps none.
+    pub fn records_left(&self) -> Option<u32>
+        ensures { result ≡ C.records_left_of (state_of C.opening C.next self.now) }
+    {
+        self.core.records_left()
+    }
+
     /// What it shows of a line.
     pub fn look(&self, line: u8) -> Seen
         ensures { result ≡ seen_of C.look_of C.moment_of (state_of C.opening C.next self.now)

@@ -16,3 +16,4 @@ pub mod Strays
 pub mod Answered
 pub mod Starts
 pub mod Living
+pub mod Reserving

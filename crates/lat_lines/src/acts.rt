@@ -10,8 +10,8 @@ ghost use Rattle.lat_machines.specs.cores.Cores.{Core, acts, passes_time, ends_a
 ghost use Rattle.lat_queue.specs.Histories.{key_shown};
 ghost use Rattle.lat_circuit.specs.Messages.{message_shown};
 ghost use Rattle.lat_circuit.specs.Kept.{Kept};
-ghost use Rattle.lat_lines.specs.circuits.Kept.{IsClear, has_id};
-ghost use Rattle.lat_lines.specs.circuits.Hears.{heard_core, hearing_shown};
+ghost use Rattle.lat_lines.specs.circuits.Kept.{IsClear, HasRooms, has_id};
+ghost use Rattle.lat_lines.specs.circuits.Hears.{heard_core, is_call, hearing_shown};
 ghost use Rattle.lat_lines.specs.circuits.Ending.{outlived_core};
 ghost use Rattle.lat_lines.specs.Calm.{takes_nothing};
 ghost use Rattle.lat_lines.specs.Kept.{side_of, SameLines};
@@ -31,6 +31,7 @@ impl Lines {
         ensures did { Simulates (passes_time (side_of self.old)) self.old self.new out.old out.new }
         ensures same { SameLines self.old self.new }
         ensures moment { self.new.circuits.moment ≡ self.old.circuits.moment }
+        ensures rooms { length self.old.circuits.rooms ≤ length self.new.circuits.rooms }
         ensures most { length out.new ≤ length out.old + 128 }
     {
         let before = out.len();
@@ -44,6 +45,8 @@ impl Lines {
     pub fn heard(&mut self, from: Addr, m: &Message, out: &mut OutBox) -> Hearing
         requires ok { IsWritable m.now }
         requires clear { IsClear self.old.circuits }
+        requires memory { self.old.circuits.server ≡ false →
+            is_call m.now ≡ true → HasRooms 1 self.old.circuits }
         requires room { length out.old + 16 ≤ 256 }
         ensures did { Simulates (λ c.
             (heard_core (side_of self.old) (address from.0) (message_shown m.now) c).doing)
@@ -56,6 +59,8 @@ impl Lines {
         ensures moment { self.new.circuits.moment ≡ self.old.circuits.moment }
         ensures held { (x : ℕ) → has_id x self.old.circuits ≡ true →
             has_id x self.new.circuits ≡ true }
+        ensures rooms { self.old.circuits.server ≡ true →
+            length self.old.circuits.rooms ≤ length self.new.circuits.rooms }
         ensures most { length out.new ≤ length out.old + 1 }
     {
         let before = out.len();
@@ -72,6 +77,7 @@ impl Lines {
             self.old self.new out.old out.new }
         ensures same { SameLines self.old self.new }
         ensures moment { self.new.circuits.moment ≡ self.old.circuits.moment }
+        ensures rooms { length self.old.circuits.rooms ≤ length self.new.circuits.rooms }
         ensures most { length out.new ≤ length out.old + 8 }
     {
         self.circuits.end_all(reason, out);
@@ -88,6 +94,7 @@ impl Lines {
             map key_shown self.new.freed ≡ freed_between c (outlived_core (address from.0) source c) }
         ensures same { SameLines self.old self.new }
         ensures moment { self.new.circuits.moment ≡ self.old.circuits.moment }
+        ensures rooms { length self.old.circuits.rooms ≤ length self.new.circuits.rooms }
     {
         self.circuits.outlive(from, source);
         self.reap();

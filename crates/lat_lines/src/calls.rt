@@ -1,7 +1,7 @@
 //! The local calls on lines. Each is refused `NoLine` where there is no such line, and `Closed` where it has no session or its
 //! session refuses; after a refusal nothing has changed.
 
-ghost use Rattle.std.specs.Prelude.{◌≡◌, [], length, IfOk, OnErr};
+ghost use Rattle.std.specs.Prelude.{◌≡◌, ◌≤◌, [], length, IfOk, OnErr};
 ghost use Rattle.lat_base.specs.Answers.{PutFits, TookFits};
 ghost use Rattle.lat_base.specs.declared.event.Event.TheVariants as events;
 ghost use Rattle.lat_machines.specs.cores.LineCalls.{take_on, on_line};
@@ -30,6 +30,7 @@ impl Lines {
         ensures took { TookFits (ready self.old) result (event_of line call.now) }
         ensures same { SameLines self.old self.new }
         ensures clear { IsClear self.old.circuits → IsClear self.new.circuits }
+        ensures rooms { length self.old.circuits.rooms ≤ length self.new.circuits.rooms }
         ensures moment { self.new.circuits.moment ≡ self.old.circuits.moment }
     {
         match self.seat_on(line) {
@@ -57,6 +58,7 @@ impl Lines {
         ensures took { IfOk result (λ a. TookFits (ready self.old) a (events.Take line n)) }
         ensures same { SameLines self.old self.new }
         ensures clear { IsClear self.old.circuits → IsClear self.new.circuits }
+        ensures rooms { length self.old.circuits.rooms ≤ length self.new.circuits.rooms }
         ensures moment { self.new.circuits.moment ≡ self.old.circuits.moment }
         ensures err { OnErr result (self.new ≡ self.old) }
     {

@@ -13,7 +13,7 @@ ghost use Rattle.lat_machines.specs.cores.Books.{book};
 ghost use Rattle.lat_machines.specs.cores.Cores.{Core, span};
 ghost use Rattle.lat_machines.specs.cores.Hearing.{names};
 ghost use Rattle.lat_machines.specs.cores.Lines.{has_session, used, ended, saturated_count, line_exists, line_state, waiting_at};
-ghost use Rattle.lat_machines.specs.cores.Looks.{line_look, newest, number_in, end_in, correspondent, correspondent_in, circuit_in_place, room_at, is_drained};
+ghost use Rattle.lat_machines.specs.cores.Looks.{line_look, newest, number_in, end_in, correspondent, correspondent_in, circuit_in_place, room_at, is_drained, ids_left};
 ghost use Rattle.lat_session.specs.States.{asked_at};
 ghost use Rattle.lat_stream.specs.Kept.{state_of, saturated};
 ghost use Rattle.lat_circuit.specs.Looks.{line_look_of, correspondent_of, circuit_look_of};
@@ -132,6 +132,13 @@ impl Lines {
         ensures { (c : Core) → Stands self.now c → result ≡ is_drained c }
     {
         self.circuits.is_drained()
+    }
+
+    /// How many ids of circuits are left: 65,535 less those that were drawn.
+    pub fn ids_left(&self) -> u16
+        ensures { (c : Core) → Stands self.now c → result ≡ ids_left c }
+    {
+        u16::MAX - self.circuits.drawn()
     }
 
     /// The circuit that lives at this place of the order of ids, counted from 0. `None` exactly behind the last.

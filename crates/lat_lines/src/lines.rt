@@ -1,17 +1,18 @@
 //! The lines of a core.
 
-ghost use Rattle.std.specs.Prelude.{◌≡◌, ◌≤◌, [], replicate, None, IfOk};
+ghost use Rattle.std.specs.Prelude.{◌≡◌, ◌<◌, ◌≤◌, ◌+◌, [], length, replicate, None, IfOk, OnOk, OnErr};
 ghost use Rattle.lat_machines.specs.values.Addresses.{address};
 ghost use Rattle.lat_machines.specs.cores.Cores.{open_core, Core, at_moment};
 ghost use Rattle.lat_frames.specs.Timings.{IsTiming};
-ghost use Rattle.lat_lines.specs.circuits.Kept.{IsClear};
+ghost use Rattle.lat_lines.specs.circuits.Kept.{IsClear, HasRooms, AreRooms, with_memory};
+ghost use Rattle.lat_model.specs.Lists.{Each};
 ghost use Rattle.lat_lines.specs.Kept.{side_of, SameLines};
 ghost use Rattle.lat_lines.specs.Stands.{Stands};
 
 use crate::circuits::Circuits;
 use crate::seat::Seat;
 use lat_base::{Addr, LineSession, Memory, Name};
-use lat_circuit::Timing;
+use lat_circuit::{CircuitRoom, Timing};
 use lat_queue::Key;
 use std::alloc::Global;
 use std::marker::Model;
@@ -74,8 +75,8 @@ fn no_last(alloc: Global, count: u8) -> Result<Vec<Option<LineSession>>, Memory>
 
 impl Lines {
     /// So many lines without a session, 1 to 64, of a core with this address and name at moment 0; a server's or a node's. The
-    /// timing must be valid. Its first circuit will have the id `first`, 1 to 65,535. Takes all the memory that lines and circuits
-    /// will need; `Memory` where none is found. See "Circuits" in docs/PROTOCOL.md.
+    /// timing must be valid. Its first circuit will have the id `first`, 1 to 65,535. Takes all the memory that lines will need, and
+    /// none for circuits; `Memory` where none is found. See "Circuits" in docs/PROTOCOL.md.
     pub fn make(
         alloc: Global,
         own: Addr,
@@ -95,6 +96,7 @@ impl Lines {
             × (k.circuits.server ≡ server)
             × (k.circuits.first ≡ first)) }
         ensures clear { IfOk result (λ k. IsClear k.circuits) }
+        ensures rooms { IfOk result (λ k. k.circuits.rooms ≡ []) }
         ensures lines { IfOk result (λ k. k.lines ≡ count) }
         ensures freed { IfOk result (λ k. k.freed ≡ []) }
     {
@@ -109,6 +111,42 @@ impl Lines {
         })
     }
 
+    /// Takes memory, so that there is some for `count` circuits more, or for as many as may live. See `Circuits::reserve`.
+    pub fn reserve(&mut self, alloc: Global, count: usize) -> Result<(), Memory>
+        ensures state { (c : Core) → Stands self.old c → Stands self.new c }
+        ensures kept { self.new ≡ record self.old {
+          circuits = record (self.old.circuits) { rooms = self.new.circuits.rooms };
+        } }
+        ensures ready { OnOk result (HasRooms count self.new.circuits) }
+        ensures few { length self.old.circuits.rooms < length self.new.circuits.rooms →
+            length self.new.circuits.rooms ≤ count }
+        ensures err { OnErr result (self.new ≡ self.old) }
+    {
+        self.circuits.reserve(alloc, count)
+    }
+
+    /// Rooms to be added, so that there is memory for `count` circuits more, or for as many as may live. `Memory` where none
+    /// is found.
+    pub fn rooms_for(&self, alloc: Global, count: usize) -> Result<Vec<CircuitRoom>, Memory>
+        ensures { IfOk result (λ more. AreRooms count self.now.circuits more.items) }
+    {
+        self.circuits.rooms_for(alloc, count)
+    }
+
+    /// Adds rooms that `rooms_for` gave.
+    pub fn add_rooms(&mut self, more: Vec<CircuitRoom>)
+        requires most { with_memory self.old.circuits + length more.items ≤ 8 }
+        requires each { Each (λ size. self.old.circuits.timing.sessions ≤ size) more.items }
+        ensures state { (c : Core) → Stands self.old c → Stands self.new c }
+        ensures kept { self.new ≡ record self.old {
+          circuits = record (self.old.circuits) { rooms = self.new.circuits.rooms };
+        } }
+        ensures rooms { length self.new.circuits.rooms
+            ≡ length self.old.circuits.rooms + length more.items }
+    {
+        self.circuits.add_rooms(more);
+    }
+
     /// Moves the core's moment on; one below the last counts as the last.
     pub fn pass(&mut self, now: u64)
         ensures state { (c : Core) → Stands self.old c → Stands self.new (at_moment now c) }
@@ -118,6 +156,7 @@ impl Lines {
             × (self.old.circuits.moment ≤ self.new.circuits.moment) }
         ensures seats { self.new.seats ≡ self.old.seats }
         ensures freed { self.new.freed ≡ self.old.freed }
+        ensures rooms { self.new.circuits.rooms ≡ self.old.circuits.rooms }
     {
         self.circuits.pass(now);
     }
@@ -128,6 +167,7 @@ impl Lines {
         ensures same { SameLines self.old self.new }
         ensures clear { IsClear self.new.circuits }
         ensures freed { self.new.freed ≡ [] }
+        ensures rooms { length self.old.circuits.rooms ≤ length self.new.circuits.rooms }
         ensures moment { self.new.circuits.moment ≡ self.old.circuits.moment }
     {
         self.circuits.clear();

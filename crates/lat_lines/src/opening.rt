@@ -12,7 +12,7 @@ ghost use Rattle.lat_machines.specs.server.Server.{ServerConfig, server_side, ha
 ghost use Rattle.lat_queue.specs.Histories.{key_shown, some_key};
 ghost use Rattle.lat_payload.specs.Frames.{Emits};
 ghost use Rattle.lat_frames.specs.Timings.{IsTiming};
-ghost use Rattle.lat_lines.specs.circuits.Kept.{side_of as circuits_side, next_id, IsClear, SameCore, SameCircuits, has_id};
+ghost use Rattle.lat_lines.specs.circuits.Kept.{side_of as circuits_side, next_id, HasRooms, IsClear, SameCore, SameCircuits, has_id};
 ghost use Rattle.lat_lines.specs.circuits.Stands.{calling, Simulates, Stands as CircuitsStand};
 ghost use Rattle.lat_lines.specs.circuits.Info.{telling};
 ghost use Rattle.lat_lines.specs.circuits.Living.{has_room_at};
@@ -63,7 +63,8 @@ impl Lines {
 
     /// Connects a line without a session to a station whose node has this name, for a request where a key is given: on the
     /// living circuit to it, or on one that is called, with START in `out`. It gives the ids of circuit and session at this
-    /// end. After a fault nothing has changed. At a server alone; no circuit that has ended may be held.
+    /// end. After a fault nothing has changed. At a server alone; no circuit that has ended may be held, and there must be
+    /// memory for a circuit more (`reserve`).
     pub fn open(
         &mut self,
         line: u8,
@@ -75,6 +76,7 @@ impl Lines {
     ) -> Result<(u16, u8), OpenFault>
         requires server { self.old.circuits.server ≡ true }
         requires clear { IsClear self.old.circuits }
+        requires memory { HasRooms 1 self.old.circuits }
         requires line { IsLine self.old.lines line }
         requires room { length out.old + 16 ≤ 256 }
         ensures opened { (config : ServerConfig) (c : Core) →
@@ -92,6 +94,7 @@ impl Lines {
         ensures clear { IsClear self.new.circuits }
         ensures moment { self.new.circuits.moment ≡ self.old.circuits.moment }
         ensures freed { OnOk result (self.new.freed ≡ []) }
+        ensures rooms { length self.old.circuits.rooms ≤ length self.new.circuits.rooms + 1 }
         ensures most { length out.new ≤ length out.old + 1 }
     {
         let way = self.opening(peer)?;
@@ -192,7 +195,8 @@ impl Lines {
     }
 }
 
-// The living circuit to a station: this one, or one that is called, where fewer than 8 live and an id is left.
+// The living circuit to a station: this one, or one that is called, where fewer than 8 live, an id is left, and there is
+// memory for it.
 fn reach(
     circuits: &mut Circuits,
     way: Option<u16>,
@@ -203,6 +207,7 @@ fn reach(
     requires server { circuits.old.server ≡ true }
     requires clear { IsClear circuits.old }
     requires way { IsWay circuits.old way }
+    requires memory { HasRooms 1 circuits.old }
     requires room { length out.old + 16 ≤ 256 }
     ensures did { Simulates (reaches (circuits_side circuits.old) (address peer.0) node.now way)
         circuits.old circuits.new out.old out.new }
@@ -213,6 +218,7 @@ fn reach(
     ensures moment { circuits.new.moment ≡ circuits.old.moment }
     ensures clear { IsClear circuits.new }
     ensures held { (x : ℕ) → has_id x circuits.old ≡ true → has_id x circuits.new ≡ true }
+    ensures rooms { length circuits.old.rooms ≤ length circuits.new.rooms + 1 }
     ensures most { length out.new ≤ length out.old + 1 }
 {
     match way {

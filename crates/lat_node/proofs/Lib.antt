@@ -11,3 +11,4 @@ pub mod RequestLemmas
 pub mod StepLemmas
 pub mod Stepping
 pub mod VerdictLemmas
+pub mod MemoryLemmas

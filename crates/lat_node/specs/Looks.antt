@@ -46,3 +46,9 @@ offered_of m at = slice_get m.config.services at
 
 abbrev pub waiter_of : {H : Type 0} → Machine H → List ℕ → ℕ → Option WaiterLook
 waiter_of m service at = None
+
+abbrev pub ids_left_of : {H : Type 0} → Machine H → ℕ
+ids_left_of m = cores.ids_left m.state.core
+
+abbrev pub records_left_of : {H : Type 0} → Machine H → Option ℕ
+records_left_of m = None

@@ -1,6 +1,6 @@
 //! What the node does at a frame that it hears.
 
-ghost use Rattle.std.specs.Prelude.{◌≡◌, ℕ, ◌≤◌, ◌+◌, false, cond, List, [], length, Err, None, nat_eq, IfOk, OnOk, OnErr};
+ghost use Rattle.std.specs.Prelude.{◌≡◌, ℕ, ◌≤◌, ◌+◌, ◌&&◌, not, true, false, cond, List, [], length, Err, None, nat_eq, IfOk, OnOk, OnErr};
 ghost use Rattle.lat_base.specs.declared.outbox.OutFrame.{OutFrame};
 ghost use Rattle.lat_machines.specs.cores.Cores.{at_moment};
 ghost use Rattle.lat_machines.specs.node.Node.{Node, with_core, hears_notice};
@@ -8,6 +8,8 @@ ghost use Rattle.lat_machines.specs.values.Addresses.{address, everyone};
 ghost use Rattle.lat_machines.specs.values.Events.{Hears};
 ghost use Rattle.lat_machines.specs.values.Frames.{Reading, Whole, OfNotice};
 ghost use Rattle.lat_lines.specs.Answers.{IsPlain};
+ghost use Rattle.lat_lines.specs.circuits.Hears.{is_call};
+ghost use Rattle.lat_lines.specs.circuits.Kept.{HasRooms};
 ghost use Rattle.lat_lines.specs.AnswerValues.{answer_shown};
 ghost use Rattle.lat_payload.specs.Reads as reads;
 ghost use Rattle.lat_value.specs.Texts as texts;
@@ -22,9 +24,17 @@ use crate::hook::RatingRule;
 use crate::node::NodeCore;
 use lat_base::{Addr, Answer, Memory, OutBox};
 use lat_fields::LayoutFault;
+use lat_frames::Message;
 use lat_notices::Notice;
 use lat_value::{Value, read_value};
 use std::alloc::Global;
+
+// Whether it is a START of a master.
+fn is_call(message: &Message) -> bool
+    ensures { result ≡ is_call message.now }
+{
+    matches!(message, Message::Start { master: true, .. })
+}
 
 impl<H: RatingRule> NodeCore<H> {
     /// Hears a payload from a station. Takes its memory first: after `Memory` nothing has changed.
@@ -78,8 +88,34 @@ impl<H: RatingRule> NodeCore<H> {
             Stands self.new (with_core s (at_moment now s.core)) }
         ensures same { SameConfig self.old self.new }
         ensures rest { AtRest self.old → AtRest self.new }
+        ensures halted { self.new.halted ≡ self.old.halted }
+        ensures memory { HasRooms 1 self.old.lines.circuits →
+            HasRooms 1 self.new.lines.circuits }
     {
         self.lines.pass(now);
+    }
+
+    // Takes memory for the circuit that a START may make. Nothing else changes, and after `Memory` nothing at all.
+    fn reserve_for(&mut self, alloc: Global, message: &Message) -> Result<(), Memory>
+        ensures state { (s : Node) → Stands self.old s → Stands self.new s }
+        ensures same { SameConfig self.old self.new }
+        ensures rest { AtRest self.old → AtRest self.new }
+        ensures memory { OnOk result (self.new.halted ≡ false →
+            is_call message.now ≡ true → HasRooms 1 self.new.lines.circuits) }
+        ensures err { OnErr result (self.new ≡ self.old) }
+    {
+        if self.may_make(message) {
+            self.lines.reserve(alloc, 1)
+        } else {
+            Ok(())
+        }
+    }
+
+    // Whether it may make a circuit at a message.
+    fn may_make(&self, message: &Message) -> bool
+        ensures { result ≡ (not self.now.halted && is_call message.now) }
+    {
+        !self.halted && is_call(message)
     }
 
     fn hear_value(
@@ -107,7 +143,10 @@ impl<H: RatingRule> NodeCore<H> {
             return Ok(Answer::Ignored);
         }
         match value {
-            Value::Circuit(message) => Ok(self.hear_message(from, message, now, out)),
+            Value::Circuit(message) => {
+                self.reserve_for(alloc, message)?;
+                Ok(self.hear_message(from, message, now, out))
+            }
             Value::Notice(notice) => self.hear_notice(alloc, from, notice, now, out),
         }
     }

@@ -1,13 +1,14 @@
 //! What the node does at a circuit message that it hears.
 
-ghost use Rattle.std.specs.Prelude.{◌≡◌, ◌<◌, ◌≤◌, ◌+◌, ℕ, length, Some, None, IfSome};
+ghost use Rattle.std.specs.Prelude.{◌≡◌, ◌<◌, ◌≤◌, ◌+◌, ℕ, length, true, false, Some, None, IfSome};
 ghost use Rattle.lat_frames.specs.Written.{IsWritable};
 ghost use Rattle.lat_machines.specs.cores.Cores.{at_moment};
 ghost use Rattle.lat_machines.specs.node.Node.{Node, with_core, hears_message, makes_way};
 ghost use Rattle.lat_machines.specs.values.Addresses.{address};
 ghost use Rattle.lat_circuit.specs.Messages.{message_shown};
 ghost use Rattle.lat_lines.specs.Answers.{IsPlain};
-ghost use Rattle.lat_lines.specs.circuits.Kept.{IsClear};
+ghost use Rattle.lat_lines.specs.circuits.Hears.{is_call};
+ghost use Rattle.lat_lines.specs.circuits.Kept.{IsClear, HasRooms};
 ghost use Rattle.lat_node.specs.Events.{Simulates};
 ghost use Rattle.lat_node.specs.Hearing.{called_by, named_by, AskedThen, hears_named};
 ghost use Rattle.lat_node.specs.Kept.{config_of, AtRest, SameConfig};
@@ -22,7 +23,8 @@ use lat_lines::hearing_answer;
 
 impl<H: RatingRule> NodeCore<H> {
     /// Hears a circuit message of a station. A halted node makes no circuit; a prompt one tells a stranger so, and a START that
-    /// follows ends the slaves before it. See "Hearing a RUN", "Halting" and "How a circuit ends" in docs/PROTOCOL.md.
+    /// follows ends the slaves before it. There must be memory for the circuit that a START may make. See "Hearing a RUN",
+    /// "Halting" and "How a circuit ends" in docs/PROTOCOL.md.
     pub(crate) fn hear_message(
         &mut self,
         from: Addr,
@@ -32,6 +34,8 @@ impl<H: RatingRule> NodeCore<H> {
     ) -> Answer
         requires rest { AtRest self.old }
         requires ok { IsWritable message.now }
+        requires memory { self.old.halted ≡ false →
+            is_call message.now ≡ true → HasRooms 1 self.old.lines.circuits }
         requires room { length out.old + 16 ≤ 256 }
         ensures does { Simulates
             (λ config s. hears_message config (with_core s (at_moment now s.core)) (address from.0)
@@ -54,6 +58,7 @@ impl<H: RatingRule> NodeCore<H> {
         requires ok { IsWritable message.now }
         requires start { called_by (message_shown message.now) ≡ Some source }
         requires source { 0 < source }
+        requires memory { self.old.halted ≡ false → HasRooms 1 self.old.lines.circuits }
         requires room { length out.old + 16 ≤ 256 }
         ensures does { Simulates
             (λ config s. hears_message config s (address from.0) (message_shown message.now) None)
@@ -78,6 +83,8 @@ impl<H: RatingRule> NodeCore<H> {
             Stands self.new (makes_way (config_of self.old) s (address from.0) source) }
         ensures same { SameConfig self.old self.new }
         ensures clear { IsClear self.new.lines.circuits }
+        ensures memory { HasRooms 1 self.old.lines.circuits →
+            HasRooms 1 self.new.lines.circuits }
     {
         if self.prompt {
             self.lines.outlive(from, source);
@@ -108,6 +115,7 @@ impl<H: RatingRule> NodeCore<H> {
     fn hear_named(&mut self, from: Addr, message: &Message, out: &mut OutBox) -> Answer
         requires clear { IsClear self.old.lines.circuits }
         requires ok { IsWritable message.now }
+        requires memory { is_call message.now ≡ true → HasRooms 1 self.old.lines.circuits }
         requires room { length out.old + 16 ≤ 256 }
         ensures does { Simulates
             (λ config s. hears_named config s (address from.0) (message_shown message.now))

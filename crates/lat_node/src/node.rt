@@ -88,7 +88,7 @@ fn copy(alloc: Global, names: &[Name]) -> Result<Services16, Memory>
 
 impl<H: RatingRule> NodeCore<H> {
     /// The node of a valid configuration at moment 0, as it is opened: no circuit, no session, no request. Its ratings are the
-    /// rule's. Takes the memory of eight circuits; `Memory` where none is found.
+    /// rule's. Takes the memory of its lines, and none for circuits; `Memory` where none is found.
     pub fn make(alloc: Global, config: &NodeConfig, rule: H) -> Result<NodeCore<H>, Memory>
         requires config { IsConfig config.now }
         requires fact { H.fact rule }

@@ -24,7 +24,7 @@ impl<H: RatingRule> Core for NodeCore<H> {
     ghost use Rattle.lat_lines.specs.Answers as lines;
     ghost use Rattle.lat_node.specs.Kept.{AtRest};
     ghost use Rattle.lat_node.specs.Stands.{Machine, IsMade, opening, IsMachine, next, answered, Frames};
-    ghost use Rattle.lat_node.specs.Looks.{look_of, correspondent_of, moment_of, finished_of, living_of, drained_of, circuit_of, node_of, service_of, offered_of, waiter_of};
+    ghost use Rattle.lat_node.specs.Looks.{look_of, correspondent_of, moment_of, finished_of, living_of, drained_of, circuit_of, node_of, service_of, offered_of, waiter_of, ids_left_of, records_left_of};
 
     ghost State = { Machine H };
 
@@ -63,6 +63,10 @@ impl<H: RatingRule> Core for NodeCore<H> {
     ghost offered_of = { offered_of };
 
     ghost waiter_of = { waiter_of };
+
+    ghost ids_left_of = { ids_left_of };
+
+    ghost records_left_of = { records_left_of };
 
     ghost ready = { λ k line. lines.ready k.lines line };
 
@@ -113,6 +117,14 @@ impl<H: RatingRule> Core for NodeCore<H> {
     }
 
     fn waiter(&self, _service: &Name, _at: usize) -> Option<WaiterLook> {
+        None
+    }
+
+    fn ids_left(&self) -> u16 {
+        self.lines.ids_left()
+    }
+
+    fn records_left(&self) -> Option<u32> {
         None
     }
 }

@@ -23,7 +23,7 @@ use Rattle.lat_queue.specs.declared.entry.Entry.{Entry}
 use Rattle.lat_queue.specs.declared.entry.Standing.{Standing}
 use Rattle.lat_queue.specs.declared.entry.Standing.TheVariants as stands
 use Rattle.lat_queue.specs.KeyHash.{one_key}
-use Rattle.lat_queue.specs.Tables.{Table, waits_somewhere, waiters, info_of, entry_info, info, standing_at, new_standing, new_info, added, with_standing, restood, waiting_entry, waiting_found, cancelled_by, cancelled, given_by, given, finished_entry, finished_by, finished, first_of}
+use Rattle.lat_queue.specs.Tables.{Table, waits_somewhere, waiters, info_of, entry_info, info, standing_at, new_standing, new_info, added, with_standing, restood, waiting_entry, waiting_found, waiting_of, cancelled_by, cancelled, given_by, given, finished_entry, finished_by, finished, first_of}
 use Rattle.lat_queue.specs.Histories.{Noted, noted, key_shown, some_kept, some_first, some_request, request_key, waited, refused_as, line_of, standing_in, noted_in, is_first_answer, IsFirst, Stands, finish_history}
 use Rattle.lat_queue.specs.KeptValues.{kept_shown}
 use Rattle.lat_queue.proofs.KeyLemmas.{key_self, key_turn, key_right}
@@ -317,6 +317,32 @@ stands_given t h s k from st q = by (next_request s h) refl (sym (ap some_first 
         subst (λ z. Stands (given_by t k (waiting_entry x z)) (h ++ e ∷ [])) (sym p) (grants_it r x (line_of t.offered r.service) n i there (and_parts (is_waiting r.answer) (not (list_any (λ y. cancels r.key y || grants r.key y) r.later)) w).0 p l)
 
     by : (o : Option Request) → next_request s h ≡ o → Some (key_shown k, address from.0) ≡ some_request o → Stands (given t k) (h ++ e ∷ [])
+    by None n p = let z : ⊥ = cc in absurd z
+    by (Some r) n p =
+        let pair : (key_shown k, address from.0) ≡ (r.key, r.from) = cc in
+        at r n (sym (ap (λ (z : keys.Key × ℕ). z.0) pair)) (lookup (one_key k) t.entries) refl
+
+-- who is first waits
+pub first_waits : (t : Table) (h : List QueueEvent) (s : Name) (k : Key) (from : Addr) → Stands t h → first_of t s ≡ Some (k, from) → is_some (waiting_of t k) ≡ true
+first_waits t h s k from st q = by (next_request s h) refl (sym (ap some_first q) ∙ first_right t h s st)
+  where
+    at : (r : Request) → next_request s h ≡ Some r → r.key ≡ key_shown k → (o : Option Entry) → lookup (one_key k) t.entries ≡ o → is_some (waiting_found o) ≡ true
+    at r n i None l =
+        let f : FirstFound (λ x. waits x && same x.service s) (records h) r = first_found (λ x. waits x && same x.service s) (records h) r (distinct_records h) n in
+        let z : ⊥ = (let p : Some r ≡ None = sym (subst (λ j. find (λ (y : Request). same_key y.key j) (records h) ≡ Some r) i f.found) ∙ unknown t h k st l in cc) in absurd z
+    at r n i (Some x) l =
+        let test : Request → Bool = λ y. waits y && same y.service s in
+        let f : FirstFound test (records h) r = first_found test (records h) r (distinct_records h) n in
+        let there : find (λ (y : Request). same_key y.key (key_shown k)) (records h) ≡ Some r = subst (λ j. find (λ (y : Request). same_key y.key j) (records h) ≡ Some r) i f.found in
+        let d : Found (noted_in t.offered h) (records h) k x = info_known t h k x st l in
+        let one : Some d.request ≡ Some r = sym d.found ∙ there in
+        let is : d.request ≡ r = cc in
+        let first : IsFirst t.offered h r = each_found (IsFirst t.offered h) (λ (y : Request). same_key y.key (key_shown k)) (records h) r st.firsts there in
+        let w : waits r ≡ true = (and_parts (waits r) (same r.service s) f.passes).0 in
+        let p : x.standing ≡ stands.Waits (line_of t.offered r.service) = sym d.standing ∙ ap (standing_in t.offered h) is ∙ waits_stands t.offered h r first w in
+        ap (λ z. is_some (waiting_entry x z)) p
+
+    by : (o : Option Request) → next_request s h ≡ o → Some (key_shown k, address from.0) ≡ some_request o → is_some (waiting_of t k) ≡ true
     by None n p = let z : ⊥ = cc in absurd z
     by (Some r) n p =
         let pair : (key_shown k, address from.0) ≡ (r.key, r.from) = cc in

@@ -9,3 +9,4 @@ pub mod TableLemmas
 pub mod InfoLemmas
 pub mod WaitLemmas
 pub mod AnyLemmas
+pub mod CountLemmas

@@ -73,7 +73,7 @@ pub waiters_insert : (i : ℕ) (k : Key) (e : Entry) (st : Standing) (es : List 
 waiters_insert i k e st [] w h = let z : ⊥ = cc in absurd z
 waiters_insert i k e st (x ∷ xs) w h = waiters_step i k e st x xs w (one_key k x.0) (waits_at i x.1.standing) refl refl (waiters_insert i k e st xs w) h
 
-pub one_if : Bool → ℕ
+unfoldable pub one_if : Bool → ℕ
 one_if true = 1
 one_if false = 0
 
@@ -132,7 +132,7 @@ waiters_more i (y ∷ ys) x = by (waits_at i y.1.standing) (waiters_more i ys x)
     by true h = ap (λ z. waiter_of y ∷ z) h
     by false h = h
 
-count_more : (es : List (Key × Entry)) (x : Key × Entry) → waiting_count (es ++ x ∷ []) ≡ one_if (waits_somewhere x.1.standing) + waiting_count es
+pub count_more : (es : List (Key × Entry)) (x : Key × Entry) → waiting_count (es ++ x ∷ []) ≡ one_if (waits_somewhere x.1.standing) + waiting_count es
 unfolding one_if
 count_more [] x = by (waits_somewhere x.1.standing)
   where

@@ -1,16 +1,17 @@
 //! The queue.
 
-ghost use Rattle.std.specs.Prelude.{◌≡◌, ◌<◌, ◌≤◌, ◌+◌, [], ◌∷◌, ◌++◌, length, true, false, Some, None, replicate, OnOk, OnErr, IfOk, IfSome, IfNone, IsSome, OnSome, ◌↔◌, List, option_map, slice_get};
-ghost use Rattle.lat_machines.specs.server.Queue.{QueueEvent, Asks, Cancels, Grants, next_request, waiting};
+ghost use Rattle.std.specs.Prelude.{◌≡◌, ◌<◌, ◌≤◌, ◌+◌, ◌-◌, [], ◌∷◌, ◌++◌, length, true, false, Some, None, replicate, OnOk, OnErr, IfOk, IfSome, IfNone, IsSome, OnSome, ◌↔◌, List, option_map, slice_get};
+ghost use Rattle.lat_machines.specs.server.Queue.{QueueEvent, Asks, Cancels, Grants, next_request, records, waiting};
 ghost use Rattle.lat_machines.specs.server.Records.{ask_answer, kept_for, record_at};
 ghost use Rattle.lat_queue.specs.Histories.{Stands, key_shown, some_kept, some_first, some_request, some_key, request_key, some_record, is_any_waiting, finish_history};
 ghost use Rattle.lat_queue.specs.KeptValues.{kept_shown};
 ghost use Rattle.std.specs.Map.{lookup};
+ghost use Rattle.std.specs.Option.{is_some};
 ghost use Rattle.lat_machines.specs.values.Addresses.{address};
 ghost use Rattle.lat_queue.specs.KeyHash.{one_key};
 ghost use Rattle.indexmap.specs.IndexMap.{insert_entry};
 ghost use Rattle.lat_queue.specs.Looks.{waiter_told, waiter_look_of};
-ghost use Rattle.lat_queue.specs.Tables.{waiters, waiter_at, OnLine, InLine, MayStand, HasPlace, info, info_of, new_info, new_standing, added, shown, first_of, waiting_of, cancelled, given, finished};
+ghost use Rattle.lat_queue.specs.Tables.{waiters, waiter_at, OnLine, InLine, MayStand, HasPlace, info, info_of, new_info, new_standing, added, shown, first_of, waiting_of, waiting_count, cancelled, given, finished};
 
 use crate::entry::{Entry, Standing, Waiter};
 use crate::key::Key;
@@ -34,6 +35,8 @@ pub struct Queue {
     entries: IndexMap<Key, Entry>,
     lines: Vec<Line>,
     granted: u32,
+    /// How many wait, in all lines.
+    waiting: usize,
 }
 
 impl Drop for Queue {
@@ -43,12 +46,14 @@ impl Drop for Queue {
             entries,
             lines,
             granted,
+            waiting,
         } = self;
     }
 }
 
 impl Model for Queue {
-    ghost use Rattle.lat_queue.specs.Tables.{Table, Holds};
+    ghost use Rattle.std.specs.Prelude.{◌≡◌};
+    ghost use Rattle.lat_queue.specs.Tables.{Table, Holds, waiting_count};
 
     ghost Value = { Table };
 
@@ -62,7 +67,8 @@ impl Model for Queue {
       offered = a.offered;
       entries = a.entries.entries;
       granted = a.granted;
-    }) a.lines.items };
+    }) a.lines.items
+        × (a.waiting ≡ waiting_count a.entries.entries) };
 }
 
 // So many empty lines.
@@ -102,6 +108,7 @@ impl Queue {
     pub fn make(alloc: Global, services: Services16) -> Result<Queue, Memory>
         ensures offered { IfOk result (λ q. q.offered ≡ services) }
         ensures stands { IfOk result (λ q. Stands q []) }
+        ensures none { IfOk result (λ q. waiting_count q.entries ≡ 0) }
     {
         let lines = no_lines(alloc, services.len())?;
         Ok(Queue {
@@ -109,6 +116,7 @@ impl Queue {
             entries: IndexMap::new(alloc),
             lines,
             granted: 0,
+            waiting: 0,
         })
     }
 
@@ -127,6 +135,8 @@ impl Queue {
             ++ Asks (key_shown key.now) (address from.0) service.now (kept_shown a) ∷ [])) }
         ensures place { IfOk result HasPlace }
         ensures offered { self.new.offered ≡ self.old.offered }
+        ensures waiting { OnOk result (waiting_count self.new.entries
+            ≤ waiting_count self.old.entries + 1) }
         ensures err { OnErr result (self.new ≡ self.old) }
     {
         if let Some(kept) = self.info(key) {
@@ -147,6 +157,7 @@ impl Queue {
             Stands self.new (h ++ Cancels (key_shown key.now) ∷ []) }
         ensures place { IfSome result HasPlace }
         ensures offered { self.new.offered ≡ self.old.offered }
+        ensures waiting { waiting_count self.new.entries ≤ waiting_count self.old.entries }
     {
         self.withdraw(key);
         self.info(key)
@@ -159,6 +170,14 @@ impl Queue {
             some_first result ≡ some_request (next_request service.now h) }
     {
         self.first_waiter(service)
+    }
+
+    /// How many wait, for all services together.
+    pub fn count_waiting(&self) -> usize
+        ensures value { result ≡ waiting_count self.now.entries }
+        ensures few { result ≤ 65536 }
+    {
+        self.waiting
     }
 
     /// Whether anybody waits, for whichever service. Where there are records it looks at each line once.
@@ -176,11 +195,12 @@ impl Queue {
         ensures stands { (h : List QueueEvent) → Stands self.old h →
             IfSome result (λ k. Stands self.new (h ++ Grants (key_shown k) service.now ∷ [])) }
         ensures offered { self.new.offered ≡ self.old.offered }
+        ensures waiting { OnSome result (waiting_count self.new.entries + 1
+            ≡ waiting_count self.old.entries) }
         ensures none { IfNone result (self.new ≡ self.old) }
     {
         let (key, _) = self.first_waiter(service)?;
-        self.give(&key);
-        Some(key)
+        if self.give(&key) { Some(key) } else { None }
     }
 
     /// The session of a granted request is over: its record becomes `Done`. Where the record isn't `Granted`, nothing
@@ -189,6 +209,7 @@ impl Queue {
         ensures stands { (h : List QueueEvent) → Stands self.old h →
             Stands self.new (finish_history (key_shown key.now) h) }
         ensures offered { self.new.offered ≡ self.old.offered }
+        ensures waiting { waiting_count self.new.entries ≡ waiting_count self.old.entries }
     {
         self.end(key);
     }
@@ -202,6 +223,13 @@ impl Queue {
         ensures few { OnSome result (place < 65536) }
     {
         self.shown(place)
+    }
+
+    /// How many records may still be kept, of 65,536.
+    pub fn records_left(&self) -> u32
+        ensures { (h : List QueueEvent) → Stands self.now h → result ≡ 65536 - length (records h) }
+    {
+        (RECORDS - self.entries.len()) as u32
     }
 
     /// The request at this place of those that wait for the service, in the order of their first commands, counted from 0.
@@ -306,6 +334,7 @@ impl Queue {
         if let Standing::Waits(line) = standing {
             let waiting = &mut self.lines[line as usize];
             waiting.join(Waiter { key: *key, from });
+            self.waiting += 1;
         }
         Ok(())
     }
@@ -331,12 +360,14 @@ impl Queue {
             let waiting = &mut self.lines[line as usize];
             waiting.leave(key);
             rewrite(&mut self.entries, key, Entry { standing, ..entry });
+            self.waiting -= 1;
         }
     }
 
-    // Grants the key where it waits.
-    fn give(&mut self, key: &Key)
-        ensures { self.new ≡ given self.old key.now }
+    // Grants the key where it waits, and tells whether it did.
+    fn give(&mut self, key: &Key) -> bool
+        ensures value { self.new ≡ given self.old key.now }
+        ensures gave { result ≡ is_some (waiting_of self.old key.now) }
     {
         if let Some((entry, line)) = self.waiting(key) {
             let granted = self.granted + 1;
@@ -345,7 +376,10 @@ impl Queue {
             waiting.leave(key);
             rewrite(&mut self.entries, key, Entry { standing, ..entry });
             self.granted = granted;
+            self.waiting -= 1;
+            return true;
         }
+        false
     }
 
     // Ends the grant of the key where it is granted.

@@ -13,3 +13,4 @@ pub mod Openings
 pub mod Making
 pub mod ConcludedLemmas
 pub mod Stepping
+pub mod Memory

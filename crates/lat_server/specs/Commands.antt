@@ -3,6 +3,8 @@ use Rattle.std.specs.Prelude.{◌≡◌, ℕ, Bool, true, false, List, [], ◌�
 use Rattle.lat_base.specs.declared.answer.Answer as base
 use Rattle.lat_base.specs.declared.answer.Answer.TheVariants as answers
 use Rattle.lat_base.specs.declared.kept.Kept as base_kept
+use Rattle.lat_notices.specs.declared.notice.Action as own_action
+use Rattle.lat_notices.specs.declared.notice.Action.TheVariants as own
 use Rattle.lat_notices.specs.declared.notice.Outcome.{Outcome}
 use Rattle.lat_notices.specs.declared.notice.Outcome.TheVariants as outcomes
 use Rattle.lat_machines.specs.values.Names.{Name}
@@ -27,6 +29,11 @@ noted offered from m Ask q =
 noted offered from m Cancel q =
     let events : List QueueEvent = q ++ Cancels (key_of m) ∷ [] in
     record { events = events; kept = kept_for (key_of m) events }
+
+-- how many requests more may wait behind a command of this action
+abbrev pub may_wait : own_action.Action → ℕ
+may_wait own.Ask = 1
+may_wait own.Cancel = 0
 
 pub record HasNoted (n : NotedCommand) (new : Table) (kept : Option base_kept.Kept) : Type 0 where
   pub state : Stands new n.events

@@ -90,6 +90,11 @@ IsLocal (events.Ready line ready) = Unit {0}
 IsLocal events.Halt = Unit {0}
 IsLocal e = ⊥
 
+-- how many circuits it may call beyond those that requests wait for
+abbrev pub cost : Event → ℕ
+cost (events.Connect line service) = 1
+cost e = 0
+
 -- and those that are nothing to a server
 abbrev pub TakesNoMemory : Event → Type 0
 TakesNoMemory (events.Heard from payload now) = ⊥

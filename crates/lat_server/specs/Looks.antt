@@ -1,5 +1,5 @@
 -- What a server tells without an event.
-use Rattle.std.specs.Prelude.{ℕ, Bool, List, Option, option_map}
+use Rattle.std.specs.Prelude.{ℕ, Bool, List, Option, Some, option_map}
 use Rattle.lat_base.specs.declared.look.LineLook.{LineLook}
 use Rattle.lat_base.specs.declared.look.Correspondent.{Correspondent}
 use Rattle.lat_base.specs.declared.look.CircuitLook.{CircuitLook}
@@ -49,3 +49,9 @@ offered_of m at = lists.offered_at m.config at
 
 abbrev pub waiter_of : Machine → List ℕ → ℕ → Option WaiterLook
 waiter_of m service at = option_map waiter_look_of (lists.waiter_at m.state service at)
+
+abbrev pub ids_left_of : Machine → ℕ
+ids_left_of m = cores.ids_left m.state.core
+
+abbrev pub records_left_of : Machine → Option ℕ
+records_left_of m = Some (lists.records_left m.state)

@@ -8,7 +8,7 @@ ghost use Rattle.lat_dir.specs.Words.{best_shown};
 ghost use Rattle.lat_lines.specs.Kept.{IsLine};
 ghost use Rattle.lat_lines.specs.Answers.{IsPlain};
 ghost use Rattle.lat_server.specs.Events.{HasDone, Simulates};
-ghost use Rattle.lat_server.specs.Kept.{config_of, AtRest, SameConfig};
+ghost use Rattle.lat_server.specs.Kept.{config_of, AtRest, SameConfig, HasSpare, Spends};
 ghost use Rattle.lat_server.specs.Opened.{opened_answer};
 ghost use Rattle.lat_server.specs.Stands.{Stands};
 
@@ -34,11 +34,13 @@ impl ServerCore {
     /// Connects a line to the best node for a service, unless the server is halted. See "Connect" in docs/PROTOCOL.md.
     pub(crate) fn connect(&mut self, line: u8, service: &Name, out: &mut OutBox) -> Answer
         requires rest { AtRest self.old }
+        requires memory { HasSpare 1 self.old }
         requires room { length out.old + 16 ≤ 256 }
         ensures does { Simulates (λ config s.
             cond s.halted (tells s Halted) (connect_event config s line service.now))
             self.old self.new result out.old out.new }
         ensures same { SameConfig self.old self.new }
+        ensures spare { Spends 1 self.old self.new }
         ensures plain { IsPlain result }
         ensures most { length out.new ≤ length out.old + 1 }
     {
@@ -51,10 +53,12 @@ impl ServerCore {
 
     fn connect_line(&mut self, line: u8, service: &Name, out: &mut OutBox) -> Answer
         requires rest { AtRest self.old }
+        requires memory { HasSpare 1 self.old }
         requires room { length out.old + 16 ≤ 256 }
         ensures does { Simulates (λ config s.
             connect_event config s line service.now) self.old self.new result out.old out.new }
         ensures same { SameConfig self.old self.new }
+        ensures spare { Spends 1 self.old self.new }
         ensures plain { IsPlain result }
         ensures most { length out.new ≤ length out.old + 1 }
     {
@@ -74,12 +78,14 @@ impl ServerCore {
     fn connect_to(&mut self, line: u8, service: &Name, best: &Best, out: &mut OutBox) -> Answer
         requires rest { AtRest self.old }
         requires line { IsLine self.old.lines.lines line }
+        requires memory { HasSpare 1 self.old }
         requires room { length out.old + 16 ≤ 256 }
         ensures does { (s : Server) →
             Stands self.old s →
             has_session s.core line ≡ false →
             HasDone s (connects_to (config_of self.old) s line service.now (best_shown best.now)) self.new result out.old out.new }
         ensures same { SameConfig self.old self.new }
+        ensures spare { Spends 1 self.old self.new }
         ensures plain { IsPlain result }
         ensures most { length out.new ≤ length out.old + 1 }
     {
@@ -96,6 +102,7 @@ impl ServerCore {
         ensures does { Simulates (λ config s.
             solicits_for config s service.now) self.old self.new result out.old out.new }
         ensures same { SameConfig self.old self.new }
+        ensures spare { Spends 0 self.old self.new }
         ensures plain { IsPlain result }
         ensures most { length out.new ≤ length out.old + 1 }
     {

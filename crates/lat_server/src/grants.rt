@@ -10,11 +10,12 @@ ghost use Rattle.lat_machines.specs.server.Server.{Server, Passing, may_grant, c
 ghost use Rattle.lat_machines.specs.values.Addresses.{address};
 ghost use Rattle.lat_queue.specs.Histories as queue;
 ghost use Rattle.lat_queue.specs.Histories.{key_shown, is_any_waiting};
+ghost use Rattle.lat_queue.specs.Tables.{waiting_count};
 ghost use Rattle.lat_lines.specs.Kept.{IsLine};
 ghost use Rattle.lat_lines.specs.Stands as lines;
 ghost use Rattle.lat_server.specs.declared.config.Offer.{Offer};
 ghost use Rattle.lat_server.specs.Events.{HasPassed, Passes, IsShut, all_lines};
-ghost use Rattle.lat_server.specs.Kept.{config_of, AtRest, SameConfig, with_queue};
+ghost use Rattle.lat_server.specs.Kept.{config_of, AtRest, SameConfig, Spends, with_queue};
 ghost use Rattle.lat_server.specs.Concluded.{finish_each};
 ghost use Rattle.lat_server.specs.Stands.{Stands};
 
@@ -30,6 +31,7 @@ fn finish_keys(requests: &mut Queue, keys: &[Key])
         queue.Stands requests.old q →
         queue.Stands requests.new (finish_each (map key_shown keys.now) q) }
     ensures offered { requests.new.offered ≡ requests.old.offered }
+    ensures waiting { waiting_count requests.new.entries ≡ waiting_count requests.old.entries }
 {
     for key in keys {
         requests.finish(key);
@@ -43,6 +45,8 @@ impl ServerCore {
             queue.Stands self.old.queue q →
             queue.Stands self.new.queue (finish_each (map key_shown self.old.lines.freed) q) }
         ensures others { self.new ≡ with_queue self.new.queue self.old }
+        ensures waiting { waiting_count self.new.queue.entries
+            ≡ waiting_count self.old.queue.entries }
     {
         let Self { lines, queue, .. } = self;
         finish_keys(queue, lines.freed());
@@ -57,6 +61,7 @@ impl ServerCore {
         ensures passes { Passes all_lines self.old self.new out.old out.new }
         ensures rest { AtRest self.new }
         ensures same { SameConfig self.old self.new }
+        ensures spare { Spends 0 self.old self.new }
     {
         if self.grants_none() {
             return;
@@ -109,6 +114,7 @@ impl ServerCore {
         ensures shut { IsShut result self.new }
         ensures rest { AtRest self.new }
         ensures same { SameConfig self.old self.new }
+        ensures spare { Spends 0 self.old self.new }
         ensures most { length out.new ≤ length out.old + 2 }
     {
         if let Some(service) = self.offer_on(line) {
@@ -153,6 +159,7 @@ impl ServerCore {
         ensures shut { IsShut result self.new }
         ensures rest { AtRest self.new }
         ensures same { SameConfig self.old self.new }
+        ensures spare { Spends 0 self.old self.new }
         ensures most { length out.new ≤ length out.old + 2 }
     {
         let Some((key, from)) = self.queue.first(service) else {
@@ -181,10 +188,13 @@ impl ServerCore {
             HasPassed (granting (config_of self.old) line service.now p r) self.new start out.new }
         ensures rest { AtRest self.new }
         ensures same { SameConfig self.old self.new }
+        ensures spare { Spends 0 self.old self.new }
         ensures most { length out.new ≤ length out.old + 2 }
     {
         let request = Some(key);
-        let _ = self.queue.grant(service);
+        if self.queue.grant(service).is_none() {
+            return;
+        }
         out.push(status_frame(
             from,
             key.incarnation,

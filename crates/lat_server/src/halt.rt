@@ -5,7 +5,7 @@ ghost use Rattle.lat_base.specs.declared.outbox.OutFrame.{OutFrame};
 ghost use Rattle.lat_machines.specs.server.Server.{avoids_on, readies_on, halts};
 ghost use Rattle.lat_lines.specs.Answers.{IsPlain};
 ghost use Rattle.lat_server.specs.Events.{Simulates};
-ghost use Rattle.lat_server.specs.Kept.{AtRest, SameConfig};
+ghost use Rattle.lat_server.specs.Kept.{AtRest, SameConfig, Spends};
 
 use crate::server::ServerCore;
 use lat_base::{Answer, OutBox};
@@ -19,6 +19,7 @@ impl ServerCore {
         requires room { length out.old + 8 ≤ 256 }
         ensures does { Simulates halts self.old self.new result out.old out.new }
         ensures same { SameConfig self.old self.new }
+        ensures spare { Spends 0 self.old self.new }
         ensures most { length out.new ≤ length out.old + 8 }
         ensures answer { result ≡ Answer.Done }
     {
@@ -34,6 +35,7 @@ impl ServerCore {
         ensures does { (frames : List OutFrame) → Simulates (λ config s.
             avoids_on config s line) self.old self.new result frames frames }
         ensures same { SameConfig self.old self.new }
+        ensures spare { Spends 0 self.old self.new }
         ensures plain { IsPlain result }
     {
         if !self.lines.exists(line) {
@@ -55,6 +57,7 @@ impl ServerCore {
         ensures does { (frames : List OutFrame) → Simulates (λ config s.
             readies_on config s line ready) self.old self.new result frames frames }
         ensures same { SameConfig self.old self.new }
+        ensures spare { Spends 0 self.old self.new }
         ensures plain { IsPlain result }
     {
         if !self.lines.exists(line) {

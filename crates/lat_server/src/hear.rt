@@ -18,7 +18,7 @@ ghost use Rattle.lat_circuit.specs.Messages.{message_shown};
 ghost use Rattle.lat_payload.specs.Notices.{notice_shown};
 ghost use Rattle.lat_server.specs.Commands.{announced_answer};
 ghost use Rattle.lat_server.specs.Events.{SimulatesAt};
-ghost use Rattle.lat_server.specs.Kept.{AtRest, SameConfig};
+ghost use Rattle.lat_server.specs.Kept.{AtRest, SameConfig, HasSpare};
 
 use crate::server::ServerCore;
 use lat_base::{Addr, Answer, Memory, OutBox, OutFrame};
@@ -72,6 +72,7 @@ impl ServerCore {
             SimulatesAt now (λ config s. hears config s (address from.0) (reading_of payload.now) None)
             self.old self.new a out.old out.new) }
         ensures same { SameConfig self.old self.new }
+        ensures spare { HasSpare 0 self.new }
         ensures plain { IfOk result IsPlain }
         ensures most { length out.new ≤ length out.old + 2 }
         ensures err { OnErr result ((self.new ≡ self.old) × (out.new ≡ out.old)) }
@@ -90,6 +91,7 @@ impl ServerCore {
             SimulatesAt now (λ config s.
             tells s (answer_shown answer)) self.old self.new result frames frames }
         ensures same { SameConfig self.old self.new }
+        ensures spare { HasSpare 0 self.new }
         ensures answer { result ≡ answer }
     {
         self.lines.pass(now);
@@ -112,6 +114,7 @@ impl ServerCore {
             hears config s (address from.0) (Whole (value_shown value.now)) None)
             self.old self.new a out.old out.new) }
         ensures same { SameConfig self.old self.new }
+        ensures spare { HasSpare 0 self.new }
         ensures plain { IfOk result IsPlain }
         ensures most { length out.new ≤ length out.old + 2 }
         ensures err { OnErr result ((self.new ≡ self.old) × (out.new ≡ out.old)) }
@@ -133,6 +136,7 @@ impl ServerCore {
             hears_message config s (address from.0) (message_shown message.now) None)
             self.old self.new result out.old out.new }
         ensures same { SameConfig self.old self.new }
+        ensures spare { HasSpare 0 self.new }
         ensures plain { IsPlain result }
         ensures most { length out.new ≤ length out.old + 2 }
     {
@@ -158,13 +162,14 @@ impl ServerCore {
             hears_notice config s (address from.0) (notice_shown notice.now))
             self.old self.new a out.old out.new) }
         ensures same { SameConfig self.old self.new }
+        ensures spare { HasSpare 0 self.new }
         ensures plain { IfOk result IsPlain }
         ensures most { length out.new ≤ length out.old + 1 }
         ensures err { OnErr result ((self.new ≡ self.old) × (out.new ≡ out.old)) }
     {
         match notice {
             Notice::Announcement(a) => self.hear_announcement(alloc, from, a, now),
-            Notice::Command(c) => self.hear_command(from, c, now, out),
+            Notice::Command(c) => self.hear_command(alloc, from, c, now, out),
             Notice::Response(_) => Ok(self.pass_over(Answer::Noted, now)),
             Notice::Status(_) => Ok(self.pass_over(Answer::Ignored, now)),
             Notice::Solicit(_) => Ok(self.pass_over(Answer::Ignored, now)),
@@ -184,6 +189,7 @@ impl ServerCore {
             hears_announcement config s (address from.0) (announcement_shown announcement.now))
             self.old self.new a frames frames) }
         ensures same { SameConfig self.old self.new }
+        ensures spare { HasSpare 0 self.new }
         ensures plain { IfOk result IsPlain }
         ensures err { OnErr result (self.new ≡ self.old) }
     {

@@ -1,6 +1,6 @@
 //! The server core.
 
-ghost use Rattle.std.specs.Prelude.{◌≡◌, ◌<◌, ◌≤◌, map, length, IfOk, OnSome};
+ghost use Rattle.std.specs.Prelude.{◌≡◌, ℕ, ◌<◌, ◌≤◌, map, length, IfOk, OnOk, OnErr, OnSome};
 ghost use Rattle.lat_machines.specs.cores.Books.{book};
 ghost use Rattle.lat_machines.specs.cores.Cores.{span};
 ghost use Rattle.lat_machines.specs.cores.Hearing.{names};
@@ -13,7 +13,8 @@ ghost use Rattle.lat_lines.specs.Kept.{IsLine};
 ghost use Rattle.lat_lines.specs.Stands.{book_shown, book_info};
 ghost use Rattle.lat_queue.specs.Histories.{some_record};
 ghost use Rattle.lat_server.specs.Config.{config_shown, IsConfig};
-ghost use Rattle.lat_server.specs.Kept.{config_of, AtRest};
+ghost use Rattle.lat_lines.specs.Answers.{ready};
+ghost use Rattle.lat_server.specs.Kept.{config_of, AtRest, SameConfig, HasSpare};
 ghost use Rattle.lat_server.specs.Stands.{Stands, opening, IsMachine};
 
 use crate::config::{Offer, Offers, ServerConfig};
@@ -90,7 +91,7 @@ fn copy(alloc: Global, offers: &[Offer]) -> Result<Offers, Memory>
 
 impl ServerCore {
     /// The server of a valid configuration at moment 0, as it is opened: no circuit, no session, no service known, no request.
-    /// Takes the memory of eight circuits, of its directory and its queue; `Memory` where none is found.
+    /// Takes the memory of its lines, its directory and its queue, and none for circuits; `Memory` where none is found.
     pub fn make(alloc: Global, config: &ServerConfig) -> Result<ServerCore, Memory>
         requires { IsConfig config.now }
         ensures stands { IfOk result (λ k. IsMachine k (opening k)) }
@@ -116,6 +117,21 @@ impl ServerCore {
             gate: Gate::open(),
             prompt: config.prompt,
         })
+    }
+
+    /// Takes memory, so that there is some for a circuit to each request that waits and for `more` circuits, at most 8, or for
+    /// as many as may live. Nothing else changes, and after `Memory` nothing at all.
+    pub fn reserve(&mut self, alloc: Global, more: usize) -> Result<(), Memory>
+        requires { more ≤ 8 }
+        ensures state { (s : Server) → Stands self.old s → Stands self.new s }
+        ensures same { SameConfig self.old self.new }
+        ensures lines { (line : ℕ) → ready self.new.lines line ≡ ready self.old.lines line }
+        ensures rest { AtRest self.old → AtRest self.new }
+        ensures spare { OnOk result (HasSpare more self.new) }
+        ensures err { OnErr result (self.new ≡ self.old) }
+    {
+        let count = self.queue.count_waiting() + more;
+        self.lines.reserve(alloc, count)
     }
 
     /// How many lines it has, numbered from 1.

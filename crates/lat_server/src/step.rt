@@ -7,8 +7,8 @@ ghost use Rattle.lat_machines.specs.server.Server.{does, server_side, server_eve
 ghost use Rattle.lat_machines.specs.values.Answers as answers;
 ghost use Rattle.lat_lines.specs.Answers as lines;
 ghost use Rattle.lat_lines.specs.Events.{event_shown};
-ghost use Rattle.lat_server.specs.Events.{Simulates, Follows, IsLocal, TakesNoMemory};
-ghost use Rattle.lat_server.specs.Kept.{AtRest, SameConfig};
+ghost use Rattle.lat_server.specs.Events.{Simulates, Follows, IsLocal, TakesNoMemory, cost};
+ghost use Rattle.lat_server.specs.Kept.{AtRest, SameConfig, HasSpare, Spends};
 ghost use Rattle.lat_server.specs.Stands.{Machine, IsMachine, opening, next, answered, Frames};
 
 use crate::server::ServerCore;
@@ -23,7 +23,7 @@ impl Core for ServerCore {
     ghost use Rattle.lat_lines.specs.Answers as lines;
     ghost use Rattle.lat_server.specs.Kept.{AtRest};
     ghost use Rattle.lat_server.specs.Stands.{Machine, IsMade, opening, IsMachine, next, answered, Frames};
-    ghost use Rattle.lat_server.specs.Looks.{look_of, correspondent_of, moment_of, finished_of, living_of, drained_of, circuit_of, node_of, service_of, offered_of, waiter_of};
+    ghost use Rattle.lat_server.specs.Looks.{look_of, correspondent_of, moment_of, finished_of, living_of, drained_of, circuit_of, node_of, service_of, offered_of, waiter_of, ids_left_of, records_left_of};
 
     ghost State = { Machine };
 
@@ -62,6 +62,10 @@ impl Core for ServerCore {
     ghost offered_of = { offered_of };
 
     ghost waiter_of = { waiter_of };
+
+    ghost ids_left_of = { ids_left_of };
+
+    ghost records_left_of = { records_left_of };
 
     ghost ready = { λ k line. lines.ready k.lines line };
 
@@ -114,16 +118,26 @@ impl Core for ServerCore {
     fn waiter(&self, service: &Name, at: usize) -> Option<WaiterLook> {
         self.queue.waiter(service, at)
     }
+
+    fn ids_left(&self) -> u16 {
+        self.lines.ids_left()
+    }
+
+    fn records_left(&self) -> Option<u32> {
+        Some(self.queue.records_left())
+    }
 }
 
 impl ServerCore {
     /// Does what `step` does at an event that is `Time`, `Connect`, `Put`, `Set`, `Attend`, `Close`, `Avoid`, `Ready` or `Halt`,
-    /// and takes no memory.
+    /// and takes no memory. At `Connect` there must be memory for a circuit more (`reserve`).
     pub fn local(&mut self, event: &Event, out: &mut OutBox) -> Answer
         requires rest { AtRest self.old }
         requires local { IsLocal event.now }
+        requires memory { HasSpare (cost event.now) self.old }
         requires empty { out.old ≡ [] }
         ensures rest { AtRest self.new }
+        ensures spare { Spends (cost event.now) self.old self.new }
         ensures opening { opening self.new ≡ opening self.old }
         ensures state { (m : Machine) → IsMachine self.old m →
             IsMachine self.new (next m event.now) }
@@ -145,6 +159,7 @@ impl ServerCore {
             Simulates (λ config s.
             server_event config s (event_shown event.now)) self.old self.new a out.old out.new) }
         ensures same { SameConfig self.old self.new }
+        ensures spare { HasSpare 0 self.new }
         ensures put { IfOk result (λ a. PutFits a event.now) }
         ensures took { IfOk result (λ a. TookFits (lines.ready self.old.lines) a event.now) }
         ensures most { length out.new ≤ 128 }
@@ -155,6 +170,10 @@ impl ServerCore {
                 self.hear(alloc, *from, payload.as_slice(), *now, out)
             }
             Event::Take { line, n } => self.lines.take(alloc, *line, *n),
+            Event::Connect { line, service } => {
+                self.reserve(alloc, 1)?;
+                Ok(self.connect(*line, service, out))
+            }
             other => Ok(self.act(other, out)),
         }
     }
@@ -163,10 +182,12 @@ impl ServerCore {
     fn act(&mut self, event: &Event, out: &mut OutBox) -> Answer
         requires rest { AtRest self.old }
         requires local { TakesNoMemory event.now }
+        requires memory { HasSpare (cost event.now) self.old }
         requires empty { out.old ≡ [] }
         ensures does { Simulates (λ config s.
             server_event config s (event_shown event.now)) self.old self.new result out.old out.new }
         ensures same { SameConfig self.old self.new }
+        ensures spare { Spends (cost event.now) self.old self.new }
         ensures put { PutFits result event.now }
         ensures took { TookFits (lines.ready self.old.lines) result event.now }
         ensures most { length out.new ≤ 128 }
@@ -192,6 +213,7 @@ impl ServerCore {
             does s answers.Done (passes_time (server_side config) (at_moment now s.core)))
             self.old self.new result out.old out.new }
         ensures same { SameConfig self.old self.new }
+        ensures spare { Spends 0 self.old self.new }
         ensures most { length out.new ≤ 128 }
         ensures answer { result ≡ Answer.Done }
     {
@@ -204,9 +226,11 @@ impl ServerCore {
     // What follows every event: the requests of sessions that have become free are finished, and lines without a session
     // grant those that wait.
     fn follow(&mut self, out: &mut OutBox)
+        requires memory { HasSpare 0 self.old }
         requires room { length out.old ≤ 128 }
         ensures rest { AtRest self.new }
         ensures same { SameConfig self.old self.new }
+        ensures spare { Spends 0 self.old self.new }
         ensures follows { Follows self.old self.new out.old out.new }
     {
         self.finish();

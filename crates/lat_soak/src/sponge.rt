@@ -83,6 +83,10 @@ impl Core for Sponge {
 
     ghost waiter_of = { λ s service at. None };
 
+    ghost ids_left_of = { λ s. 0 };
+
+    ghost records_left_of = { λ s. None };
+
     ghost ready = { λ c line. 1 };
 
     fn step(&mut self, alloc: Global, event: &Event, _out: &mut OutBox) -> Result<Answer, Memory> {
@@ -146,6 +150,14 @@ impl Core for Sponge {
     }
 
     fn waiter(&self, _service: &Name, _at: usize) -> Option<WaiterLook> {
+        None
+    }
+
+    fn ids_left(&self) -> u16 {
+        0
+    }
+
+    fn records_left(&self) -> Option<u32> {
         None
     }
 }

@@ -9,3 +9,4 @@ pub mod Readings
 pub mod Steps
 pub mod Runs
 pub mod shown
+pub mod Memory

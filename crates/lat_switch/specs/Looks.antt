@@ -57,3 +57,9 @@ offered_of s at = server.offered_of s.inner at
 
 abbrev pub waiter_of : Switch → List ℕ → ℕ → Option WaiterLook
 waiter_of s service at = server.waiter_of s.inner service at
+
+abbrev pub ids_left_of : Switch → ℕ
+ids_left_of s = server.ids_left_of s.inner
+
+abbrev pub records_left_of : Switch → Option ℕ
+records_left_of s = server.records_left_of s.inner

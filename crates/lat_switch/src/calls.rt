@@ -4,6 +4,7 @@ ghost use Rattle.std.specs.Prelude.{◌≡◌, [], List, length, Some};
 ghost use Rattle.lat_base.specs.declared.outbox.OutFrame.{OutFrame};
 ghost use Rattle.lat_lines.specs.Kept.{IsLine};
 ghost use Rattle.lat_lines.specs.Answers.{IsPlain};
+ghost use Rattle.lat_server.specs.Kept.{HasSpare};
 ghost use Rattle.lat_switch.specs.Calls.{connects, connects_at, closes, closes_one, either_done, is_connected};
 ghost use Rattle.lat_switch.specs.Kept.{IsValid, IsSame, IsInner};
 ghost use Rattle.lat_switch.specs.Lines.{shows};
@@ -32,10 +33,11 @@ fn either_done(before: Answer, answer: Answer) -> Answer
 }
 
 impl SwitchCore {
-    /// Connects the least inner line without a session, which is then shown.
+    /// Connects the least inner line without a session, which is then shown. There must be memory for a circuit more.
     pub(crate) fn connect(&mut self, line: u8, service: &Name, out: &mut OutBox) -> Answer
         requires valid { IsValid self.old }
         requires line { IsLine (length self.old.lines) line }
+        requires memory { HasSpare 1 self.old.inner }
         requires empty { out.old ≡ [] }
         ensures valid { IsValid self.new }
         ensures same { IsSame self.old self.new }
@@ -52,6 +54,7 @@ impl SwitchCore {
         requires valid { IsValid self.old }
         requires line { IsLine (length self.old.lines) line }
         requires inner { IsInner (line_in line self.old.lines) inner_line }
+        requires memory { HasSpare 1 self.old.inner }
         requires empty { out.old ≡ [] }
         ensures valid { IsValid self.new }
         ensures same { IsSame self.old self.new }

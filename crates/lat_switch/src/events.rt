@@ -34,7 +34,7 @@ impl SwitchCore {
         match event {
             Event::Heard { .. } | Event::Time { .. } => self.pass(alloc, event, out),
             Event::Request { .. } | Event::Cancel { .. } | Event::Announce => Ok(Answer::NotHere),
-            Event::Connect { line, service } => Ok(self.connect_event(*line, *service, out)),
+            Event::Connect { line, service } => self.connect_event(alloc, *line, *service, out),
             Event::Put { line, bytes } => self.put_event(alloc, *line, bytes.as_slice(), out),
             Event::Set { line, setting } => Ok(self.set(*line, *setting, out)),
             Event::Take { line, n } => self.take(alloc, *line, *n, out),
@@ -46,20 +46,31 @@ impl SwitchCore {
         }
     }
 
-    // `Connect`: one more session on the line.
-    fn connect_event(&mut self, line: u8, service: Name, out: &mut OutBox) -> Answer
+    // `Connect`: one more session on the line. Takes memory first; after `Memory` nothing has changed.
+    fn connect_event(
+        &mut self,
+        alloc: Global,
+        line: u8,
+        service: Name,
+        out: &mut OutBox,
+    ) -> Result<Answer, Memory>
         requires valid { IsValid self.old }
         requires empty { out.old ≡ [] }
         ensures valid { IsValid self.new }
         ensures same { IsSame self.old self.new }
-        ensures does { Simulates (does (events.Connect line service)) self.old self.new result out.old out.new }
-        ensures put { PutFits result (events.Connect line service) }
-        ensures took { TookFits (ready self.old) result (events.Connect line service) }
+        ensures does { IfOk result (λ a.
+            Simulates (does (events.Connect line service)) self.old self.new a out.old out.new) }
+        ensures put { IfOk result (λ a. PutFits a (events.Connect line service)) }
+        ensures took { IfOk result (λ a.
+            TookFits (ready self.old) a (events.Connect line service)) }
+        ensures unchanged { OnErr result (self.new ≡ self.old) }
+        ensures silent { OnErr result (out.new ≡ []) }
     {
         if !self.exists(line) {
-            return Answer::NoLine;
+            return Ok(Answer::NoLine);
         }
-        self.connect(line, &service, out)
+        self.reserve(alloc)?;
+        Ok(self.connect(line, &service, out))
     }
 
     // `Put`: bytes with keys among them.

@@ -1,12 +1,13 @@
 //! Inner events, and what is shown after each.
 
-ghost use Rattle.std.specs.Prelude.{◌≡◌, [], List, map, length, OnErr, IfOk};
+ghost use Rattle.std.specs.Prelude.{◌≡◌, ℕ, [], List, map, length, OnOk, OnErr, IfOk};
 ghost use Rattle.lat_base.specs.Answers.{PutFits, TookFits};
 ghost use Rattle.lat_base.specs.declared.outbox.OutFrame.{OutFrame};
 ghost use Rattle.lat_lines.specs.Answers as lines;
 ghost use Rattle.lat_lines.specs.Kept.{IsLine};
-ghost use Rattle.lat_server.specs.Events.{IsLocal};
-ghost use Rattle.lat_server.specs.Kept.{AtRest};
+ghost use Rattle.lat_server.specs.Events.{IsLocal, cost};
+ghost use Rattle.lat_server.specs.Kept.{AtRest, HasSpare, Spends};
+ghost use Rattle.lat_switch.specs.Core.{ready};
 ghost use Rattle.lat_server.specs.Stands.{Machine, IsMachine};
 ghost use Rattle.lat_switch.specs.Kept.{IsValid, IsSame, IsQuiet};
 ghost use Rattle.lat_switch.specs.Lines.{gives_way, shows_next};
@@ -40,16 +41,32 @@ impl SwitchCore {
         give_way_each(inner, lines.as_mut_slice());
     }
 
-    /// Tells the inner server an event that takes no memory.
+    /// Takes the inner server's memory for a circuit more. Nothing else changes, and after `Memory` nothing at all.
+    pub(crate) fn reserve(&mut self, alloc: Global) -> Result<(), Memory>
+        requires valid { IsValid self.old }
+        ensures valid { IsValid self.new }
+        ensures same { IsSame self.old self.new }
+        ensures does { (frames : List OutFrame) →
+            GoesAlong (λ c. c) self.old self.new frames frames }
+        ensures ready { (line : ℕ) → ready self.new line ≡ ready self.old line }
+        ensures memory { OnOk result (HasSpare 1 self.new.inner) }
+        ensures err { OnErr result (self.new ≡ self.old) }
+    {
+        self.inner.reserve(alloc, 1)
+    }
+
+    /// Tells the inner server an event that takes no memory. At a connect there must be memory for a circuit more.
     pub(crate) fn tell(&mut self, event: &Event, out: &mut OutBox) -> Answer
         requires valid { IsValid self.old }
         requires local { IsLocal event.now }
+        requires memory { HasSpare (cost event.now) self.old.inner }
         requires empty { out.old ≡ [] }
         ensures valid { IsValid self.new }
         ensures same { IsSame self.old self.new }
         ensures does { Simulates (relays event.now) self.old self.new result out.old out.new }
         ensures put { PutFits result event.now }
         ensures took { TookFits (lines.ready self.old.inner.lines) result event.now }
+        ensures spare { Spends (cost event.now) self.old.inner self.new.inner }
         ensures quiet { IsQuiet event.now → out.new ≡ [] }
     {
         let answer = self.inner.local(event, out);
@@ -96,6 +113,7 @@ impl SwitchCore {
         ensures same { IsSame self.old self.new }
         ensures does { (frames : List OutFrame) →
             GoesAlong (λ c. changes line (shows_next c.state.inner) c) self.old self.new frames frames }
+        ensures inner { self.new.inner ≡ self.old.inner }
     {
         let Self { inner, lines } = self;
         let shown = &mut lines[line as usize - 1];

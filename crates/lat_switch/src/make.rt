@@ -27,8 +27,8 @@ fn opened_lines(alloc: Global, count: u8) -> Result<Vec<Line>, Memory>
 }
 
 impl SwitchCore {
-    /// The switch of a valid configuration at moment 0, as it is opened. Takes the memory of a server core; `Memory` where none
-    /// is found.
+    /// The switch of a valid configuration at moment 0, as it is opened. Takes the memory of a server core that has no circuit;
+    /// `Memory` where none is found.
     pub fn make(alloc: Global, config: &SwitchConfig) -> Result<SwitchCore, Memory>
         requires { IsConfig config.now }
         ensures made { IfOk result (λ k. IsMade (opening k)) }

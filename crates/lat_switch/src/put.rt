@@ -56,6 +56,7 @@ impl SwitchCore {
             return Ok(self.put_nothing(line, none, out));
         }
         let pieces = pieces_of(alloc, first_bytes(bytes))?;
+        self.reserve(alloc)?;
         let progress = self.read(line, pieces, out);
         Ok(progress.answer())
     }

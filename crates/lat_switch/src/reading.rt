@@ -5,6 +5,7 @@ ghost use Rattle.lat_base.specs.Answers.{PutFits, TookFits};
 ghost use Rattle.lat_base.specs.declared.event.Event.{Event};
 ghost use Rattle.lat_base.specs.declared.event.Event.TheVariants as events;
 ghost use Rattle.lat_lines.specs.Kept.{IsLine};
+ghost use Rattle.lat_server.specs.Kept.{HasSpare, Spends};
 ghost use Rattle.lat_switch.specs.Kept.{IsValid, IsSame};
 ghost use Rattle.lat_switch.specs.Pieces.{size_of, sizes};
 ghost use Rattle.lat_switch.specs.Progress.{HasRead};
@@ -99,11 +100,12 @@ impl Progress {
 }
 
 impl SwitchCore {
-    /// Reads the pieces of a put, in order.
+    /// Reads the pieces of a put, in order. At most one of them connects, and there must be memory for its circuit.
     pub(crate) fn read(&mut self, line: u8, pieces: VecDeque<Piece>, out: &mut OutBox) -> Progress
         requires valid { IsValid self.old }
         requires line { IsLine (length self.old.lines) line }
         requires empty { out.old ≡ [] }
+        requires memory { HasSpare 1 self.old.inner }
         requires size { sizes pieces.items ≤ 65535 }
         ensures valid { IsValid self.new }
         ensures same { IsSame self.old self.new }
@@ -134,6 +136,7 @@ impl SwitchCore {
         requires valid { IsValid self.old }
         requires line { IsLine (length self.old.lines) line }
         requires empty { IsTrue progress.goes_on → out.old ≡ [] }
+        requires memory { IsTrue progress.goes_on → HasSpare 1 self.old.inner }
         requires size { progress.count + size_of piece ≤ 65535 }
         ensures valid { IsValid self.new }
         ensures same { IsSame self.old self.new }
@@ -141,6 +144,7 @@ impl SwitchCore {
             HasRead (reads line r piece) self.new result out.new }
         ensures count { result.count ≤ progress.count + size_of piece }
         ensures quiet { IsTrue result.goes_on → out.new ≡ [] }
+        ensures memory { IsTrue result.goes_on → HasSpare 1 self.new.inner }
     {
         if !progress.goes_on {
             return progress;
@@ -170,6 +174,7 @@ impl SwitchCore {
             HasRead (reads_run line r bytes) self.new result out.new }
         ensures count { result.count ≤ count + length bytes }
         ensures quiet { out.new ≡ [] }
+        ensures spare { Spends 0 self.old.inner self.new.inner }
     {
         let size = size_of(&bytes);
         let shown = self.line_at(line).shown();
@@ -188,6 +193,7 @@ impl SwitchCore {
     fn connect_own(&mut self, line: u8, out: &mut OutBox)
         requires valid { IsValid self.old }
         requires line { IsLine (length self.old.lines) line }
+        requires memory { HasSpare 1 self.old.inner }
         requires empty { out.old ≡ [] }
         ensures valid { IsValid self.new }
         ensures same { IsSame self.old self.new }

@@ -15,7 +15,7 @@ use std::alloc::Global;
 impl Core for SwitchCore {
     ghost use Rattle.lat_switch.specs.Core.{IsMade, opening, next, answered, Frames, ready};
     ghost use Rattle.lat_switch.specs.Kept.{IsValid};
-    ghost use Rattle.lat_switch.specs.Looks.{look_of, correspondent_of, moment_of, finished_of, living_of, drained_of, circuit_of, node_of, service_of, offered_of, waiter_of};
+    ghost use Rattle.lat_switch.specs.Looks.{look_of, correspondent_of, moment_of, finished_of, living_of, drained_of, circuit_of, node_of, service_of, offered_of, waiter_of, ids_left_of, records_left_of};
     ghost use Rattle.lat_switch.specs.Stands.{Stands};
     ghost use Rattle.lat_switch.specs.Switch.{Switch};
 
@@ -56,6 +56,10 @@ impl Core for SwitchCore {
     ghost offered_of = { offered_of };
 
     ghost waiter_of = { waiter_of };
+
+    ghost ids_left_of = { ids_left_of };
+
+    ghost records_left_of = { records_left_of };
 
     ghost ready = { ready };
 
@@ -118,6 +122,14 @@ impl Core for SwitchCore {
 
     fn waiter(&self, service: &Name, at: usize) -> Option<WaiterLook> {
         self.inner.waiter(service, at)
+    }
+
+    fn ids_left(&self) -> u16 {
+        self.inner.ids_left()
+    }
+
+    fn records_left(&self) -> Option<u32> {
+        self.inner.records_left()
     }
 }
 

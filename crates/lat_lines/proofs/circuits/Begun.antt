@@ -69,7 +69,7 @@ pub holds_begun : (k : Kept) (rooms : List ℕ) (to : ℕ) (name : Name) (f : ci
 holds_begun k rooms to name f places q s before after h new b few each = record {
   timing = h.timing;
   first = h.first;
-  places = omega (arith, h.places, few, length_among q k.held);
+  places = let all : length k.held + length k.rooms ≤ 8 = h.places in omega (arith, all, few, length_among q k.held);
   rooms = each;
   rising = rises_among 0 q k.held h.rising (omega (arith, some)) (subst (λ x. Each (λ (p : circuit.Kept). p.facts.id ≢ x) k.held) (sym id) (others_apart k h));
   drawn = each_among (λ p. is_drawn (held_too k q rooms) (id_of p) ≡ true) q k.held

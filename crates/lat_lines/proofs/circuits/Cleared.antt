@@ -1,5 +1,5 @@
 -- Circuits that have ended are let go of.
-use Rattle.std.proofs.Common.{◌≡◌, ℕ, ◌≤◌, Bool, true, false, not, nat_eq, List, [], ◌∷◌, ◌++◌, length, Option, Some, None, is_none, position, slice_get, length-append, refl, sym, ap, ◌∙◌, arith}
+use Rattle.std.proofs.Common.{◌≡◌, ℕ, ◌+◌, ◌≤◌, Bool, true, false, not, nat_eq, List, [], ◌∷◌, ◌++◌, length, Option, Some, None, is_none, position, slice_get, length-append, refl, sym, ap, ◌∙◌, arith}
 use Rattle.std.specs.List.{remove}
 use Rattle.std.proofs.lemmas.Bool.{true≢false, not-true, ne_eqb}
 use Rattle.std.proofs.lemmas.List.Edits.{length-remove}
@@ -8,7 +8,7 @@ use Rattle.lat_model.specs.Lists.{Each}
 use Rattle.lat_model.specs.ends.End.{lives}
 use Rattle.lat_machines.specs.cores.Cores.{Core}
 use Rattle.lat_circuit.specs.Kept as circuit
-use Rattle.lat_lines.specs.circuits.Kept.{Kept, Holds, IsOwn, IsClear, is_drawn}
+use Rattle.lat_lines.specs.circuits.Kept.{Kept, Holds, IsOwn, IsClear, is_drawn, with_memory}
 use Rattle.lat_lines.specs.circuits.Stands.{Stands, IsCircuit}
 use Rattle.lat_lines.proofs.CircuitsHeld.{each_at, each_push, each_remove, rises_remove, any_remove, not_any}
 use Rattle.lat_lines.proofs.circuits.Places.{id_of, lives_at}
@@ -20,11 +20,16 @@ cleared k at room = record k { held = remove k.held at; rooms = k.rooms ++ room 
 abbrev pub has_ended : circuit.Kept → Bool
 has_ended q = not (is_none q.ended)
 
+-- and as many have memory as before
+pub memory_cleared : (k : Kept) (at room : ℕ) (q : circuit.Kept) → slice_get k.held at ≡ Some q → with_memory (cleared k at room) ≡ with_memory k
+memory_cleared k at room q here =
+    omega (arith, length-remove k.held at (slice_get_within k.held at q here), length-append k.rooms (room ∷ []))
+
 pub holds_cleared : (k : Kept) (at room : ℕ) (q : circuit.Kept) → Holds k → slice_get k.held at ≡ Some q → room ≡ length q.sessions.sessions → Holds (cleared k at room)
 holds_cleared k at room q h here is = record {
   timing = h.timing;
   first = h.first;
-  places = omega (arith, h.places, length-remove k.held at (slice_get_within k.held at q here), length-append k.rooms (room ∷ []));
+  places = let few : length k.held + length k.rooms ≤ 8 = h.places in omega (arith, few, length-remove k.held at (slice_get_within k.held at q here), length-append k.rooms (room ∷ []));
   rooms = each_push (λ n. k.timing.sessions ≤ n) k.rooms room h.rooms (omega (arith, is, own.places));
   rising = rises_remove id_of 0 k.held at h.rising;
   drawn = each_remove (λ p. is_drawn k (id_of p) ≡ true) k.held at h.drawn;

@@ -31,14 +31,14 @@ side_same k m s =
 
 pub same_then : (k m n : Kept) → SameCircuits k m → SameCircuits m n → SameCircuits k n
 same_then k m n a b = record {
-  core = record { own = b.core.own ∙ a.core.own; name = b.core.name ∙ a.core.name; timing = b.core.timing ∙ a.core.timing; server = b.core.server ∙ a.core.server; first = b.core.first ∙ a.core.first };
+  core = record { own = b.core.own ∙ a.core.own; name = b.core.name ∙ a.core.name; timing = b.core.timing ∙ a.core.timing; server = b.core.server ∙ a.core.server; first = b.core.first ∙ a.core.first; memory = b.core.memory ∙ a.core.memory };
   ids = b.ids ∙ a.ids;
   drawn = b.drawn ∙ a.drawn;
   moment = b.moment ∙ a.moment;
 }
 
 pub same_none : (k : Kept) → SameCircuits k k
-same_none k = record { core = record { own = refl; name = refl; timing = refl; server = refl; first = refl }; ids = refl; drawn = refl; moment = refl }
+same_none k = record { core = record { own = refl; name = refl; timing = refl; server = refl; first = refl; memory = refl }; ids = refl; drawn = refl; moment = refl }
 
 -- the time of each
 

@@ -17,7 +17,7 @@ use Rattle.lat_circuit.specs.Kept as circuit
 use Rattle.lat_circuit.specs.Stands as circuit_stands
 use Rattle.lat_circuit.specs.Frames.{timing_shown, frame_sent, AreFormed}
 use Rattle.lat_model.specs.circuits.Ids.{Rises}
-use Rattle.lat_lines.specs.circuits.Kept.{Kept, Holds, IsOwn, SameCircuits, side_of, ids, has_id, is_drawn}
+use Rattle.lat_lines.specs.circuits.Kept.{Kept, Holds, IsOwn, SameCircuits, side_of, ids, has_id, is_drawn, with_memory}
 use Rattle.lat_lines.specs.declared.circuits.Circuits.TheInside.{Inside}
 use Rattle.lat_lines.specs.circuits.Shown.{shown}
 use Rattle.lat_lines.specs.circuits.Stands.{Stands, IsCircuit}
@@ -52,7 +52,7 @@ ids_after k at q r l b = ap ids b.is ∙ map_set_same id_of k.held at q r b.here
 
 pub same_after : (k : Kept) (at : ℕ) (q r : circuit.Kept) (l : Kept) → Became k at q r l → SameCircuits k l
 same_after k at q r l b = record {
-  core = record { own = ap (λ z. z.own) b.is; name = ap (λ z. z.name) b.is; timing = ap (λ z. z.timing) b.is; server = ap (λ z. z.server) b.is; first = ap (λ z. z.first) b.is };
+  core = record { own = ap (λ z. z.own) b.is; name = ap (λ z. z.name) b.is; timing = ap (λ z. z.timing) b.is; server = ap (λ z. z.server) b.is; first = ap (λ z. z.first) b.is; memory = ap with_memory b.is ∙ ap (λ n. n + length k.rooms) (length-set k.held at r) };
   ids = ids_after k at q r l b;
   drawn = ap (λ z. z.drawn) b.is;
   moment = ap (λ z. z.moment) b.is;
@@ -62,7 +62,7 @@ pub holds_after : (k : Kept) (at : ℕ) (q r : circuit.Kept) → slice_get k.hel
 holds_after k at q r here id own h = record {
   timing = h.timing;
   first = h.first;
-  places = ap (λ n. n + length k.rooms) (length-set k.held at r) ∙ h.places;
+  places = subst (λ n. n + length k.rooms ≤ 8) (sym (length-set k.held at r)) h.places;
   rooms = h.rooms;
   rising = subst (Rises 0) (sym (map_set_same id_of k.held at q r here id)) h.rising;
   drawn = each_set (λ p. is_drawn k (id_of p) ≡ true) k.held at r h.drawn (ap (is_drawn k) id ∙ each_at (λ p. is_drawn k (id_of p) ≡ true) k.held at q h.drawn here);

@@ -1,5 +1,5 @@
 -- What a core does at a circuit message.
-use Rattle.std.specs.Prelude.{ℕ, true, false, cond, ◌&&◌, nat_eq, nat_lt, None}
+use Rattle.std.specs.Prelude.{ℕ, Bool, true, false, cond, ◌&&◌, nat_eq, nat_lt, None}
 use Rattle.lat_model.specs.ends.End.{End, lives}
 use Rattle.lat_model.specs.circuits.World.{Table}
 use Rattle.lat_model.specs.circuits.Ids.{next_id}
@@ -12,6 +12,8 @@ use Rattle.lat_machines.specs.cores.Acts.{put_at}
 use Rattle.lat_machines.specs.cores.Hearing.{HeardAct, hear_run, hear_stop_at, hear_reply_at, StartFact, Makes, Refuses, start_fact, start_at}
 use Rattle.lat_machines.specs.cores.Cores.{Side, Core, Doing, setup_of, rests, acts}
 use Rattle.lat_machines.specs.node.Node.{names_for, start_answer}
+use Rattle.lat_frames.specs.declared.message.Message as frames
+use Rattle.lat_frames.specs.declared.message.Message.TheVariants.{Start}
 use Rattle.lat_lines.specs.declared.circuits.hearing.Hearing.{Hearing}
 use Rattle.lat_lines.specs.declared.circuits.hearing.Hearing.TheVariants as hearings
 
@@ -65,6 +67,11 @@ heard_core k from (StartMessage false ask to source info) c =
     (untouched c)
 heard_core k from (StopMessage master ask to source reason text) c =
     of_act k c (hear_stop_at k.server c.circuits from to source c.moment reason)
+
+-- a START of a master, at which a node may make a circuit
+abbrev pub is_call : frames.Message → Bool
+is_call (Start true ask to from info) = true
+is_call m = false
 
 -- an answer, as the machines know it
 abbrev pub hearing_shown : Hearing → Answer

@@ -1,5 +1,5 @@
 -- What is kept of the circuits of a core.
-use Rattle.std.specs.Prelude.{◌≡◌, ℕ, ◌+◌, ◌≤◌, Bool, true, cond, List, [], ◌∷◌, map, length, None, nat_eq, nat_lt}
+use Rattle.std.specs.Prelude.{◌≡◌, ℕ, ◌+◌, ◌<◌, ◌≤◌, Bool, true, cond, List, [], ◌∷◌, map, length, None, nat_eq, nat_lt}
 use Rattle.std.specs.List.{list_any}
 use Rattle.lat_base.specs.declared.addr.Addr.{Addr}
 use Rattle.lat_model.specs.Lists.{Each}
@@ -49,13 +49,29 @@ held_with q (p ∷ ps) = cond (nat_lt q.facts.id p.facts.id) (q ∷ p ∷ ps) (p
 abbrev pub IsClear : Kept → Type 0
 IsClear k = Each (λ (q : circuit.Kept). q.ended ≡ None) k.held
 
--- the same core, and the same circuits of it
+-- how many circuits have memory: those that are held, and as many more as there are rooms
+abbrev pub with_memory : Kept → ℕ
+with_memory k = length k.held + length k.rooms
+
+-- there is memory for so many circuits more, or for as many as may be held
+abbrev pub HasRooms : ℕ → Kept → Type 0
+HasRooms n k = length k.rooms < n → with_memory k ≡ 8
+
+-- rooms for circuits of this core, with which there is memory for so many more, and no more of them than that
+pub record AreRooms (count : ℕ) (k : Kept) (more : List ℕ) : Type 0 where
+  pub enough : length k.rooms + length more < count → with_memory k + length more ≡ 8
+  pub few : 0 < length more → length k.rooms + length more ≤ count
+  pub most : with_memory k + length more ≤ 8
+  pub each : Each (λ n. k.timing.sessions ≤ n) more
+
+-- the same core, with as much memory, and the same circuits of it
 pub record SameCore (old new : Kept) : Type 0 where
   pub own : new.own ≡ old.own
   pub name : new.name ≡ old.name
   pub timing : new.timing ≡ old.timing
   pub server : new.server ≡ old.server
   pub first : new.first ≡ old.first
+  pub memory : with_memory new ≡ with_memory old
 
 pub record SameCircuits (old new : Kept) : Type 0 where
   pub core : SameCore old new
@@ -76,7 +92,7 @@ pub record IsOwn (k : Kept) (q : circuit.Kept) : Type 0 where
 pub record Holds (k : Kept) : Type 0 where
   pub timing : IsTiming k.timing
   pub first : (1 ≤ k.first) × (k.first ≤ 65535)
-  pub places : length k.held + length k.rooms ≡ 8
+  pub places : with_memory k ≤ 8
   pub rooms : Each (λ n. k.timing.sessions ≤ n) k.rooms
   pub rising : Rises 0 (ids k)
   pub drawn : Each (λ (q : circuit.Kept). is_drawn k q.facts.id ≡ true) k.held

@@ -13,9 +13,9 @@ ghost use Rattle.lat_machines.specs.node.Node.{start_answer};
 ghost use Rattle.lat_circuit.specs.Kept.{Kept};
 ghost use Rattle.lat_circuit.specs.Hears.{heard_shown};
 ghost use Rattle.lat_circuit.specs.Messages.{info_shown, message_shown};
-ghost use Rattle.lat_lines.specs.circuits.Kept.{side_of, ids, next_id, SameCore, SameCircuits, has_id, IsClear};
+ghost use Rattle.lat_lines.specs.circuits.Kept.{side_of, ids, next_id, HasRooms, SameCore, SameCircuits, has_id, IsClear};
 ghost use Rattle.lat_lines.specs.circuits.Stands.{Stands, Simulates};
-ghost use Rattle.lat_lines.specs.circuits.Hears.{heard_core, hears_named, hears_at, start_core, new_fact, hearing_shown};
+ghost use Rattle.lat_lines.specs.circuits.Hears.{heard_core, hears_named, hears_at, start_core, new_fact, is_call, hearing_shown};
 
 use crate::circuits::opening::hold;
 use crate::circuits::{CIRCUITS, Circuits};
@@ -36,12 +36,13 @@ pub enum Hearing {
 
 impl Circuits {
     /// Hears a circuit message from a station, at the core's moment: the circuit that it names by address and ids does what it
-    /// asks for. At a node a START of a master that is new makes a slave, in the memory of a circuit that is free; one of a
+    /// asks for. At a node a START of a master that is new makes a slave, for which there must be memory (`reserve`); one of a
     /// living slave is heard by it. No circuit that has ended may be held. At most one frame is put into `out`. See
     /// "Calling" and "Hearing a RUN" in docs/PROTOCOL.md.
     pub fn heard(&mut self, from: Addr, m: &Message, out: &mut OutBox) -> Hearing
         requires ok { IsWritable m.now }
         requires clear { IsClear self.old }
+        requires memory { self.old.server ≡ false → is_call m.now ≡ true → HasRooms 1 self.old }
         requires room { length out.old + 16 ≤ 256 }
         ensures did { Simulates (λ c.
             (heard_core (side_of self.old) (address from.0) (message_shown m.now) c).doing)
@@ -53,6 +54,7 @@ impl Circuits {
         ensures core { SameCore self.old self.new }
         ensures moment { self.new.moment ≡ self.old.moment }
         ensures held { (x : ℕ) → has_id x self.old ≡ true → has_id x self.new ≡ true }
+        ensures rooms { self.old.server ≡ true → length self.old.rooms ≤ length self.new.rooms }
         ensures most { length out.new ≤ length out.old + 1 }
     {
         match m {
@@ -151,6 +153,7 @@ impl Circuits {
         requires info { InfoFits true info.now }
         requires source { 0 < source }
         requires clear { IsClear self.old }
+        requires memory { HasRooms 1 self.old }
         requires room { length out.old + 16 ≤ 256 }
         ensures did { Simulates (λ c.
             (start_core (side_of self.old) c (address from.0) source (info_shown info.now)
@@ -171,7 +174,7 @@ impl Circuits {
         }
     }
 
-    // Whether there are a room and an id for one more circuit.
+    // Whether one more circuit may be held, and an id is left for it.
     fn has_place(&self) -> bool
         ensures value { result ≡ (nat_lt (length self.now.held) 8 && nat_lt self.now.drawn 65535) }
         ensures model { (c : Core) →
@@ -189,6 +192,7 @@ impl Circuits {
         requires source { 0 < source }
         requires few { length self.old.held < 8 }
         requires ids { self.old.drawn < 65535 }
+        requires memory { 0 < length self.old.rooms }
         requires room { length out.old + 16 ≤ 256 }
         ensures did { Simulates (λ c.
             (start_core (side_of self.old) c (address from.0) source (info_shown info.now)

@@ -68,11 +68,12 @@ impl Circuits {
     }
 
     /// Calls a circuit to a station whose node has this name, and gives its id. Fewer than 8 must live, none that has ended may
-    /// be held, and fewer than 65,535 ids may be drawn. START is put into `out`. See "Calling" in docs/PROTOCOL.md.
+    /// be held, fewer than 65,535 ids may be drawn, and there must be memory for a circuit more (`reserve`). START is put into `out`. See "Calling" in docs/PROTOCOL.md.
     pub fn call(&mut self, peer: Addr, node: &Name, out: &mut OutBox) -> u16
         requires server { self.old.server ≡ true }
         requires few { length self.old.held < 8 }
         requires ids { self.old.drawn < 65535 }
+        requires memory { 0 < length self.old.rooms }
         requires room { length out.old + 16 ≤ 256 }
         ensures did { Simulates (called_core (side_of self.old)
             (address peer.0) node.now) self.old self.new out.old out.new }
@@ -83,6 +84,7 @@ impl Circuits {
         ensures moment { self.new.moment ≡ self.old.moment }
         ensures clear { IsClear self.old → IsClear self.new }
         ensures held { length self.new.held ≡ suc (length self.old.held) }
+        ensures rooms { length self.new.rooms + 1 ≡ length self.old.rooms }
         ensures ids { (x : ℕ) → has_id x self.old ≡ true → has_id x self.new ≡ true }
         ensures timing { IsTiming self.old.timing }
         ensures most { length out.new ≤ length out.old + 1 }

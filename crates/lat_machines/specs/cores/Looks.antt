@@ -52,6 +52,10 @@ line_look k c line = record {
   end = end_in (newest c line);
 }
 
+-- how many ids of circuits weren't drawn yet
+abbrev pub ids_left : Core → ℕ
+ids_left c = 65535 - c.circuits.drawn
+
 -- whom a session is or was with, and what for
 pub record Correspondent : Type 0 where
   pub peer : ℕ  -- the address

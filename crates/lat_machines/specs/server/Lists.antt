@@ -1,9 +1,9 @@
 -- What a server tells of its directory and of its requests. Places are counted from 0; None behind the last.
-use Rattle.std.specs.Prelude.{ℕ, Option, Some, None, slice_get}
+use Rattle.std.specs.Prelude.{ℕ, ◌-◌, length, Option, Some, None, slice_get}
 use Rattle.lat_machines.specs.values.Names.{Name}
 use Rattle.lat_machines.specs.values.Notices.{Service}
 use Rattle.lat_machines.specs.server.Directory.{HeardAnnouncement, live}
-use Rattle.lat_machines.specs.server.Queue.{Request, waiting}
+use Rattle.lat_machines.specs.server.Queue.{Request, records, waiting}
 use Rattle.lat_machines.specs.server.Server.{ServerConfig, Server, offered}
 
 -- the announcement of the node that is live at a place
@@ -24,3 +24,7 @@ offered_at config at = slice_get (offered config) at
 -- of those that wait for a service
 abbrev pub waiter_at : Server → Name → ℕ → Option Request
 waiter_at state service at = slice_get (waiting service state.queue) at
+
+-- how many requests may still get a record
+abbrev pub records_left : Server → ℕ
+records_left state = 65536 - length (records state.queue)

@@ -16,4 +16,5 @@ loop-key-preserved c = record {
       subst (queue.Stands c.finish.new.self) (sym (ap (λ z. finish_each z q) more ∙ finish_more_keys (map key_shown (take i keys)) (key_shown x) q))
       (c.finish.ensures.stands (finish_each (map key_shown (take i keys)) q) (c.loop-key.invariant.stands q st));
   offered = c.finish.ensures.offered ∙ c.loop-key.invariant.offered;
+  waiting = c.finish.ensures.waiting ∙ c.loop-key.invariant.waiting;
 }

@@ -141,6 +141,10 @@ impl Core for Echo {
 
     ghost waiter_of = { λ s service at. None };
 
+    ghost ids_left_of = { λ s. 0 };
+
+    ghost records_left_of = { λ s. None };
+
     ghost ready = { echo_waiting };
 
     fn step(&mut self, alloc: Global, event: &Event, out: &mut OutBox) -> Result<Answer, Memory> {
@@ -215,6 +219,14 @@ impl Core for Echo {
     }
 
     fn waiter(&self, _service: &Name, _at: usize) -> Option<WaiterLook> {
+        None
+    }
+
+    fn ids_left(&self) -> u16 {
+        0
+    }
+
+    fn records_left(&self) -> Option<u32> {
         None
     }
 }

@@ -1,4 +1,4 @@
-use Rattle.std.proofs.Common.{◌∙◌, ◌++◌, ◌+◌, sym, ap, subst, arith}
+use Rattle.std.proofs.Common.{[], ◌∷◌, length, length-append, ◌∙◌, ◌++◌, ◌+◌, sym, ap, subst, arith}
 use Rattle.std.specs.Option.{option_to_list}
 use Rattle.std.proofs.lemmas.Grind.{common_steps, elements}
 use Rattle.lat_model.specs.circuits.Ids as tables
@@ -11,7 +11,7 @@ use Rattle.lat_lines.specs.circuits.Shown.{shown}
 use Rattle.lat_lines.specs.circuits.Stands.{Simulates}
 use Rattle.lat_lines.proofs.circuits.Called.{config_of}
 use Rattle.lat_lines.proofs.circuits.Answered.{Begun, begun, too_is, answered_holds, answered_did}
-use Rattle.lat_lines.proofs.circuits.Added.{ids_added}
+use Rattle.lat_lines.proofs.circuits.Added.{ids_added, length_added}
 use Rattle.lat_lines.proofs.circuits.Circuits.answer_start.Goals as goal
 
 pub invariant_of-self : goal.invariant_of-self
@@ -67,6 +67,7 @@ returns-clause-core c = record {
   timing = ap (λ (z : Kept). z.timing) c.self.view_is;
   server = ap (λ (z : Kept). z.server) c.self.view_is;
   first = ap (λ (z : Kept). z.first) c.self.view_is;
+  memory = omega (arith, length_added c.args.self.now c.self.inside.held.items c.hold.new.held.items c.answer_in-circuit.result (record { are = ap (λ (z : Kept). z.held) c.self.view_is; more = c.hold.ensures.items }), length-append c.pop.new.self.items (c.in-Some.room ∷ []), ap length (c.pop.ensures.items ∙ ap (λ r. c.pop.new.self.items ++ option_to_list r) c.in-Some.is), ap (λ (z : Kept). length z.rooms) c.self.view_is);
 }
 
 pub returns-clause-held : goal.returns-clause-held

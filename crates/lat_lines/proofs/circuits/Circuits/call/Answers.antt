@@ -64,6 +64,7 @@ returns-clause-core c = record {
   timing = ap (λ (z : Kept). z.timing) c.self.view_is;
   server = ap (λ (z : Kept). z.server) c.self.view_is;
   first = ap (λ (z : Kept). z.first) c.self.view_is;
+  memory = omega (arith, length_added c.args.self.now c.self.inside.held.items c.hold.new.held.items c.call_in-circuit.result (record { are = ap (λ (z : Kept). z.held) c.self.view_is; more = c.hold.ensures.items }), length-append c.pop.new.self.items (c.in-Some.room ∷ []), ap length c.in-Some.ensures.items, ap (λ (z : Kept). length z.rooms) c.self.view_is);
 }
 
 pub returns-clause-timing : goal.returns-clause-timing
@@ -93,3 +94,7 @@ call_in-circuit-requires-clause-sessions c = grind (arith, elements)
 
 pub returns-clause-most : goal.returns-clause-most
 returns-clause-most c = grind (arith, common_steps)
+
+pub returns-clause-rooms : goal.returns-clause-rooms
+returns-clause-rooms c =
+    omega (arith, length-append c.pop.new.self.items (c.in-Some.room ∷ []), ap length c.in-Some.ensures.items, ap (λ (z : Kept). length z.rooms) c.self.view_is)

@@ -1,11 +1,12 @@
-use Rattle.std.proofs.Common.{◌∙◌, sym, ap, subst, slice_index}
+use Rattle.std.proofs.Common.{◌∙◌, sym, ap, subst, slice_index, true≢false}
 use Rattle.lat_frames.specs.declared.message.Message.TheVariants as frames
 use Rattle.lat_machines.specs.values.Addresses.{address}
 use Rattle.lat_circuit.specs.Messages.{message_shown, info_shown}
-use Rattle.lat_lines.specs.circuits.Hears.{HeardCore, heard_core, hears_at, hears_named, start_core, new_fact}
+use Rattle.lat_lines.specs.circuits.Hears.{HeardCore, is_call, heard_core, hears_at, hears_named, start_core, new_fact}
 use Rattle.lat_lines.specs.circuits.Kept.{Kept, Holds, ids, side_of}
 use Rattle.lat_lines.proofs.circuits.Each.{did_as}
 use Rattle.lat_lines.proofs.circuits.Starts.{run_read, wide_read, stop_read, reply_read, start_here, start_new}
+use Rattle.lat_lines.proofs.circuits.Reserving.{rooms_stay}
 use Rattle.lat_lines.proofs.circuits.Circuits.heard.Goals as goal
 
 pub returns-in-Run-clause-did : goal.returns-in-Run-clause-did
@@ -115,3 +116,28 @@ returns-in-None-clause-answer c =
     let is = c.in-Start-true-default-default-default-default.is ∙ ap (λ b. frames.Start b c.in-Start-true-default-default-default-default.ask c.in-Start-true-default-default-default-default.to c.in-Start-true-default-default-default-default.source c.in-Start-true-default-default-default-default.info) (sym c.in-Start-true-default-default-default-default.master-is ∙ c.in-Start-true-default-default-default-default.master-test) in
     let node = ap (λ (z : Kept). z.server) (sym c.self.view_is) ∙ c.if-self.false in
     λ d st. c.make_slave.ensures.answer d st ∙ sym (ap (λ (h : HeardCore). h.answer) (start_new k d from c.args.m.now c.in-Start-true-default-default-default-default.ask c.in-Start-true-default-default-default-default.to c.in-Start-true-default-default-default-default.source c.in-Start-true-default-default-default-default.info is h c.requires.clear node (sym c.slave_of.ensures ∙ c.in-None.is) st))
+
+pub returns-in-Run-clause-rooms : goal.returns-in-Run-clause-rooms
+returns-in-Run-clause-rooms c = λ server. rooms_stay c.args.self.now c.heard_by.new.self c.heard_by.ensures.same
+
+pub returns-in-Wide-clause-rooms : goal.returns-in-Wide-clause-rooms
+returns-in-Wide-clause-rooms c = λ server. rooms_stay c.args.self.now c.heard_by-in-Wide.new.self c.heard_by-in-Wide.ensures.same
+
+pub returns-in-Stop-clause-rooms : goal.returns-in-Stop-clause-rooms
+returns-in-Stop-clause-rooms c = λ server. rooms_stay c.args.self.now c.heard_by-in-Stop.new.self c.heard_by-in-Stop.ensures.same
+
+pub returns-then-self-2-clause-rooms : goal.returns-then-self-2-clause-rooms
+returns-then-self-2-clause-rooms c = λ server. rooms_stay c.args.self.now c.heard_by-then-self-2.new.self c.heard_by-then-self-2.ensures.same
+
+pub returns-in-Some-clause-rooms : goal.returns-in-Some-clause-rooms
+returns-in-Some-clause-rooms c = λ server. rooms_stay c.args.self.now c.hear_at.new.self c.hear_at.ensures.same
+
+pub returns-in-None-clause-rooms : goal.returns-in-None-clause-rooms
+returns-in-None-clause-rooms c = λ server.
+    absurd (true≢false (sym server ∙ ap (λ (z : Kept). z.server) (sym c.self.view_is) ∙ c.if-self.false))
+
+pub make_slave-requires-clause-memory : goal.make_slave-requires-clause-memory
+make_slave-requires-clause-memory c =
+    let is = c.in-Start-true-default-default-default-default.is ∙ ap (λ b. frames.Start b c.in-Start-true-default-default-default-default.ask c.in-Start-true-default-default-default-default.to c.in-Start-true-default-default-default-default.source c.in-Start-true-default-default-default-default.info) (sym c.in-Start-true-default-default-default-default.master-is ∙ c.in-Start-true-default-default-default-default.master-test) in
+    let node = ap (λ (z : Kept). z.server) (sym c.self.view_is) ∙ c.if-self.false in
+    c.requires.memory node (ap is_call is)

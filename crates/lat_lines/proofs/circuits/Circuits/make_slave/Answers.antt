@@ -1,4 +1,5 @@
-use Rattle.std.proofs.Common.{◌∙◌, sym, ap, cond}
+use Rattle.std.proofs.Common.{◌<◌, ◌∙◌, length, nat_lt, sym, ap, cond}
+use Rattle.std.proofs.lemmas.Bool.{and_parts, ltb-true}
 use Rattle.lat_model.specs.circuits.Ids as tables
 use Rattle.lat_machines.specs.values.Addresses.{address}
 use Rattle.lat_machines.specs.values.Answers.{Started}
@@ -10,6 +11,7 @@ use Rattle.lat_lines.specs.circuits.Kept.{side_of}
 use Rattle.lat_lines.proofs.circuits.Answered.{refused_did}
 use Rattle.lat_lines.proofs.circuits.Each.{did_as}
 use Rattle.lat_lines.proofs.circuits.Ids.{next_core}
+use Rattle.lat_lines.proofs.circuits.Reserving.{one_ready}
 use Rattle.lat_lines.proofs.circuits.Circuits.make_slave.Goals as goal
 
 pub returns-then-has_place-clause-did : goal.returns-then-has_place-clause-did
@@ -39,3 +41,9 @@ returns-else-has_place-clause-did c =
 pub returns-else-has_place-clause-answer : goal.returns-else-has_place-clause-answer
 returns-else-has_place-clause-answer c = λ d st.
     ap start_answer (sym (c.has_place.ensures.model d st c.requires.clear ∙ ap (λ b. cond b (Makes (tables.next_id d.circuits)) Refuses) c.if-has_place.false))
+
+pub answer_start-requires-clause-memory : goal.answer_start-requires-clause-memory
+answer_start-requires-clause-memory c =
+    let k = c.args.self.now in
+    let both = and_parts (nat_lt (length k.held) 8) (nat_lt k.drawn 65535) (sym c.has_place.ensures.value ∙ c.if-has_place.true) in
+    one_ready k c.requires.memory (ltb-true (length k.held) 8 both.0)

@@ -19,7 +19,7 @@ use Rattle.lat_lines.specs.Shown.{shown}
 use Rattle.lat_lines.proofs.Calling.{call_agrees, agrees_at}
 use Rattle.lat_lines.proofs.CallSteps.{reaped_calling, says_called, refused, is_seat}
 use Rattle.lat_lines.proofs.resting.Calls.{call_calm}
-use Rattle.lat_lines.proofs.Unchanged.{lines_same, clear_same, moment_same}
+use Rattle.lat_lines.proofs.Unchanged.{lines_same, clear_same, moment_same, rooms_same_lines}
 use Rattle.lat_lines.proofs.lines.Lines.call.Goals as goal
 
 put_fits : (line : ℕ) (call : SessionCall) (r : Result ℕ SessionFault) → IfOk r (λ n. n ≤ bytes_in call) → PutFits (call_answer call r) (event_of line call)
@@ -81,3 +81,7 @@ returns-in-Ok-clause-clear c =
 pub returns-in-Ok-clause-moment : goal.returns-in-Ok-clause-moment
 returns-in-Ok-clause-moment c =
     moment_same (shown c.self.inside) c.args.self.now c.reap_unless.new.self c.call_session-answer.new.self (record { was = c.self.view_is; circuits = c.reap_unless.ensures.circuits }) c.call_session-answer.ensures.same.moment
+
+pub returns-in-Ok-clause-rooms : goal.returns-in-Ok-clause-rooms
+returns-in-Ok-clause-rooms c =
+    rooms_same_lines (shown c.self.inside) c.args.self.now c.reap_unless.new.self c.call_session-answer.new.self (record { was = c.self.view_is; circuits = c.reap_unless.ensures.circuits }) c.call_session-answer.ensures.same

@@ -6,7 +6,7 @@ use Rattle.lat_lines.specs.Shown.{shown}
 use Rattle.lat_lines.specs.Stands.{Stands, HasStepped}
 use Rattle.lat_lines.proofs.CoresLater.{ends_later}
 use Rattle.lat_lines.proofs.Acting.{ok_of, same_held, acted}
-use Rattle.lat_lines.proofs.Unchanged.{lines_same, moment_same}
+use Rattle.lat_lines.proofs.Unchanged.{lines_same, moment_same, rooms_same_lines}
 use Rattle.lat_lines.proofs.lines.Lines.end_all.Goals as goal
 
 pub returns-clause-did : goal.returns-clause-did
@@ -26,3 +26,7 @@ returns-clause-same c =
 pub returns-clause-moment : goal.returns-clause-moment
 returns-clause-moment c =
     moment_same (shown c.self.inside) c.args.self.now c.reap.new.self c.end_all.new.self (record { was = c.self.view_is; circuits = c.reap.ensures.circuits }) c.end_all.ensures.same.moment
+
+pub returns-clause-rooms : goal.returns-clause-rooms
+returns-clause-rooms c =
+    rooms_same_lines (shown c.self.inside) c.args.self.now c.reap.new.self c.end_all.new.self (record { was = c.self.view_is; circuits = c.reap.ensures.circuits }) c.end_all.ensures.same

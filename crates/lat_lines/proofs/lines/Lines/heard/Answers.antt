@@ -1,10 +1,10 @@
-use Rattle.std.proofs.Common.{◌≡◌, true, nat_eq, eqb-true, length, sym, ap, subst, ◌∙◌}
+use Rattle.std.proofs.Common.{◌≤◌, arith, ◌≡◌, true, nat_eq, eqb-true, length, sym, ap, subst, ◌∙◌}
 use Rattle.std.proofs.lemmas.Bool.{and_parts}
 use Rattle.lat_machines.specs.values.Addresses.{address}
 use Rattle.lat_machines.specs.cores.Cores.{Core}
 use Rattle.lat_circuit.specs.Messages.{message_shown}
 use Rattle.lat_lines.specs.circuits.Hears.{heard_core, hearing_shown}
-use Rattle.lat_lines.specs.circuits.Kept.{has_id}
+use Rattle.lat_lines.specs.circuits.Kept.{has_id, HasRooms}
 use Rattle.lat_lines.specs.Calm.{CoreCalm, takes_nothing}
 use Rattle.lat_lines.specs.Kept.{Kept, side_of}
 use Rattle.lat_lines.specs.Shown.{shown}
@@ -50,3 +50,16 @@ returns-clause-same c =
 pub returns-clause-moment : goal.returns-clause-moment
 returns-clause-moment c =
     moment_same (shown c.self.inside) c.args.self.now c.reap_unless.new.self c.heard-hearing.new.self (record { was = c.self.view_is; circuits = c.reap_unless.ensures.circuits }) c.heard-hearing.ensures.moment
+
+pub returns-clause-rooms : goal.returns-clause-rooms
+returns-clause-rooms c = λ server.
+    omega (
+      arith,
+      c.heard-hearing.ensures.rooms (ap (λ (z : Kept). z.circuits.server) c.self.view_is ∙ server),
+      ap (λ z. length z.rooms) c.reap_unless.ensures.circuits,
+      ap (λ (z : Kept). length z.circuits.rooms) c.self.view_is,
+    )
+
+pub heard-hearing-requires-clause-memory : goal.heard-hearing-requires-clause-memory
+heard-hearing-requires-clause-memory c = λ node call.
+    subst (λ (z : Kept). HasRooms 1 z.circuits) (sym c.self.view_is) (c.requires.memory (ap (λ (z : Kept). z.circuits.server) (sym c.self.view_is) ∙ node) call)

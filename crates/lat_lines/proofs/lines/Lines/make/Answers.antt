@@ -27,3 +27,6 @@ returns-clause-clear c =
 
 pub invariant_of-result : goal.invariant_of-result
 invariant_of-result c = grind (arith, common_steps)
+
+pub returns-clause-rooms : goal.returns-clause-rooms
+returns-clause-rooms c = subst (λ r. IfOk r (λ (k : Kept). k.rooms ≡ [])) c.in_ok-make.was c.make.ensures.rooms

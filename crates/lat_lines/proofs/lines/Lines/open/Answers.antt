@@ -1,4 +1,4 @@
-use Rattle.std.proofs.Common.{◌≡◌, ℕ, suc, rules, Option, Ok, Err, sym, ap, subst, ◌∙◌}
+use Rattle.std.proofs.Common.{◌≤◌, ◌+◌, length, arith, ◌≡◌, ℕ, suc, rules, Option, Ok, Err, sym, ap, subst, ◌∙◌}
 use Rattle.std.proofs.lemmas.Bool.{and_from}
 use Rattle.lat_model.specs.ends.End.{lives}
 use Rattle.lat_model.specs.circuits.Ids.{next_id}
@@ -16,7 +16,9 @@ use Rattle.lat_lines.specs.Later.{asked_for, Leads}
 use Rattle.lat_lines.specs.Stands.{Stands}
 use Rattle.lat_lines.specs.Opens.{way, reaches, reached, seated_core, request_of}
 use Rattle.lat_lines.specs.Shown.{shown}
+use Rattle.lat_lines.specs.circuits.Kept.{HasRooms}
 use Rattle.lat_lines.proofs.circuits.Ids.{next_core}
+use Rattle.lat_lines.proofs.circuits.Reserving.{rooms_same}
 use Rattle.lat_lines.proofs.Acting.{StayHeld, ok_of, acted, same_held}
 use Rattle.lat_lines.proofs.Standing.{stands_as}
 use Rattle.lat_lines.proofs.Accepting.{none_still, called_lives}
@@ -92,3 +94,19 @@ returns-clause-answer c = λ d st.
     sym (opening_way d a
     ∙ ap (by_way d a) way_is
     ∙ ap Ok (given_by S d a c.args.node.now w way_is ∙ ap (λ z. (z, least_free (R.core.circuits.circuit_at z).end.half.sessions)) (sym id) ∙ ap (λ i. (x, i)) (sym named)))
+
+pub reach-circuit-requires-clause-memory : goal.reach-circuit-requires-clause-memory
+reach-circuit-requires-clause-memory c =
+    subst (λ (z : Kept). HasRooms 1 z.circuits) (sym c.self.view_is) c.requires.memory
+
+pub returns-clause-rooms : goal.returns-clause-rooms
+returns-clause-rooms c =
+    omega (
+      arith,
+      c.reach-circuit.ensures.rooms,
+      rooms_same c.reach-circuit.new.circuits c.connect-session.new.circuits c.connect-session.ensures.same,
+      ap (λ z. length z.rooms) c.reap.ensures.circuits,
+      ap (λ z. length z.rooms) c.seat.ensures.circuits,
+      ap (λ (z : Kept). length z.circuits.rooms) c.self.view_is,
+      ap (λ (z : Kept). length z.circuits.rooms) c.self-2.view_is,
+    )

@@ -6,7 +6,7 @@ use Rattle.lat_lines.specs.Shown.{shown}
 use Rattle.lat_lines.specs.Stands.{Stands}
 use Rattle.lat_lines.proofs.CoresLater.{outlived_later}
 use Rattle.lat_lines.proofs.Acting.{Acted, ok_of, same_held, acted}
-use Rattle.lat_lines.proofs.Unchanged.{lines_same, moment_same}
+use Rattle.lat_lines.proofs.Unchanged.{lines_same, moment_same, rooms_same_lines}
 use Rattle.lat_lines.proofs.lines.Lines.outlive.Goals as goal
 
 did : (c : goal.After-reap) (d : Core) → Stands c.args.self.now d → Acted d (outlived_core (address c.args.from.0) c.args.source d) c.reap.new.self
@@ -29,3 +29,7 @@ returns-clause-same c =
 pub returns-clause-moment : goal.returns-clause-moment
 returns-clause-moment c =
     moment_same (shown c.self.inside) c.args.self.now c.reap.new.self c.outlive.new.self (record { was = c.self.view_is; circuits = c.reap.ensures.circuits }) c.outlive.ensures.same.moment
+
+pub returns-clause-rooms : goal.returns-clause-rooms
+returns-clause-rooms c =
+    rooms_same_lines (shown c.self.inside) c.args.self.now c.reap.new.self c.outlive.new.self (record { was = c.self.view_is; circuits = c.reap.ensures.circuits }) c.outlive.ensures.same

@@ -14,7 +14,7 @@ use Rattle.lat_lines.proofs.Telling.{takes_at}
 use Rattle.lat_lines.proofs.Calling.{taking, giving, take_agrees, agrees_at}
 use Rattle.lat_lines.proofs.CallSteps.{reaped_calling, says_called, refused, is_seat}
 use Rattle.lat_lines.proofs.resting.Calls.{take_calm}
-use Rattle.lat_lines.proofs.Unchanged.{lines_same, clear_same, moment_same}
+use Rattle.lat_lines.proofs.Unchanged.{lines_same, clear_same, moment_same, rooms_same_lines}
 use Rattle.lat_lines.proofs.lines.Lines.take.Goals as goal
 
 pub returns-in_ok-items-in-Ok-clause-says : goal.returns-in_ok-items-in-Ok-clause-says
@@ -56,3 +56,7 @@ returns-in_ok-items-in-Ok-clause-moment c =
 
 pub returns-in_ok-items-in-Ok-clause-took : goal.returns-in_ok-items-in-Ok-clause-took
 returns-in_ok-items-in-Ok-clause-took c = grind (arith, common_steps)
+
+pub returns-in_ok-items-in-Ok-clause-rooms : goal.returns-in_ok-items-in-Ok-clause-rooms
+returns-in_ok-items-in-Ok-clause-rooms c =
+    rooms_same_lines (shown c.self.inside) c.args.self.now c.reap_unless.new.self c.take-answer.new.self (record { was = c.self.view_is; circuits = c.reap_unless.ensures.circuits }) c.take-answer.ensures.same

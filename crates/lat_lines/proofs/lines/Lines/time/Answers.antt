@@ -8,7 +8,7 @@ use Rattle.lat_lines.specs.Stands.{Stands, HasStepped}
 use Rattle.lat_lines.proofs.CoresLater.{time_passes_later}
 use Rattle.lat_lines.proofs.Acting.{ok_of, same_held, acted_unless}
 use Rattle.lat_lines.proofs.resting.Cores.{has_ended, none_added, time_calm, all_go_on}
-use Rattle.lat_lines.proofs.Unchanged.{lines_same, moment_same}
+use Rattle.lat_lines.proofs.Unchanged.{lines_same, moment_same, rooms_same_lines}
 use Rattle.lat_lines.proofs.lines.Lines.time.Goals as goal
 
 -- where no frame went out and no circuit that has ended is held, lines know all of their sessions
@@ -41,3 +41,7 @@ returns-clause-same c =
 pub returns-clause-moment : goal.returns-clause-moment
 returns-clause-moment c =
     moment_same (shown c.self.inside) c.args.self.now c.reap_unless.new.self c.time.new.self (record { was = c.self.view_is; circuits = c.reap_unless.ensures.circuits }) c.time.ensures.same.moment
+
+pub returns-clause-rooms : goal.returns-clause-rooms
+returns-clause-rooms c =
+    rooms_same_lines (shown c.self.inside) c.args.self.now c.reap_unless.new.self c.time.new.self (record { was = c.self.view_is; circuits = c.reap_unless.ensures.circuits }) c.time.ensures.same

@@ -1,4 +1,4 @@
-use Rattle.std.proofs.Common.{◌∙◌, subst}
+use Rattle.std.proofs.Common.{◌∙◌, subst, sym}
 use Rattle.lat_machines.specs.values.Addresses.{address}
 use Rattle.lat_circuit.specs.Messages.{message_shown}
 use Rattle.lat_node.specs.Events.{Simulates}
@@ -7,6 +7,7 @@ use Rattle.lat_node.specs.Kept.{Kept}
 use Rattle.lat_node.specs.Shown.{shown}
 use Rattle.lat_node.specs.Stands.{Stands}
 use Rattle.lat_node.proofs.HeardLemmas.{named_does}
+use Rattle.lat_lines.specs.circuits.Kept.{HasRooms}
 use Rattle.lat_node.proofs.node.NodeCore.hear_named.Goals as goal
 
 pub returns-clause-does : goal.returns-clause-does
@@ -25,3 +26,7 @@ returns-clause-does g c =
       held = c.heard-hearing.ensures.held;
       asked = c.answer_named.ensures.asked;
     }))
+
+pub heard-hearing-requires-clause-memory : goal.heard-hearing-requires-clause-memory
+heard-hearing-requires-clause-memory g c = λ node call.
+    subst (λ (z : Kept g.row.H.Denot). HasRooms 1 z.lines.circuits) (sym c.self.view_is) (c.requires.memory call)

@@ -9,6 +9,7 @@ use Rattle.lat_node.specs.Kept.{Kept, config_of}
 use Rattle.lat_node.specs.Shown.{shown}
 use Rattle.lat_node.specs.Stands.{Stands}
 use Rattle.lat_node.proofs.HeardLemmas.{other_does, stranger_is}
+use Rattle.lat_node.proofs.MemoryLemmas.{no_call}
 use Rattle.lat_node.proofs.node.NodeCore.hear_other.Goals as goal
 
 pub returns-clause-does : goal.returns-clause-does
@@ -21,3 +22,6 @@ returns-clause-does g c =
     (subst (λ (fs : List OutFrame). Emits (stranger_told (config_of k) s.core from m) c.hear_named-answer.new.out fs) (sym c.tell.ensures.frames)
     (stranger_is k s from m c.hear_named-answer.new.out (c.hear_named-answer.new.out ++ frame_in c.stranger_stop-stop.result) c.self.invariant.node
     (c.stranger_stop-stop.ensures s.core c.hear_named-answer.new.out (subst (λ (z : Kept g.row.H.Denot). Stands z s) (sym c.self.view_is) st).lines))))
+
+pub hear_named-answer-requires-clause-memory : goal.hear_named-answer-requires-clause-memory
+hear_named-answer-requires-clause-memory g c = λ call. absurd (no_call c.args.message.now c.requires.other call)

@@ -22,3 +22,7 @@ pub returns-clause-does : goal.returns-clause-does
 returns-clause-does g c =
     started_does c.args.self.now c.make_way.new.self c.hear_named.new.self (address c.args.from.0) c.args.source (message_shown c.args.message.now) c.hear_named.result c.args.out.now c.hear_named.new.out
     c.requires.start (sym (ap (λ (z : Kept g.row.H.Denot). z.halted) c.self.view_is) ∙ c.if-self.false) c.make_way.ensures.state c.make_way.ensures.same c.hear_named.ensures.does
+
+pub hear_named-requires-clause-memory : goal.hear_named-requires-clause-memory
+hear_named-requires-clause-memory g c = λ call.
+    c.make_way.ensures.memory (c.requires.memory (sym (ap (λ (z : Kept g.row.H.Denot). z.halted) c.self.view_is) ∙ c.if-self.false))

@@ -1,15 +1,16 @@
-use Rattle.std.proofs.Common.{◌≡◌, ◌<◌, ◌≤◌, None, [], ◌∷◌, ◌++◌, length, sym, ap, ◌∙◌, subst, arith}
+use Rattle.std.proofs.Common.{◌≡◌, ◌<◌, ◌≤◌, ◌+◌, None, [], ◌∷◌, ◌++◌, length, sym, ap, ◌∙◌, subst, arith}
 use Rattle.std.specs.Map.{lookup}
 use Rattle.lat_machines.specs.server.Queue.{Asks}
 use Rattle.lat_machines.specs.server.Records.{ask_answer}
 use Rattle.lat_base.specs.declared.kept.Kept.{Kept}
 use Rattle.lat_machines.specs.values.Addresses.{address}
 use Rattle.lat_queue.specs.KeyHash.{one_key}
-use Rattle.lat_queue.specs.Tables.{Table, added, new_info, new_standing}
+use Rattle.lat_queue.specs.Tables.{Table, added, new_info, new_standing, waiting_count}
 use Rattle.lat_queue.specs.Histories.{Stands, key_shown}
 use Rattle.lat_queue.specs.KeptValues.{kept_shown}
 use Rattle.lat_queue.proofs.CallLemmas.{stands_again, stands_full, stands_new, info_none, ok_both}
 use Rattle.lat_queue.proofs.InfoLemmas.{known_answer, full_answer, new_right}
+use Rattle.lat_queue.proofs.CountLemmas.{count_added, on_ok}
 use Rattle.lat_queue.proofs.queue.Queue.ask.Goals as goal
 
 pub returns-in-Some-clause-answer : goal.returns-in-Some-clause-answer
@@ -43,3 +44,10 @@ returns-clause-stands c =
     let none : lookup (one_key c.args.key.now) t.entries ≡ None = info_none t.entries c.args.key.now (lookup (one_key c.args.key.now) t.entries) (sym c.info.ensures.value ∙ c.in_default.is) in
     λ h st. ok_both c.admit.result (λ a. a ≡ new_info t (new_standing t c.args.service.now)) (λ a. Stands c.admit.new.self (h ++ Asks (key_shown c.args.key.now) (address c.args.from.0) c.args.service.now (kept_shown a) ∷ [])) (c.admit.new.self ≡ added t c.args.key.now (record { from = c.args.from; service = c.args.service.now; standing = new_standing t c.args.service.now })) c.admit.ensures.answer c.admit.ensures.ok
     (λ a i n. subst (λ (z : Table). Stands z (h ++ Asks (key_shown c.args.key.now) (address c.args.from.0) c.args.service.now (kept_shown a) ∷ [])) (sym n) (subst (λ (z : Kept). Stands (added t c.args.key.now (record { from = c.args.from; service = c.args.service.now; standing = new_standing t c.args.service.now })) (h ++ Asks (key_shown c.args.key.now) (address c.args.from.0) c.args.service.now (kept_shown z) ∷ [])) (sym i) (stands_new t h c.args.key.now c.args.from c.args.service.now st none few)))
+
+pub returns-clause-waiting : goal.returns-clause-waiting
+returns-clause-waiting c =
+    let t : Table = c.args.self.now in
+    on_ok c.admit.result
+    (λ is. subst (λ (z : Table). waiting_count z.entries ≤ waiting_count t.entries + 1) (sym is) (count_added t c.args.key.now (record { from = c.args.from; service = c.args.service.now; standing = new_standing t c.args.service.now })))
+    c.admit.ensures.ok

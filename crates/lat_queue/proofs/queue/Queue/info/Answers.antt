@@ -10,7 +10,7 @@ pub info_of-requires-clause-line : goal.info_of-requires-clause-line
 info_of-requires-clause-line c =
     let e = c.in_ok-entry.entry.now in
     subst (λ (t : Table). OnLine (length t.offered) e.standing) c.self.view_is
-    (lookup_each (λ (x : Entry). OnLine (length c.self.inside.offered) x.standing) c.args.key.now c.self.inside.entries.entries e c.self.invariant.placed (sym c.in_ok-entry.ensures.value))
+    (lookup_each (λ (x : Entry). OnLine (length c.self.inside.offered) x.standing) c.args.key.now c.self.inside.entries.entries e c.self.invariant.0.placed (sym c.in_ok-entry.ensures.value))
 
 pub info_of-requires-clause-there : goal.info_of-requires-clause-there
 info_of-requires-clause-there c =

@@ -16,4 +16,4 @@ returns-then-not-is_empty c = λ h st.
     any_from_yields_List has_waiter _ _ c.any.result c.any.ensures.ran (YieldsList-from_slice c.deref.result.now c.iter.ensures.rest) (λ x b q k. search (rules, tests)) in
     found
     ∙ ap (list_any has_waiter) c.deref.ensures.value
-    ∙ any_right t s.lines.items h c.self.invariant (subst (λ (z : Table). Stands z h) (sym c.self.view_is) st)
+    ∙ any_right t s.lines.items h c.self.invariant.0 (subst (λ (z : Table). Stands z h) (sym c.self.view_is) st)

@@ -9,4 +9,4 @@ returns-in-Waits-clause-on_line c =
     let e = c.in_ok-entry.field-0.now in
     subst (λ (t : Table). c.in-Waits.line < length t.offered) c.self.view_is
     (subst (OnLine (length c.self.inside.offered)) c.in-Waits.is
-    (lookup_each (λ (x : Entry). OnLine (length c.self.inside.offered) x.standing) c.args.key.now c.self.inside.entries.entries e c.self.invariant.placed (sym c.in_ok-entry.ensures.value)))
+    (lookup_each (λ (x : Entry). OnLine (length c.self.inside.offered) x.standing) c.args.key.now c.self.inside.entries.entries e c.self.invariant.0.placed (sym c.in_ok-entry.ensures.value)))

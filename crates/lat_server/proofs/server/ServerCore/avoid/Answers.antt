@@ -11,6 +11,7 @@ use Rattle.lat_server.specs.Stands.{Stands}
 use Rattle.lat_server.specs.Events.{HasDone}
 use Rattle.lat_server.proofs.Connecting.{idle}
 use Rattle.lat_server.proofs.Halting.{IsPeer, peer_is, peer_none, at_nothing, at_never, did_avoid}
+use Rattle.lat_server.proofs.Memory.{spends_nothing}
 use Rattle.lat_server.proofs.server.ServerCore.avoid.Goals as goal
 
 pub returns-then-not-exists-clause-does : goal.returns-then-not-exists-clause-does
@@ -40,3 +41,8 @@ returns-in-None-clause-does c = λ frames s st.
     ap (option_map (λ (a : Addr). address a.0)) (sym c.in-None.is) ∙ c.newest_peer.ensures s.core in_it.lines in
     let h : had_session s.core c.args.line ≡ false = peer_none (had_session s.core c.args.line) (peer_address s.core c.args.line) told in
     subst (λ (t : ServerStep). HasDone s t k base.Closed frames frames) (sym (at_never (config_of k) s c.args.line e h)) (record { state = idle k s Closed frames c.requires.rest st; answered = refl })
+
+pub returns-in-Some-clause-spare : goal.returns-in-Some-clause-spare
+returns-in-Some-clause-spare c =
+    let k : Kept = shown c.self.inside in
+    spends_nothing c.args.self.now k (record k { directory = c.avoid.new.self }) c.self.view_is refl refl

@@ -6,6 +6,7 @@ use Rattle.lat_server.specs.Kept.{Kept, config_of}
 use Rattle.lat_server.specs.Events.{HasDone}
 use Rattle.lat_server.proofs.Connecting.{idle}
 use Rattle.lat_server.proofs.Halting.{at_halted, at_working}
+use Rattle.lat_server.proofs.Memory.{spends_same}
 use Rattle.lat_server.proofs.server.ServerCore.connect.Goals as goal
 
 pub returns-then-self-clause-does : goal.returns-then-self-clause-does
@@ -19,3 +20,6 @@ returns-else-self-clause-does c = λ s st.
     let k : Kept = c.args.self.now in
     let h : s.halted ≡ false = sym st.gate.halted ∙ ap (λ (z : Kept). z.gate.halted) (sym c.self.view_is) ∙ c.if-self.false in
     subst (λ (t : ServerStep). HasDone s t c.connect_line.new.self c.connect_line.result c.args.out.now c.connect_line.new.out) (sym (at_working (config_of k) s c.args.line c.args.service.now h)) (c.connect_line.ensures.does s st)
+
+pub returns-then-self-clause-spare : goal.returns-then-self-clause-spare
+returns-then-self-clause-spare c = spends_same 1 c.args.self.now

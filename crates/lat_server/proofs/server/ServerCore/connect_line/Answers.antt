@@ -10,6 +10,7 @@ use Rattle.lat_server.specs.Shown.{shown}
 use Rattle.lat_server.specs.Stands.{Stands}
 use Rattle.lat_server.specs.Events.{HasDone}
 use Rattle.lat_server.proofs.Connecting.{idle, at_no_line, at_busy, at_best, at_none}
+use Rattle.lat_server.proofs.Memory.{spends_free, spends_same}
 use Rattle.lat_server.proofs.server.ServerCore.connect_line.Goals as goal
 
 pub returns-then-not-exists-clause-does : goal.returns-then-not-exists-clause-does
@@ -51,3 +52,12 @@ returns-in-None-clause-does c = λ s st.
     ∙ sym (c.best.ensures.best s.heard in_it.directory)
     ∙ ap (option_map best_shown) c.in-None.is in
     subst (λ (t : ServerStep). HasDone s t c.solicit.new.self c.solicit.result c.args.out.now c.solicit.new.out) (sym (at_none (config_of k) s c.args.line c.args.service.now e h b)) (c.solicit.ensures.does s st)
+
+pub returns-then-not-exists-clause-spare : goal.returns-then-not-exists-clause-spare
+returns-then-not-exists-clause-spare c = spends_same 1 c.args.self.now
+
+pub returns-then-has_session-clause-spare : goal.returns-then-has_session-clause-spare
+returns-then-has_session-clause-spare c = spends_same 1 c.args.self.now
+
+pub returns-in-None-clause-spare : goal.returns-in-None-clause-spare
+returns-in-None-clause-spare c = spends_free 1 c.args.self.now c.solicit.new.self c.solicit.ensures.spare

@@ -1,4 +1,4 @@
-use Rattle.std.proofs.Common.{◌≡◌, ◌≢◌, sym, ap, subst, ◌∙◌, max}
+use Rattle.std.proofs.Common.{◌≡◌, ◌≢◌, sym, ap, subst, ◌∙◌, max, length, arith}
 use Rattle.std.specs.Prelude.{Err}
 use Rattle.lat_machines.specs.values.Addresses.{address}
 use Rattle.lat_machines.specs.cores.Cores.{at_moment}
@@ -9,11 +9,12 @@ use Rattle.lat_dir.specs.Stands.{heard, answer_to}
 use Rattle.lat_dir.specs.Announcements.{announcement_shown}
 use Rattle.lat_lines.specs.AnswerValues.{answer_shown}
 use Rattle.lat_server.specs.Commands.{announced_answer}
-use Rattle.lat_server.specs.Kept.{Kept, config_of, AtRest}
+use Rattle.lat_server.specs.Kept.{Kept, config_of, AtRest, HasSpare}
 use Rattle.lat_server.specs.Shown.{shown}
 use Rattle.lat_server.specs.Stands.{Stands}
 use Rattle.lat_server.specs.Events.{HasDone}
 use Rattle.lat_server.proofs.Hearing.{unless_out, did_announce}
+use Rattle.lat_server.proofs.Memory.{spends}
 use Rattle.lat_server.proofs.server.ServerCore.hear_announcement.Goals as goal
 
 pub returns-clause-does : goal.returns-clause-does
@@ -32,3 +33,12 @@ returns-clause-does c = λ frames s st.
     let told : answer_shown c.in_ok-answer.answer ≡ announced_answer r = unless_out r (answer_shown c.in_ok-answer.answer ≡ announced_answer r) n c.in_ok-answer.ensures.shown in
     subst (λ (z : Kept). HasDone s (hears_announcement (config_of z) (with_core s (at_moment c.args.now s.core)) (address c.args.from.0) (announcement_shown a)) (record k { lines = c.pass.new.self; directory = c.hear-heard.new.self }) c.in_ok-answer.answer frames frames) c.self.view_is
     (did_announce k s c.args.now (address c.args.from.0) (announcement_shown a) c.pass.new.self c.hear-heard.new.self c.in_ok-answer.answer frames rest in_it (c.pass.ensures.state s.core in_it.lines) c.pass.ensures.freed stands (told ∙ ap announced_answer answer))
+
+pub returns-clause-spare : goal.returns-clause-spare
+returns-clause-spare c =
+    let k : Kept = shown c.self.inside in
+    spends k (record k { lines = c.pass.new.self; directory = c.hear-heard.new.self }) 0 0 (omega arith) c.pass.ensures.same.core.memory (omega (arith, ap length c.pass.ensures.rooms)) 0
+    (subst (HasSpare 0) (sym c.self.view_is) c.requires.rest.memory)
+
+pub returns-in_err-answer-clause-spare : goal.returns-in_err-answer-clause-spare
+returns-in_err-answer-clause-spare c = subst (HasSpare 0) (sym c.self.view_is) c.requires.rest.memory

@@ -1,4 +1,4 @@
-use Rattle.std.proofs.Common.{◌≡◌, None, sym, ap, subst, ◌∙◌}
+use Rattle.std.proofs.Common.{◌≡◌, None, sym, ap, subst, ◌∙◌, arith, length, true≢false}
 use Rattle.lat_machines.specs.values.Addresses.{address}
 use Rattle.lat_machines.specs.cores.Cores.{Core, Side, at_moment}
 use Rattle.lat_machines.specs.server.Server.{server_side, with_core, hears_message}
@@ -9,12 +9,13 @@ use Rattle.lat_lines.specs.Strangers.{strangers_stop}
 use Rattle.lat_lines.specs.AnswerValues.{answer_shown}
 use Rattle.lat_lines.specs.Kept as lines
 use Rattle.lat_lines.specs.Stands as stands
-use Rattle.lat_server.specs.Kept.{Kept, config_of}
+use Rattle.lat_server.specs.Kept.{Kept, config_of, HasSpare}
 use Rattle.lat_server.specs.Shown.{shown}
 use Rattle.lat_server.specs.Stands.{Stands}
 use Rattle.lat_server.specs.Events.{HasDone}
 use Rattle.lat_server.proofs.Connecting.{same_side}
 use Rattle.lat_server.proofs.Hearing.{sides, did_message}
+use Rattle.lat_server.proofs.Memory.{spends}
 use Rattle.lat_server.proofs.server.ServerCore.hear_message.Goals as goal
 
 pub returns-clause-does : goal.returns-clause-does
@@ -35,3 +36,15 @@ returns-clause-does c = λ s st.
     (subst (Emits (strangers_stop (lines.side_of c.pass.new.self) k.prompt m x message) out) (sym c.push_if_any.ensures) (c.stranger_stop-stop.ensures m out there)) in
     subst (λ (z : Kept). HasDone s (hears_message (config_of z) (with_core s m) x message None) (record k { lines = c.heard-hearing.new.self }) c.hearing_answer.result c.args.out.now c.push_if_any.new.out) c.self.view_is
     (did_message k s c.args.now x message c.heard-hearing.new.self c.hearing_answer.result c.args.out.now out c.push_if_any.new.out in_it did told stop)
+
+pub returns-clause-spare : goal.returns-clause-spare
+returns-clause-spare c =
+    let k : Kept = shown c.self.inside in
+    let new : Kept = record k { lines = c.heard-hearing.new.self } in
+    let server = c.pass.ensures.same.core.server ∙ c.self.invariant.server in
+    spends k new 0 0 (omega arith) (c.heard-hearing.ensures.same.core.memory ∙ c.pass.ensures.same.core.memory) (omega (arith, c.heard-hearing.ensures.rooms server, ap length c.pass.ensures.rooms)) 0
+    (subst (HasSpare 0) (sym c.self.view_is) c.requires.rest.memory)
+
+pub heard-hearing-requires-clause-memory : goal.heard-hearing-requires-clause-memory
+heard-hearing-requires-clause-memory c = λ node call.
+    absurd (true≢false (sym (c.pass.ensures.same.core.server ∙ c.self.invariant.server) ∙ node))

@@ -29,3 +29,10 @@ returns-clause-stands c =
     let ls = subst (λ n. stands.Stands lines (open_core (side_of lines) (address lines.circuits.own.0) n)) (sym c.in_ok-make.ensures.own.4) at in
     let server : lines.circuits.server ≡ true = search rules in
     is_opened _ server ls c.in_ok-make-2.ensures.stands c.in_ok-make-3.ensures.stands refl c.open.ensures
+
+pub returns-clause-rest : goal.returns-clause-rest
+returns-clause-rest c = record {
+  clear = c.in_ok-make.ensures.clear;
+  freed = c.in_ok-make.ensures.freed;
+  memory = λ short. absurd (omega (arith, short, c.in_ok-make-3.ensures.none));
+}

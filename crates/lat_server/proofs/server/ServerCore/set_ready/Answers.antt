@@ -10,6 +10,7 @@ use Rattle.lat_server.specs.Events.{HasDone}
 use Rattle.lat_server.proofs.Connecting.{idle}
 use Rattle.lat_server.proofs.Gates.{set_stands}
 use Rattle.lat_server.proofs.Halting.{at_no_line, did_ready}
+use Rattle.lat_server.proofs.Memory.{spends_nothing}
 use Rattle.lat_server.proofs.server.ServerCore.set_ready.Goals as goal
 
 pub returns-then-not-exists-clause-does : goal.returns-then-not-exists-clause-does
@@ -27,3 +28,8 @@ returns-clause-does c = λ frames s st.
     let g = set_stands k.gate c.set.new.self s.halted s.ready c.args.line c.args.ready c.set.ensures.ready c.set.ensures.halted in_it.gate in
     subst (λ (z : Kept). HasDone s (readies_on (config_of z) s c.args.line c.args.ready) (record k { gate = c.set.new.self }) base.Done frames frames) c.self.view_is
     (did_ready k s c.args.line c.args.ready c.set.new.self frames rest in_it e g)
+
+pub returns-clause-spare : goal.returns-clause-spare
+returns-clause-spare c =
+    let k : Kept = shown c.self.inside in
+    spends_nothing c.args.self.now k (record k { gate = c.set.new.self }) c.self.view_is refl refl

@@ -12,13 +12,13 @@ use Rattle.lat_switch.proofs.Lined.{as_relay, as_refusal}
 use Rattle.lat_switch.proofs.switch.SwitchCore.apply.Goals as goal
 
 pub returns-in-Connect-clause-does : goal.returns-in-Connect-clause-does
-returns-in-Connect-clause-does c = subst (λ (e : Event). Simulates (does e) c.args.self.now c.connect_event.new.self c.connect_event.result c.args.out.now c.connect_event.new.out) (sym c.in-Connect.is) c.connect_event.ensures.does
+returns-in-Connect-clause-does c = subst (λ (e : Event). IfOk c.connect_event.result (λ a. Simulates (does e) c.args.self.now c.connect_event.new.self a c.args.out.now c.connect_event.new.out)) (sym c.in-Connect.is) c.connect_event.ensures.does
 
 pub returns-in-Connect-clause-put : goal.returns-in-Connect-clause-put
-returns-in-Connect-clause-put c = subst (λ (e : Event). PutFits c.connect_event.result e) (sym c.in-Connect.is) c.connect_event.ensures.put
+returns-in-Connect-clause-put c = subst (λ (e : Event). IfOk c.connect_event.result (λ a. PutFits a e)) (sym c.in-Connect.is) c.connect_event.ensures.put
 
 pub returns-in-Connect-clause-took : goal.returns-in-Connect-clause-took
-returns-in-Connect-clause-took c = subst (λ (e : Event). TookFits (ready c.args.self.now) c.connect_event.result e) (sym c.in-Connect.is) c.connect_event.ensures.took
+returns-in-Connect-clause-took c = subst (λ (e : Event). IfOk c.connect_event.result (λ a. TookFits (ready c.args.self.now) a e)) (sym c.in-Connect.is) c.connect_event.ensures.took
 
 pub returns-in-Set-clause-does : goal.returns-in-Set-clause-does
 returns-in-Set-clause-does c = subst (λ (e : Event). Simulates (does e) c.args.self.now c.set.new.self c.set.result c.args.out.now c.set.new.out) (sym c.in-Set.is) c.set.ensures.does

@@ -20,3 +20,6 @@ returns-clause-does c = λ t h.
 
 pub returns-clause-quiet : goal.returns-clause-quiet
 returns-clause-quiet c = c.tell-answer.ensures.quiet tt
+
+pub tell-answer-requires-clause-memory : goal.tell-answer-requires-clause-memory
+tell-answer-requires-clause-memory c = c.requires.valid.rest.memory

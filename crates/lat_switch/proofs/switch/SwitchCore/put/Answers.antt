@@ -5,6 +5,7 @@ use Rattle.lat_switch.specs.Pieces.{pieces_of, sizes}
 use Rattle.lat_switch.specs.Progress.{HasRead}
 use Rattle.lat_switch.specs.Reading.{puts, reads_all}
 use Rattle.lat_switch.specs.Stands.{Simulates}
+use Rattle.lat_switch.proofs.Courses.{same_then}
 use Rattle.lat_switch.proofs.Readings.{has_put, sizes_within, some_pieces}
 use Rattle.lat_switch.proofs.switch.SwitchCore.put.Goals as goal
 
@@ -18,8 +19,11 @@ returns-clause-does c = λ course h.
     let is : c.in_ok-pieces.pieces.items ≡ pieces_of (take 65535 c.args.bytes.now) = c.in_ok-pieces.ensures ∙ ap pieces_of c.first_bytes.ensures in
     has_put c.args.line course (pieces_of (take 65535 c.args.bytes.now)) c.read-progress.new.self c.read-progress.result c.answer.result c.read-progress.new.out
     (some_pieces c.args.bytes.now (omega (arith, eqb-false (length c.args.bytes.now) 0 (sym c.is_empty.ensures ∙ c.if-is_empty.false))))
-    (subst (λ ps. HasRead (reads_all c.args.line ps course) c.read-progress.new.self c.read-progress.result c.read-progress.new.out) is (c.read-progress.ensures.reads course h))
+    (subst (λ ps. HasRead (reads_all c.args.line ps course) c.read-progress.new.self c.read-progress.result c.read-progress.new.out) is (c.read-progress.ensures.reads course (c.reserve.ensures.does c.args.out.now course h)))
     c.answer.ensures.value
+
+pub returns-clause-same : goal.returns-clause-same
+returns-clause-same c = same_then c.args.self.now c.reserve.new.self c.read-progress.new.self c.reserve.ensures.same c.read-progress.ensures.same
 
 pub returns-clause-put : goal.returns-clause-put
 returns-clause-put c =

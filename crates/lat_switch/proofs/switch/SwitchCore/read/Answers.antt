@@ -16,6 +16,7 @@ loop-piece-init c = record {
   valid = c.requires.valid;
   same = same_itself c.args.self.now;
   empty = λ t. c.requires.empty;
+  memory = λ t. c.requires.memory;
   size = omega arith;
   reads = λ course h. record {
     reading = starts course;
@@ -36,6 +37,7 @@ loop-piece-preserved c =
       valid = c.read_piece-progress.ensures.valid;
       same = same_then c.args.self.now c.loop-piece.self c.read_piece-progress.new.self c.loop-piece.invariant.same c.read_piece-progress.ensures.same;
       empty = c.read_piece-progress.ensures.quiet;
+      memory = c.read_piece-progress.ensures.memory;
       size = omega (arith, ap sizes q, c.loop-piece.invariant.size, c.read_piece-progress.ensures.count);
       reads = λ course h.
           reads_on c.args.line (reads_all c.args.line c.args.pieces.items course) c.in-Some.piece c.pop_front.new.self.items c.loop-piece.self c.read_piece-progress.new.self c.loop-piece.progress c.read_piece-progress.result c.loop-piece.out c.read_piece-progress.new.out

@@ -1,4 +1,4 @@
-use Rattle.std.proofs.Common.{◌≡◌, ◌+◌, Bool, true, false, not, refl, sym, ap, subst, arith}
+use Rattle.std.proofs.Common.{◌≡◌, ◌+◌, Bool, true, false, not, refl, sym, ap, subst, arith, true≢false, ◌∙◌}
 use Rattle.lat_switch.specs.declared.piece.Piece.{Piece}
 use Rattle.lat_switch.specs.declared.piece.Piece.TheVariants as pieces
 use Rattle.lat_switch.specs.declared.reading.Progress.{Progress}
@@ -7,6 +7,7 @@ use Rattle.lat_switch.specs.Progress.{HasRead}
 use Rattle.lat_switch.specs.Reading.{reads}
 use Rattle.lat_switch.proofs.Courses.{same_itself}
 use Rattle.lat_switch.proofs.Readings.{has_ended, has_gone_on, has_turned, has_called}
+use Rattle.lat_server.specs.Kept.{HasSpare}
 use Rattle.lat_switch.proofs.switch.SwitchCore.read_piece.Goals as goal
 
 off : (b : Bool) → not b ≡ true → b ≡ false
@@ -47,3 +48,19 @@ returns-in-Connect-clause-reads c = λ r h.
     (subst (λ (p : Progress). HasRead (reads c.args.line r pieces.Connect) c.connect_own.new.self p c.connect_own.new.out) (sym c.last_one.ensures)
     (has_gone_on c.args.line r pieces.Connect c.args.self.now c.connect_own.new.self c.args.progress (record (c.args.progress) { count = c.args.progress.count + 1; goes_on = false }) c.args.out.now c.connect_own.new.out (on c.args.progress.goes_on c.if-not-progress.false) h
     (has_called c.args.line r c.args.self.now c.connect_own.new.self c.args.progress c.args.out.now c.connect_own.new.out h (c.connect_own.ensures.does r.course h.course))))
+
+pub returns-in-Run-clause-memory : goal.returns-in-Run-clause-memory
+returns-in-Run-clause-memory c = λ t.
+    c.read_run.ensures.spare 1 (c.requires.memory (on c.args.progress.goes_on c.if-not-progress.false))
+
+pub returns-in-Next-clause-memory : goal.returns-in-Next-clause-memory
+returns-in-Next-clause-memory c = λ t.
+    subst (HasSpare 1) (sym c.show_next.ensures.inner) (c.requires.memory (on c.args.progress.goes_on c.if-not-progress.false))
+
+pub returns-in-Connect-clause-memory : goal.returns-in-Connect-clause-memory
+returns-in-Connect-clause-memory c = λ t.
+    let ended : c.last_one.result.goes_on ≡ false = ap (λ (p : Progress). p.goes_on) c.last_one.ensures in
+    absurd (true≢false (sym t ∙ ended))
+
+pub connect_own-requires-clause-memory : goal.connect_own-requires-clause-memory
+connect_own-requires-clause-memory c = c.requires.memory (on c.args.progress.goes_on c.if-not-progress.false)

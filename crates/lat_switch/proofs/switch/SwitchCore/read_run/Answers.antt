@@ -20,3 +20,9 @@ returns-clause-count c = omega (arith, accepted_within c.tell-answer.result c.sh
 
 pub returns-clause-quiet : goal.returns-clause-quiet
 returns-clause-quiet c = c.tell-answer.ensures.quiet tt
+
+pub returns-clause-spare : goal.returns-clause-spare
+returns-clause-spare c = c.tell-answer.ensures.spare
+
+pub tell-answer-requires-clause-memory : goal.tell-answer-requires-clause-memory
+tell-answer-requires-clause-memory c = c.requires.valid.rest.memory

@@ -15,3 +15,6 @@ pub returns-clause-does : goal.returns-clause-does
 returns-clause-does c = λ course h.
     such_line course c.args.self.now c.tell.new.self c.args.line (λ (z : Course). relays (events.Ready (line_on c.args.line z.state).shown c.args.is_ready) z) c.tell.result c.args.out.now c.tell.new.out (sym c.exists.ensures.value ∙ c.if-not-exists.false) h
     (on_shown_line course c.args.self.now c.tell.new.self c.args.line c.shown.result (λ x. events.Ready x c.args.is_ready) c.tell.result c.args.out.now c.tell.new.out h (c.shown.ensures ∙ ap (λ (l : Line). l.shown) c.line_at.ensures) (c.tell.ensures.does course h))
+
+pub tell-requires-clause-memory : goal.tell-requires-clause-memory
+tell-requires-clause-memory c = c.requires.valid.rest.memory

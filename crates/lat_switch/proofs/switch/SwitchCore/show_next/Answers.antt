@@ -28,3 +28,6 @@ returns-clause-does c = λ frames course h.
     has_changed course c.args.line (shows_next course.state.inner) c.args.self.now _ frames c.show_next.new.self h (ap (λ (z : Kept). z.inner) c.self.view_is)
     (ap (λ (z : Kept). slice_set z.lines (c.args.line - 1) c.show_next.new.self) c.self.view_is)
     (c.show_next.ensures course.state.inner st ∙ ap (shows_next course.state.inner) was)
+
+pub returns-clause-inner : goal.returns-clause-inner
+returns-clause-inner c = ap (λ (z : Kept). z.inner) c.self.view_is

@@ -1,10 +1,12 @@
-use Rattle.std.proofs.Common.{map, sym, ap, subst, ◌∙◌}
+use Rattle.std.proofs.Common.{map, sym, ap, subst, ◌∙◌, ◌+◌}
 use Rattle.lat_machines.specs.server.Server.{ServerConfig}
 use Rattle.lat_server.specs.Stands.{Machine, IsMachine, opening, next}
 use Rattle.lat_switch.specs.Kept.{Kept, IsValid}
 use Rattle.lat_switch.specs.Lines.{gives_way}
 use Rattle.lat_switch.proofs.Courses.{has_told, still_valid, same_after}
 use Rattle.lat_switch.proofs.Quiet.{quiet_out}
+use Rattle.lat_server.specs.Events.{cost}
+use Rattle.lat_server.specs.Kept.{HasSpare}
 use Rattle.lat_switch.proofs.switch.SwitchCore.tell.Goals as goal
 
 pub returns-clause-valid : goal.returns-clause-valid
@@ -38,3 +40,10 @@ returns-clause-quiet c = λ q.
     let v : IsValid c.args.self.now = c.requires.valid in
     let st : IsMachine c.self.inside.inner v.machine = subst (λ (z : Kept). IsMachine z.inner v.machine) (sym c.self.view_is) v.stands in
     quiet_out v.machine c.args.event.now c.local-answer.new.out (ap (λ (z : ServerConfig). z.offers) st.config ∙ c.self.invariant.offers) q (c.local-answer.ensures.frames v.machine st)
+
+pub local-answer-requires-clause-memory : goal.local-answer-requires-clause-memory
+local-answer-requires-clause-memory c = subst (λ (z : Kept). HasSpare (cost c.args.event.now) z.inner) (sym c.self.view_is) c.requires.memory
+
+pub returns-clause-spare : goal.returns-clause-spare
+returns-clause-spare c = λ n spare.
+    subst (HasSpare n) (sym c.give_way.ensures.inner) (c.local-answer.ensures.spare n (subst (λ (z : Kept). HasSpare (cost c.args.event.now + n) z.inner) (sym c.self.view_is) spare))
