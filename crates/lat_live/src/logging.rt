@@ -5,7 +5,7 @@ ghost use Rattle.std.specs.Prelude.{◌≡◌};
 use crate::plan::{LinePlan, Plan, Post};
 use lat_base::{Core, Memory, Name};
 use lat_cell::{Cell, Heading, LogWriter};
-use lat_log::{Entry, Journal, OwnEnd, Role, Side, Watch};
+use lat_log::{Entry, Journal, Role, Side, Watch};
 use lat_outside::{Sink, Tx};
 use lat_words as words;
 use log::LevelFilter;
@@ -96,13 +96,9 @@ fn open(journal: &mut Journal, plan: &Plan<'_>) {
 
 /// The log of a daemon of this plan, which tells what it listens at. `Memory` where none is found.
 pub(crate) fn journal_of(alloc: Global, plan: &Plan<'_>) -> Result<Journal, Memory> {
-    let own = OwnEnd {
-        side: side_of(plan.role),
-        first: plan.first,
-    };
     let names = offered(alloc, plan.lines)?;
     let lines = u8::try_from(plan.lines.len()).unwrap_or(64);
-    let watch = Watch::make(alloc, own, lines, names)?;
+    let watch = Watch::make(alloc, side_of(plan.role), lines, names)?;
     let mut journal = Journal::make(alloc, filter_of(plan.level), watch)?;
     open(&mut journal, plan);
     Ok(journal)

@@ -1,4 +1,5 @@
 pub mod Gathered
 pub mod UnseenLines
 pub mod Added
+pub mod Few
 pub mod Silent

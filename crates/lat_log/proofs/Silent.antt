@@ -13,7 +13,8 @@ use Rattle.lat_base.specs.declared.look.WaiterLook.{WaiterLook}
 use Rattle.lat_base.specs.declared.state.SessionState.{SessionState}
 use Rattle.lat_base.specs.declared.state.SessionState.TheVariants as states
 use Rattle.lat_base.specs.declared.state.SessionEnd.{SessionEnd}
-use Rattle.lat_log.specs.CircuitNews.{came, circuits_news, is_up, lives_in, up_in, went_down}
+use Rattle.lat_log.specs.CircuitNews.{came_up, circuits_news, is_up, lives_in, up_in, went_down}
+use Rattle.lat_log.specs.LeftNews.{left_news}
 use Rattle.lat_log.specs.LineNews.{begun, end_said, line_news, line_next, live_said, reached_by, reached_of, session_now}
 use Rattle.lat_log.specs.ServiceNews as services
 use Rattle.lat_log.specs.Sights.{flow_of, sight_of}
@@ -22,13 +23,14 @@ use Rattle.lat_log.specs.Watches.{Seen, Sight, news_of, seen_next, services_new,
 use Rattle.lat_log.specs.declared.entry.Entry.{Entry}
 use Rattle.lat_log.specs.declared.entry.Flow.{Flow}
 use Rattle.lat_log.specs.declared.entry.Offered.{Offered}
+use Rattle.lat_log.specs.declared.left.Left.{Left}
 use Rattle.lat_log.specs.declared.seen.LineSeen.{LineSeen}
 use Rattle.lat_log.specs.declared.seen.LineSight.{LineSight}
-use Rattle.lat_log.specs.declared.seen.OwnEnd.{OwnEnd}
 use Rattle.lat_log.specs.declared.seen.SessionSeen.{SessionSeen}
 use Rattle.lat_log.specs.declared.seen.Side.{Side}
 use Rattle.lat_log.specs.declared.seen.Waiting.{Waiting}
 use Rattle.lat_log.specs.declared.trigger.Trigger.{Trigger}
+use Rattle.lat_log.proofs.Few.{left_silent}
 
 -- ---- lists
 
@@ -73,18 +75,17 @@ up_still : (all : List CircuitLook) (c : CircuitLook) (b : Bool) → is_up c ≡
 up_still all c true is up = ap not (up refl)
 up_still all c false is up = refl
 
-known : (first : ℕ) (all front : List CircuitLook) (c : CircuitLook) (rest : List CircuitLook) → all ≡ front ++ c ∷ rest → came first all c ≡ []
-known first all front c rest is =
-    let lives : lives_in all c.id ≡ true = found_among (λ (x y : CircuitLook). nat_eq y.id x.id) (λ x. same_nat x.id) all front c rest is in
+known : (all front : List CircuitLook) (c : CircuitLook) (rest : List CircuitLook) → all ≡ front ++ c ∷ rest → came_up all c ≡ []
+known all front c rest is =
     let up : is_up c ≡ true → up_in all c.id ≡ true = λ u.
     ap (list_any (λ (k : CircuitLook). nat_eq k.id c.id && is_up k)) is
     ∙ among (λ (k : CircuitLook). nat_eq k.id c.id && is_up k) front c rest (rw (same_nat c.id, u) refl) in
     let still : (is_up c && not (up_in all c.id)) ≡ false = up_still all c (is_up c) refl up in
-    rw (lives, still) refl
+    rw still refl
 
-pub circuits_silent : (own : OwnEnd) (trigger : Trigger) (all : List CircuitLook) → circuits_news own trigger all all ≡ []
-circuits_silent own trigger all =
-    rw (silent (went_down own.side trigger all) all (goes_on own.side trigger all), silent (came own.first all) all (known own.first all)) refl
+pub circuits_silent : (side : Side) (trigger : Trigger) (all : List CircuitLook) → circuits_news side trigger all all ≡ []
+circuits_silent side trigger all =
+    rw (silent (went_down side trigger all) all (goes_on side trigger all), silent (came_up all) all (known all)) refl
 
 -- ---- lines
 
@@ -162,13 +163,15 @@ services_are_silent seen now = services_still seen now (nat_lt 512 (length now))
 -- ---- a notice
 
 pub unchanged_is_silent : (circuit_of : ℕ → Option CircuitLook) (look_of : ℕ → LineLook) (correspondent_of : ℕ → Option Correspondent) (waiter_of : List ℕ → ℕ → Option WaiterLook)
-    → (before after : List Flow) (seen : Seen) (trigger : Trigger)
-    → news_of (seen_next seen (shown circuit_of look_of correspondent_of waiter_of before seen)) trigger
-    (shown circuit_of look_of correspondent_of waiter_of after (seen_next seen (shown circuit_of look_of correspondent_of waiter_of before seen)))
+    → (left : Left) (before after : List Flow) (seen : Seen) (trigger : Trigger)
+    → news_of (seen_next seen (shown circuit_of look_of correspondent_of waiter_of left before seen)) trigger
+    (shown circuit_of look_of correspondent_of waiter_of left after (seen_next seen (shown circuit_of look_of correspondent_of waiter_of left before seen)))
     ≡ []
-unchanged_is_silent circuit_of look_of correspondent_of waiter_of before after seen trigger =
-    let now : Sight = shown circuit_of look_of correspondent_of waiter_of before seen in
-    let later : List Entry = flat_map (line_news seen.own.side) (map (sight_of look_of correspondent_of after) (map line_next (map (sight_of look_of correspondent_of before) seen.lines))) in
-    ap (λ r. r ++ (later ++ waiting.waiting_news later now.waiting now.waiting)) (circuits_silent seen.own trigger now.circuits)
-    ∙ (ap (λ r. r ++ waiting.waiting_news later now.waiting now.waiting) (lines_silent seen.own.side look_of correspondent_of before after seen.lines)
-    ∙ waiting_silent later now.waiting)
+unchanged_is_silent circuit_of look_of correspondent_of waiter_of left before after seen trigger =
+    let now : Sight = shown circuit_of look_of correspondent_of waiter_of left before seen in
+    let later : List Entry = flat_map (line_news seen.side) (map (sight_of look_of correspondent_of after) (map line_next (map (sight_of look_of correspondent_of before) seen.lines))) in
+    let asked : List Entry = waiting.waiting_news later now.waiting now.waiting in
+    ap (λ r. r ++ (later ++ (asked ++ left_news left left))) (circuits_silent seen.side trigger now.circuits)
+    ∙ (ap (λ r. r ++ (asked ++ left_news left left)) (lines_silent seen.side look_of correspondent_of before after seen.lines)
+    ∙ (ap (λ r. r ++ left_news left left) (waiting_silent later now.waiting)
+    ∙ left_silent left))

@@ -1,5 +1,5 @@
 -- What is new of circuits between two sights of them.
-use Rattle.std.specs.Prelude.{ℕ, ◌+◌, ◌-◌, ◌%◌, Bool, not, ◌&&◌, ◌||◌, List, [], ◌∷◌, ◌++◌, nat_eq, ◌==◌, if◌then◌else◌}
+use Rattle.std.specs.Prelude.{ℕ, Bool, not, ◌&&◌, ◌||◌, List, [], ◌∷◌, ◌++◌, nat_eq, ◌==◌, if◌then◌else◌}
 use Rattle.std.specs.List.{flat_map, list_any}
 use Rattle.lat_base.specs.declared.look.CircuitLook.{CircuitLook}
 use Rattle.lat_log.specs.declared.entry.Cause.{Cause}
@@ -7,8 +7,7 @@ use Rattle.lat_log.specs.declared.entry.Cause.TheVariants as causes
 use Rattle.lat_log.specs.declared.entry.Circuit.{Circuit as Joined}
 use Rattle.lat_log.specs.declared.entry.CircuitNews.TheVariants.{Up, Down}
 use Rattle.lat_log.specs.declared.entry.Entry.{Entry}
-use Rattle.lat_log.specs.declared.entry.Entry.TheVariants.{Circuit, IdsLeft}
-use Rattle.lat_log.specs.declared.seen.OwnEnd.{OwnEnd}
+use Rattle.lat_log.specs.declared.entry.Entry.TheVariants.{Circuit}
 use Rattle.lat_log.specs.declared.seen.Side.{Side}
 use Rattle.lat_log.specs.declared.seen.Side.TheVariants as sides
 use Rattle.lat_log.specs.declared.trigger.Trigger.{Trigger}
@@ -23,10 +22,6 @@ lives_in circuits id = list_any (λ (c : CircuitLook). nat_eq c.id id) circuits
 
 abbrev pub up_in : List CircuitLook → ℕ → Bool
 up_in circuits id = list_any (λ (c : CircuitLook). nat_eq c.id id && is_up c) circuits
-
--- how many of the 65,535 ids are left behind one, where they are drawn round from the first
-abbrev pub ids_left : (first id : ℕ) → ℕ
-ids_left first id = 65_534 - (id + 65_535 - first) % 65_535
 
 -- it held sessions, or repeats were at their limit, or its call wasn't answered
 abbrev pub is_used : CircuitLook → Bool
@@ -54,17 +49,10 @@ abbrev pub went_down : Side → Trigger → List CircuitLook → CircuitLook →
 went_down side trigger now c =
     if lives_in now c.id then [] else Circuit (circuit_of c) (Down (cause_of side trigger c)) ∷ []
 
--- one that didn't live has the id behind which 1,000 are left
-abbrev pub newcomer : ℕ → List CircuitLook → CircuitLook → List Entry
-newcomer first old c = if not (lives_in old c.id) && ids_left first c.id == 1000 then IdsLeft 1000 ∷ [] else []
-
 -- one runs that didn't run
 abbrev pub came_up : List CircuitLook → CircuitLook → List Entry
 came_up old c = if is_up c && not (up_in old c.id) then Circuit (circuit_of c) Up ∷ [] else []
 
-abbrev pub came : ℕ → List CircuitLook → CircuitLook → List Entry
-came first old c = newcomer first old c ++ came_up old c
-
--- first those that went down, then those that came
-abbrev pub circuits_news : OwnEnd → Trigger → (old now : List CircuitLook) → List Entry
-circuits_news own trigger old now = flat_map (went_down own.side trigger now) old ++ flat_map (came own.first old) now
+-- first those that went down, then those that came up
+abbrev pub circuits_news : Side → Trigger → (old now : List CircuitLook) → List Entry
+circuits_news side trigger old now = flat_map (went_down side trigger now) old ++ flat_map (came_up old) now

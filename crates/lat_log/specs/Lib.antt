@@ -9,6 +9,7 @@ pub mod CircuitNews
 pub mod LineNews
 pub mod WaitingNews
 pub mod ServiceNews
+pub mod LeftNews
 pub mod Watches
 pub mod Journals
 pub mod Laws

@@ -3,16 +3,13 @@
 ghost use Rattle.std.specs.Prelude.{◌≡◌, ◌≤◌, ◌++◌, nat_eq, OnOk};
 ghost use Rattle.std.specs.List.{flat_map, list_any};
 ghost use Rattle.lat_base.specs.declared.look.CircuitLook.{CircuitLook as Look};
-ghost use Rattle.lat_log.specs.CircuitNews.{came, came_up, cause_of, circuit_of, circuits_news, ids_left, is_up, lives_in, newcomer, timed_out, up_in, went_down};
+ghost use Rattle.lat_log.specs.CircuitNews.{came_up, cause_of, circuit_of, circuits_news, is_up, lives_in, timed_out, up_in, went_down};
 
 use crate::entry::{Cause, Circuit, CircuitNews, Entry};
 use crate::news::News;
-use crate::seen::{OwnEnd, Side};
+use crate::seen::Side;
 use crate::trigger::Trigger;
 use lat_base::{CircuitLook, Memory};
-
-/// At so many ids left the log says so.
-const NEAR: u16 = 1000;
 
 // Whether the peer's id is known, so that the circuit runs.
 fn is_up(circuit: &CircuitLook) -> bool
@@ -35,14 +32,6 @@ fn up_in(circuits: &[CircuitLook], id: u16) -> bool
     circuits
         .iter()
         .any(|circuit| circuit.id == id && is_up(circuit))
-}
-
-// How many ids are left where the first one drawn was `first` and the newest is `id`.
-fn ids_left(first: u16, id: u16) -> u16
-    ensures { result ≡ ids_left first id }
-{
-    let behind = (id as u32 + 65_535 - first as u32) % 65_535;
-    (65_534 - behind) as u16
 }
 
 // A circuit that ended when time passed.
@@ -100,21 +89,6 @@ fn went_down(
     Ok(())
 }
 
-// Adds that few ids are left, where a circuit is new and has the id at which the log says so.
-fn newcomer(
-    news: &mut News,
-    first: u16,
-    old: &[CircuitLook],
-    circuit: &CircuitLook,
-) -> Result<(), Memory>
-    ensures { OnOk result (news.new ≡ news.old ++ newcomer first old.now circuit.now) }
-{
-    if !lives_in(old, circuit.id) && ids_left(first, circuit.id) == NEAR {
-        news.push(Entry::IdsLeft(NEAR))?;
-    }
-    Ok(())
-}
-
 // Adds that a circuit came up, where it did.
 fn came_up(news: &mut News, old: &[CircuitLook], circuit: &CircuitLook) -> Result<(), Memory>
     ensures { OnOk result (news.new ≡ news.old ++ came_up old.now circuit.now) }
@@ -145,17 +119,11 @@ fn gone_onto(
     Ok(())
 }
 
-// Adds which circuits came.
-fn come_onto(
-    news: &mut News,
-    first: u16,
-    old: &[CircuitLook],
-    now: &[CircuitLook],
-) -> Result<(), Memory>
-    ensures { OnOk result (news.new ≡ news.old ++ flat_map (came first old.now) now.now) }
+// Adds which circuits came up.
+fn come_onto(news: &mut News, old: &[CircuitLook], now: &[CircuitLook]) -> Result<(), Memory>
+    ensures { OnOk result (news.new ≡ news.old ++ flat_map (came_up old.now) now.now) }
 {
     for circuit in now {
-        newcomer(news, first, old, circuit)?;
         came_up(news, old, circuit)?;
     }
     Ok(())
@@ -164,14 +132,14 @@ fn come_onto(
 /// Adds which circuits went down and why, and which came up, between two sights of them.
 pub fn circuits_onto(
     news: &mut News,
-    own: OwnEnd,
+    side: Side,
     trigger: Trigger,
     old: &[CircuitLook],
     now: &[CircuitLook],
 ) -> Result<(), Memory>
     ensures { OnOk result (news.new ≡ news.old
-        ++ circuits_news own trigger old.now now.now) }
+        ++ circuits_news side trigger old.now now.now) }
 {
-    gone_onto(news, own.side, trigger, old, now)?;
-    come_onto(news, own.first, old, now)
+    gone_onto(news, side, trigger, old, now)?;
+    come_onto(news, old, now)
 }

@@ -4,6 +4,7 @@ ghost use Rattle.std.specs.Prelude.{◌≡◌, [], ◌<◌, ◌++◌, IfOk, OnOk
 ghost use Rattle.std.specs.List.{fold};
 ghost use Rattle.log.specs.Level.{allows};
 ghost use Rattle.lat_log.specs.Journals.{added, all_added, due_told, hinted, is_off, noted, offers_noted, opened, seen_noted, services_noted, some_added, turned};
+ghost use Rattle.lat_log.specs.LeftNews.{left_of};
 ghost use Rattle.lat_log.specs.Sights.{gathered, node_offers};
 ghost use Rattle.lat_log.specs.Watches.{shown};
 
@@ -124,7 +125,8 @@ impl Journal {
     ) -> Result<(), Memory>
         requires { C.valid core.now }
         ensures noted { (s : C.State) → C.stands core.now s → OnOk result (self.new ≡ seen_noted moment self.old trigger
-            (shown (C.circuit_of s) (C.look_of s) (C.correspondent_of s) (C.waiter_of s) flows.now self.old.watch)) }
+            (shown (C.circuit_of s) (C.look_of s) (C.correspondent_of s) (C.waiter_of s)
+            (left_of (C.ids_left_of s) (C.records_left_of s)) flows.now self.old.watch)) }
         ensures err { OnErr result (self.new ≡ self.old) }
     {
         let news = self.watch.notice(alloc, core, trigger, flows)?;
@@ -157,7 +159,8 @@ impl Journal {
         requires { C.valid core.now }
         ensures noted { (s : C.State) → C.stands core.now s → OnOk result (self.new ≡
             noted (C.moment_of s) self.old hint.now
-            (shown (C.circuit_of s) (C.look_of s) (C.correspondent_of s) (C.waiter_of s) flows.now self.old.watch)) }
+            (shown (C.circuit_of s) (C.look_of s) (C.correspondent_of s) (C.waiter_of s)
+            (left_of (C.ids_left_of s) (C.records_left_of s)) flows.now self.old.watch)) }
         ensures err { (s : C.State) → C.stands core.now s → OnErr result (self.new ≡
             hinted (C.moment_of s) self.old hint.now.bad) }
     {

@@ -58,10 +58,3 @@ pub struct Waiting {
     pub request: u16,
     pub place: u16,
 }
-
-/// What circuits have at this end: its side, and the id of the first that is drawn.
-#[derive(Clone, Copy)]
-pub struct OwnEnd {
-    pub side: Side,
-    pub first: u16,
-}

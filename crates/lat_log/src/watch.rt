@@ -2,14 +2,16 @@
 
 ghost use Rattle.std.specs.Prelude.{◌≡◌, ◌≤◌, ◌++◌, ◌∷◌, [], IfOk, OnOk, OnErr, map, length, nat_lt};
 ghost use Rattle.std.specs.List.{flat_map};
+ghost use Rattle.lat_log.specs.LeftNews.{left_of, unseen};
 ghost use Rattle.lat_log.specs.Sights.{gathered, node_offers, one, sight_of, waiting_for};
 ghost use Rattle.lat_log.specs.Watches.{Sight, news_of, seen_next, services_new, services_next, unseen_lines, shown};
 
 use crate::circuits::circuits_onto;
 use crate::entry::{Flow, Offered};
+use crate::left::{Left, left_onto};
 use crate::lines::{lines_onto, next_of};
 use crate::news::News;
-use crate::seen::{LineSeen, LineSight, OwnEnd, Waiting};
+use crate::seen::{LineSeen, LineSight, Side, Waiting};
 use crate::services::services_onto;
 use crate::sight::{circuits_of, lines_of, services_of, waiting_of};
 use crate::trigger::Trigger;
@@ -21,16 +23,17 @@ use std::marker::Model;
 /// More services than these aren't compared: what was seen of them stays.
 const SERVICES: usize = 512;
 
-/// What was seen last of a core: its circuits, the newest session of each line, who waits for some services, and what nodes
-/// announced. Contracts see these lists. It has no byte that went through a session.
+/// What was seen last of a core: its circuits, the newest session of each line, who waits for some services, what nodes announced,
+/// and how much was left of what runs out. Contracts see these lists. It has no byte that went through a session.
 #[derive(Drop)]
 pub struct Watch {
-    own: OwnEnd,
+    side: Side,
     names: Vec<Name>,
     circuits: Vec<CircuitLook>,
     lines: Vec<LineSeen>,
     waiting: Vec<Waiting>,
     services: Vec<Offered>,
+    left: Left,
 }
 
 impl Model for Watch {
@@ -39,12 +42,13 @@ impl Model for Watch {
     ghost Value = { Seen };
 
     ghost view = { λ a. record {
-      own = a.own;
+      side = a.side;
       names = a.names.items;
       circuits = a.circuits.items;
       lines = a.lines.items;
       waiting = a.waiting.items;
       services = a.services.items;
+      left = a.left;
     } };
 }
 
@@ -54,6 +58,7 @@ struct Shown {
     circuits: Vec<CircuitLook>,
     lines: Vec<LineSight>,
     waiting: Vec<Waiting>,
+    left: Left,
 }
 
 impl Model for Shown {
@@ -65,6 +70,7 @@ impl Model for Shown {
       circuits = a.circuits.items;
       lines = a.lines.items;
       waiting = a.waiting.items;
+      left = a.left;
     } };
 }
 
@@ -85,23 +91,25 @@ fn unseen_lines(alloc: Global, count: u8) -> Result<Vec<LineSeen>, Memory>
 impl Watch {
     /// Nothing was seen yet of a core with so many lines. Who waits is looked at for the services of these names, each of which
     /// should stand there once. `Memory` where none is found.
-    pub fn make(alloc: Global, own: OwnEnd, lines: u8, names: Vec<Name>) -> Result<Watch, Memory>
+    pub fn make(alloc: Global, side: Side, lines: u8, names: Vec<Name>) -> Result<Watch, Memory>
         ensures { IfOk result (λ w. w ≡ record {
-          own = own;
+          side = side;
           names = names.items;
           circuits = [];
           lines = unseen_lines lines;
           waiting = [];
           services = [];
+          left = unseen;
         }) }
     {
         Ok(Watch {
-            own,
+            side,
             names,
             circuits: Vec::new(alloc),
             lines: unseen_lines(alloc, lines)?,
             waiting: Vec::new(alloc),
             services: Vec::new(alloc),
+            left: Left::unseen(),
         })
     }
 
@@ -109,12 +117,14 @@ impl Watch {
     fn shown<C: Core>(&self, alloc: Global, core: &C, flows: &[Flow]) -> Result<Shown, Memory>
         requires { C.valid core.now }
         ensures { (s : C.State) → C.stands core.now s → IfOk result (λ v. v ≡
-            shown (C.circuit_of s) (C.look_of s) (C.correspondent_of s) (C.waiter_of s) flows.now self.now) }
+            shown (C.circuit_of s) (C.look_of s) (C.correspondent_of s) (C.waiter_of s)
+            (left_of (C.ids_left_of s) (C.records_left_of s)) flows.now self.now) }
     {
         Ok(Shown {
             circuits: circuits_of(alloc, core)?,
             lines: lines_of(alloc, core, flows, self.lines.as_slice())?,
             waiting: waiting_of(alloc, core, self.names.as_slice())?,
+            left: Left::of(core),
         })
     }
 
@@ -123,11 +133,11 @@ impl Watch {
         ensures { IfOk result (λ v. v ≡ news_of self.now trigger shown.now) }
     {
         let mut granted = News::new(alloc);
-        lines_onto(&mut granted, self.own.side, shown.lines.as_slice())?;
+        lines_onto(&mut granted, self.side, shown.lines.as_slice())?;
         let mut news = News::new(alloc);
         circuits_onto(
             &mut news,
-            self.own,
+            self.side,
             trigger,
             self.circuits.as_slice(),
             shown.circuits.as_slice(),
@@ -139,12 +149,13 @@ impl Watch {
             self.waiting.as_slice(),
             shown.waiting.as_slice(),
         )?;
+        left_onto(&mut news, self.left, shown.left)?;
         Ok(news)
     }
 
-    /// What is new of circuits, lines and requests since the last notice, in this order, and behind it that is what was seen last.
-    /// `trigger` is that of the event, and `flows` what each line carried so far, line 1 first. `Memory` where none is found:
-    /// then nothing has changed.
+    /// What is new of circuits, lines and requests since the last notice, in this order, and last what has come near its end. Behind
+    /// it that is what was seen last. `trigger` is that of the event, and `flows` what each line carried so far, line 1 first.
+    /// `Memory` where none is found: then nothing has changed.
     pub fn notice<C: Core>(
         &mut self,
         alloc: Global,
@@ -154,9 +165,11 @@ impl Watch {
     ) -> Result<News, Memory>
         requires { C.valid core.now }
         ensures news { (s : C.State) → C.stands core.now s → IfOk result (λ v. v ≡ news_of self.old trigger
-            (shown (C.circuit_of s) (C.look_of s) (C.correspondent_of s) (C.waiter_of s) flows.now self.old)) }
+            (shown (C.circuit_of s) (C.look_of s) (C.correspondent_of s) (C.waiter_of s)
+            (left_of (C.ids_left_of s) (C.records_left_of s)) flows.now self.old)) }
         ensures seen { (s : C.State) → C.stands core.now s → OnOk result (self.new ≡ seen_next self.old
-            (shown (C.circuit_of s) (C.look_of s) (C.correspondent_of s) (C.waiter_of s) flows.now self.old)) }
+            (shown (C.circuit_of s) (C.look_of s) (C.correspondent_of s) (C.waiter_of s)
+            (left_of (C.ids_left_of s) (C.records_left_of s)) flows.now self.old)) }
         ensures err { OnErr result (self.new ≡ self.old) }
     {
         let shown = self.shown(alloc, core, flows)?;
@@ -165,11 +178,13 @@ impl Watch {
             circuits,
             lines: sights,
             waiting,
+            left,
         } = shown;
         let lines = next_of(alloc, sights.as_slice())?;
         self.circuits = circuits;
         self.lines = lines;
         self.waiting = waiting;
+        self.left = left;
         Ok(news)
     }
 

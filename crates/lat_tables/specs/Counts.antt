@@ -1,5 +1,5 @@
 -- What a daemon counts.
-use Rattle.std.specs.Prelude.{ℕ, ◌+◌, ◌-◌, ◌^◌, min, List, [], ◌∷◌, ◌++◌, length, map, replicate, slice_index, slice_set, ◌==◌, if◌then◌else◌}
+use Rattle.std.specs.Prelude.{ℕ, ◌+◌, ◌-◌, ◌^◌, min, List, [], ◌∷◌, ◌++◌, length, map, Option, Some, None, replicate, slice_index, slice_set, ◌==◌, if◌then◌else◌}
 use Rattle.std.specs.List.{flat_map}
 use Rattle.lat_base.specs.declared.answer.Answer.{Answer}
 use Rattle.lat_base.specs.declared.answer.Answer.TheVariants as answers
@@ -16,6 +16,7 @@ use Rattle.lat_log.specs.declared.entry.Entry.TheVariants as entries
 use Rattle.lat_log.specs.declared.entry.Over.TheVariants as overs
 use Rattle.lat_log.specs.declared.entry.SessionNews.{SessionNews}
 use Rattle.lat_log.specs.declared.entry.SessionNews.TheVariants as session_news
+use Rattle.lat_log.specs.declared.left.Left.{Left}
 use Rattle.lat_tables.specs.FieldPlaces.{all_fields, field_place}
 use Rattle.lat_tables.specs.Listings.{Cells}
 use Rattle.lat_tables.specs.Tables.{Sheet}
@@ -45,8 +46,6 @@ none = record {
   no_request = 0;
   no_room = 0;
   rejected = 0;
-  ids_left = 0;
-  records_left = 0;
 }
 
 -- so many more; no count passes 2^64 - 1
@@ -117,7 +116,16 @@ counting counter n = record { counter = counter; number = n }
 
 abbrev pub counts : Counters → List Count
 counts c =
-    counting counters.Events c.events ∷ counting counters.Heard c.heard ∷ counting counters.Sent c.sent ∷ counting counters.SentAgain c.sent_again ∷ counting counters.Stray c.stray ∷ counting counters.Foreign c.foreign ∷ counting counters.StartsRefused c.starts_refused ∷ counting counters.BytesPut c.put ∷ counting counters.ItemsTaken c.taken ∷ counting counters.SessionsClosed c.closed ∷ counting counters.SessionsCircuit c.by_circuit ∷ counting counters.SessionsUnseen c.unseen ∷ counting counters.RejectedService c.no_service ∷ counting counters.RejectedRequest c.no_request ∷ counting counters.RejectedRoom c.no_room ∷ counting counters.RejectedOther c.rejected ∷ counting counters.IdsLeft c.ids_left ∷ counting counters.RecordsLeft c.records_left ∷ []
+    counting counters.Events c.events ∷ counting counters.Heard c.heard ∷ counting counters.Sent c.sent ∷ counting counters.SentAgain c.sent_again ∷ counting counters.Stray c.stray ∷ counting counters.Foreign c.foreign ∷ counting counters.StartsRefused c.starts_refused ∷ counting counters.BytesPut c.put ∷ counting counters.ItemsTaken c.taken ∷ counting counters.SessionsClosed c.closed ∷ counting counters.SessionsCircuit c.by_circuit ∷ counting counters.SessionsUnseen c.unseen ∷ counting counters.RejectedService c.no_service ∷ counting counters.RejectedRequest c.no_request ∷ counting counters.RejectedRoom c.no_room ∷ counting counters.RejectedOther c.rejected ∷ []
+
+-- of records, where the core keeps requests
+abbrev pub records_counts : Option ℕ → List Count
+records_counts None = []
+records_counts (Some records) = counting counters.RecordsLeft records ∷ []
+
+-- what is left of what runs out
+abbrev pub left_counts : Left → List Count
+left_counts left = counting counters.IdsLeft left.ids ∷ records_counts left.records
 
 -- how many frames had this field as their first bad one, where there were any
 abbrev pub bad_counts : Counters → Field → List Count
@@ -127,9 +135,9 @@ bad_counts c field =
 abbrev pub count_row : Count → Cells
 count_row x = cells.Counter x.counter ∷ cells.Number x.number ∷ []
 
--- each counter, and behind them the fields of bad frames
-abbrev pub counters_table : Counters → Sheet
-counters_table c = record {
+-- each counter, behind them what is left, and behind that the fields of bad frames
+abbrev pub counters_table : Counters → Left → Sheet
+counters_table c left = record {
   columns = columns.Counter ∷ columns.Count ∷ [];
-  rows = map count_row (counts c ++ flat_map (bad_counts c) all_fields);
+  rows = map count_row (counts c ++ (left_counts left ++ flat_map (bad_counts c) all_fields));
 }

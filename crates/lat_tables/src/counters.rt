@@ -7,7 +7,7 @@ use crate::field_count::{FIELD_COUNT, field_place};
 use lat_base::{Answer, Event, Heard, Mark, OutFrame};
 use lat_log::{Entry, Over, SessionNews};
 
-/// What a daemon has counted since its start, and what it has left. Each count stops at 2^64 - 1.
+/// What a daemon has counted since its start. Each count stops at 2^64 - 1.
 #[derive(Clone, Copy)]
 pub struct Counters {
     /// Events that the core was told.
@@ -37,13 +37,10 @@ pub struct Counters {
     pub no_request: u64,
     pub no_room: u64,
     pub rejected: u64,
-    /// How many ids of circuits, and how many records of requests, are left. The core knows it.
-    pub ids_left: u64,
-    pub records_left: u64,
 }
 
 impl Counters {
-    /// Nothing was counted, and nothing is left.
+    /// Nothing was counted.
     pub fn new() -> Counters
         ensures { result ≡ none }
     {
@@ -65,8 +62,6 @@ impl Counters {
             no_request: 0,
             no_room: 0,
             rejected: 0,
-            ids_left: 0,
-            records_left: 0,
         }
     }
 

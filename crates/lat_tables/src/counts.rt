@@ -2,7 +2,7 @@
 
 ghost use Rattle.std.specs.Prelude.{◌≡◌, ◌++◌, IfOk, OnOk, map};
 ghost use Rattle.std.specs.List.{flat_map};
-ghost use Rattle.lat_tables.specs.Counts.{bad_counts, counting, count_row, counters_table, counts};
+ghost use Rattle.lat_tables.specs.Counts.{bad_counts, counting, count_row, counters_table, counts, left_counts, records_counts};
 ghost use Rattle.lat_tables.specs.FieldPlaces.{all_fields};
 
 use crate::cell::Cell;
@@ -13,6 +13,7 @@ use crate::field_count::{FIELDS, field_place};
 use crate::row::Row;
 use crate::table::Table;
 use lat_base::{Field, Memory};
+use lat_log::Left;
 use std::alloc::Global;
 
 const COLUMNS: [Column; 2] = [Column::Counter, Column::Count];
@@ -30,8 +31,8 @@ fn counting(counter: Counter, number: u64) -> Count
     Count { counter, number }
 }
 
-// The counters that always have a row.
-fn counts(c: &Counters) -> [Count; 18]
+// What was counted and always has a row.
+fn counts(c: &Counters) -> [Count; 16]
     ensures { result ≡ counts c.now }
 {
     [
@@ -51,9 +52,25 @@ fn counts(c: &Counters) -> [Count; 18]
         counting(Counter::RejectedRequest, c.no_request),
         counting(Counter::RejectedRoom, c.no_room),
         counting(Counter::RejectedOther, c.rejected),
-        counting(Counter::IdsLeft, c.ids_left),
-        counting(Counter::RecordsLeft, c.records_left),
     ]
+}
+
+// Adds how many records of requests are left, where the core keeps requests.
+fn records_onto(list: &mut Vec<Count>, records: Option<u32>) -> Result<(), Memory>
+    ensures { OnOk result (list.new.items ≡ list.old.items ++ records_counts records) }
+{
+    if let Some(records) = records {
+        list.push(counting(Counter::RecordsLeft, u64::from(records)))?;
+    }
+    Ok(())
+}
+
+// Adds what is left of what runs out.
+fn left_onto(list: &mut Vec<Count>, left: Left) -> Result<(), Memory>
+    ensures { OnOk result (list.new.items ≡ list.old.items ++ left_counts left) }
+{
+    list.push(counting(Counter::IdsLeft, u64::from(left.ids)))?;
+    records_onto(list, left.records)
 }
 
 // Adds how many frames had this field as their first bad one, where there were any.
@@ -77,10 +94,12 @@ fn all_bad_onto(list: &mut Vec<Count>, c: &Counters, fields: &[Field]) -> Result
 }
 
 // All counts that have a row.
-fn all_counts(alloc: Global, c: &Counters) -> Result<Vec<Count>, Memory>
-    ensures { IfOk result (λ v. v.items ≡ counts c.now ++ flat_map (bad_counts c.now) all_fields) }
+fn all_counts(alloc: Global, c: &Counters, left: Left) -> Result<Vec<Count>, Memory>
+    ensures { IfOk result (λ v. v.items ≡ counts c.now
+        ++ (left_counts left ++ flat_map (bad_counts c.now) all_fields)) }
 {
     let mut list = Vec::from_slice(alloc, &counts(c))?;
+    left_onto(&mut list, left)?;
     all_bad_onto(&mut list, c, &FIELDS)?;
     Ok(list)
 }
@@ -105,11 +124,12 @@ fn rows_of(alloc: Global, counts: &[Count]) -> Result<Vec<Row>, Memory>
     Ok(list)
 }
 
-/// The table of counters: a row for each, and behind them one for each field that a bad frame had.
-pub fn counters_table(alloc: Global, counters: &Counters) -> Result<Table, Memory>
-    ensures { IfOk result (λ t. t ≡ counters_table counters.now) }
+/// The table of counters: a row for each, behind them how much is left of what runs out, which the core tells (`Left`), and behind
+/// that one for each field that a bad frame had. `Memory` where none is found.
+pub fn counters_table(alloc: Global, counters: &Counters, left: Left) -> Result<Table, Memory>
+    ensures { IfOk result (λ t. t ≡ counters_table counters.now left) }
 {
-    let counts = all_counts(alloc, counters)?;
+    let counts = all_counts(alloc, counters, left)?;
     let rows = rows_of(alloc, counts.as_slice())?;
     Table::of(alloc, &COLUMNS, rows)
 }
