@@ -12,7 +12,7 @@ use Rattle.lat_turns.specs.declared.worker.LineDone.TheVariants as done
 
 abbrev pub word_of : LineDone → List ℕ
 word_of done.End = codes "end"
-word_of done.CountsOut = codes "counts-out"
+word_of (done.CountsOut refusal) = codes "counts-out"
 
 -- of a line that put so many bytes and took so many items
 abbrev pub line_text : ℕ → ℕ → ℕ → LineDone → List ℕ

@@ -17,7 +17,7 @@ fn word_of(done: LineDone) -> &'static str
 {
     match done {
         LineDone::End => "end",
-        LineDone::CountsOut => "counts-out",
+        LineDone::CountsOut(_) => "counts-out",
     }
 }
 

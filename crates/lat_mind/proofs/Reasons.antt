@@ -13,9 +13,9 @@ use Rattle.lat_mind.specs.declared.mind.LineMind.{LineMind}
 use Rattle.lat_base.specs.declared.state.SessionState.{SessionState}
 use Rattle.lat_base.specs.declared.state.SessionState.TheVariants as states
 use Rattle.lat_mind.specs.Kinds.{is_calling, is_offering}
-use Rattle.lat_mind.specs.Looks.{at_port, avoidable, is_live, is_answered, is_free, holds_on, needs, shows_live}
-use Rattle.lat_mind.specs.Minds.{fresh_for, leaves, may_try, next_alone, next_at, next_close, next_ending, next_joined, next_live, next_lost, next_over, next_serving, next_waiting, spent, stuck, sweeps, to_dial, try_of}
-use Rattle.lat_mind.specs.Reasons.{Why, WhyAlone, WhyJoined, WhyWaiting}
+use Rattle.lat_mind.specs.Looks.{at_port, avoidable, is_live, is_answered, is_free, is_shunned, holds_on, needs, shows_live}
+use Rattle.lat_mind.specs.Minds.{fresh_for, is_last, is_overdue, leaves, may_try, next_alone, next_at, next_close, next_ending, next_joined, next_live, next_lost, next_over, next_serving, next_shut, next_waiting, spent, stuck, sweeps, to_dial, try_of}
+use Rattle.lat_mind.specs.Reasons.{CloseIsDue, Why, WhyAlone, WhyJoined, WhyWaiting}
 
 pub why_alone : (m : LineMind) (see : Look) → WhyAlone m see (next_alone m see)
 why_alone m see =
@@ -119,44 +119,55 @@ all_put left live (inl e) l = e
 all_put left true (inr e) l = absurd (true≢false e)
 all_put left false (inr e) l = absurd (false≢true l)
 
-why_close : (m : LineMind) (g : Guest) (see : Look) → spent m g see ≡ false → (g.left ≡ 0) ⊎ (is_live see.line.state ≡ false) → WhyJoined m g see (next_close m g see)
-why_close m g see u put =
+why_close : (m : LineMind) (g : Guest) (see : Look) → spent m g see ≡ false → (g.left ≡ 0) ⊎ (is_live see.line.state ≡ false) → CloseIsDue m g see → WhyJoined m g see (next_close m g see)
+why_close m g see u put due =
     let P : Move → Type 0 = WhyJoined m g see in
     cond_both ((is_offering m.kind && (g.failed || g.ended)) && (is_live see.line.state && not g.attended)) _ _ P
     (λ a. let parts = and_parts (is_offering m.kind && (g.failed || g.ended)) (is_live see.line.state && not g.attended) a in
     let device = and_parts (is_offering m.kind) (g.failed || g.ended) parts.0 in
     let told = and_parts (is_live see.line.state) (not g.attended) parts.1 in
     (device.0, or_cases g.failed g.ended device.1, told.0, not-true _ told.1, u, all_put g.left (is_live see.line.state) put told.0))
-    (λ a. (unspent m g see u, u, put))
+    (λ a. (unspent m g see u, u, put, due))
 
 why_live : (m : LineMind) (g : Guest) (see : Look) → see.stopping ≡ false → spent m g see ≡ false → g.failed ≡ false → is_live see.line.state ≡ true → WhyJoined m g see (next_live m g see)
 why_live m g see s u nf l =
     let P : Move → Type 0 = WhyJoined m g see in
     let n : see.line.newest ≡ g.session = unspent m g see u in
     cond_both (g.left == 0) _ _ P
-    (λ z. let zero_left : g.left ≡ 0 = eqb-true g.left 0 z in cond_both g.ended _ _ P (λ e. why_close m g see u (inl zero_left)) (λ e. (s, n, l, zero_left, u)))
+    (λ z. let zero_left : g.left ≡ 0 = eqb-true g.left 0 z in cond_both g.ended _ _ P (λ e. why_close m g see u (inl zero_left) (inr (inr (inl e)))) (λ e. (s, n, l, zero_left, u)))
     (λ z. cond_both (nat_lt 0 see.line.room) _ _ P (λ r. (n, l, nonzero g.left z, ltb-true 0 see.line.room r, u))
     (λ r. cond_both (nat_lt 0 g.owed) _ _ P (λ o. (nf, ltb-true 0 g.owed o)) (λ o. (n, l, no_more see.line.room r))))
+
+-- the caller has ended, or the answer is late
+late : (ended answered due : Bool) → (ended || due) ≡ true → answered ≡ false → (ended ≡ true) ⊎ ((answered ≡ false) × (due ≡ true))
+late true answered due e a = inl refl
+late false answered due e a = inr (a, e)
 
 why_serving : (m : LineMind) (g : Guest) (see : Look) → see.stopping ≡ false → spent m g see ≡ false → g.failed ≡ false → WhyJoined m g see (next_serving m g see)
 why_serving m g see s u nf =
     let P : Move → Type 0 = WhyJoined m g see in
     let n : see.line.newest ≡ g.session = unspent m g see u in
     cond_both (not (is_answered see.line.state)) _ _ P
-    (λ a. cond_both g.ended _ _ P (λ e. (n, u, inr (unanswered see.line.state (not-true _ a)))) (λ e. (s, not-true _ a, u)))
+    (λ a. cond_both (g.ended || is_overdue m g see) _ _ P
+    (λ e. (n, u, inr (unanswered see.line.state (not-true _ a)), inr (inr (late g.ended (is_answered see.line.state) (is_overdue m g see) e (not-true _ a)))))
+    (λ e. (s, not-true _ a, u)))
     (λ a. cond_both (is_live see.line.state && is_some g.wrote) _ _ P (λ c. why_live m g see s u nf (and_parts (is_live see.line.state) (is_some g.wrote) c).0)
     (λ c. cond_both (nat_lt 0 see.line.waiting && g.owed == 0) _ _ P
     (λ t. (s, n, not-false _ a, eqb-true g.owed 0 ((and_parts (nat_lt 0 see.line.waiting) (g.owed == 0) t).1), u))
     (λ t. cond_both (is_live see.line.state) _ _ P (λ l. why_live m g see s u nf l) (λ l. (nf, owes m g see u a t l)))))
 
-why_ending : (m : LineMind) (g : Guest) (see : Look) → spent m g see ≡ false → WhyJoined m g see (next_ending m g see)
-why_ending m g see u =
+ending : (m : LineMind) (g : Guest) (see : Look) → (see.stopping ≡ true) ⊎ (g.failed ≡ true) → CloseIsDue m g see
+ending m g see (inl s) = inl s
+ending m g see (inr f) = inr (inl f)
+
+why_ending : (m : LineMind) (g : Guest) (see : Look) → spent m g see ≡ false → (see.stopping ≡ true) ⊎ (g.failed ≡ true) → WhyJoined m g see (next_ending m g see)
+why_ending m g see u due =
     let P : Move → Type 0 = WhyJoined m g see in
     let n : see.line.newest ≡ g.session = unspent m g see u in
     cond_both (nat_lt 0 g.left && is_live see.line.state) _ _ P
     (λ b. let both = and_parts (nat_lt 0 g.left) (is_live see.line.state) b in
     cond_both (nat_lt 0 see.line.room) _ _ P (λ r. (n, both.1, ltb-true 0 g.left both.0, ltb-true 0 see.line.room r, u)) (λ r. (n, both.1, no_more see.line.room r)))
-    (λ b. why_close m g see u (none_left g.left (is_live see.line.state) b))
+    (λ b. why_close m g see u (none_left g.left (is_live see.line.state) b) (ending m g see due))
 
 why_lost : (m : LineMind) (g : Guest) (see : Look) → see.stopping ≡ false → see.line.newest ≡ g.session → spent m g see ≡ true → g.owed ≡ 0 → g.failed ≡ false → m.ready ≡ false → WhyJoined m g see (next_lost m g see)
 why_lost m g see s n u o nf y =
@@ -170,23 +181,36 @@ why_lost m g see s n u o nf y =
     (λ e. let none = or_parts live other e in
     (s, o, u, or_from g.live other ((or_parts g.live (shows_live see.line g.session) none.0).0) none.1)))
 
+calls : (live ended calling : Bool) → (live || (ended || not calling)) ≡ false → calling ≡ true
+calls true ended calling e = absurd (true≢false e)
+calls false true calling e = absurd (true≢false e)
+calls false false calling e = not-false _ e
+
+why_shut : (m : LineMind) (g : Guest) (see : Look) → see.stopping ≡ false → see.line.newest ≡ g.session → spent m g see ≡ true → g.owed ≡ 0 → g.failed ≡ false → m.ready ≡ false → WhyJoined m g see (next_shut m g see)
+why_shut m g see s n u o nf y =
+    let P : Move → Type 0 = WhyJoined m g see in
+    cond_both (is_last m.kind g) _ _ P (λ e. (inl o, u, y))
+    (λ e. cond_both (not g.avoided && is_shunned see.line) _ _ P
+    (λ a. (s, n, o, not-true _ ((and_parts (not g.avoided) (is_shunned see.line) a).0), nf, calls g.live g.ended (is_calling m.kind) e))
+    (λ a. (s, o, u, e)))
+
 why_over : (m : LineMind) (g : Guest) (see : Look) → spent m g see ≡ true → g.owed ≡ 0 → g.failed ≡ false → m.ready ≡ false → WhyJoined m g see (next_over m g see)
 why_over m g see u o nf y =
     let P : Move → Type 0 = WhyJoined m g see in
-    cond_both (see.stopping || (not (see.line.newest == g.session) || m.shut == g.session)) _ _ P (λ h. (inl o, u, y))
-    (λ h. let parts = or_parts see.stopping (not (see.line.newest == g.session) || m.shut == g.session) h in
-    let n : see.line.newest ≡ g.session = eqb-true see.line.newest g.session (not-false _ ((or_parts (not (see.line.newest == g.session)) (m.shut == g.session) parts.1).0)) in
-    why_lost m g see parts.0 n u o nf y)
+    cond_both (see.stopping || not (see.line.newest == g.session)) _ _ P (λ h. (inl o, u, y))
+    (λ h. let parts = or_parts see.stopping (not (see.line.newest == g.session)) h in
+    let n : see.line.newest ≡ g.session = eqb-true see.line.newest g.session (not-false _ parts.1) in
+    cond_both (m.shut == g.session) _ _ P (λ s. why_shut m g see parts.0 n u o nf y) (λ s. why_lost m g see parts.0 n u o nf y))
 
 pub why_joined : (m : LineMind) (g : Guest) (see : Look) → WhyJoined m g see (next_joined m g see)
 why_joined m g see =
     let P : Move → Type 0 = WhyJoined m g see in
     cond_both m.ready _ _ P (λ y. y)
     (λ y. cond_both g.failed _ _ P
-    (λ f. cond_both (spent m g see) _ _ P (λ u. (inr f, u, y)) (λ u. why_ending m g see u))
+    (λ f. cond_both (spent m g see) _ _ P (λ u. (inr f, u, y)) (λ u. why_ending m g see u (inr f)))
     (λ f. cond_both (nat_lt 0 g.owed && is_none g.wrote) _ _ P (λ w. (f, ltb-true 0 g.owed ((and_parts (nat_lt 0 g.owed) (is_none g.wrote) w).0)))
     (λ w. cond_both (not (spent m g see)) _ _ P
-    (λ u. cond_both see.stopping _ _ P (λ s. why_ending m g see (not-true _ u)) (λ s. why_serving m g see s (not-true _ u) f))
+    (λ u. cond_both see.stopping _ _ P (λ s. why_ending m g see (not-true _ u) (inl s)) (λ s. why_serving m g see s (not-true _ u) f))
     (λ u. cond_both (g.owed == 0) _ _ P (λ o. why_over m g see (not-false _ u) (eqb-true g.owed 0 o) f y)
     (λ o. cond_both (see.stopping && stuck g.wrote) _ _ P
     (λ b. let both = and_parts see.stopping (stuck g.wrote) b in (both.0, both.1, not-false _ u, y))

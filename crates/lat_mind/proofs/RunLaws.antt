@@ -10,6 +10,7 @@ use Rattle.lat_mind.specs.declared.look.Owner.{Owner}
 use Rattle.lat_mind.specs.declared.look.Owner.TheVariants as owners
 use Rattle.lat_base.specs.declared.state.SessionState.{SessionState}
 use Rattle.lat_base.specs.declared.state.SessionState.TheVariants as states
+use Rattle.lat_base.specs.declared.state.SessionEnd.TheVariants as ends
 use Rattle.lat_mind.specs.declared.phase.Waiter.{Waiter}
 use Rattle.lat_mind.specs.declared.phase.Guest.{Guest}
 use Rattle.lat_mind.specs.declared.phase.Phase.{Phase}
@@ -18,12 +19,12 @@ use Rattle.lat_mind.specs.declared.kind.Kind.{Kind}
 use Rattle.lat_mind.specs.declared.kind.Kind.TheVariants as kinds
 use Rattle.lat_mind.specs.declared.mind.LineMind.{LineMind}
 use Rattle.lat_mind.specs.Kinds.{is_calling, is_offering}
-use Rattle.lat_mind.specs.Looks.{at_port, avoidable, holds_on, is_answered, is_free, is_job, is_live, is_own, needs, shows_live, was_closed}
-use Rattle.lat_mind.specs.Minds.{fresh_for, is_late, may_try, mind_next, next_alone, next_at, next_joined, next_live, next_lost, next_over, next_waiting, spent, sweeps, to_dial}
+use Rattle.lat_mind.specs.Looks.{at_port, avoidable, holds_on, is_answered, is_free, is_job, is_live, is_own, is_shunned, is_unanswered, needs, shows_live, was_closed}
+use Rattle.lat_mind.specs.Minds.{fresh_for, has_stood, is_last, is_late, is_overdue, may_try, mind_next, next_alone, next_at, next_joined, next_live, next_lost, next_shut, next_waiting, spent, sweeps, to_dial}
 use Rattle.lat_mind.specs.Reasons.{Why, WhyAlone}
 use Rattle.lat_mind.specs.Runs.{RunOf, Tale, Turn, due_at, fresh_tale, offer_at, tale_next, tale_of}
 use Rattle.lat_mind.specs.Good.{Each, Good, GoodPhase}
-use Rattle.lat_mind.specs.Laws.{AttachIsDue, IsBehind, IsLost, LawOfRuns, TryIsDue, WaitIsOver, session_in}
+use Rattle.lat_mind.specs.Laws.{AnswerIsLate, AttachIsDue, IsBehind, IsLost, IsPast, LawOfRuns, TryIsDue, WaitIsOver, session_in}
 use Rattle.lat_mind.proofs.Reasons.{all_put, why_alone}
 use Rattle.lat_mind.proofs.Runs.{finish, good_from_fresh, reason}
 
@@ -281,41 +282,168 @@ free_answered states.Live e = absurd (false≢true e)
 free_answered states.Closing e = absurd (false≢true e)
 free_answered states.Left e = absurd (false≢true e)
 
-or_else : (b : Bool) (x y : Move) → (x ≡ moves.Avoid) → (y ≡ moves.Lose) → ((if b then x else y) ≡ moves.Avoid) ⊎ ((if b then x else y) ≡ moves.Lose)
+free_unanswered : (s : SessionState) → is_free s ≡ true → is_unanswered s ≡ false
+free_unanswered states.Free e = refl
+free_unanswered states.Calling e = absurd (false≢true e)
+free_unanswered states.Asked e = absurd (false≢true e)
+free_unanswered states.Live e = absurd (false≢true e)
+free_unanswered states.Closing e = absurd (false≢true e)
+free_unanswered states.Left e = absurd (false≢true e)
+
+abbrev IsLoss : Move → Type 0
+IsLoss mv = (mv ≡ moves.Avoid) ⊎ (mv ≡ moves.Lose)
+
+or_else : (b : Bool) (x y : Move) → (x ≡ moves.Avoid) → (y ≡ moves.Lose) → IsLoss (if b then x else y)
 or_else true x y a l = inl a
 or_else false x y a l = inr l
 
-over_loses : (m : LineMind) (g : Guest) (see : Look) → IsLost m g see → (next_over m g see ≡ moves.Avoid) ⊎ (next_over m g see ≡ moves.Lose)
-over_loses m g see lost =
-    let live : Bool = g.live || shows_live see.line g.session in
-    let unseen : shows_live see.line g.session ≡ false = and_right (see.line.newest == g.session) (is_answered see.line.state || was_closed see.line.end) (or_from (is_answered see.line.state) (was_closed see.line.end) (free_answered see.line.state lost.free) lost.refused) in
-    let dead : live ≡ false = or_from g.live (shows_live see.line g.session) lost.unlived unseen in
-    let apart : (m.shut == g.session) ≡ false = false_from_ne_true _ (λ q. lost.shut (eqb-true m.shut g.session q)) in
-    let mine : (not (see.line.newest == g.session)) ≡ false = not_from_true _ (eq-eqb see.line.newest g.session lost.newest) in
-    let here : (see.stopping || (not (see.line.newest == g.session) || m.shut == g.session)) ≡ false = or_from see.stopping _ lost.going (or_from (not (see.line.newest == g.session)) (m.shut == g.session) mine apart) in
-    let again : (live || (g.ended || not (is_calling m.kind))) ≡ false = or_from live _ dead (or_from g.ended (not (is_calling m.kind)) lost.stays.0 (not_from_true _ lost.calls)) in
-    let P : Move → Type 0 = λ mv. (mv ≡ moves.Avoid) ⊎ (mv ≡ moves.Lose) in
-    let way : next_over m g see ≡ next_lost m g see = cond-false _ _ _ here in
-    subst P (sym way)
-    (or_else (is_calling m.kind && (not g.avoided && avoidable see.line.end live)) moves.Avoid _ refl (cond-false _ _ _ again))
+-- the caller may get another session
+goes_on : (m : LineMind) (g : Guest) (see : Look) → IsLost m g see → is_last m.kind g ≡ false
+goes_on m g see lost = or_from g.live _ lost.unlived (or_from g.ended (not (is_calling m.kind)) lost.stays.0 (not_from_true _ lost.calls))
 
-joined_loses : (m : LineMind) (g : Guest) (see : Look) → IsLost m g see → (next_joined m g see ≡ moves.Avoid) ⊎ (next_joined m g see ≡ moves.Lose)
-joined_loses m g see lost =
-    let held : holds_on see.line ≡ false = free_needs see.line.state see.line.waiting lost.free in
-    let done : spent m g see ≡ true = or_right (not (see.line.newest == g.session)) (m.shut == g.session || not (holds_on see.line)) (or_right (m.shut == g.session) (not (holds_on see.line)) (not_from_false _ held)) in
-    let P : Move → Type 0 = λ mv. (mv ≡ moves.Avoid) ⊎ (mv ≡ moves.Lose) in
-    let way : next_joined m g see ≡ next_over m g see =
+-- one that has ended was never seen live
+unlived : (m : LineMind) (g : Guest) (see : Look) → IsLost m g see → is_free see.line.state ≡ true → was_closed see.line.end ≡ false → (g.live || shows_live see.line g.session) ≡ false
+unlived m g see lost f r =
+    or_from g.live (shows_live see.line g.session) lost.unlived
+    (and_right (see.line.newest == g.session) (is_answered see.line.state || was_closed see.line.end)
+    (or_from (is_answered see.line.state) (was_closed see.line.end) (free_answered see.line.state f) r))
+
+-- the session of a caller who is lost is spent, and nothing is owed
+past_spent : (m : LineMind) (g : Guest) (see : Look) → IsPast m g see → spent m g see ≡ true
+past_spent m g see (inl past) =
+    or_right (not (see.line.newest == g.session)) (m.shut == g.session || not (holds_on see.line))
+    (or_right (m.shut == g.session) (not (holds_on see.line)) (not_from_false _ (free_needs see.line.state see.line.waiting past.0)))
+past_spent m g see (inr shut) =
+    or_right (not (see.line.newest == g.session)) (m.shut == g.session || not (holds_on see.line))
+    (or_left (m.shut == g.session) (not (holds_on see.line)) (eq-eqb m.shut g.session shut))
+
+joined_over : (m : LineMind) (g : Guest) (see : Look) → IsLost m g see → next_joined m g see ≡ (if m.shut == g.session then next_shut m g see else next_lost m g see)
+joined_over m g see lost =
+    let mine : (not (see.line.newest == g.session)) ≡ false = not_from_true _ (eq-eqb see.line.newest g.session lost.newest) in
     cond-false _ _ _ lost.unready
     ∙ (cond-false _ _ _ lost.stays.1
     ∙ (cond-false _ _ _ (and_left (nat_lt 0 g.owed) (is_none g.wrote) (le-ltb 0 g.owed (omega (arith, lost.owed))))
-    ∙ (cond-false _ _ _ (not_from_true _ done)
-    ∙ cond-true _ _ _ (eq-eqb g.owed 0 lost.owed)))) in
-    subst P (sym way) (over_loses m g see lost)
+    ∙ (cond-false _ _ _ (not_from_true _ (past_spent m g see lost.past))
+    ∙ (cond-true _ _ _ (eq-eqb g.owed 0 lost.owed)
+    ∙ cond-false _ _ _ (or_from see.stopping (not (see.line.newest == g.session)) lost.going mine)))))
+
+apart_false : (m : LineMind) (g : Guest) → m.shut ≢ g.session → (m.shut == g.session) ≡ false
+apart_false m g apart = false_from_ne_true _ (λ q. apart (eqb-true m.shut g.session q))
+
+past_loses : (m : LineMind) (g : Guest) (see : Look) → IsLost m g see → IsPast m g see → IsLoss (if m.shut == g.session then next_shut m g see else next_lost m g see)
+past_loses m g see lost (inl past) =
+    let live : Bool = g.live || shows_live see.line g.session in
+    let again : (live || (g.ended || not (is_calling m.kind))) ≡ false =
+    or_from live _ (unlived m g see lost past.0 past.1) (or_from g.ended (not (is_calling m.kind)) lost.stays.0 (not_from_true _ lost.calls)) in
+    let way : (if m.shut == g.session then next_shut m g see else next_lost m g see) ≡ next_lost m g see = cond-false _ _ _ (apart_false m g past.2) in
+    subst IsLoss (sym way) (or_else (is_calling m.kind && (not g.avoided && avoidable see.line.end live)) moves.Avoid _ refl (cond-false _ _ _ again))
+past_loses m g see lost (inr shut) =
+    let way : (if m.shut == g.session then next_shut m g see else next_lost m g see) ≡ (if not g.avoided && is_shunned see.line then moves.Avoid else moves.Lose) =
+    cond-true _ _ _ (eq-eqb m.shut g.session shut) ∙ cond-false _ _ _ (goes_on m g see lost) in
+    subst IsLoss (sym way) (or_else (not g.avoided && is_shunned see.line) moves.Avoid moves.Lose refl refl)
 
 pub loses_first : (m : LineMind) (g : Guest) (see : Look) → IsLost m g see → (mind_next m see ≡ moves.Avoid) ⊎ (mind_next m see ≡ moves.Lose)
 loses_first m g see lost =
-    let P : Phase → Type 0 = λ p. (next_at m p see ≡ moves.Avoid) ⊎ (next_at m p see ≡ moves.Lose) in
-    subst P (sym lost.joined) (joined_loses m g see lost)
+    let P : Phase → Type 0 = λ p. IsLoss (next_at m p see) in
+    subst P (sym lost.joined) (subst IsLoss (sym (joined_over m g see lost)) (past_loses m g see lost lost.past))
+
+-- a peer that was started again
+past_waits : (m : LineMind) (g : Guest) (see : Look) → IsLost m g see → is_free see.line.state ≡ true → see.line.end ≡ Some (ends.Circuit 5) → IsPast m g see →
+    (if m.shut == g.session then next_shut m g see else next_lost m g see) ≡ moves.Lose
+past_waits m g see lost f e (inl past) =
+    let live : Bool = g.live || shows_live see.line g.session in
+    let again : (live || (g.ended || not (is_calling m.kind))) ≡ false =
+    or_from live _ (unlived m g see lost past.0 past.1) (or_from g.ended (not (is_calling m.kind)) lost.stays.0 (not_from_true _ lost.calls)) in
+    let kept : avoidable see.line.end live ≡ false = ap (λ o. avoidable o live) e in
+    cond-false _ _ _ (apart_false m g past.2)
+    ∙ (cond-false _ _ _ (and_right (is_calling m.kind) (not g.avoided && avoidable see.line.end live) (and_right (not g.avoided) (avoidable see.line.end live) kept))
+    ∙ cond-false _ _ _ again)
+past_waits m g see lost f e (inr shut) =
+    let kept : avoidable see.line.end false ≡ false = ap (λ o. avoidable o false) e in
+    let here : is_shunned see.line ≡ false = or_from (is_unanswered see.line.state) (avoidable see.line.end false) (free_unanswered see.line.state f) kept in
+    cond-true _ _ _ (eq-eqb m.shut g.session shut)
+    ∙ (cond-false _ _ _ (goes_on m g see lost)
+    ∙ cond-false _ _ _ (and_right (not g.avoided) (is_shunned see.line) here))
+
+pub waits_for_the_restarted : (m : LineMind) (g : Guest) (see : Look) → IsLost m g see → is_free see.line.state ≡ true → see.line.end ≡ Some (ends.Circuit 5) → mind_next m see ≡ moves.Lose
+waits_for_the_restarted m g see lost f e =
+    let P : Phase → Type 0 = λ p. next_at m p see ≡ moves.Lose in
+    subst P (sym lost.joined) (joined_over m g see lost ∙ past_waits m g see lost f e lost.past)
+
+-- a session that isn't answered
+unanswered_held : (s : SessionState) (waiting : ℕ) → is_unanswered s ≡ true → needs s waiting ≡ true
+unanswered_held states.Calling waiting e = refl
+unanswered_held states.Asked waiting e = refl
+unanswered_held states.Free waiting e = absurd (false≢true e)
+unanswered_held states.Live waiting e = absurd (false≢true e)
+unanswered_held states.Closing waiting e = absurd (false≢true e)
+unanswered_held states.Left waiting e = absurd (false≢true e)
+
+unanswered_now : (s : SessionState) → is_unanswered s ≡ true → is_answered s ≡ false
+unanswered_now states.Calling e = refl
+unanswered_now states.Asked e = refl
+unanswered_now states.Free e = absurd (false≢true e)
+unanswered_now states.Live e = absurd (false≢true e)
+unanswered_now states.Closing e = absurd (false≢true e)
+unanswered_now states.Left e = absurd (false≢true e)
+
+-- a mind that was shown no session yet has noted none
+unshown : (k : ℕ) (kind : Kind) (xs : List Turn) → Each (λ x. x.look.line.newest ≢ k) xs → (tale_of (fresh_tale kind) xs).mind.noted ≡ k → (tale_of (fresh_tale kind) xs).mind.since ≡ 0
+unshown k kind [] other e = refl
+unshown k kind (x ∷ xs) other e = absurd (unnoted k (tale_next (fresh_tale kind) x) xs other.0 other.1 e)
+
+since_by : (b : Bool) (since moment : ℕ) → (b ≡ true → since ≡ 0) → (if b then since else moment) ≤ moment
+since_by true since moment none = omega (arith, none refl)
+since_by false since moment none = omega arith
+
+closes_overdue : (m : LineMind) (g : Guest) (see : Look) → m.ready ≡ false → g.failed ≡ false → g.owed ≡ 0 → see.stopping ≡ false → see.line.newest ≡ g.session → m.shut ≢ g.session →
+    is_unanswered see.line.state ≡ true → is_overdue m g see ≡ true → next_joined m g see ≡ moves.Close
+closes_overdue m g see r f o s n apart u late =
+    let mine : (not (see.line.newest == g.session)) ≡ false = not_from_true _ (eq-eqb see.line.newest g.session n) in
+    let held : (not (holds_on see.line)) ≡ false = not_from_true _ (unanswered_held see.line.state see.line.waiting u) in
+    let here : spent m g see ≡ false = or_from (not (see.line.newest == g.session)) (m.shut == g.session || not (holds_on see.line)) mine (or_from (m.shut == g.session) (not (holds_on see.line)) (apart_false m g apart) held) in
+    cond-false _ _ _ r
+    ∙ (cond-false _ _ _ f
+    ∙ (cond-false _ _ _ (and_left (nat_lt 0 g.owed) (is_none g.wrote) (le-ltb 0 g.owed (omega (arith, o))))
+    ∙ (cond-true _ _ _ (not_from_false _ here)
+    ∙ (cond-false _ _ _ s
+    ∙ (cond-true _ _ _ (not_from_false _ (unanswered_now see.line.state u))
+    ∙ cond-true _ _ _ (or_right g.ended (is_overdue m g see) late))))))
+
+stood : (m : LineMind) (see : Look) (moment : ℕ) → m.noted ≡ see.line.newest → m.since ≤ moment → moment + 5000 ≤ see.moment → has_stood m see 5000 ≡ true
+stood m see moment n s long =
+    let time : nat_le (m.since + 5000) see.moment ≡ true = grind (arith, nat_tests) in
+    and_from (see.line.newest == m.noted) (nat_le (m.since + 5000) see.moment) (eq-eqb see.line.newest m.noted (sym n)) time
+
+unready : (t : Tale) → Good t → is_calling t.mind.kind ≡ true → t.mind.ready ≡ false
+unready t good c = false_from_ne_true _ (λ r. unless (is_offering t.mind.kind) ((good.device r).1) (calling_offers t.mind.kind c))
+
+late_ends : (t : Tale) (g : Guest) (see : Look) (moment : ℕ) → Good t → t.mind.phase ≡ phases.Joined g → is_calling t.mind.kind ≡ true → g.live ≡ false → g.failed ≡ false →
+    see.stopping ≡ false → see.line.newest ≡ g.session → is_unanswered see.line.state ≡ true → t.mind.shut ≢ g.session →
+    t.mind.noted ≡ see.line.newest → t.mind.since ≤ moment → moment + 5000 ≤ see.moment → mind_next t.mind see ≡ moves.Close
+late_ends t g see moment good at c l f s n u apart noted since long =
+    let P : Phase → Type 0 = λ p. next_at t.mind p see ≡ moves.Close in
+    let Q : Phase → Type 0 = λ p. GoodPhase t p in
+    let here : GoodPhase t (phases.Joined g) = subst Q at good.phase in
+    let long_now = stood t.mind see moment noted since long in
+    let late : is_overdue t.mind g see ≡ true =
+    and_from (is_calling t.mind.kind) (not g.live && has_stood t.mind see 5000) c (and_from (not g.live) (has_stood t.mind see 5000) (not_from_false _ l) long_now) in
+    subst P (sym at) (closes_overdue t.mind g see (unready t good c) f (here.owed l) s n apart u late)
+
+pub asks_end : (kind : Kind) (xs : List Turn) (x : Turn) (ys : List Turn) (g : Guest) (see : Look) → RunOf (fresh_tale kind) (xs ++ x ∷ ys) →
+    AnswerIsLate xs x ys (tale_of (fresh_tale kind) (xs ++ x ∷ ys)) g see → mind_next (tale_of (fresh_tale kind) (xs ++ x ∷ ys)).mind see ≡ moves.Close
+asks_end kind xs x ys g see run late =
+    let k = see.line.newest in
+    let t = tale_of (fresh_tale kind) xs in
+    let u = tale_next t x in
+    let v = tale_of (fresh_tale kind) (xs ++ x ∷ ys) in
+    let whole : v ≡ tale_of u ys = runs_on (fresh_tale kind) xs (x ∷ ys) in
+    let first : u.mind.since ≤ x.look.moment = since_by (t.mind.noted == x.look.line.newest) t.mind.since x.look.moment
+    (λ e. unshown k kind xs late.before (eqb-true t.mind.noted x.look.line.newest e ∙ late.first)) in
+    let last = noted k u ys late.first late.since in
+    let since : v.mind.since ≡ u.mind.since = ap (λ (w : Tale). w.mind.since) whole ∙ last.1 in
+    late_ends v g see x.look.moment (good_from_fresh kind (xs ++ x ∷ ys) run) late.joined late.calls late.unlived late.stays.1 late.going late.newest late.unanswered late.shut
+    (ap (λ (w : Tale). w.mind.noted) whole ∙ last.0) (omega (arith, first, since)) late.long
 
 -- the caller's turn behind a write
 live_held : (s : SessionState) (waiting : ℕ) → is_live s ≡ true → needs s waiting ≡ true

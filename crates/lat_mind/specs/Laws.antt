@@ -1,5 +1,6 @@
 -- What holds of every run: what is put and written, for whom, and when a mind tries again.
-use Rattle.std.specs.Prelude.{◌≡◌, ◌≢◌, ℕ, ◌+◌, ◌<◌, ◌≤◌, ◌⊎◌, true, false, List, ◌∷◌, ◌++◌, length, is_some}
+use Rattle.std.specs.Prelude.{◌≡◌, ◌≢◌, ℕ, ◌+◌, ◌<◌, ◌≤◌, ◌⊎◌, true, false, List, ◌∷◌, ◌++◌, length, Some, is_some}
+use Rattle.lat_base.specs.declared.state.SessionEnd.TheVariants as ends
 use Rattle.lat_mind.specs.declared.fact.Move.TheVariants as moves
 use Rattle.lat_mind.specs.declared.look.Look.{Look}
 use Rattle.lat_mind.specs.declared.phase.Waiter.{Waiter}
@@ -9,7 +10,7 @@ use Rattle.lat_mind.specs.declared.phase.Phase.TheVariants as phases
 use Rattle.lat_mind.specs.declared.kind.Kind.{Kind}
 use Rattle.lat_mind.specs.declared.mind.LineMind.{LineMind}
 use Rattle.lat_mind.specs.Kinds.{is_calling, is_offering}
-use Rattle.lat_mind.specs.Looks.{at_port, holds_on, is_free, is_live, was_closed}
+use Rattle.lat_mind.specs.Looks.{at_port, holds_on, is_free, is_live, is_unanswered, was_closed}
 use Rattle.lat_mind.specs.Phases.{has_caller}
 use Rattle.lat_mind.specs.Minds.{fresh_for, may_try, mind_next}
 use Rattle.lat_mind.specs.Runs.{RunOf, Tale, Turn, due_at, fresh_tale, offer_at, tale_of}
@@ -120,7 +121,32 @@ abbrev pub WaitsEnd : Type 0
 WaitsEnd = (kind : Kind) (xs : List Turn) (x : Turn) (ys : List Turn) (see : Look) → WaitIsOver xs x ys (tale_of (fresh_tale kind) (xs ++ x ∷ ys)) see →
     mind_next (tale_of (fresh_tale kind) (xs ++ x ∷ ys)).mind see ≡ moves.Close
 
--- a caller at a calling line stays, and its session ended and was never live; this mind didn't close it
+-- a caller stays at a calling line whose session was never live and isn't answered, and each look shows it since this turn, which was
+-- the first that showed it, five seconds ago
+pub record AnswerIsLate (xs : List Turn) (x : Turn) (ys : List Turn) (t : Tale) (g : Guest) (see : Look) : Type 0 where
+  pub before : Each (λ y. y.look.line.newest ≢ see.line.newest) xs
+  pub first : x.look.line.newest ≡ see.line.newest
+  pub since : Each (λ y. y.look.line.newest ≡ see.line.newest) ys
+  pub long : x.look.moment + 5000 ≤ see.moment
+  pub joined : t.mind.phase ≡ phases.Joined g
+  pub calls : is_calling t.mind.kind ≡ true
+  pub unlived : g.live ≡ false
+  pub stays : (g.ended ≡ false) × (g.failed ≡ false)
+  pub going : see.stopping ≡ false
+  pub newest : see.line.newest ≡ g.session
+  pub unanswered : is_unanswered see.line.state ≡ true
+  pub shut : t.mind.shut ≢ g.session
+
+-- then it is closed
+abbrev pub AsksEnd : Type 0
+AsksEnd = (kind : Kind) (xs : List Turn) (x : Turn) (ys : List Turn) (g : Guest) (see : Look) → RunOf (fresh_tale kind) (xs ++ x ∷ ys) →
+    AnswerIsLate xs x ys (tale_of (fresh_tale kind) (xs ++ x ∷ ys)) g see → mind_next (tale_of (fresh_tale kind) (xs ++ x ∷ ys)).mind see ≡ moves.Close
+
+-- the session has ended, and wasn't live; or this mind closed it
+abbrev pub IsPast : LineMind → Guest → Look → Type 0
+IsPast m g see = ((is_free see.line.state ≡ true) × (was_closed see.line.end ≡ false) × (m.shut ≢ g.session)) ⊎ (m.shut ≡ g.session)
+
+-- a caller at a calling line stays, its session was never live, and it has ended, or this mind closed it
 pub record IsLost (m : LineMind) (g : Guest) (see : Look) : Type 0 where
   pub joined : m.phase ≡ phases.Joined g
   pub calls : is_calling m.kind ≡ true
@@ -130,13 +156,16 @@ pub record IsLost (m : LineMind) (g : Guest) (see : Look) : Type 0 where
   pub owed : g.owed ≡ 0
   pub going : see.stopping ≡ false
   pub newest : see.line.newest ≡ g.session
-  pub free : is_free see.line.state ≡ true
-  pub refused : was_closed see.line.end ≡ false
-  pub shut : m.shut ≢ g.session
+  pub past : IsPast m g see
 
 -- it waits again, its node first avoided where that is due
 abbrev pub LosesFirst : Type 0
 LosesFirst = (m : LineMind) (g : Guest) (see : Look) → IsLost m g see → (mind_next m see ≡ moves.Avoid) ⊎ (mind_next m see ≡ moves.Lose)
+
+-- where the circuit ended because the peer knew none such, it has just been started again: its caller waits for it, and it isn't avoided
+abbrev pub WaitsForTheRestarted : Type 0
+WaitsForTheRestarted = (m : LineMind) (g : Guest) (see : Look) → IsLost m g see → is_free see.line.state ≡ true →
+    see.line.end ≡ Some (ends.Circuit 5) → mind_next m see ≡ moves.Lose
 
 -- a caller gives bytes and takes none, or few, at a live session that this mind didn't close; the last fact was a write
 pub record IsBehind (m : LineMind) (g : Guest) (see : Look) : Type 0 where

@@ -23,18 +23,29 @@ is_answered states.Closing = true
 is_answered states.Left = true
 is_answered _ = false
 
+-- it was asked for, and neither answered nor ended
+abbrev pub is_unanswered : SessionState → Bool
+is_unanswered states.Calling = true
+is_unanswered states.Asked = true
+is_unanswered _ = false
+
 abbrev pub was_closed : Option SessionEnd → Bool
 was_closed (Some ends.Closed) = true
 was_closed (Some (ends.Rejected reason)) = false
 was_closed (Some (ends.Circuit reason)) = false
 was_closed None = false
 
--- rejected for want of room or because the service has gone, or its circuit ended before it was live, or by silence
+-- rejected for want of room or because the service has gone; or its circuit ended before it was live, or by silence, but not because
+-- the peer knew no such circuit: then it has just been started again
 abbrev pub avoidable : Option SessionEnd → Bool → Bool
 avoidable (Some ends.Closed) live = false
 avoidable (Some (ends.Rejected reason)) live = reason == 7 || reason == 4
-avoidable (Some (ends.Circuit reason)) live = not live || reason == 6
+avoidable (Some (ends.Circuit reason)) live = not (reason == 5) && (not live || reason == 6)
 avoidable None live = false
+
+-- the node of a session that this mind closed before it was live is to be avoided: it doesn't answer still, or ended it so
+abbrev pub is_shunned : LineLook → Bool
+is_shunned line = is_unanswered line.state || avoidable line.end false
 
 -- a session in this state, of which so many items wait, needs its worker still
 abbrev pub needs : SessionState → ℕ → Bool

@@ -13,7 +13,7 @@ use Rattle.lat_mind.specs.declared.phase.Phase.TheVariants as phases
 use Rattle.lat_mind.specs.declared.kind.Kind.{Kind}
 use Rattle.lat_mind.specs.declared.mind.LineMind.{LineMind}
 use Rattle.lat_mind.specs.Kinds.{is_calling, is_offering}
-use Rattle.lat_mind.specs.Looks.{at_port, avoidable, holds_on, is_answered, is_free, is_job, is_live, is_own, shows_live}
+use Rattle.lat_mind.specs.Looks.{at_port, avoidable, holds_on, is_answered, is_free, is_job, is_live, is_own, is_shunned, shows_live}
 use Rattle.lat_mind.specs.Facts.{is_quiet}
 use Rattle.lat_mind.specs.Phases.{has_caller, phase_after}
 
@@ -48,9 +48,17 @@ fresh_for m see =
 abbrev pub to_dial : LineMind → Look → Bool
 to_dial m see = not (is_offering m.kind) && not (at_port see.owner)
 
+-- the newest session was first shown so many milliseconds ago
+abbrev pub has_stood : LineMind → Look → ℕ → Bool
+has_stood m see ms = see.line.newest == m.noted && nat_le (m.since + ms) see.moment
+
 -- nobody has come to the line's port for the newest session, though it was there for 30 seconds
 abbrev pub is_late : LineMind → Look → Bool
-is_late m see = at_port see.owner && (see.line.newest == m.noted && nat_le (m.since + 30000) see.moment)
+is_late m see = at_port see.owner && has_stood m see 30000
+
+-- the caller's session was never live, though it was there for five seconds, and another one may be tried for
+abbrev pub is_overdue : LineMind → Guest → Look → Bool
+is_overdue m g see = is_calling m.kind && (not g.live && has_stood m see 5000)
 
 -- the newest session, which has no caller, is to be closed
 abbrev pub sweeps : LineMind → Look → Bool
@@ -97,13 +105,19 @@ next_lost m g see =
     else (if live || (g.ended || not (is_calling m.kind)) then moves.HangUp
     else moves.Lose)
 
--- the caller's session is spent, and nothing is owed
-abbrev pub next_over : LineMind → Guest → Look → Move
-next_over m g see = if see.stopping || (not (see.line.newest == g.session) || m.shut == g.session) then moves.HangUp else next_lost m g see
-
 -- a caller who gets no other session: this one was live, or the caller has ended, or its line doesn't try for sessions
 abbrev pub is_last : Kind → Guest → Bool
 is_last kind g = g.live || (g.ended || not (is_calling kind))
+
+-- this mind closed the caller's session: where it wasn't answered in time the caller waits for another one
+abbrev pub next_shut : LineMind → Guest → Look → Move
+next_shut m g see = if is_last m.kind g then moves.HangUp else (if not g.avoided && is_shunned see.line then moves.Avoid else moves.Lose)
+
+-- the caller's session is spent, and nothing is owed
+abbrev pub next_over : LineMind → Guest → Look → Move
+next_over m g see =
+    if see.stopping || not (see.line.newest == g.session) then moves.HangUp
+    else (if m.shut == g.session then next_shut m g see else next_lost m g see)
 
 -- the caller's session is to be closed: behind an attention, where its device has gone
 abbrev pub next_close : LineMind → Guest → Look → Move
@@ -128,7 +142,7 @@ next_live m g see =
 -- the caller's session isn't spent
 abbrev pub next_serving : LineMind → Guest → Look → Move
 next_serving m g see =
-    if not (is_answered see.line.state) then (if g.ended then moves.Close else moves.Watch)
+    if not (is_answered see.line.state) then (if g.ended || is_overdue m g see then moves.Close else moves.Watch)
     else (if is_live see.line.state && is_some g.wrote then next_live m g see
     else (if nat_lt 0 see.line.waiting && g.owed == 0 then moves.Take
     else (if is_live see.line.state then next_live m g see

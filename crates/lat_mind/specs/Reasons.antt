@@ -10,7 +10,7 @@ use Rattle.lat_mind.specs.declared.phase.Phase.TheVariants as phases
 use Rattle.lat_mind.specs.declared.mind.LineMind.{LineMind}
 use Rattle.lat_mind.specs.Kinds.{is_calling, is_offering}
 use Rattle.lat_mind.specs.Looks.{is_answered, is_free, is_live}
-use Rattle.lat_mind.specs.Minds.{fresh_for, is_last, may_try, mind_next, spent, stuck, sweeps, to_dial}
+use Rattle.lat_mind.specs.Minds.{fresh_for, is_last, is_overdue, may_try, mind_next, spent, stuck, sweeps, to_dial}
 
 -- a mind without a caller
 abbrev pub WhyAlone : LineMind → Look → Move → Type 0
@@ -34,6 +34,10 @@ WhyWaiting m w see moves.Close = (see.stopping ≡ false) × (sweeps m see ≡ t
 WhyWaiting m w see moves.Watch = see.stopping ≡ false
 WhyWaiting m w see _ = ⊥
 
+-- the caller's session is to be closed: the daemon is ending, the caller has failed or ended, or the session isn't answered in time
+abbrev pub CloseIsDue : LineMind → Guest → Look → Type 0
+CloseIsDue m g see = (see.stopping ≡ true) ⊎ ((g.failed ≡ true) ⊎ ((g.ended ≡ true) ⊎ ((is_answered see.line.state ≡ false) × (is_overdue m g see ≡ true))))
+
 -- a mind whose caller has a session
 abbrev pub WhyJoined : LineMind → Guest → Look → Move → Type 0
 WhyJoined m g see moves.Put = (see.line.newest ≡ g.session) × (is_live see.line.state ≡ true) × (0 < g.left) × (0 < see.line.room) × (spent m g see ≡ false)
@@ -41,7 +45,7 @@ WhyJoined m g see moves.Read = (see.stopping ≡ false) × (see.line.newest ≡ 
 WhyJoined m g see moves.Take = (see.stopping ≡ false) × (see.line.newest ≡ g.session) × (is_answered see.line.state ≡ true) × (g.owed ≡ 0) × (spent m g see ≡ false)
 WhyJoined m g see moves.Write = (g.failed ≡ false) × (0 < g.owed)
 WhyJoined m g see moves.Attend = (is_offering m.kind ≡ true) × ((g.failed ≡ true) ⊎ (g.ended ≡ true)) × (is_live see.line.state ≡ true) × (g.attended ≡ false) × (spent m g see ≡ false) × (g.left ≡ 0)
-WhyJoined m g see moves.Close = (see.line.newest ≡ g.session) × (spent m g see ≡ false) × ((g.left ≡ 0) ⊎ (is_live see.line.state ≡ false))
+WhyJoined m g see moves.Close = (see.line.newest ≡ g.session) × (spent m g see ≡ false) × ((g.left ≡ 0) ⊎ (is_live see.line.state ≡ false)) × CloseIsDue m g see
 WhyJoined m g see moves.HangUp = ((g.owed ≡ 0) ⊎ (g.failed ≡ true)) × (spent m g see ≡ true) × (m.ready ≡ false)
 WhyJoined m g see moves.Lose = (see.stopping ≡ false) × (g.owed ≡ 0) × (spent m g see ≡ true) × (is_last m.kind g ≡ false)
 WhyJoined m g see moves.Avoid = (see.stopping ≡ false) × (see.line.newest ≡ g.session) × (g.owed ≡ 0) × (g.avoided ≡ false) × (g.failed ≡ false) × (is_calling m.kind ≡ true)

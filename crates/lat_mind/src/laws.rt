@@ -2,7 +2,7 @@
 //! contract is the statement.
 
 ghost use Rattle.lat_mind.specs.Bounds.{Ends, HangsUp};
-ghost use Rattle.lat_mind.specs.Laws.{AloneIsStill, AttachesAgain, CallersAreHeard, CallersAreTaken, LosesFirst, RunsAreRight, TriesAgain, WaitsEnd};
+ghost use Rattle.lat_mind.specs.Laws.{AloneIsStill, AsksEnd, AttachesAgain, CallersAreHeard, CallersAreTaken, LosesFirst, RunsAreRight, TriesAgain, WaitsEnd, WaitsForTheRestarted};
 ghost use Rattle.lat_mind.specs.Reasons.{MovesHaveReasons};
 
 /// Each move of a mind has its reason.
@@ -43,9 +43,21 @@ pub fn waits_end()
     ensures { WaitsEnd }
 {}
 
-/// A caller whose session was never live waits again, its node avoided first where that is due.
+/// While a caller waits at a calling line, a session that isn't answered is closed at the first look five seconds after the first
+/// that showed it.
+pub fn asks_end()
+    ensures { AsksEnd }
+{}
+
+/// A caller whose session was never live, and has ended or was closed by its mind, waits again, its node avoided first where that
+/// is due.
 pub fn loses_first()
     ensures { LosesFirst }
+{}
+
+/// So does one whose circuit a peer that was started again didn't know: and this peer isn't avoided.
+pub fn waits_for_the_restarted()
+    ensures { WaitsForTheRestarted }
 {}
 
 /// A caller whose session is over, and who gets no other, is hung up within a bounded number of turns of which something came.

@@ -2,6 +2,7 @@
 //! the lock, says the next move, and is told what came of it. `docs/PROTOCOL.md`, "Lines of a daemon", has the rules.
 #![tactic(auto)]
 
+mod after;
 mod fact;
 mod kind;
 pub mod laws;

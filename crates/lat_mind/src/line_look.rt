@@ -1,7 +1,7 @@
 //! What a mind reads in the look of a line.
 
 ghost use Rattle.std.specs.Prelude.{◌≡◌};
-ghost use Rattle.lat_mind.specs.Looks.{avoidable, holds_on, is_answered, is_free, is_live, shows_live, was_closed};
+ghost use Rattle.lat_mind.specs.Looks.{avoidable, holds_on, is_answered, is_free, is_live, is_shunned, is_unanswered, shows_live, was_closed};
 
 use lat_base::{LineLook, SessionEnd, SessionState};
 
@@ -13,6 +13,9 @@ const NO_ROOM: u8 = 7;
 
 /// A circuit that ends with this reason heard nothing any more.
 const SILENCE: u8 = 6;
+
+/// A circuit that ends with this reason isn't known to its peer, which has been started again.
+const NO_CIRCUIT: u8 = 5;
 
 fn was_closed(end: Option<SessionEnd>) -> bool
     ensures { result ≡ was_closed end }
@@ -26,7 +29,7 @@ pub(crate) fn avoidable(end: Option<SessionEnd>, live: bool) -> bool
 {
     match end {
         Some(SessionEnd::Rejected(reason)) => reason == NO_ROOM || reason == NOT_OFFERED,
-        Some(SessionEnd::Circuit(reason)) => !live || reason == SILENCE,
+        Some(SessionEnd::Circuit(reason)) => reason != NO_CIRCUIT && (!live || reason == SILENCE),
         _ => false,
     }
 }
@@ -51,6 +54,20 @@ pub(crate) fn is_answered(line: &LineLook) -> bool
         line.state,
         SessionState::Live | SessionState::Closing | SessionState::Left
     )
+}
+
+/// Whether the newest session was asked for, and neither answered nor ended.
+fn is_unanswered(line: &LineLook) -> bool
+    ensures { result ≡ is_unanswered line.now.state }
+{
+    matches!(line.state, SessionState::Calling | SessionState::Asked)
+}
+
+/// Whether the node of the newest session, which the mind closed before it was live, is to be avoided.
+pub(crate) fn is_shunned(line: &LineLook) -> bool
+    ensures { result ≡ is_shunned line.now }
+{
+    is_unanswered(line) || avoidable(line.end, false)
 }
 
 /// Whether the newest session needs its worker still: it isn't over at this end, or items of it wait.

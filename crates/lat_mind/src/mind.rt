@@ -3,11 +3,14 @@
 ghost use Rattle.std.specs.Prelude.{◌≡◌};
 ghost use Rattle.lat_mind.specs.Phases.{has_caller, was_live};
 ghost use Rattle.lat_mind.specs.Runs.{left_in, owed_in};
-ghost use Rattle.lat_mind.specs.Minds.{away_after, calm_after, fresh_for, fresh_mind, is_late, may_try, mind_next, mind_told, next_alone, next_close, next_ending, next_joined, next_live, next_lost, next_over, next_serving, next_waiting, patience_of, ready_after, seen_after, shut_after, since_after, spent, sweeps, to_dial, try_of};
+ghost use Rattle.lat_mind.specs.Minds.{fresh_for, fresh_mind, has_stood, is_last, is_late, is_overdue, may_try, mind_next, mind_told, next_alone, next_close, next_ending, next_joined, next_live, next_lost, next_over, next_serving, next_shut, next_waiting, patience_of, spent, sweeps, to_dial, try_of};
 
+use crate::after::{away_after, calm_after, ready_after, seen_after, shut_after, since_after};
 use crate::fact::{Fact, Move};
 use crate::kind::Kind;
-use crate::line_look::{avoidable, holds_on, is_answered, is_free, is_live, shows_live};
+use crate::line_look::{
+    avoidable, holds_on, is_answered, is_free, is_live, is_shunned, shows_live,
+};
 use crate::look::Look;
 use crate::phase::{Guest, Phase, Waiter};
 
@@ -20,9 +23,10 @@ const ATTACH_MS: u64 = 5_000;
 /// How long a session waits for a caller at the line's port, in milliseconds.
 const WAIT_MS: u64 = 30_000;
 
-/// How long a calm line waits for something to happen, in milliseconds: without a caller, and with one.
-const PATIENCE_MS: u64 = 50;
+/// How long a caller's session waits for its answer, in milliseconds.
+const ANSWER_MS: u64 = 5_000;
 
+/// How long a calm line with a caller waits for something to happen, in milliseconds.
 const CALLER_PATIENCE_MS: u64 = 10;
 
 /// What a line's worker knows. A turn is a look, the move at it, and what came of that, told with the same look.
@@ -51,67 +55,6 @@ fn may_try(tried: Option<u64>, every: u64, now: u64) -> bool
     match tried {
         None => true,
         Some(then) => then <= now && now - then >= every,
-    }
-}
-
-fn calm_after(calm: u64, fact: Fact) -> u64
-    ensures { result ≡ calm_after calm fact }
-{
-    if !fact.is_quiet() {
-        0
-    } else if calm < PATIENCE_MS {
-        calm + 1
-    } else {
-        PATIENCE_MS
-    }
-}
-
-fn seen_after(seen: u64, see: &Look, fact: Fact) -> u64
-    ensures { result ≡ seen_after seen see.now fact }
-{
-    match fact {
-        Fact::Dialled | Fact::Undialled | Fact::Joined => see.line.newest,
-        Fact::Connected(number) => number,
-        _ => seen,
-    }
-}
-
-fn shut_after(shut: u64, see: &Look, fact: Fact) -> u64
-    ensures { result ≡ shut_after shut see.now fact }
-{
-    match fact {
-        Fact::Closed => see.line.newest,
-        _ => shut,
-    }
-}
-
-fn since_after(noted: u64, since: u64, see: &Look) -> u64
-    ensures { result ≡ since_after noted since see.now }
-{
-    if noted == see.line.newest {
-        since
-    } else {
-        see.moment
-    }
-}
-
-fn away_after(away: Option<u64>, see: &Look, fact: Fact) -> Option<u64>
-    ensures { result ≡ away_after away see.now fact }
-{
-    match fact {
-        Fact::Away => Some(see.moment),
-        Fact::Came => None,
-        _ => away,
-    }
-}
-
-fn ready_after(ready: bool, fact: Fact) -> bool
-    ensures { result ≡ ready_after ready fact }
-{
-    match fact {
-        Fact::Readied => true,
-        Fact::Unreadied => false,
-        _ => ready,
     }
 }
 
@@ -240,14 +183,25 @@ impl LineMind {
         !self.kind.is_offering() && !see.owner.at_port()
     }
 
+    // Whether the newest session was first shown so many milliseconds ago.
+    fn has_stood(&self, see: &Look, ms: u64) -> bool
+        ensures { result ≡ has_stood self.now see.now ms }
+    {
+        see.line.newest == self.noted && self.since <= see.moment && see.moment - self.since >= ms
+    }
+
     // Whether nobody has come to the line's port for the newest session, though it was there for long.
     fn is_late(&self, see: &Look) -> bool
         ensures { result ≡ is_late self.now see.now }
     {
-        see.owner.at_port()
-            && see.line.newest == self.noted
-            && self.since <= see.moment
-            && see.moment - self.since >= WAIT_MS
+        see.owner.at_port() && self.has_stood(see, WAIT_MS)
+    }
+
+    // Whether the caller's session was never live, though it was there for long, and another one may be tried for.
+    fn is_overdue(&self, guest: Guest, see: &Look) -> bool
+        ensures { result ≡ is_overdue self.now guest see.now }
+    {
+        self.kind.is_calling() && !guest.live && self.has_stood(see, ANSWER_MS)
     }
 
     // Whether the newest session, which has no caller, is to be closed.
@@ -337,10 +291,32 @@ impl LineMind {
     fn next_over(&self, guest: Guest, see: &Look) -> Move
         ensures { result ≡ next_over self.now guest see.now }
     {
-        if see.stopping || see.line.newest != guest.session || self.shut == guest.session {
+        if see.stopping || see.line.newest != guest.session {
             Move::HangUp
+        } else if self.shut == guest.session {
+            self.next_shut(guest, see)
         } else {
             self.next_lost(guest, see)
+        }
+    }
+
+    // Whether the caller gets no other session.
+    fn is_last(&self, guest: Guest) -> bool
+        ensures { result ≡ is_last self.now.kind guest }
+    {
+        guest.live || guest.ended || !self.kind.is_calling()
+    }
+
+    // This mind closed the caller's session: where it wasn't answered in time the caller waits for another one.
+    fn next_shut(&self, guest: Guest, see: &Look) -> Move
+        ensures { result ≡ next_shut self.now guest see.now }
+    {
+        if self.is_last(guest) {
+            Move::HangUp
+        } else if !guest.avoided && is_shunned(&see.line) {
+            Move::Avoid
+        } else {
+            Move::Lose
         }
     }
 
@@ -411,7 +387,7 @@ impl LineMind {
         ensures { result ≡ next_serving self.now guest see.now }
     {
         if !is_answered(&see.line) {
-            return if guest.ended {
+            return if guest.ended || self.is_overdue(guest, see) {
                 Move::Close
             } else {
                 Move::Watch

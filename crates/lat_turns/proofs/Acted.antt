@@ -7,6 +7,7 @@ use Rattle.lat_base.specs.declared.answer.Answer.TheVariants as answers
 use Rattle.lat_base.specs.declared.look.LineLook.{LineLook}
 use Rattle.lat_history.specs.CellView.{CellView, SeatView}
 use Rattle.lat_history.specs.History.{state_of}
+use Rattle.lat_mind.specs.declared.fact.Fact.{Fact}
 use Rattle.lat_mind.specs.declared.fact.Fact.TheVariants as facts
 use Rattle.lat_mind.specs.declared.fact.Move.{Move}
 use Rattle.lat_mind.specs.declared.fact.Move.TheVariants as moves
@@ -34,11 +35,12 @@ use Rattle.lat_turns.specs.Holds.{AppliedAs, event_turn}
 use Rattle.lat_turns.specs.Lives.{DeskView, IsLife, behind, larger, turn_of, with_turn}
 use Rattle.lat_turns.specs.Served.{AreVisitsOf, served_of}
 use Rattle.lat_turns.specs.Tied.{Tied}
-use Rattle.lat_turns.specs.Work.{WentOn, put_in}
+use Rattle.lat_turns.specs.Work.{RoseAs, WentOn, event_in, put_in}
 use Rattle.lat_turns.specs.Written.{wrote_by}
 use Rattle.lat_turns.specs.declared.holding.Held.{Held}
 use Rattle.lat_turns.specs.declared.holding.Held.TheVariants as helds
 use Rattle.lat_turns.proofs.Front.{if_ok}
+use Rattle.lat_turns.proofs.Rising.{rose_turn}
 use Rattle.lat_turns.proofs.Moves.{of_event}
 use Rattle.lat_turns.proofs.Overs.{dial_over, dial_serves, events_serve, knock_serves, over_hung, over_stays, read_serves, watch_serves, write_serves}
 use Rattle.lat_turns.proofs.Ties.{Next, accept_at, attach_at, dial_at, event_tied, finish_at, hang_at, join_at, lose_at, read_at, rest_at, watch_at, write_at}
@@ -143,7 +145,7 @@ applied_tied opening next answer look_of old new share share' see go d d' event 
     settled d d' x vs vs a.told refl over (event_tied d.tale d.tale.mind.phase x x.fact vs of h.now)
 applied_tied opening next answer look_of old new share share' see go d d' event helds.Lacking a vs life h =
     lacking_tied d d' see vs life a.1 h
-applied_tied opening next answer look_of old new share share' see go d d' event helds.CountsOut a vs life h =
+applied_tied opening next answer look_of old new share share' see go d d' event (helds.CountsOut refusal) a vs life h =
     let P : DeskView → Type 0 = λ w. Tied w vs in
     subst P (sym a.2) h
 applied_tied opening next answer look_of old new share share' see go d d' event (helds.Outside move look port) a vs life h = absurd a
@@ -157,44 +159,60 @@ no_put d d' x none told n = record {
   counted = omega (arith, none);
 }
 
-knocks_put : (r : Result Knock Failed) → put_in (knocked r) ≡ 0
-knocks_put (Ok knocks.Came) = refl
-knocks_put (Ok knocks.Quiet) = refl
-knocks_put (Err e) = refl
+-- no bytes are put, and no event is applied
+abbrev IsIdle : Fact → Type 0
+IsIdle f = (put_in f ≡ 0) × (event_in f ≡ 0)
 
-dials_put : (r : Option (Result Unit Failed)) → (put_in (dialled r) ≡ 0) × (put_in (attached r) ≡ 0)
-dials_put (Some (Ok u)) = (refl, refl)
-dials_put (Some (Err e)) = (refl, refl)
-dials_put None = (refl, refl)
+knocks_idle : (r : Result Knock Failed) → IsIdle (knocked r)
+knocks_idle (Ok knocks.Came) = (refl, refl)
+knocks_idle (Ok knocks.Quiet) = (refl, refl)
+knocks_idle (Err e) = (refl, refl)
 
-reads_put : (r : Result CallerGot Failed) → put_in (got_of r) ≡ 0
-reads_put (Ok (gots.Bytes n)) = refl
-reads_put (Ok gots.Quiet) = refl
-reads_put (Ok gots.Ended) = refl
-reads_put (Err e) = refl
+dials_idle : (r : Option (Result Unit Failed)) → IsIdle (dialled r) × IsIdle (attached r)
+dials_idle (Some (Ok u)) = ((refl, refl), (refl, refl))
+dials_idle (Some (Err e)) = ((refl, refl), (refl, refl))
+dials_idle None = ((refl, refl), (refl, refl))
 
-writes_put : (r : Result ℕ Failed) → put_in (wrote_fact r) ≡ 0
-writes_put (Ok n) = refl
-writes_put (Err e) = refl
+reads_idle : (r : Result CallerGot Failed) → IsIdle (got_of r)
+reads_idle (Ok (gots.Bytes n)) = (refl, refl)
+reads_idle (Ok gots.Quiet) = (refl, refl)
+reads_idle (Ok gots.Ended) = (refl, refl)
+reads_idle (Err e) = (refl, refl)
 
-watches_put : (r : Result Presence Failed) → put_in (watched r) ≡ 0
-watches_put (Ok presences.Stays) = refl
-watches_put (Ok presences.Leaves) = refl
-watches_put (Err e) = refl
+writes_idle : (r : Result ℕ Failed) → IsIdle (wrote_fact r)
+writes_idle (Ok n) = (refl, refl)
+writes_idle (Err e) = (refl, refl)
+
+watches_idle : (r : Result Presence Failed) → IsIdle (watched r)
+watches_idle (Ok presences.Stays) = (refl, refl)
+watches_idle (Ok presences.Leaves) = (refl, refl)
+watches_idle (Err e) = (refl, refl)
+
+-- what is done outside the lock is one turn, by which no bytes are put and no event is applied
+pub record OneTurn (d d' : DeskView) : Type 0 where
+  pub turn : Turn
+  pub told : d' ≡ with_turn d turn
+  pub idle : IsIdle turn.fact
+
+pub acted_turn : (go : Move) (see : Look) (port : Option ℕ) (d d' : DeskView) (vs vs' : VisitsView) → Acted go see port d d' vs vs' → OneTurn d d'
+acted_turn moves.Accept see port d d' vs vs' a = record { turn = turn_of d see (knocked a.result) [] []; told = a.told; idle = knocks_idle a.result }
+acted_turn moves.Dial see port d d' vs vs' a = record { turn = turn_of d see (dialled a.result) [] []; told = a.told; idle = (dials_idle a.result).0 }
+acted_turn moves.Attach see port d d' vs vs' a = record { turn = turn_of d see (attached a.result) [] []; told = a.told; idle = (dials_idle a.result).1 }
+acted_turn moves.Read see port d d' vs vs' a = record { turn = turn_of d see (got_of a.result) a.bytes []; told = a.told; idle = reads_idle a.result }
+acted_turn moves.Write see port d d' vs vs' a = record { turn = turn_of d see (wrote_fact a.result) [] []; told = a.told; idle = writes_idle a.result }
+acted_turn moves.Watch see port d d' vs vs' a = record { turn = turn_of d see (watched a.result) [] []; told = a.told; idle = watches_idle a.result }
+acted_turn moves.HangUp see port d d' vs vs' a = record { turn = turn_of d see facts.HungUp [] []; told = a.told; idle = (refl, refl) }
+acted_turn moves.Join see port d d' vs vs' a = record { turn = turn_of d see facts.Joined [] []; told = a.told; idle = (refl, refl) }
+acted_turn moves.Lose see port d d' vs vs' a = record { turn = turn_of d see facts.Lost [] []; told = a.told; idle = (refl, refl) }
+acted_turn moves.Rest see port d d' vs vs' a = record { turn = turn_of d see facts.Rested [] []; told = a.told; idle = (refl, refl) }
+acted_turn moves.Finish see port d d' vs vs' a = record { turn = turn_of d see facts.Finished [] []; told = a.told; idle = (refl, refl) }
+acted_turn go see port d d' vs vs' a = absurd a
 
 pub acted_went : (go : Move) (see : Look) (port : Option ℕ) (d d' : DeskView) (vs vs' : VisitsView) → Acted go see port d d' vs vs' → (n : ℕ) → WentOn d d' n n
-acted_went moves.Accept see port d d' vs vs' a n = no_put d d' (turn_of d see (knocked a.result) [] []) (knocks_put a.result) a.told n
-acted_went moves.Dial see port d d' vs vs' a n = no_put d d' (turn_of d see (dialled a.result) [] []) (dials_put a.result).0 a.told n
-acted_went moves.Attach see port d d' vs vs' a n = no_put d d' (turn_of d see (attached a.result) [] []) (dials_put a.result).1 a.told n
-acted_went moves.Read see port d d' vs vs' a n = no_put d d' (turn_of d see (got_of a.result) a.bytes []) (reads_put a.result) a.told n
-acted_went moves.Write see port d d' vs vs' a n = no_put d d' (turn_of d see (wrote_fact a.result) [] []) (writes_put a.result) a.told n
-acted_went moves.Watch see port d d' vs vs' a n = no_put d d' (turn_of d see (watched a.result) [] []) (watches_put a.result) a.told n
-acted_went moves.HangUp see port d d' vs vs' a n = no_put d d' (turn_of d see facts.HungUp [] []) refl a.told n
-acted_went moves.Join see port d d' vs vs' a n = no_put d d' (turn_of d see facts.Joined [] []) refl a.told n
-acted_went moves.Lose see port d d' vs vs' a n = no_put d d' (turn_of d see facts.Lost [] []) refl a.told n
-acted_went moves.Rest see port d d' vs vs' a n = no_put d d' (turn_of d see facts.Rested [] []) refl a.told n
-acted_went moves.Finish see port d d' vs vs' a n = no_put d d' (turn_of d see facts.Finished [] []) refl a.told n
-acted_went go see port d d' vs vs' a n = absurd a
+acted_went go see port d d' vs vs' a n = let one = acted_turn go see port d d' vs vs' a in no_put d d' one.turn one.idle.0 one.told n
+
+pub acted_rose : (go : Move) (see : Look) (port : Option ℕ) (d d' : DeskView) (vs vs' : VisitsView) → Acted go see port d d' vs vs' → (n : ℕ) → RoseAs d d' n n
+acted_rose go see port d d' vs vs' a n = let one = acted_turn go see port d d' vs vs' a in rose_turn d d' one.turn 0 n n one.idle.1 one.told (omega arith)
 
 ends : (p : Phase) (see : Look) → phase_after p see facts.Finished ≡ phases.Finished
 ends phases.Alone see = refl

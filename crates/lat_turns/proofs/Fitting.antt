@@ -49,7 +49,7 @@ same : {C T S : Type 0} (opening : C → S) (next : S → Event → S) (answer :
     → HeldAs opening next answer look_of old new share share' door who see go d d' r
 same opening next answer look_of old new share share' door who see go d d' event (helds.Told at) is has a = (event, is, a)
 same opening next answer look_of old new share share' door who see go d d' event helds.Lacking is has a = (has, a.0, a.1)
-same opening next answer look_of old new share share' door who see go d d' event helds.CountsOut is has a = (event, is, a.0, a.1, a.2)
+same opening next answer look_of old new share share' door who see go d d' event (helds.CountsOut refusal) is has a = (event, is, a.0, a.1, a.2, a.3)
 same opening next answer look_of old new share share' door who see go d d' event (helds.Outside move look port) is has a = absurd a
 
 pub held_as : {C T S : Type 0} (opening : C → S) (next : S → Event → S) (answer : S → Event → Answer) (look_of : S → ℕ → LineLook)

@@ -6,5 +6,6 @@ pub mod Ties
 pub mod Overs
 pub mod Acted
 pub mod Going
+pub mod Rising
 pub mod Fitting
 pub mod Keeping

@@ -53,12 +53,13 @@ HeldAs opening next answer look_of old new share share' door who see go d d' (he
     × (d' ≡ d)
 HeldAs opening next answer look_of old new share share' door who see go d d' helds.Lacking =
     (has_event go ≡ true) × Stays old new share share' × (d' ≡ behind d see facts.Lacking)
-HeldAs opening next answer look_of old new share share' door who see go d d' helds.CountsOut =
+HeldAs opening next answer look_of old new share share' door who see go d d' (helds.CountsOut refusal) =
     (event : Event)
     × (move_event go share.seat door.service (offer_of d) ≡ Some event)
     × (MayCount old event → ⊥)
     × Stays old new share share'
     × (d' ≡ d)
+    × (refusal.seat ≡ share.seat)
 
 -- of a hold whose move has this event
 abbrev pub AppliedAs : {C T S : Type 0} → (C → S) → (S → Event → S) → (S → Event → Answer) → (S → ℕ → LineLook) → CellView C T → CellView C T
@@ -67,8 +68,8 @@ AppliedAs opening next answer look_of old new share share' see go d d' event (he
     IsApplied opening next answer look_of old new share share' see go d d' event at
 AppliedAs opening next answer look_of old new share share' see go d d' event helds.Lacking =
     Stays old new share share' × (d' ≡ behind d see facts.Lacking)
-AppliedAs opening next answer look_of old new share share' see go d d' event helds.CountsOut =
-    (MayCount old event → ⊥) × Stays old new share share' × (d' ≡ d)
+AppliedAs opening next answer look_of old new share share' see go d d' event (helds.CountsOut refusal) =
+    (MayCount old event → ⊥) × Stays old new share share' × (d' ≡ d) × (refusal.seat ≡ share.seat)
 AppliedAs opening next answer look_of old new share share' see go d d' event (helds.Outside move look port) = ⊥
 
 -- what is to be done outside the lock is the mind's move at its look, and has no event

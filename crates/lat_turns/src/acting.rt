@@ -7,7 +7,7 @@ ghost use Rattle.lat_mind.specs.Runs.{Answers, has_event};
 ghost use Rattle.lat_turns.specs.Acts.{Accepts, Acted, Dials, HangsUp, IsTold, Reads, Watches, Writes, attached, dialled, dialled_if, knocked, watched};
 ghost use Rattle.lat_turns.specs.Lives.{IsCountless, IsPlain, behind};
 ghost use Rattle.lat_turns.specs.Tied.{Tied};
-ghost use Rattle.lat_turns.specs.Work.{WentOn};
+ghost use Rattle.lat_turns.specs.Work.{RoseAs, WentOn};
 
 use crate::desk::Desk;
 use crate::tray::first;
@@ -168,6 +168,7 @@ pub fn act<K: Callers>(desk: &mut Desk, callers: &mut K, go: Move, see: &Look, p
     ensures acted { Acted go see.now port desk.old desk.new (K.visits callers.old) (K.visits callers.new) }
     ensures tied { Tied desk.old (K.visits callers.old) → Tied desk.new (K.visits callers.new) }
     ensures went { (n : ℕ) → WentOn desk.old desk.new n n }
+    ensures rose { (n : ℕ) → RoseAs desk.old desk.new n n }
     ensures finished { go ≡ Move.Finish → desk.new.tale.mind.phase ≡ Phase.Finished }
 {
     desk.lives();

@@ -14,7 +14,7 @@ ghost use Rattle.lat_turns.specs.Holds.{AppliedAs, HeldAs, MayAct, event_turn};
 ghost use Rattle.lat_turns.specs.Kept.{kept_look, stay_look};
 ghost use Rattle.lat_turns.specs.Lives.{behind, offer_of, with_turn};
 ghost use Rattle.lat_turns.specs.Tied.{Tied};
-ghost use Rattle.lat_turns.specs.Work.{WentOn};
+ghost use Rattle.lat_turns.specs.Work.{HeldTurns, WentOn};
 
 use crate::desk::Desk;
 use crate::door::Door;
@@ -27,6 +27,13 @@ use lat_outside::Tx;
 use lat_past::put;
 use std::alloc::Global;
 use std::sync::ledger::Ledger;
+
+/// A count of the cell would pass the greatest number of its type. It is made where the cell refuses a line's event for this, and
+/// nowhere else.
+#[derive(Clone, Copy)]
+pub struct NoCount {
+    seat: u8,
+}
 
 /// What came of one hold of the lock.
 #[derive(Drop)]
@@ -44,7 +51,7 @@ pub enum Held {
     /// No memory was found for the event, and only that was told.
     Lacking,
     /// A count would pass the greatest number of its type.
-    CountsOut,
+    CountsOut(NoCount),
 }
 
 // The mind is told what came of its event.
@@ -96,6 +103,7 @@ fn applied<C: Core, T: Tx, E: Ledger, B: Ledger>(
     ensures applied { AppliedAs C.opening C.next C.answer C.look_of cell.old cell.new share.old share.new see.now go
         desk.old desk.new event result }
     ensures went { WentOn desk.old desk.new share.old.bytes share.new.bytes }
+    ensures turns { HeldTurns result desk.old desk.new share.old.events share.new.events }
     ensures seat { (share.new.seat ≡ share.old.seat) × (share.new.parts ≡ share.old.parts) }
 {
     match cell.apply(alloc, event, share) {
@@ -104,7 +112,7 @@ fn applied<C: Core, T: Tx, E: Ledger, B: Ledger>(
             heard(desk, alloc, see, go, answer, number);
             Held::Told { place }
         }
-        Err(CellFault::CountsOut) => Held::CountsOut,
+        Err(CellFault::CountsOut) => Held::CountsOut(NoCount { seat: share.seat() }),
         Err(CellFault::Memory) => lacking(desk, see),
     }
 }
@@ -128,6 +136,7 @@ pub fn hold<C: Core, T: Tx, E: Ledger, B: Ledger>(
         (C.correspondent_of s share.old.seat) see (mind_next desk.old.tale.mind see) desk.old desk.new result }
     ensures act { MayAct desk.new result }
     ensures went { WentOn desk.old desk.new share.old.bytes share.new.bytes }
+    ensures turns { HeldTurns result desk.old desk.new share.old.events share.new.events }
     ensures tied { (vs : VisitsView) → Tied desk.old vs → Tied desk.new vs }
     ensures seat { (share.new.seat ≡ share.old.seat) × (share.new.parts ≡ share.old.parts) }
 {

@@ -21,6 +21,6 @@ mod write;
 pub use acting::act;
 pub use desk::Desk;
 pub use door::{Device, Door};
-pub use holding::{Held, hold};
+pub use holding::{Held, NoCount, hold};
 pub use kept::{Sessions, Stay};
 pub use worker::{LineDone, LineWorker};

@@ -5,12 +5,12 @@ ghost use Rattle.lat_mind.specs.Kinds.{is_calling};
 ghost use Rattle.lat_turns.specs.Holds.{MayAct};
 ghost use Rattle.lat_turns.specs.Lives.{IsLife};
 ghost use Rattle.lat_turns.specs.Tied.{Tied};
-ghost use Rattle.lat_turns.specs.Work.{IsDone, WentOn, end_of, ended_by, was_served};
+ghost use Rattle.lat_turns.specs.Work.{IsDone, RoseAs, SettledAs, TurnedAs, WentOn, end_of, ended_by, was_served};
 
 use crate::acting::act;
 use crate::desk::Desk;
 use crate::door::Door;
-use crate::holding::{Held, hold};
+use crate::holding::{Held, NoCount, hold};
 use crate::kept::Stay;
 use lat_base::Core;
 use lat_history::{Cell, LineShare};
@@ -27,7 +27,7 @@ pub enum LineDone {
     /// Its mind has finished.
     End,
     /// A count of the cell would have passed the greatest number of its type.
-    CountsOut,
+    CountsOut(NoCount),
 }
 
 /// The worker of a line: its share of the cell, the way to its callers, what the line is for, how long it takes callers, the clock
@@ -64,14 +64,16 @@ fn end_of(go: Move) -> Option<LineDone>
 // What is done behind a hold, outside the lock; it tells how the worker ends.
 fn settle<K: Callers>(desk: &mut Desk, callers: &mut K, held: Held) -> Option<LineDone>
     requires { MayAct desk.old held }
+    ensures acted { SettledAs held desk.old desk.new (K.visits callers.old) (K.visits callers.new) }
     ensures went { (n : ℕ) → WentOn desk.old desk.new n n }
+    ensures rose { (n : ℕ) → RoseAs desk.old desk.new n n }
     ensures tied { Tied desk.old (K.visits callers.old) → Tied desk.new (K.visits callers.new) }
     ensures done { IfSome result (λ done. IsDone done desk.new) }
     ensures ended { result ≡ ended_by held }
 {
     match held {
         Held::Told { .. } | Held::Lacking => None,
-        Held::CountsOut => Some(LineDone::CountsOut),
+        Held::CountsOut(refusal) => Some(LineDone::CountsOut(refusal)),
         Held::Outside { go, look, port } => {
             act(desk, callers, go, &look, port);
             end_of(go)
@@ -122,7 +124,10 @@ impl<'a, K: Callers, P: Clock, E: Ledger, B: Ledger> LineWorker<'a, K, P, E, B> 
             × (self.new.share.parts ≡ self.old.share.parts) }
         ensures door { self.new.door ≡ self.old.door }
         ensures stays { self.old.stay ≡ Stay.Always → self.new.stay ≡ Stay.Always }
+        ensures turned { TurnedAs self.old.desk self.new.desk (K.visits self.old.callers) (K.visits self.new.callers)
+            self.old.share.events self.new.share.events result }
         ensures went { WentOn self.old.desk self.new.desk self.old.share.bytes self.new.share.bytes }
+        ensures rose { RoseAs self.old.desk self.new.desk self.old.share.events self.new.share.events }
         ensures tied { Tied self.old.desk (K.visits self.old.callers) →
             Tied self.new.desk (K.visits self.new.callers) }
         ensures done { IfSome result (λ done. IsDone done self.new.desk) }
@@ -151,8 +156,9 @@ impl<'a, K: Callers, P: Clock, E: Ledger, B: Ledger> LineWorker<'a, K, P, E, B> 
     }
 
     /// Works the line, turn after turn, until its mind has finished or a count is out, which `done` then tells: `End` or
-    /// `CountsOut`. One that takes one caller ends so behind it. What it put is what its turns since then say, and its callers stay those of its whole life, those too who were
-    /// hung up. It may wait, and its return isn't promised.
+    /// `CountsOut`. One that takes one caller ends so behind it. The events that it applied, and what it put, are exactly what its
+    /// turns since then say, and its callers stay those of its whole life, those too who were hung up. It may wait, and its return
+    /// isn't promised.
     pub fn work<C: Core, T: Tx, G: Gate, R: Wait>(
         &mut self,
         rt: &R,
@@ -167,6 +173,7 @@ impl<'a, K: Callers, P: Clock, E: Ledger, B: Ledger> LineWorker<'a, K, P, E, B> 
         ensures stays { self.old.stay ≡ Stay.Always → self.new.stay ≡ Stay.Always }
         ensures life { IsLife self.new.desk }
         ensures went { WentOn self.old.desk self.new.desk self.old.share.bytes self.new.share.bytes }
+        ensures rose { RoseAs self.old.desk self.new.desk self.old.share.events self.new.share.events }
         ensures tied { Tied self.old.desk (K.visits self.old.callers) →
             Tied self.new.desk (K.visits self.new.callers) }
         ensures done { IsDone self.new.done self.new.desk }

@@ -1,7 +1,7 @@
 use Rattle.std.proofs.Common.{subst}
 use Rattle.lat_outside.specs.Visits.{VisitsView}
 use Rattle.lat_turns.specs.Acts.{Acted}
-use Rattle.lat_turns.proofs.Acted.{acted_tied, acted_went, finishes}
+use Rattle.lat_turns.proofs.Acted.{acted_rose, acted_tied, acted_went, finishes}
 use Rattle.lat_turns.proofs.acting.act.Goals as goal
 
 pub returns-clause-tied : goal.returns-clause-tied
@@ -20,3 +20,8 @@ pub returns-clause-finished : goal.returns-clause-finished
 returns-clause-finished g c =
     let visits = g.K.Callers.visits in
     finishes c.args.go c.args.see.now c.args.port c.args.desk.now c.done.new.desk (visits c.turn_away.new.callers) (visits c.done.new.callers) c.done.ensures
+
+pub returns-clause-rose : goal.returns-clause-rose
+returns-clause-rose g c =
+    let visits = g.K.Callers.visits in
+    acted_rose c.args.go c.args.see.now c.args.port c.args.desk.now c.done.new.desk (visits c.turn_away.new.callers) (visits c.done.new.callers) c.done.ensures

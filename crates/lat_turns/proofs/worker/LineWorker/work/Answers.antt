@@ -3,6 +3,7 @@ use Rattle.std.specs.Prelude.{IsSome}
 use Rattle.lat_mind.specs.Kinds.{is_calling}
 use Rattle.lat_turns.specs.Doors.{DoorView}
 use Rattle.lat_turns.proofs.Going.{went_further}
+use Rattle.lat_turns.proofs.Rising.{rose_further}
 use Rattle.lat_turns.proofs.worker.LineWorker.work.Goals as goal
 
 pub loop-preserved : goal.loop-preserved
@@ -22,5 +23,6 @@ loop-preserved g c =
       stays = λ stays. turn.stays (so_far.stays stays);
       calls = λ calls. subst P (sym turn.door) (so_far.calls (ap is_calling (sym turn.went.kind) ∙ calls));
       went = went_further first.desk old.desk new.desk first.share.bytes old.share.bytes new.share.bytes so_far.went turn.went;
+      rose = rose_further first.desk old.desk new.desk first.share.events old.share.events new.share.events so_far.rose turn.rose;
       tied = λ tied. turn.tied (so_far.tied tied);
     }
