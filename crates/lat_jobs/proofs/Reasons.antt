@@ -13,7 +13,7 @@ use Rattle.lat_jobs.specs.declared.phase.Ask.{Ask}
 use Rattle.lat_jobs.specs.declared.phase.Print.{Print}
 use Rattle.lat_jobs.specs.declared.phase.Phase.{Phase}
 use Rattle.lat_jobs.specs.declared.phase.Phase.TheVariants as phases
-use Rattle.lat_jobs.specs.Looks.{is_cut}
+use Rattle.lat_jobs.specs.Looks.{is_stopped}
 use Rattle.lat_jobs.specs.Minds.{comes, is_due, is_lost, is_open, is_owing, is_past, is_silent, is_whole, next_asking, next_at, next_cut, next_ending, next_live, next_pausing, next_printing, next_serving, next_shut}
 use Rattle.lat_jobs.specs.Phases.{breaks, here}
 use Rattle.lat_jobs.specs.Reasons.{Why, WhyAsking, WhyPausing, WhyPrinting, has_failed, is_running}
@@ -89,9 +89,9 @@ why_shut g see s =
     let kept : g.failed ≡ false = whole_sound g whole in
     cond_both (is_owing g) _ _ P (λ o. (kept, ltb-true 0 g.owed ((and_parts (nat_lt 0 g.owed) (not g.wrote) o).0)))
     (λ o. cond_both (here g see && not (is_free see.line.state)) _ _ P (λ h. (and_parts (here g see) (not (is_free see.line.state)) h).0)
-    (λ h. cond_both (here g see && is_cut see.line.end) _ _ P (λ c. inr (inl c))
+    (λ h. cond_both (not (here g see && is_stopped see.line.end)) _ _ P (λ c. inr (inl (s, not-true _ c)))
     (λ c. cond_both (nat_lt 0 g.owed && not see.stopping) _ _ P (λ w. (kept, ltb-true 0 g.owed ((and_parts (nat_lt 0 g.owed) (not see.stopping) w).0)))
-    (λ w. (s, whole, sound.1, unowed g.owed see.stopping w, h, c))))))
+    (λ w. (s, whole, sound.1, unowed g.owed see.stopping w, h, not-false _ c))))))
 
 why_ending : (g : Print) (see : Look) → g.shut ≡ false → here g see ≡ true → has_failed g see ≡ false → WhyPrinting g see (next_ending g see)
 why_ending g see s h f =

@@ -1,7 +1,7 @@
 -- The laws of runs, and of when a job asks and ends.
 use Rattle.std.proofs.Common.{◌≡◌, ℕ, ◌+◌, ◌<◌, ◌≤◌, List, [], ◌∷◌, ◌++◌, length, refl, arith, inl, inr, sym, ap, subst, ◌∙◌, length-take}
-use Rattle.std.specs.Prelude.{Bool, true, false, not, ◌&&◌, nat_lt, ◌⊎◌, Some, zero, suc}
-use Rattle.std.proofs.lemmas.Bool.{and_from, and_left, and_parts, and_right, cond-false, cond-true, not_from_true, or_from, or_parts, false≢true, true≢false}
+use Rattle.std.specs.Prelude.{Bool, true, false, not, ◌&&◌, nat_lt, ◌⊎◌, Option, Some, None, zero, suc}
+use Rattle.std.proofs.lemmas.Bool.{and_from, and_left, and_parts, and_right, cond-false, cond-true, not-false, not_from_true, or_from, or_parts, false≢true, true≢false}
 use Rattle.std.proofs.lemmas.Bool.Decides.{nat_tests}
 use Rattle.lat_mind.specs.Looks.{holds_on, is_free, is_live}
 use Rattle.lat_jobs.specs.declared.fact.Fact.{Fact}
@@ -15,13 +15,15 @@ use Rattle.lat_jobs.specs.declared.phase.Print.{Print}
 use Rattle.lat_jobs.specs.declared.phase.Phase.{Phase}
 use Rattle.lat_jobs.specs.declared.phase.Phase.TheVariants as phases
 use Rattle.lat_jobs.specs.declared.mind.JobMind.{JobMind}
-use Rattle.lat_jobs.specs.Looks.{is_for}
+use Rattle.lat_base.specs.declared.state.SessionEnd.{SessionEnd}
+use Rattle.lat_base.specs.declared.state.SessionEnd.TheVariants as ends
+use Rattle.lat_jobs.specs.Looks.{is_for, is_stopped}
 use Rattle.lat_jobs.specs.Minds.{comes, is_due, is_past, is_whole, mind_next, next_at}
 use Rattle.lat_jobs.specs.Phases.{breaks, here}
-use Rattle.lat_jobs.specs.Reasons.{Why, has_failed, was_cut}
+use Rattle.lat_jobs.specs.Reasons.{Why, has_failed, was_stopped}
 use Rattle.lat_jobs.specs.Runs.{Answers, RunOf, Tale, Turn, fresh_tale, number_in, offer_at, tale_of}
 use Rattle.lat_jobs.specs.Good.{Good, GoodPhase, wait_of}
-use Rattle.lat_jobs.specs.Laws.{AskIsDue, AskIsRight, IsDone, LawOfRuns, RepeatIsDue, WriteIsRight, session_in}
+use Rattle.lat_jobs.specs.Laws.{AskIsDue, AskIsRight, IsDone, IsStopped, LawOfRuns, RepeatIsDue, WriteIsRight, session_in}
 use Rattle.lat_jobs.proofs.Reasons.{all_put, reason, whole_parts}
 use Rattle.lat_jobs.proofs.Runs.{finish, good_from_fresh, here_parts, numbered}
 
@@ -92,12 +94,28 @@ hang_bytes t (phases.Printing g) see turn good why =
     (good.ended parts.0, finish t.read t.put t.hand g.left good.bytes parts.1)
 hang_bytes t phases.Over see turn good why = absurd why
 
+stopped_end : (end : Option SessionEnd) → is_stopped end ≡ true → end ≡ Some ends.Closed
+stopped_end (Some ends.Closed) s = refl
+stopped_end (Some (ends.Rejected reason)) s = absurd (false≢true s)
+stopped_end (Some (ends.Circuit reason)) s = absurd (false≢true s)
+stopped_end None s = absurd (false≢true s)
+
+-- where a session is shown, and isn't anything but free, it is free
+free_here : (shown free : Bool) → (shown && not free) ≡ false → shown ≡ true → free ≡ true
+free_here true free f h = not-false _ f
+free_here false free f h = absurd (false≢true h)
+
+stopped : (g : Print) (see : Look) → (here g see && not (is_free see.line.state)) ≡ false → was_stopped g see ≡ true → IsStopped g see
+stopped g see f s =
+    let both = and_parts (here g see) (is_stopped see.line.end) s in
+    record { own = both.0; free = free_here (here g see) (is_free see.line.state) f both.0; stops = stopped_end see.line.end both.1 }
+
 hang_over : (t : Tale) (p : Phase) (see : Look) (turn : Bool) (g : Print) → next_at t.mind.wait p see turn ≡ moves.HangUp → p ≡ phases.Printing g →
-    (g.shut ≡ true) × (has_failed g see ≡ false) × (was_cut g see ≡ false) × ((here g see && not (is_free see.line.state)) ≡ false)
+    (g.shut ≡ true) × (has_failed g see ≡ false) × IsStopped g see
 hang_over t p see turn g is at =
     let Q : Phase → Type 0 = λ q. next_at t.mind.wait q see turn ≡ moves.HangUp in
     let why = reason t.mind.wait (phases.Printing g) see turn moves.HangUp (subst Q at is) in
-    (why.0, or_from g.failed (breaks g see) (whole_parts g why.1).2 why.2, why.5, why.4)
+    (why.0, or_from g.failed (breaks g see) (whole_parts g why.1).2 why.2, stopped g see why.4 why.5)
 
 hang_items : (t : Tale) (p : Phase) (see : Look) (turn : Bool) (g : Print) → GoodPhase t p → next_at t.mind.wait p see turn ≡ moves.HangUp → p ≡ phases.Printing g → g.deaf ≡ false → (t.taken ≡ t.written) ⊎ (see.stopping ≡ true)
 hang_items t p see turn g good is at d =
@@ -193,6 +211,6 @@ done_are_hung_up m g see turn d =
     (cond-true _ _ _ d.shut
     ∙ (cond-false _ _ _ (or_from (not (is_whole g)) (breaks g see) (not_from_true _ d.whole) d.sound)
     ∙ (cond-false _ _ _ (unowing g.owed (not g.wrote) d.owed)
-    ∙ (cond-false _ _ _ (and_right (here g see) (not (is_free see.line.state)) (not_from_true _ d.free))
-    ∙ (cond-false _ _ _ d.uncut
+    ∙ (cond-false _ _ _ (and_right (here g see) (not (is_free see.line.state)) (not_from_true _ d.over.free))
+    ∙ (cond-false _ _ _ (not_from_true _ (and_from (here g see) (is_stopped see.line.end) d.over.own (ap is_stopped d.over.stops)))
     ∙ cond-false _ _ _ (unowing g.owed (not see.stopping) d.owed))))))

@@ -1,5 +1,6 @@
 -- What holds of every run of a job: what is put and written, when it asks, and how it ends.
 use Rattle.std.specs.Prelude.{◌≡◌, ℕ, ◌+◌, ◌<◌, ◌≤◌, ◌⊎◌, ◌&&◌, ◌||◌, Bool, true, false, not, List, [], ◌++◌, length, Some}
+use Rattle.lat_base.specs.declared.state.SessionEnd.TheVariants as ends
 use Rattle.lat_mind.specs.Looks.{is_free, is_live}
 use Rattle.lat_jobs.specs.declared.fact.Move.TheVariants as moves
 use Rattle.lat_jobs.specs.declared.look.Look.{Look}
@@ -13,7 +14,7 @@ use Rattle.lat_jobs.specs.Looks.{tells}
 use Rattle.lat_jobs.specs.Minds.{is_lost, is_silent, is_whole, mind_next}
 use Rattle.lat_jobs.specs.Phases.{breaks, here}
 use Rattle.lat_jobs.specs.Good.{NoneInto, OneSession, wait_of}
-use Rattle.lat_jobs.specs.Reasons.{has_failed, was_cut}
+use Rattle.lat_jobs.specs.Reasons.{has_failed}
 use Rattle.lat_jobs.specs.Runs.{RunOf, Tale, Turn, due_at, fresh_tale, number_in, offer_at, tale_of}
 
 -- the number of the job's session among all of the core, 0 where it has none
@@ -55,12 +56,19 @@ pub record AskIsRight (t : Tale) (see : Look) (turn : Bool) : Type 0 where
   pub put : t.put ≡ []
   pub waited : t.lost + wait_of t.tries ≤ see.moment
 
--- a client is hung up where it has said that it sent all, all is put, and its session was closed behind that and is over; and
--- what was taken for it is written, as far as it takes it
+-- the look shows that the job's own session is over, by both stops
+pub record IsStopped (g : Print) (see : Look) : Type 0 where
+  pub own : here g see ≡ true
+  pub free : is_free see.line.state ≡ true
+  pub stops : see.line.end ≡ Some ends.Closed
+
+-- A client is hung up where it has said that it sent all, and all is put; where the job's own session, which was closed behind
+-- that, is shown to be over by both stops; and where what was taken for it is written, as far as it takes it. So a job is told
+-- that it is printed only by a look at the end of its own session
 pub record HangUpIsRight (t : Tale) (see : Look) : Type 0 where
   pub ended : t.ended ≡ true
   pub bytes : t.read ≡ t.put
-  pub over : (g : Print) → t.mind.phase ≡ phases.Printing g → (g.shut ≡ true) × (has_failed g see ≡ false) × (was_cut g see ≡ false) × ((here g see && not (is_free see.line.state)) ≡ false)
+  pub over : (g : Print) → t.mind.phase ≡ phases.Printing g → (g.shut ≡ true) × (has_failed g see ≡ false) × IsStopped g see
   pub items : (g : Print) → t.mind.phase ≡ phases.Printing g → g.deaf ≡ false → (t.taken ≡ t.written) ⊎ (see.stopping ≡ true)
 
 pub record LawOfRuns (t : Tale) : Type 0 where
@@ -118,8 +126,7 @@ pub record IsDone (m : JobMind) (g : Print) (see : Look) : Type 0 where
   pub shut : g.shut ≡ true
   pub whole : is_whole g ≡ true
   pub sound : breaks g see ≡ false
-  pub free : is_free see.line.state ≡ true
-  pub uncut : was_cut g see ≡ false
+  pub over : IsStopped g see
   pub owed : g.owed ≡ 0
 
 -- then its client is hung up

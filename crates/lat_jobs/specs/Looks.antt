@@ -37,9 +37,9 @@ abbrev pub last_heard : Option StatusLook → ℕ → ℕ → ℕ
 last_heard (Some s) number since = if s.request == number then s.heard else since
 last_heard None number since = since
 
--- a session ended otherwise than by both stops
-abbrev pub is_cut : Option SessionEnd → Bool
-is_cut (Some ends.Closed) = false
-is_cut (Some (ends.Rejected reason)) = true
-is_cut (Some (ends.Circuit reason)) = true
-is_cut None = false
+-- a session ended by both stops
+abbrev pub is_stopped : Option SessionEnd → Bool
+is_stopped (Some ends.Closed) = true
+is_stopped (Some (ends.Rejected reason)) = false
+is_stopped (Some (ends.Circuit reason)) = false
+is_stopped None = false

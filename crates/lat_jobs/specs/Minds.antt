@@ -13,7 +13,7 @@ use Rattle.lat_jobs.specs.declared.phase.Phase.{Phase}
 use Rattle.lat_jobs.specs.declared.phase.Phase.TheVariants as phases
 use Rattle.lat_jobs.specs.declared.mind.JobMind.{JobMind}
 use Rattle.lat_jobs.specs.Facts.{is_quiet}
-use Rattle.lat_jobs.specs.Looks.{is_cut, is_for, is_refused, last_heard, tells}
+use Rattle.lat_jobs.specs.Looks.{is_for, is_refused, is_stopped, last_heard, tells}
 use Rattle.lat_jobs.specs.Phases.{breaks, here, phase_after}
 
 -- a client has just come
@@ -82,7 +82,7 @@ next_shut g see =
     if not (is_whole g) || breaks g see then moves.Reset
     else (if is_owing g then moves.Write
     else (if here g see && not (is_free see.line.state) then moves.Rest
-    else (if here g see && is_cut see.line.end then moves.Reset
+    else (if not (here g see && is_stopped see.line.end) then moves.Reset
     else (if nat_lt 0 g.owed && not see.stopping then moves.Write
     else moves.HangUp))))
 

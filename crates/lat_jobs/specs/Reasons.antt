@@ -10,7 +10,7 @@ use Rattle.lat_jobs.specs.declared.phase.Print.{Print}
 use Rattle.lat_jobs.specs.declared.phase.Phase.{Phase}
 use Rattle.lat_jobs.specs.declared.phase.Phase.TheVariants as phases
 use Rattle.lat_jobs.specs.declared.mind.JobMind.{JobMind}
-use Rattle.lat_jobs.specs.Looks.{is_cut}
+use Rattle.lat_jobs.specs.Looks.{is_stopped}
 use Rattle.lat_jobs.specs.Minds.{comes, is_due, is_lost, is_past, is_silent, is_whole, mind_next}
 use Rattle.lat_jobs.specs.Phases.{breaks, here}
 
@@ -34,9 +34,9 @@ WhyAsking a see turn _ = ⊥
 abbrev pub is_running : Print → Look → Bool
 is_running g see = here g see && is_live see.line.state
 
--- the job's session is shown, and ended otherwise than by both stops
-abbrev pub was_cut : Print → Look → Bool
-was_cut g see = here g see && is_cut see.line.end
+-- the job's session is shown, and ended by both stops
+abbrev pub was_stopped : Print → Look → Bool
+was_stopped g see = here g see && is_stopped see.line.end
 
 -- the client has gone, or the peer's device
 abbrev pub has_failed : Print → Look → Bool
@@ -55,8 +55,8 @@ WhyPrinting g see moves.Write = (g.failed ≡ false) × (0 < g.owed)
 WhyPrinting g see moves.Close = (g.shut ≡ false) × (here g see ≡ true) × ((has_failed g see ≡ true) ⊎ ((g.left ≡ 0) ⊎ (is_live see.line.state ≡ false)))
 WhyPrinting g see moves.Rest = here g see ≡ true
 WhyPrinting g see moves.Watch = (g.shut ≡ false) × (see.stopping ≡ false) × (is_answered see.line.state ≡ false)
-WhyPrinting g see moves.HangUp = (g.shut ≡ true) × (is_whole g ≡ true) × (breaks g see ≡ false) × ((g.owed ≡ 0) ⊎ (see.stopping ≡ true)) × ((here g see && not (is_free see.line.state)) ≡ false) × (was_cut g see ≡ false)
-WhyPrinting g see moves.Reset = (((not (is_whole g)) || breaks g see) ≡ true) ⊎ ((was_cut g see ≡ true) ⊎ ((g.touched ≡ true) × IsLeft g see))
+WhyPrinting g see moves.HangUp = (g.shut ≡ true) × (is_whole g ≡ true) × (breaks g see ≡ false) × ((g.owed ≡ 0) ⊎ (see.stopping ≡ true)) × ((here g see && not (is_free see.line.state)) ≡ false) × (was_stopped g see ≡ true)
+WhyPrinting g see moves.Reset = (((not (is_whole g)) || breaks g see) ≡ true) ⊎ (((g.shut ≡ true) × (was_stopped g see ≡ false)) ⊎ ((g.touched ≡ true) × IsLeft g see))
 WhyPrinting g see moves.Lose = (g.touched ≡ false) × (has_failed g see ≡ false) × IsLeft g see
 WhyPrinting g see _ = ⊥
 

@@ -2,7 +2,7 @@
 
 ghost use Rattle.std.specs.Prelude.{◌≡◌};
 ghost use Rattle.lat_mind.specs.Looks.{holds_on, is_answered, is_free, is_live};
-ghost use Rattle.lat_jobs.specs.Looks.{is_cut};
+ghost use Rattle.lat_jobs.specs.Looks.{is_stopped};
 
 use lat_base::{LineLook, SessionEnd, SessionState};
 
@@ -39,12 +39,9 @@ pub(crate) fn holds_on(line: &LineLook) -> bool
     }
 }
 
-/// Whether the newest session ended otherwise than by both stops.
-pub(crate) fn is_cut(line: &LineLook) -> bool
-    ensures { result ≡ is_cut line.now.end }
+/// Whether the newest session ended by both stops.
+pub(crate) fn is_stopped(line: &LineLook) -> bool
+    ensures { result ≡ is_stopped line.now.end }
 {
-    matches!(
-        line.end,
-        Some(SessionEnd::Rejected(_)) | Some(SessionEnd::Circuit(_))
-    )
+    matches!(line.end, Some(SessionEnd::Closed))
 }

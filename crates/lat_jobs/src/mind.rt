@@ -5,7 +5,7 @@ ghost use Rattle.lat_jobs.specs.Phases.{has_place};
 ghost use Rattle.lat_jobs.specs.Minds.{calm_after, comes, fresh_mind, is_due, is_lost, is_open, is_owing, is_past, is_silent, is_whole, mind_next, mind_told, next_asking, next_cut, next_ending, next_live, next_pausing, next_printing, next_serving, next_shut, wait_after, waits_after};
 
 use crate::fact::{Fact, Move};
-use crate::line_look::{holds_on, is_answered, is_cut, is_free, is_live};
+use crate::line_look::{holds_on, is_answered, is_free, is_live, is_stopped};
 use crate::look::Look;
 use crate::phase::{Ask, Pause, Phase, Print};
 
@@ -184,7 +184,7 @@ impl Print {
         let here = self.here(see);
         if here && !is_free(&see.line) {
             Move::Rest
-        } else if here && is_cut(&see.line) {
+        } else if !(here && is_stopped(&see.line)) {
             Move::Reset
         } else if self.owed > 0 && !see.stopping {
             Move::Write
