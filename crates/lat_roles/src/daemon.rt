@@ -3,7 +3,8 @@
 use lat_base::Memory;
 use lat_text::{address_onto, hex_onto, name_onto};
 use lat_words::{
-    Pace, Role, Seats, Settings, Station, Stay, Words, WordsFault, fault_text, read_words,
+    Pace, Role, Seats, Settings, Station, Stay, Words, WordsFault, fault_text, help_text,
+    read_words,
 };
 use std::alloc::Global;
 
@@ -143,6 +144,20 @@ pub fn play_block(alloc: Global, block: &str, text: &mut String) -> Result<(), M
     write!(text, "{front}\n")?;
     for line in lines {
         line_onto(alloc, text, front, line)?;
+    }
+    Ok(())
+}
+
+/// Which lines of a block, behind its first one, stand in the text of help, printed.
+pub fn help_block(alloc: Global, block: &str, text: &mut String) -> Result<(), Memory> {
+    let help = help_text(alloc)?;
+    for line in block.lines().skip(1) {
+        let found = if help.as_str().contains(line) {
+            "stands there"
+        } else {
+            "isn't there"
+        };
+        write!(text, "> {line}\n{found}\n")?;
     }
     Ok(())
 }

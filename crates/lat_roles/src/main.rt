@@ -21,7 +21,7 @@
 //! | `hear HEX` | hears a payload from aa0004000104 at moment 0 |
 //!
 //! LINES is a number in decimal from 1 to 64, without a sign or a needless 0. A block with another word there, or whose first word
-//! is none of these two nor `cell` nor `latd`, is not played, and nothing is done of a line behind the first one whose first word is none of
+//! is none of these two nor `cell`, `latd` nor `help`, is not played, and nothing is done of a line behind the first one whose first word is none of
 //! the other two, nor of a line `hear` with an odd number of hex digits. Which word it is and what it isn't is printed: `line 7
 //! word 2 isn't a number from 1 to 64`, `line 7 word 1 isn't a command`, `line 7 word 2 isn't hex digits`, with the numbers of the
 //! line in the script and of its word, both counted from 1.
@@ -38,7 +38,7 @@
 //! itself behind `> `, and then what the words ask for, `help`, `version` or what they set, or what `latd` says of the first that is
 //! wrong. What they set is the role, the name, the address and the port, the ports of the peers, the lines, the services, their
 //! rates, the lines that offer, and the mask of the groups; and, where any of it isn't the usual one, the pace, the stay, the log
-//! and the history.
+//! and the history. A block whose first line is `help` says of each further line whether it stands in the text of their help.
 //!
 //! A block whose first line is `cell EVENTS` tells the cell of a server with two lines so many events, 255 at most, without
 //! threads: the same ten again and again, 80 ms later each time. They are an announcement of a node that offers VAX, then of line 1

@@ -5,13 +5,15 @@ use lat_base::Memory;
 use lat_script::{Part, ScriptFault, line_behind, refused_onto};
 use std::alloc::Global;
 
-// A block without a title: one that begins with `cell` is a cell's, one that begins with `latd` has the words of daemons, and any
-// other is a node's with a tariff.
+// A block without a title: one that begins with `cell` is a cell's, one that begins with `latd` has the words of daemons, one that
+// begins with `help` is of their help, and any other is a node's with a tariff.
 fn play_block(alloc: Global, block: Part, text: &mut String) -> Result<(), ScriptFault> {
     if block.text.starts_with("cell ") {
         cell::play_block(alloc, block, text)
     } else if block.text.starts_with("latd") {
         Ok(daemon::play_block(alloc, block.text, text)?)
+    } else if block.text.starts_with("help\n") {
+        Ok(daemon::help_block(alloc, block.text, text)?)
     } else {
         tariff::play_block(alloc, block, text)
     }

@@ -1,10 +1,5 @@
-//! Each module tests one crate: `lat_base`, `lat_outside`, `lat_words`, `lat_terminal`, `lat_udp` and `lat_cell` (without threads).
+//! Each module tests one crate: `lat_udp` (its lines with callers in `ports`) and `lat_cell` (without threads).
 
-mod callers;
 mod cell;
-mod names;
-mod outside;
 mod ports;
-mod terminal;
 mod udp;
-mod words;
